@@ -1,0 +1,7 @@
+pub mod Numbers
+pub mod Content
+pub mod Grammar
+pub mod Reading
+pub mod Fields
+pub mod Places
+pub mod Written

@@ -1,0 +1,306 @@
+//! Values from outside: the published examples of the encoding, and bytes made by hand from its rules.
+//! Each growth may be refused once (`tools/refusals`): then the same call is made again.
+use crate::{Field, ReadFault, Value, WireFault, next_field, put_bytes, put_varint, read_fields};
+use std::alloc::Global;
+use std::process::Abort;
+use std::test::Fail;
+
+/// Reads all fields, again after a refused growth.
+fn fields_of(alloc: Global, source: &[u8]) -> Result<Vec<Field>, ReadFault> {
+    match read_fields(alloc, source) {
+        Err(ReadFault::OutOfMemory) => read_fields(alloc, source),
+        answer => answer,
+    }
+}
+
+fn expect_field(rt: &impl Abort, source: &[u8], from: usize, field: Field) {
+    assert_eq!(rt;
+        next_field(source, from),
+        Ok(Some(field)),
+        "{source:?} from {from}"
+    );
+}
+
+fn expect_fault(rt: &impl Abort, source: &[u8], fault: WireFault) {
+    assert_eq!(rt; next_field(source, 0), Err(fault), "{source:?}");
+}
+
+/// A list of one field is read whole, and is Truncated wherever it is cut within.
+fn expect_only(rt: &impl Abort, alloc: Global, source: &[u8], field: Field) -> Result<(), Fail> {
+    expect_field(rt, source, 0, field);
+    assert_eq!(rt; next_field(source, source.len()), Ok(None));
+    let all = fields_of(alloc, source)?;
+    assert_eq!(rt; all.as_slice(), [field].as_slice());
+    for len in 1..source.len() {
+        if let Some(cut) = source.get(..len) {
+            expect_fault(rt, cut, WireFault::Truncated);
+        }
+    }
+    Ok(())
+}
+
+/// Appends a varint to `old`, again after a refused growth, which must have left it as it was.
+fn put_again(rt: &impl Abort, out: &mut Vec<u8>, old: &[u8], value: u64) -> Result<(), Fail> {
+    if put_varint(out, value).is_err() {
+        assert_eq!(rt; out.as_slice(), old, "a refused growth changed the vector");
+        put_varint(out, value)?;
+    }
+    Ok(())
+}
+
+#[test]
+fn rows_of_the_wire(rt: HostRuntime) -> Result<(), Fail> {
+    let alloc = rt.alloc();
+    assert_eq!(rt; next_field(&[], 0), Ok(None));
+    assert_eq!(rt; fields_of(alloc, &[])?.len(), 0);
+    let field = Field {
+        number: 1,
+        value: Value::Varint(300),
+        start: 1,
+        end: 3,
+    };
+    expect_only(&rt, alloc, &[0x08, 0xac, 0x02], field)?;
+    expect_fault(&rt, &[0x08], WireFault::Truncated);
+    expect_fault(&rt, &[0x08, 0x80], WireFault::Truncated);
+    expect_fault(&rt, &[0x12, 0x03, 0x61, 0x62], WireFault::Truncated);
+    expect_fault(&rt, &[0x0b], WireFault::Group);
+    expect_fault(&rt, &[0x0c], WireFault::Group);
+    expect_fault(&rt, &[0x0e], WireFault::BadKey);
+    expect_fault(&rt, &[0x0f], WireFault::BadKey);
+    expect_fault(&rt, &[0x00], WireFault::BadKey);
+    expect_fault(&rt, &[0x03], WireFault::BadKey);
+    let long = [
+        0x08, 0x80, 0x80, 0x80, 0x80, 0x80, 0x80, 0x80, 0x80, 0x80, 0x80, 0x01,
+    ];
+    expect_fault(&rt, &long, WireFault::LongVarint);
+    Ok(())
+}
+
+#[test]
+fn each_wire_type(rt: HostRuntime) -> Result<(), Fail> {
+    let alloc = rt.alloc();
+    let eight = Field {
+        number: 1,
+        value: Value::Eight,
+        start: 1,
+        end: 9,
+    };
+    expect_only(&rt, alloc, &[0x09, 1, 2, 3, 4, 5, 6, 7, 8], eight)?;
+    let bytes = Field {
+        number: 2,
+        value: Value::Bytes,
+        start: 2,
+        end: 5,
+    };
+    expect_only(&rt, alloc, &[0x12, 0x03, 0x61, 0x62, 0x63], bytes)?;
+    let none = Field {
+        number: 2,
+        value: Value::Bytes,
+        start: 2,
+        end: 2,
+    };
+    expect_only(&rt, alloc, &[0x12, 0x00], none)?;
+    let four = Field {
+        number: 3,
+        value: Value::Four,
+        start: 1,
+        end: 5,
+    };
+    expect_only(&rt, alloc, &[0x1d, 1, 2, 3, 4], four)?;
+    // The greatest field number, under wire types 0 and 2; one more is refused before its wire type is looked at.
+    let greatest = Field {
+        number: 536_870_911,
+        value: Value::Varint(1),
+        start: 5,
+        end: 6,
+    };
+    expect_only(&rt, alloc, &[0xf8, 0xff, 0xff, 0xff, 0x0f, 0x01], greatest)?;
+    let greatest = Field {
+        number: 536_870_911,
+        value: Value::Bytes,
+        start: 6,
+        end: 7,
+    };
+    expect_only(
+        &rt,
+        alloc,
+        &[0xfa, 0xff, 0xff, 0xff, 0x0f, 0x01, 0x61],
+        greatest,
+    )?;
+    expect_fault(
+        &rt,
+        &[0x80, 0x80, 0x80, 0x80, 0x10, 0x01],
+        WireFault::BadKey,
+    );
+    expect_fault(&rt, &[0x83, 0x80, 0x80, 0x80, 0x10], WireFault::BadKey);
+    Ok(())
+}
+
+#[test]
+fn several_fields(rt: HostRuntime) -> Result<(), Fail> {
+    let source = [
+        0x08, 0x01, 0x12, 0x01, 0x61, 0x0d, 9, 9, 9, 9, 0x08, 0x80, 0x01,
+    ];
+    let fields = [
+        Field {
+            number: 1,
+            value: Value::Varint(1),
+            start: 1,
+            end: 2,
+        },
+        Field {
+            number: 2,
+            value: Value::Bytes,
+            start: 4,
+            end: 5,
+        },
+        Field {
+            number: 1,
+            value: Value::Four,
+            start: 6,
+            end: 10,
+        },
+        Field {
+            number: 1,
+            value: Value::Varint(128),
+            start: 11,
+            end: 13,
+        },
+    ];
+    assert_eq!(rt;
+        fields_of(rt.alloc(), &source)?.as_slice(),
+        fields.as_slice()
+    );
+    expect_field(&rt, &source, 5, fields[2]);
+    assert_eq!(rt; next_field(&source, 13), Ok(None));
+    assert_eq!(rt; next_field(&source, 14), Ok(None));
+    assert_eq!(rt; next_field(&source, usize::MAX), Ok(None));
+    // The first fault stands behind two fields.
+    let fault = fields_of(rt.alloc(), &[0x08, 0x01, 0x12, 0x00, 0x0b, 0x08]).err();
+    assert_eq!(rt; fault, Some(ReadFault::Wire(WireFault::Group)));
+    Ok(())
+}
+
+#[test]
+fn varints_at_their_borders(rt: HostRuntime) -> Result<(), Fail> {
+    let full = [0xffu8; 10];
+    let zeros = [0x80u8; 10];
+    for len in 1..10usize {
+        // The greatest of so many bytes is FF .. 7F, the least of one byte more 80 .. 01.
+        let power = 1u64 << (7 * len as u32);
+        for (front, last, value) in [(full, 0x7f, power - 1), (zeros, 0x01, power)] {
+            let more = if last == 0x01 { len } else { len - 1 };
+            let mut text = Vec::new(rt.alloc());
+            for byte in front.iter().take(more) {
+                push_again(&mut text, *byte)?;
+            }
+            push_again(&mut text, last)?;
+            expect_varint(&rt, text.as_slice(), value)?;
+        }
+    }
+    let greatest = [0xff, 0xff, 0xff, 0xff, 0xff, 0xff, 0xff, 0xff, 0xff, 0x01];
+    expect_varint(&rt, &greatest, u64::MAX)?;
+    expect_varint(&rt, &[0x80, 0x80, 0x08], 131_072)?;
+    expect_varint(&rt, &[0xac, 0x02], 300)?;
+    expect_varint(&rt, &[0x00], 0)?;
+    // Bits of the tenth byte past 64 are dropped, and a longer spelling of a number is read as the number.
+    let nine = [0x08, 0x80, 0x80, 0x80, 0x80, 0x80, 0x80, 0x80, 0x80, 0x80];
+    for (last, value) in [(0x02u8, 0), (0x03, 1 << 63), (0x7f, 1 << 63), (0x00, 0)] {
+        let mut source = [0u8; 11];
+        source[..10].copy_from_slice(&nine);
+        source[10] = last;
+        expect_field(
+            &rt,
+            &source,
+            0,
+            Field {
+                number: 1,
+                value: Value::Varint(value),
+                start: 1,
+                end: 11,
+            },
+        );
+    }
+    Ok(())
+}
+
+fn push_again(text: &mut Vec<u8>, byte: u8) -> Result<(), Fail> {
+    if text.push(byte).is_err() {
+        text.push(byte)?;
+    }
+    Ok(())
+}
+
+/// The text is written for the value, and read as it, also behind another field's bytes.
+fn expect_varint<R: Abort + AllocGlobal>(rt: &R, text: &[u8], value: u64) -> Result<(), Fail> {
+    let mut out = Vec::new(rt.alloc());
+    put_again(rt, &mut out, &[], value)?;
+    assert_eq!(rt; out.as_slice(), text, "the varint of {value}");
+    let mut source = Vec::new(rt.alloc());
+    push_again(&mut source, 0x08)?;
+    put_again(rt, &mut source, &[0x08], value)?;
+    let end = source.len();
+    expect_only(
+        rt,
+        rt.alloc(),
+        source.as_slice(),
+        Field {
+            number: 1,
+            value: Value::Varint(value),
+            start: 1,
+            end,
+        },
+    )
+}
+
+#[test]
+fn fields_of_bytes(rt: HostRuntime) -> Result<(), Fail> {
+    let many = [0x61u8; 300];
+    let heads: [(u32, usize, &[u8]); 4] = [
+        (1, 1, &[0x0a, 0x01]),
+        (2, 0, &[0x12, 0x00]),
+        (16, 300, &[0x82, 0x01, 0xac, 0x02]),
+        (536_870_911, 3, &[0xfa, 0xff, 0xff, 0xff, 0x0f, 0x03]),
+    ];
+    for (number, len, head) in heads {
+        let bytes = many.get(..len).ok_or("fewer bytes")?;
+        let mut out = Vec::new(rt.alloc());
+        put_again(&rt, &mut out, &[], 7)?;
+        if number > 0 && number <= 536_870_911 {
+            if put_bytes(&mut out, number, bytes).is_err() {
+                assert_eq!(rt;
+                    out.as_slice(),
+                    [7].as_slice(),
+                    "a refused growth changed the vector"
+                );
+                put_bytes(&mut out, number, bytes)?;
+            }
+        }
+        let (front, written) = out.as_slice().split_at(out.len().min(1));
+        let (got_head, got_bytes) = written.split_at(written.len().min(head.len()));
+        assert_eq!(rt; front, [7].as_slice());
+        assert_eq!(rt; got_head, head, "the head of field {number}");
+        assert_eq!(rt; got_bytes, bytes, "the bytes of field {number}");
+    }
+    Ok(())
+}
+
+#[test]
+fn faults_have_names_and_numbers(rt: HostRuntime) -> Result<(), Fail> {
+    let faults = [
+        (ReadFault::Wire(WireFault::Truncated), 1, "Truncated"),
+        (ReadFault::Wire(WireFault::LongVarint), 2, "LongVarint"),
+        (ReadFault::Wire(WireFault::BadKey), 3, "BadKey"),
+        (ReadFault::Wire(WireFault::Group), 4, "Group"),
+        (ReadFault::OutOfMemory, 33, "OutOfMemory"),
+    ];
+    for (fault, number, name) in faults {
+        assert_eq!(rt; fault.number(), number);
+        let shown = match fault.to_string(rt.alloc()) {
+            Err(_) => fault.to_string(rt.alloc())?,
+            Ok(shown) => shown,
+        };
+        assert_eq!(rt; shown.as_str(), name);
+    }
+    Ok(())
+}

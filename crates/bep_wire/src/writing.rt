@@ -1,0 +1,79 @@
+ghost use Rattle.std.specs.Prelude.{◌≡◌, ◌+◌, ◌*◌, ◌<◌, ◌≤◌, ◌++◌, length, OnOk, OnErr};
+ghost use Rattle.bep_wire.specs.Written.{shortest, bytes_field};
+
+use std::alloc::AllocError;
+use std::marker::Model;
+
+/// The shortest varint of a number, in at most ten bytes of its own. Contracts see its bytes.
+#[derive(Drop)]
+struct Shortest {
+    bytes: [u8; 10],
+    len: usize,
+}
+
+impl Model for Shortest {
+    ghost use Rattle.std.specs.Prelude.{List, ℕ, ◌≤◌, take};
+
+    ghost Value = { List ℕ };
+
+    ghost view = { λ v. take v.len v.bytes };
+
+    ghost invariant = { λ v. v.len ≤ 10 };
+}
+
+impl Shortest {
+    fn new(value: u64) -> Shortest
+        ensures { result ≡ shortest value }
+    {
+        let mut bytes = [0u8; 10];
+        let mut len = 0;
+        let mut rest = value;
+        while rest >= 128 {
+            bytes[len] = (rest % 128) as u8 + 128;
+            len += 1;
+            rest /= 128;
+        }
+        bytes[len] = rest as u8;
+        Shortest {
+            bytes,
+            len: len + 1,
+        }
+    }
+
+    fn as_slice(&self) -> &[u8]
+        ensures bytes { result.now ≡ self.now }
+        ensures few { length self.now ≤ 10 }
+    {
+        &self.bytes[..self.len]
+    }
+}
+
+/// Appends the shortest varint of a number: 1 to 10 bytes.
+///
+/// Refused by want of memory alone, and then the vector is as it was. O(1) but for the growth.
+pub fn put_varint(out: &mut Vec<u8>, value: u64) -> Result<(), AllocError>
+    ensures ok { OnOk result (out.new.items ≡ out.old.items ++ shortest value) }
+    ensures err { OnErr result (out.new.items ≡ out.old.items) }
+{
+    out.extend_from_slice(Shortest::new(value).as_slice())
+}
+
+/// Appends a field of wire type 2: the key of the number, the length of the bytes, both as shortest
+/// varints, and the bytes. The number is from 1 to 536,870,911.
+///
+/// Refused by want of memory alone, and then the vector is as it was. O(n) in the bytes; the vector
+/// grows once at most.
+pub fn put_bytes(out: &mut Vec<u8>, number: u32, bytes: &[u8]) -> Result<(), AllocError>
+    requires low { 0 < number }
+    requires high { number ≤ 536870911 }
+    ensures ok { OnOk result (out.new.items ≡ out.old.items ++ bytes_field number bytes.now) }
+    ensures err { OnErr result (out.new.items ≡ out.old.items) }
+{
+    let key = Shortest::new(8 * number as u64 + 2);
+    let len = Shortest::new(bytes.len() as u64);
+    out.reserve(key.len + len.len + bytes.len())?;
+    out.extend_from_slice(key.as_slice()).unwrap();
+    out.extend_from_slice(len.as_slice()).unwrap();
+    out.extend_from_slice(bytes).unwrap();
+    Ok(())
+}

@@ -1,0 +1,43 @@
+/* Preloaded into a test program by tools/refusals: refuses the REFUSE-th allocation of the process (none where it
+   is 0), and keeps the number of allocations so far in the file COUNT. For programs of one thread. */
+#define _GNU_SOURCE
+#include <dlfcn.h>
+#include <errno.h>
+#include <fcntl.h>
+#include <stdio.h>
+#include <stdlib.h>
+#include <unistd.h>
+
+static unsigned long refuse, seen;
+static int count = -1;
+static void *(*next_malloc)(size_t);
+static void *(*next_realloc)(void *, size_t);
+
+__attribute__((constructor)) static void begin(void) {
+    const char *nth = getenv("REFUSE"), *path = getenv("COUNT");
+    next_malloc = dlsym(RTLD_NEXT, "malloc");
+    next_realloc = dlsym(RTLD_NEXT, "realloc");
+    refuse = nth ? strtoul(nth, NULL, 10) : 0;
+    count = path ? open(path, O_WRONLY | O_CREAT | O_TRUNC, 0600) : -1;
+    if (count >= 0 && pwrite(count, "0\n", 2, 0) != 2) abort();
+    seen = 0;
+}
+
+static int is_refused(void) {
+    char text[24];
+    int len = snprintf(text, sizeof text, "%lu\n", ++seen);
+    if (count >= 0 && pwrite(count, text, len, 0) != len) abort();
+    if (seen != refuse) return 0;
+    errno = ENOMEM;
+    return 1;
+}
+
+void *malloc(size_t size) {
+    if (!next_malloc) next_malloc = dlsym(RTLD_NEXT, "malloc");
+    return is_refused() ? NULL : next_malloc(size);
+}
+
+void *realloc(void *old, size_t size) {
+    if (!next_realloc) next_realloc = dlsym(RTLD_NEXT, "realloc");
+    return is_refused() ? NULL : next_realloc(old, size);
+}
