@@ -5,6 +5,15 @@ use std::alloc::Global;
 use std::process::Abort;
 use std::test::Fail;
 
+fn field(number: u32, value: Value, start: usize, end: usize) -> Field {
+    Field {
+        number,
+        value,
+        start,
+        end,
+    }
+}
+
 /// Reads all fields, again after a refused growth.
 fn fields_of(alloc: Global, source: &[u8]) -> Result<Vec<Field>, ReadFault> {
     match read_fields(alloc, source) {
@@ -13,10 +22,10 @@ fn fields_of(alloc: Global, source: &[u8]) -> Result<Vec<Field>, ReadFault> {
     }
 }
 
-fn expect_field(rt: &impl Abort, source: &[u8], from: usize, field: Field) {
+fn expect_field(rt: &impl Abort, source: &[u8], from: usize, wanted: Field) {
     assert_eq!(rt;
         next_field(source, from),
-        Ok(Some(field)),
+        Ok(Some(wanted)),
         "{source:?} from {from}"
     );
 }
@@ -26,11 +35,11 @@ fn expect_fault(rt: &impl Abort, source: &[u8], fault: WireFault) {
 }
 
 /// A list of one field is read whole, and is Truncated wherever it is cut within.
-fn expect_only(rt: &impl Abort, alloc: Global, source: &[u8], field: Field) -> Result<(), Fail> {
-    expect_field(rt, source, 0, field);
+fn expect_only(rt: &impl Abort, alloc: Global, source: &[u8], wanted: Field) -> Result<(), Fail> {
+    expect_field(rt, source, 0, wanted);
     assert_eq!(rt; next_field(source, source.len()), Ok(None));
     let all = fields_of(alloc, source)?;
-    assert_eq!(rt; all.as_slice(), [field].as_slice());
+    assert_eq!(rt; all.as_slice(), [wanted].as_slice());
     for len in 1..source.len() {
         if let Some(cut) = source.get(..len) {
             expect_fault(rt, cut, WireFault::Truncated);
@@ -53,16 +62,16 @@ fn rows_of_the_wire(rt: HostRuntime) -> Result<(), Fail> {
     let alloc = rt.alloc();
     assert_eq!(rt; next_field(&[], 0), Ok(None));
     assert_eq!(rt; fields_of(alloc, &[])?.len(), 0);
-    let field = Field {
-        number: 1,
-        value: Value::Varint(300),
-        start: 1,
-        end: 3,
-    };
+    let field = field(1, Value::Varint(300), 1, 3);
     expect_only(&rt, alloc, &[0x08, 0xac, 0x02], field)?;
     expect_fault(&rt, &[0x08], WireFault::Truncated);
     expect_fault(&rt, &[0x08, 0x80], WireFault::Truncated);
     expect_fault(&rt, &[0x12, 0x03, 0x61, 0x62], WireFault::Truncated);
+    // A length of 2^64 - 1, and two bytes.
+    let longest = [
+        0x12, 0xff, 0xff, 0xff, 0xff, 0xff, 0xff, 0xff, 0xff, 0xff, 0x01, 0x61, 0x62,
+    ];
+    expect_fault(&rt, &longest, WireFault::Truncated);
     expect_fault(&rt, &[0x0b], WireFault::Group);
     expect_fault(&rt, &[0x0c], WireFault::Group);
     expect_fault(&rt, &[0x0e], WireFault::BadKey);
@@ -79,48 +88,18 @@ fn rows_of_the_wire(rt: HostRuntime) -> Result<(), Fail> {
 #[test]
 fn each_wire_type(rt: HostRuntime) -> Result<(), Fail> {
     let alloc = rt.alloc();
-    let eight = Field {
-        number: 1,
-        value: Value::Eight,
-        start: 1,
-        end: 9,
-    };
+    let eight = field(1, Value::Eight, 1, 9);
     expect_only(&rt, alloc, &[0x09, 1, 2, 3, 4, 5, 6, 7, 8], eight)?;
-    let bytes = Field {
-        number: 2,
-        value: Value::Bytes,
-        start: 2,
-        end: 5,
-    };
+    let bytes = field(2, Value::Bytes, 2, 5);
     expect_only(&rt, alloc, &[0x12, 0x03, 0x61, 0x62, 0x63], bytes)?;
-    let none = Field {
-        number: 2,
-        value: Value::Bytes,
-        start: 2,
-        end: 2,
-    };
+    let none = field(2, Value::Bytes, 2, 2);
     expect_only(&rt, alloc, &[0x12, 0x00], none)?;
-    let four = Field {
-        number: 3,
-        value: Value::Four,
-        start: 1,
-        end: 5,
-    };
+    let four = field(3, Value::Four, 1, 5);
     expect_only(&rt, alloc, &[0x1d, 1, 2, 3, 4], four)?;
     // The greatest field number, under wire types 0 and 2; one more is refused before its wire type is looked at.
-    let greatest = Field {
-        number: 536_870_911,
-        value: Value::Varint(1),
-        start: 5,
-        end: 6,
-    };
+    let greatest = field(536_870_911, Value::Varint(1), 5, 6);
     expect_only(&rt, alloc, &[0xf8, 0xff, 0xff, 0xff, 0x0f, 0x01], greatest)?;
-    let greatest = Field {
-        number: 536_870_911,
-        value: Value::Bytes,
-        start: 6,
-        end: 7,
-    };
+    let greatest = field(536_870_911, Value::Bytes, 6, 7);
     expect_only(
         &rt,
         alloc,
@@ -142,30 +121,10 @@ fn several_fields(rt: HostRuntime) -> Result<(), Fail> {
         0x08, 0x01, 0x12, 0x01, 0x61, 0x0d, 9, 9, 9, 9, 0x08, 0x80, 0x01,
     ];
     let fields = [
-        Field {
-            number: 1,
-            value: Value::Varint(1),
-            start: 1,
-            end: 2,
-        },
-        Field {
-            number: 2,
-            value: Value::Bytes,
-            start: 4,
-            end: 5,
-        },
-        Field {
-            number: 1,
-            value: Value::Four,
-            start: 6,
-            end: 10,
-        },
-        Field {
-            number: 1,
-            value: Value::Varint(128),
-            start: 11,
-            end: 13,
-        },
+        field(1, Value::Varint(1), 1, 2),
+        field(2, Value::Bytes, 4, 5),
+        field(1, Value::Four, 6, 10),
+        field(1, Value::Varint(128), 11, 13),
     ];
     assert_eq!(rt;
         fields_of(rt.alloc(), &source)?.as_slice(),
@@ -209,17 +168,7 @@ fn varints_at_their_borders(rt: HostRuntime) -> Result<(), Fail> {
         let mut source = [0u8; 11];
         source[..10].copy_from_slice(&nine);
         source[10] = last;
-        expect_field(
-            &rt,
-            &source,
-            0,
-            Field {
-                number: 1,
-                value: Value::Varint(value),
-                start: 1,
-                end: 11,
-            },
-        );
+        expect_field(&rt, &source, 0, field(1, Value::Varint(value), 1, 11));
     }
     Ok(())
 }
@@ -244,12 +193,7 @@ fn expect_varint<R: Abort + AllocGlobal>(rt: &R, text: &[u8], value: u64) -> Res
         rt,
         rt.alloc(),
         source.as_slice(),
-        Field {
-            number: 1,
-            value: Value::Varint(value),
-            start: 1,
-            end,
-        },
+        field(1, Value::Varint(value), 1, end),
     )
 }
 

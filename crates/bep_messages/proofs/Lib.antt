@@ -1,0 +1,9 @@
+pub mod Words
+pub mod Absent
+pub mod Joins
+pub mod Loop
+pub mod Texts
+pub mod Says
+pub mod Again
+pub mod Moves
+pub mod Written

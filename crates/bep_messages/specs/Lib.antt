@@ -1,0 +1,14 @@
+pub use Rattle.bep_wire.specs.Content
+pub use Rattle.bep_wire.specs.Fields
+pub use Rattle.bep_wire.specs.Written
+pub mod Numbers
+pub mod Tables
+pub mod Known
+pub mod Contents
+pub mod Faults
+pub mod Values
+pub mod Forms
+pub mod Writing
+pub mod Protocol
+pub mod Structs
+pub mod Wholes

@@ -1,0 +1,79 @@
+ghost use Rattle.std.specs.Prelude.{◌≡◌, [], ◌∷◌, ◌++◌, IfOk, OnOk, OnErr};
+
+use std::alloc::{AllocError, Global};
+use std::marker::Model;
+
+/// A list of values. Contracts see the list alone, and none of the `Vec` that keeps it.
+#[derive(Debug, Drop)]
+pub struct Items<T> {
+    items: Vec<T>,
+}
+
+impl<T> Model for Items<T> {
+    ghost use Rattle.std.specs.Prelude.{List};
+
+    ghost Value = { List T };
+
+    ghost view = { λ s. s.items.items };
+}
+
+impl<T> Items<T> {
+    /// The empty list; takes no memory.
+    pub fn new(alloc: Global) -> Self
+        ensures { result ≡ [] }
+    {
+        Items {
+            items: Vec::new(alloc),
+        }
+    }
+
+    /// The list of a vector's elements; takes no memory.
+    pub fn from_vec(items: Vec<T>) -> Self
+        ensures { result ≡ items.items }
+    {
+        Items { items }
+    }
+
+    /// The vector; takes no memory.
+    pub fn into_vec(self) -> Vec<T>
+        ensures { result.items ≡ self }
+    {
+        let Items { items } = self;
+        items
+    }
+
+    pub fn as_slice(&self) -> &[T]
+        ensures { result.now ≡ self.now }
+    {
+        self.items.as_slice()
+    }
+}
+
+impl<T: Drop> Items<T> {
+    /// Puts an element at the end, in amortized O(1). Refused by want of memory alone, and then the
+    /// list is as it was.
+    pub fn push(&mut self, item: T) -> Result<(), AllocError>
+        ensures ok { OnOk result (self.new ≡ self.old ++ item ∷ []) }
+        ensures err { OnErr result (self.new ≡ self.old) }
+    {
+        self.items.push(item)?;
+        Ok(())
+    }
+}
+
+/// What can be copied where memory may run out.
+pub trait Copied: Drop {
+    /// An equal value of its own. Refused by want of memory alone.
+    fn copy(&self) -> Result<Self, AllocError>
+        ensures { IfOk result (λ x. x ≡ self.now) };
+}
+
+impl<T: Copied> Copied for Items<T> {
+    fn copy(&self) -> Result<Self, AllocError> {
+        let mut items = Vec::with_capacity(*self.items.allocator(), self.items.len())?;
+        for item in &self.items {
+            items.push(item.copy()?)?;
+        }
+        Ok(Items { items })
+    }
+}

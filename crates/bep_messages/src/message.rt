@@ -1,0 +1,97 @@
+ghost use Rattle.std.specs.Prelude.{◌≡◌, ◌≢◌, ◌≤◌, ◌∷◌, [], ℕ, List, true, None, Ok, Err, ◌++◌, length, IfOk, OnOk, OnErr, IfErr};
+ghost use Rattle.bep_wire.specs.Content.{Item, item_in};
+ghost use Rattle.bep_wire.specs.Fields.{fields};
+ghost use Rattle.bep_messages.specs.Tables.{Table, Values, rises};
+ghost use Rattle.bep_messages.specs.Faults.{item_fault, message_fault, Tells};
+ghost use Rattle.bep_messages.specs.Values.{empty, values, decoded};
+ghost use Rattle.bep_messages.specs.Forms.{form, Fits};
+ghost use Rattle.bep_messages.specs.Writing.{Adds};
+
+use crate::fault::MessageFault;
+use crate::writer::Writer;
+use bep_wire::{Field, next_field};
+use std::alloc::{AllocError, Global};
+use std::mem;
+
+/// A message with a table of its fields: what is common to all messages is written here once. The
+/// bodies of an impl are the message's table, expanded by the macros `empty_fields`, `take_field` and `write_rows`.
+pub trait ProtoMessage: Drop {
+    /// The message's fields, by rising number.
+    ghost table: { Table };
+
+    /// The fields' values in the order of the table, and the message that has these.
+    ghost parts: { Self → Values table };
+
+    ghost whole: { Values table → Self };
+
+    /// The message without a field; takes no memory.
+    fn make_empty(alloc: Global) -> Self
+        ensures { parts result ≡ empty table };
+
+    /// Takes over one field of the source. After a refusal the message is worth nothing.
+    fn put(&mut self, alloc: Global, source: &[u8], field: Field) -> Result<(), MessageFault>
+        requires start { field.start ≤ field.end }
+        requires end { field.end ≤ length source.now }
+        ensures ok { OnOk result ((item_fault table (item_in source.now field) ≡ None)
+            × (parts self.new ≡ values table (parts self.old) (item_in source.now field ∷ []))) }
+        ensures fault { IfErr result (Tells (item_fault table (item_in source.now field))) };
+
+    /// Writes the fields that aren't their defaults. After a refusal what was written is worth nothing.
+    fn write(&self, out: &mut Writer) -> Result<(), AllocError>
+        ensures ok { OnOk result (Adds out.old.written (form table (parts self.now)) out.new.written) }
+        ensures fits { OnOk result (Fits table (parts self.now)) }
+        ensures kept { out.new.kept ≡ out.old.kept };
+
+    ghost table_rises: { rises 0 table ≡ true };
+
+    ghost whole_of_parts: { (m : Self) → whole (parts m) ≡ m };
+
+    /// Takes over the fields of a byte list.
+    final fn merge(&mut self, alloc: Global, bytes: &[u8]) -> Result<(), MessageFault>
+        ensures ok { OnOk result ((message_fault table bytes.now ≡ None)
+            × (parts self.new ≡ values table (parts self.old) (fields bytes.now).items)) }
+        ensures fault { IfErr result (Tells (message_fault table bytes.now)) }
+    {
+        let mut at = 0;
+        while let Some(field) = next_field(bytes, at)? {
+            self.put(alloc, bytes, field)?;
+            at = field.end;
+        }
+        Ok(())
+    }
+
+    /// The message of a byte list.
+    ///
+    /// Refused by the first fault from left to right, that of a message in it being its own, exactly
+    /// where there is one, or by want of memory. O(n); each content is copied once.
+    final fn decode(alloc: Global, bytes: &[u8]) -> Result<Self, MessageFault>
+        ensures { result ≢ Err MessageFault.OutOfMemory → result ≡ decoded table whole bytes.now }
+    {
+        let mut message = Self::make_empty(alloc);
+        message.merge(alloc, bytes)?;
+        Ok(message)
+    }
+
+    /// Appends the written form of the message, which decodes to the message.
+    ///
+    /// Refused by want of memory alone, and then the vector is as it was. O(n); the form is made in
+    /// place.
+    final fn encode(&self, out: &mut Vec<u8>) -> Result<(), AllocError>
+        ensures ok { OnOk result (out.new.items ≡ out.old.items ++ form table (parts self.now)) }
+        ensures again { OnOk result (decoded table whole (form table (parts self.now)) ≡ Ok self.now) }
+        ensures err { OnErr result (out.new.items ≡ out.old.items) }
+    {
+        let alloc = *out.allocator();
+        let mut writer = Writer::new(mem::replace(out, Vec::new(alloc)));
+        match self.write(&mut writer) {
+            Ok(()) => {
+                *out = writer.finish();
+                Ok(())
+            }
+            Err(refused) => {
+                *out = writer.undo();
+                Err(refused)
+            }
+        }
+    }
+}

@@ -1,0 +1,57 @@
+//! What one field makes of a message in a message, and of a list of messages.
+ghost use Rattle.std.specs.Prelude.{◌≡◌, ◌≤◌, ◌∷◌, [], ◌++◌, List, None, length, map, OnOk, IfErr};
+ghost use Rattle.bep_wire.specs.Content.{content_in};
+ghost use Rattle.bep_wire.specs.Fields.{fields};
+ghost use Rattle.bep_messages.specs.Contents.{byte_lists, merged};
+ghost use Rattle.bep_messages.specs.Faults.{bytes_fault, message_fault, Tells};
+ghost use Rattle.bep_messages.specs.Values.{empty, values};
+
+use crate::fault::MessageFault;
+use crate::items::Items;
+use crate::message::ProtoMessage;
+use bep_wire::{Field, Value};
+use std::alloc::Global;
+
+pub fn one<M: ProtoMessage>(
+    slot: &mut M,
+    alloc: Global,
+    source: &[u8],
+    field: Field,
+) -> Result<(), MessageFault>
+    requires start { field.start ≤ field.end }
+    requires end { field.end ≤ length source.now }
+    ensures ok { OnOk result ((bytes_fault (message_fault M.table) (content_in source.now field) ≡ None)
+        × (M.parts slot.new
+        ≡ merged (values M.table) (M.parts slot.old) (byte_lists (content_in source.now field ∷ [])))) }
+    ensures fault { IfErr result (Tells (bytes_fault (message_fault M.table) (content_in source.now field))) }
+{
+    match field.value {
+        Value::Bytes => slot.merge(alloc, &source[field.start..field.end]),
+        Value::Varint(_) | Value::Eight | Value::Four => Ok(()),
+    }
+}
+
+pub fn list<M: ProtoMessage>(
+    slot: &mut Items<M>,
+    alloc: Global,
+    source: &[u8],
+    field: Field,
+) -> Result<(), MessageFault>
+    requires start { field.start ≤ field.end }
+    requires end { field.end ≤ length source.now }
+    ensures ok { OnOk result ((bytes_fault (message_fault M.table) (content_in source.now field) ≡ None)
+        × (map M.parts slot.new ≡ map M.parts slot.old
+        ++ map (λ bytes. values M.table (empty M.table) (fields bytes).items)
+        (byte_lists (content_in source.now field ∷ [])))) }
+    ensures fault { IfErr result (Tells (bytes_fault (message_fault M.table) (content_in source.now field))) }
+{
+    match field.value {
+        Value::Bytes => {
+            let mut item = M::make_empty(alloc);
+            item.merge(alloc, &source[field.start..field.end])?;
+            slot.push(item)?;
+            Ok(())
+        }
+        Value::Varint(_) | Value::Eight | Value::Four => Ok(()),
+    }
+}

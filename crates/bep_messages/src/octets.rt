@@ -1,0 +1,115 @@
+ghost use Rattle.std.specs.Prelude.{◌≡◌, ◌≤◌, [], length, IfOk, IsOk};
+
+use crate::items::Copied;
+use smallvec::SmallVec;
+use std::alloc::{AllocError, Global};
+use std::marker::Model;
+
+/// Bytes. Contracts see the list alone.
+#[derive(Debug, Drop)]
+pub struct Octets {
+    bytes: Vec<u8>,
+}
+
+impl Model for Octets {
+    ghost use Rattle.std.specs.Prelude.{List, ℕ};
+
+    ghost Value = { List ℕ };
+
+    ghost view = { λ s. s.bytes.items };
+}
+
+impl Octets {
+    /// No bytes; takes no memory.
+    pub fn new(alloc: Global) -> Self
+        ensures { result ≡ [] }
+    {
+        Octets {
+            bytes: Vec::new(alloc),
+        }
+    }
+
+    /// A copy of bytes. Refused by want of memory alone.
+    pub fn from_slice(alloc: Global, bytes: &[u8]) -> Result<Self, AllocError>
+        ensures { IfOk result (λ s. s ≡ bytes.now) }
+    {
+        Ok(Octets {
+            bytes: Vec::from_slice(alloc, bytes)?,
+        })
+    }
+
+    /// The bytes of a vector; takes no memory.
+    pub fn from_vec(bytes: Vec<u8>) -> Self
+        ensures { result ≡ bytes.items }
+    {
+        Octets { bytes }
+    }
+
+    /// The vector; takes no memory.
+    pub fn into_vec(self) -> Vec<u8>
+        ensures { result.items ≡ self }
+    {
+        let Octets { bytes } = self;
+        bytes
+    }
+
+    pub fn as_slice(&self) -> &[u8]
+        ensures { result.now ≡ self.now }
+    {
+        self.bytes.as_slice()
+    }
+}
+
+impl Copied for Octets {
+    fn copy(&self) -> Result<Octets, AllocError> {
+        Octets::from_slice(*self.bytes.allocator(), self.bytes.as_slice())
+    }
+}
+
+/// Bytes of which up to 32, as a SHA-256 digest has, take no memory of their own. Contracts see the
+/// list alone.
+#[derive(Debug, Drop)]
+pub struct ShortOctets {
+    bytes: SmallVec<u8, 32>,
+}
+
+impl Model for ShortOctets {
+    ghost use Rattle.std.specs.Prelude.{List, ℕ};
+
+    ghost Value = { List ℕ };
+
+    ghost view = { λ s. s.bytes.items };
+}
+
+impl ShortOctets {
+    /// No bytes; takes no memory.
+    pub fn new(alloc: Global) -> Self
+        ensures { result ≡ [] }
+    {
+        ShortOctets {
+            bytes: SmallVec::new(alloc),
+        }
+    }
+
+    /// A copy of bytes. Refused by want of memory alone, and only where there are more than 32.
+    pub fn from_slice(alloc: Global, bytes: &[u8]) -> Result<Self, AllocError>
+        ensures ok { IfOk result (λ s. s ≡ bytes.now) }
+        ensures short { length bytes.now ≤ 32 → IsOk result }
+    {
+        Ok(ShortOctets {
+            bytes: SmallVec::from_slice(alloc, bytes)?,
+        })
+    }
+
+    pub fn as_slice(&self) -> &[u8]
+        ensures { result.now ≡ self.now }
+    {
+        self.bytes.as_slice()
+    }
+}
+
+impl Copied for ShortOctets {
+    fn copy(&self) -> Result<ShortOctets, AllocError> {
+        ShortOctets::from_slice(*self.bytes.allocator(), self.bytes.as_slice())
+    }
+}
