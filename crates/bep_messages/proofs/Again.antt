@@ -1,23 +1,23 @@
 -- The value of the written form of a message is the message.
-use Rattle.std.proofs.Common.{◌≡◌, ℕ, ◌<◌, ◌≤◌, ◌^◌, ◌%◌, Bool, true, false, ◌==◌, ℤ, pos, negsuc, List, [], ◌∷◌, ◌++◌, map, Result, Ok, Err, Option, None, Some, refl, sym, ap, ◌∙◌, inl, inr, if◌then◌else◌, arith, append_assoc, FitsSigned}
+use Rattle.std.proofs.Common.{◌≡◌, ℕ, ◌<◌, ◌≤◌, ◌^◌, ◌%◌, Bool, true, false, ℤ, pos, negsuc, List, [], ◌∷◌, ◌++◌, map, Ok, Option, refl, sym, ap, ◌∙◌, inl, inr, arith, append_assoc, FitsSigned}
 use Rattle.std.specs.Int.{w32, w64, cast_signed, cast_unsigned}
 use Rattle.std.specs.List.{AllByRecursion}
 use Rattle.std.proofs.lemmas.Int.{to_z-of_z}
 use Rattle.std.proofs.lemmas.Bool.{cases_eq, eq-eqb, ne_eqb}
 use Rattle.std.proofs.lemmas.List.{append-nil}
-use Rattle.bep_wire.specs.Content.{Content, Number, Bytes, Item}
+use Rattle.bep_wire.specs.Content.{Content, Item}
 use Rattle.bep_wire.specs.Fields.{Fields, fields}
 use Rattle.bep_wire.proofs.Lemmas.{fields_none}
 use Rattle.bep_messages.specs.declared.fault.MessageFault.{MessageFault}
 use Rattle.bep_messages.specs.Tables.{Scalar, Int32, Int64, Uint32, Uint64, Enum, Boolean, Words, Octets, Table, End, One, Message, Texts, Messages, Val, Values, rises}
 use Rattle.bep_messages.specs.Contents.{contents, numbers, byte_lists, last, low32, signed32, signed64, nonzero, zero_of, scalar, merged}
-use Rattle.bep_messages.specs.Faults.{message_fault, outcome}
+use Rattle.bep_messages.specs.Faults.{outcome}
 use Rattle.bep_messages.specs.Values.{empty, values, value, decoded}
 use Rattle.bep_messages.specs.Forms.{unsigned64, flag, form, IsShort, ScalarFits, Fits}
 use Rattle.bep_messages.proofs.Words.{contents-append}
 use Rattle.bep_messages.proofs.Absent.{rising, rising_within, here, skip}
 use Rattle.bep_messages.proofs.Joins.{pair, values-none}
-use Rattle.bep_messages.proofs.Says.{number_item, bytes_item, number_items, bytes_items, list_items, scalar_items, form_items, HaveNumber, AreAbove, scalar_number, bytes_number, list_number, form_above, wider, all_from, says_form, fine_form, alone, readable_form}
+use Rattle.bep_messages.proofs.Says.{number_items, bytes_items, list_items, scalar_items, form_items, HaveNumber, AreAbove, scalar_number, bytes_number, list_number, form_above, wider, all_from, says_form, fine_form, alone, readable_form}
 
 -- ---- the contents of a number among fields of others
 

@@ -1,5 +1,5 @@
 -- Fields that change places, that are unknown, and that occur again.
-use Rattle.std.proofs.Common.{◌≡◌, ℕ, ◌<◌, ◌≤◌, Bool, true, false, ◌==◌, List, [], ◌∷◌, ◌++◌, map, Option, None, refl, sym, ap, ◌∙◌, append_assoc, arith, inl, inr, if◌then◌else◌}
+use Rattle.std.proofs.Common.{◌≡◌, ℕ, ◌≤◌, Bool, true, false, ◌==◌, List, [], ◌∷◌, ◌++◌, map, Option, None, refl, sym, ap, ◌∙◌, append_assoc, arith, inl, inr, if◌then◌else◌}
 use Rattle.std.proofs.lemmas.Bool.{cases_eq}
 use Rattle.bep_wire.specs.Content.{Content, Number, Eight, Bytes, Four, Item}
 use Rattle.bep_wire.specs.Fields.{fields}
@@ -9,7 +9,7 @@ use Rattle.bep_messages.specs.Known.{is_number, is_bytes, is_of, is_known, is_si
 use Rattle.bep_messages.specs.Contents.{contents, number_in, bytes_in, numbers, byte_lists, scalar, merged}
 use Rattle.bep_messages.specs.Faults.{item_fault, bytes_fault, scalar_fault, text_fault, message_fault}
 use Rattle.bep_messages.specs.Values.{empty, values}
-use Rattle.bep_messages.proofs.Words.{contents-append, byte_lists-append, scalar-append}
+use Rattle.bep_messages.proofs.Words.{contents-append, scalar-append}
 use Rattle.bep_messages.proofs.Absent.{rising, rising_within, here, skip}
 use Rattle.bep_messages.proofs.Joins.{pair}
 
@@ -43,7 +43,7 @@ exchanged n a b rest other =
 pub exchange : (table : Table) (v : Values table) (front rest : List Item) (a b : Item) → (a.number ≡ b.number → ⊥) → values table v (front ++ a ∷ b ∷ rest) ≡ values table v (front ++ b ∷ a ∷ rest)
 exchange table v front rest a b other =
     by_contents table v (front ++ a ∷ b ∷ rest) (front ++ b ∷ a ∷ rest) (λ n.
-      contents-append n front (a ∷ b ∷ rest) ∙ ap (λ (cs : List Content). contents n front ++ cs) (exchanged n a b rest other) ∙ sym (contents-append n front (b ∷ a ∷ rest)))
+    contents-append n front (a ∷ b ∷ rest) ∙ ap (λ (cs : List Content). contents n front ++ cs) (exchanged n a b rest other) ∙ sym (contents-append n front (b ∷ a ∷ rest)))
 
 -- ---- a field of another number
 
@@ -112,6 +112,7 @@ no_fault fault (Number m) h = refl
 no_fault fault (Eight bytes) h = refl
 no_fault fault (Bytes bytes) h = absurd cc
 no_fault fault (Four bytes) h = refl
+
 none_of : (k : Scalar) (c : Content) → is_of k c ≡ false → scalar_fault k c ≡ None
 none_of Int32 c h = refl
 none_of Int64 c h = refl
@@ -149,10 +150,10 @@ unknown_value before (One n kind rows) v front rest i e unknown =
     elim (cases_eq n i.number) [
       | inl same ↦
           pair _ _ _ _
-            (ap (scalar kind v.0) (with_one n front rest i same)
-              ∙ skip_scalar kind v.0 (contents n front) (contents n rest) i.content (sym (here n i.number (is_of kind i.content) (is_known rows i) same) ∙ unknown)
-              ∙ ap (scalar kind v.0) (sym (contents-append n front rest)))
-            (absent_value n rows v.1 front rest i r.rows_rise (omega (arith, same)))
+          (ap (scalar kind v.0) (with_one n front rest i same)
+          ∙ skip_scalar kind v.0 (contents n front) (contents n rest) i.content (sym (here n i.number (is_of kind i.content) (is_known rows i) same) ∙ unknown)
+          ∙ ap (scalar kind v.0) (sym (contents-append n front rest)))
+          (absent_value n rows v.1 front rest i r.rows_rise (omega (arith, same)))
       | inr other ↦
           pair _ _ _ _ (ap (scalar kind v.0) (without n front rest i other)) (unknown_value n rows v.1 front rest i r.rows_rise (sym (skip n i.number (is_of kind i.content) (is_known rows i) other) ∙ unknown))
     ]
@@ -161,8 +162,8 @@ unknown_value before (Message n inner rows) v front rest i e unknown =
     elim (cases_eq n i.number) [
       | inl same ↦
           pair _ _ _ _
-            (ap (merged (values inner) v.0) (skipped_bytes n front rest i same (sym (here n i.number (is_bytes i.content) (is_known rows i) same) ∙ unknown)))
-            (absent_value n rows v.1 front rest i r.rows_rise (omega (arith, same)))
+          (ap (merged (values inner) v.0) (skipped_bytes n front rest i same (sym (here n i.number (is_bytes i.content) (is_known rows i) same) ∙ unknown)))
+          (absent_value n rows v.1 front rest i r.rows_rise (omega (arith, same)))
       | inr other ↦
           pair _ _ _ _ (ap (λ (cs : List Content). merged (values inner) v.0 (byte_lists cs)) (without n front rest i other)) (unknown_value n rows v.1 front rest i r.rows_rise (sym (skip n i.number (is_bytes i.content) (is_known rows i) other) ∙ unknown))
     ]
@@ -171,8 +172,8 @@ unknown_value before (Texts n rows) v front rest i e unknown =
     elim (cases_eq n i.number) [
       | inl same ↦
           pair _ _ _ _
-            (ap (λ (ps : List (List ℕ)). v.0 ++ ps) (skipped_bytes n front rest i same (sym (here n i.number (is_bytes i.content) (is_known rows i) same) ∙ unknown)))
-            (absent_value n rows v.1 front rest i r.rows_rise (omega (arith, same)))
+          (ap (λ (ps : List (List ℕ)). v.0 ++ ps) (skipped_bytes n front rest i same (sym (here n i.number (is_bytes i.content) (is_known rows i) same) ∙ unknown)))
+          (absent_value n rows v.1 front rest i r.rows_rise (omega (arith, same)))
       | inr other ↦
           pair _ _ _ _ (ap (λ (cs : List Content). v.0 ++ byte_lists cs) (without n front rest i other)) (unknown_value n rows v.1 front rest i r.rows_rise (sym (skip n i.number (is_bytes i.content) (is_known rows i) other) ∙ unknown))
     ]
@@ -182,8 +183,8 @@ unknown_value before (Messages n inner rows) v front rest i e unknown =
     elim (cases_eq n i.number) [
       | inl same ↦
           pair _ _ _ _
-            (ap (λ (ps : List (List ℕ)). v.0 ++ map item ps) (skipped_bytes n front rest i same (sym (here n i.number (is_bytes i.content) (is_known rows i) same) ∙ unknown)))
-            (absent_value n rows v.1 front rest i r.rows_rise (omega (arith, same)))
+          (ap (λ (ps : List (List ℕ)). v.0 ++ map item ps) (skipped_bytes n front rest i same (sym (here n i.number (is_bytes i.content) (is_known rows i) same) ∙ unknown)))
+          (absent_value n rows v.1 front rest i r.rows_rise (omega (arith, same)))
       | inr other ↦
           pair _ _ _ _ (ap (λ (cs : List Content). v.0 ++ map item (byte_lists cs)) (without n front rest i other)) (unknown_value n rows v.1 front rest i r.rows_rise (sym (skip n i.number (is_bytes i.content) (is_known rows i) other) ∙ unknown))
     ]
@@ -248,12 +249,12 @@ last_wins before (One n kind rows) v front middle rest a b e single same known =
           let longer = with_one n front (middle ++ b ∷ rest) a is ∙ ap (λ (cs : List Content). contents n front ++ (a.content ∷ cs)) (with_one n middle rest b (is ∙ same)) in
           let shorter = contents-append n front (middle ++ b ∷ rest) ∙ ap (λ (cs : List Content). contents n front ++ cs) (with_one n middle rest b (is ∙ same)) in
           pair _ _ _ _
-            (ap (scalar kind v.0) longer ∙ last_of kind v.0 (contents n front) (contents n middle) a.content b.content (contents n rest) of_kind ∙ ap (scalar kind v.0) (sym shorter))
-            (absent_value n rows v.1 front (middle ++ b ∷ rest) a r.rows_rise (omega (arith, is)))
+          (ap (scalar kind v.0) longer ∙ last_of kind v.0 (contents n front) (contents n middle) a.content b.content (contents n rest) of_kind ∙ ap (scalar kind v.0) (sym shorter))
+          (absent_value n rows v.1 front (middle ++ b ∷ rest) a r.rows_rise (omega (arith, is)))
       | inr other ↦
           pair _ _ _ _ (ap (scalar kind v.0) (without n front (middle ++ b ∷ rest) a other))
-            (last_wins n rows v.1 front middle rest a b r.rows_rise (sym (skip n a.number true (is_single rows a.number) other) ∙ single) same
-              (sym (skip n b.number (is_of kind b.content) (is_known rows b) (λ h. other (h ∙ sym same))) ∙ known))
+          (last_wins n rows v.1 front middle rest a b r.rows_rise (sym (skip n a.number true (is_single rows a.number) other) ∙ single) same
+          (sym (skip n b.number (is_of kind b.content) (is_known rows b) (λ h. other (h ∙ sym same))) ∙ known))
     ]
 last_wins before (Message n inner rows) v front middle rest a b e single same known =
     let r = rising_within before n inner rows e in
@@ -261,8 +262,8 @@ last_wins before (Message n inner rows) v front middle rest a b e single same kn
       | inl is ↦ absurd (no_single n a.number (is_single rows a.number) is single)
       | inr other ↦
           pair _ _ _ _ (ap (λ (cs : List Content). merged (values inner) v.0 (byte_lists cs)) (without n front (middle ++ b ∷ rest) a other))
-            (last_wins n rows v.1 front middle rest a b r.rows_rise (sym (skip n a.number false (is_single rows a.number) other) ∙ single) same
-              (sym (skip n b.number (is_bytes b.content) (is_known rows b) (λ h. other (h ∙ sym same))) ∙ known))
+          (last_wins n rows v.1 front middle rest a b r.rows_rise (sym (skip n a.number false (is_single rows a.number) other) ∙ single) same
+          (sym (skip n b.number (is_bytes b.content) (is_known rows b) (λ h. other (h ∙ sym same))) ∙ known))
     ]
 last_wins before (Texts n rows) v front middle rest a b e single same known =
     let r = rising before n rows e in
@@ -270,8 +271,8 @@ last_wins before (Texts n rows) v front middle rest a b e single same known =
       | inl is ↦ absurd (no_single n a.number (is_single rows a.number) is single)
       | inr other ↦
           pair _ _ _ _ (ap (λ (cs : List Content). v.0 ++ byte_lists cs) (without n front (middle ++ b ∷ rest) a other))
-            (last_wins n rows v.1 front middle rest a b r.rows_rise (sym (skip n a.number false (is_single rows a.number) other) ∙ single) same
-              (sym (skip n b.number (is_bytes b.content) (is_known rows b) (λ h. other (h ∙ sym same))) ∙ known))
+          (last_wins n rows v.1 front middle rest a b r.rows_rise (sym (skip n a.number false (is_single rows a.number) other) ∙ single) same
+          (sym (skip n b.number (is_bytes b.content) (is_known rows b) (λ h. other (h ∙ sym same))) ∙ known))
     ]
 last_wins before (Messages n inner rows) v front middle rest a b e single same known =
     let r = rising_within before n inner rows e in
@@ -280,6 +281,6 @@ last_wins before (Messages n inner rows) v front middle rest a b e single same k
       | inl is ↦ absurd (no_single n a.number (is_single rows a.number) is single)
       | inr other ↦
           pair _ _ _ _ (ap (λ (cs : List Content). v.0 ++ map item (byte_lists cs)) (without n front (middle ++ b ∷ rest) a other))
-            (last_wins n rows v.1 front middle rest a b r.rows_rise (sym (skip n a.number false (is_single rows a.number) other) ∙ single) same
-              (sym (skip n b.number (is_bytes b.content) (is_known rows b) (λ h. other (h ∙ sym same))) ∙ known))
+          (last_wins n rows v.1 front middle rest a b r.rows_rise (sym (skip n a.number false (is_single rows a.number) other) ∙ single) same
+          (sym (skip n b.number (is_bytes b.content) (is_known rows b) (λ h. other (h ∙ sym same))) ∙ known))
     ]

@@ -1,5 +1,5 @@
 -- What a message is after some fields and then others is what it is after all of them.
-use Rattle.std.proofs.Common.{◌≡◌, ℕ, ◌<◌, ◌≤◌, Bool, true, false, ◌==◌, List, [], ◌∷◌, ◌++◌, map, Option, None, Some, refl, sym, ap, ◌∙◌, append_assoc, arith, inl, inr, if◌then◌else◌}
+use Rattle.std.proofs.Common.{◌≡◌, ℕ, true, ◌==◌, List, [], ◌∷◌, ◌++◌, map, Option, None, Some, refl, sym, ap, ◌∙◌, append_assoc, inl, inr, if◌then◌else◌}
 use Rattle.std.specs.List.{AllByRecursion}
 use Rattle.std.proofs.lemmas.List.{map-append, append-nil}
 use Rattle.std.proofs.lemmas.Bool.{cases_eq}
@@ -9,7 +9,7 @@ use Rattle.bep_wire.specs.Fields.{Fields, fields}
 use Rattle.bep_wire.proofs.Lemmas.{fields_joined}
 use Rattle.bep_messages.specs.declared.fault.MessageFault.{MessageFault}
 use Rattle.bep_messages.specs.Tables.{Table, End, One, Message, Texts, Messages, Values, rises}
-use Rattle.bep_messages.specs.Contents.{contents, bytes_in, byte_lists, zero_of, scalar, joined, merged}
+use Rattle.bep_messages.specs.Contents.{contents, bytes_in, byte_lists, scalar, joined, merged}
 use Rattle.bep_messages.specs.Faults.{wire_fault, first_fault, item_fault, bytes_fault, message_fault}
 use Rattle.bep_messages.specs.Values.{empty, values}
 use Rattle.bep_messages.proofs.Words.{contents-append, byte_lists_of-append, scalar-append, scalar-none}

@@ -1,15 +1,15 @@
 -- What a written form says when it is read: its fields, whatever follows.
-use Rattle.std.proofs.Common.{◌≡◌, ℕ, ◌<◌, ◌≤◌, ◌^◌, List, [], ◌∷◌, ◌++◌, map, Option, Some, None, refl, sym, ap, ◌∙◌, append_assoc, inl, inr, if◌then◌else◌, ◌==◌, arith, lit≤, lit<, true, false, Bool, ℤ, pos, negsuc, FitsSigned}
+use Rattle.std.proofs.Common.{◌≡◌, ℕ, ◌<◌, ◌^◌, List, [], ◌∷◌, ◌++◌, map, Option, None, refl, sym, ap, ◌∙◌, append_assoc, inl, inr, if◌then◌else◌, ◌==◌, arith, lit<, true, false, Bool, ℤ, pos, negsuc, FitsSigned}
 use Rattle.std.specs.Int.{w32, w64}
 use Rattle.std.specs.List.{AllByRecursion}
 use Rattle.std.proofs.lemmas.Bool.{cases_eq, eq-eqb, ne_eqb}
 use Rattle.std.proofs.lemmas.List.{append-nil}
 use Rattle.std.proofs.lemmas.List.Concat.{flat_map-cons}
 use Rattle.std.proofs.Math.Facts.{Fits-of_z}
-use Rattle.bep_wire.specs.Content.{Content, Number, Bytes, Item}
+use Rattle.bep_wire.specs.Content.{Number, Bytes, Item}
 use Rattle.bep_wire.specs.Grammar.{IsNumber}
-use Rattle.bep_wire.specs.Fields.{Fields, fields, first_then}
-use Rattle.bep_wire.specs.Written.{number_field, bytes_field}
+use Rattle.bep_wire.specs.Fields.{Fields, fields}
+use Rattle.bep_wire.specs.Written.{bytes_field}
 use Rattle.bep_wire.proofs.Lemmas.{fields_none, number_again, bytes_again}
 use Rattle.bep_messages.specs.declared.fault.MessageFault.{MessageFault}
 use Rattle.bep_messages.specs.Tables.{Scalar, Int32, Int64, Uint32, Uint64, Enum, Boolean, Words, Octets, Table, End, One, Message, Texts, Messages, Val, Values, rises}

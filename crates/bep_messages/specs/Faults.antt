@@ -3,7 +3,7 @@ use Rattle.std.specs.Prelude.{◌≡◌, ℕ, ◌==◌, List, [], ◌∷◌, Opt
 use Rattle.std.specs.Str.{is_utf8}
 use Rattle.bep_wire.specs.declared.fault.WireFault.{WireFault}
 use Rattle.bep_wire.specs.Content.{Content, Number, Eight, Bytes, Four, Item}
-use Rattle.bep_wire.specs.Fields.{Fields, fields}
+use Rattle.bep_wire.specs.Fields.{fields}
 use Rattle.bep_messages.specs.declared.fault.MessageFault.{MessageFault}
 use Rattle.bep_messages.specs.declared.fault.MessageFault.TheVariants.{Wire, NotUtf8, OutOfMemory}
 use Rattle.bep_messages.specs.Tables.{Scalar, Int32, Int64, Uint32, Uint64, Enum, Boolean, Words, Octets, Table, End, One, Message, Texts, Messages}

@@ -1,6 +1,6 @@
 -- The written form of a message: rising numbers, shortest varints, defaults left out
 -- (Protocol Buffers, language guide for proto3, "Default Field Values").
-use Rattle.std.specs.Prelude.{◌≡◌, ℕ, ◌^◌, ◌<◌, ◌==◌, Bool, ℤ, List, [], ◌∷◌, ◌++◌, length, FitsSigned, if◌then◌else◌}
+use Rattle.std.specs.Prelude.{ℕ, ◌^◌, ◌<◌, ◌==◌, Bool, ℤ, List, [], ◌∷◌, ◌++◌, length, FitsSigned, if◌then◌else◌}
 use Rattle.std.specs.Int.{w32, w64, cast_unsigned}
 use Rattle.std.specs.List.{flat_map, AllByRecursion}
 use Rattle.std.specs.Str.{IsUtf8}

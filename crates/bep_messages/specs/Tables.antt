@@ -1,5 +1,5 @@
 -- Messages as tables: for each field number its kind (Protocol Buffers, language guide for proto3, "Scalar Value Types").
-use Rattle.std.specs.Prelude.{ℕ, Bool, true, ◌&&◌, nat_lt, nat_le, ℤ, List}
+use Rattle.std.specs.Prelude.{ℕ, Bool, ◌&&◌, nat_lt, nat_le, ℤ, List}
 
 -- the kinds of one value
 pub data Scalar : Type 0 where

@@ -19,6 +19,7 @@ mod index;
 mod index_update;
 mod items;
 pub mod kinds;
+mod laws;
 mod message;
 pub mod nested;
 mod octets;
@@ -45,6 +46,7 @@ pub use hello::Hello;
 pub use index::Index;
 pub use index_update::IndexUpdate;
 pub use items::{Copied, Items};
+pub use laws::{fields_may_change_places, last_one_wins, unknown_fields_change_nothing};
 pub use message::ProtoMessage;
 pub use octets::{Octets, ShortOctets};
 pub use ping::Ping;
@@ -53,3 +55,6 @@ pub use response::Response;
 pub use text::Text;
 pub use vector::Vector;
 pub use writer::Writer;
+
+#[cfg(test)]
+mod tests;

@@ -1,0 +1,5 @@
+use Rattle.bep_messages.proofs.FieldLaws.{exchange}
+use Rattle.bep_messages.proofs.laws.fields_may_change_places.Goals as goal
+
+pub returns : goal.returns
+returns c = exchange

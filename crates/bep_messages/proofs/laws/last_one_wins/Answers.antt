@@ -1,0 +1,5 @@
+use Rattle.bep_messages.proofs.FieldLaws.{last_wins}
+use Rattle.bep_messages.proofs.laws.last_one_wins.Goals as goal
+
+pub returns : goal.returns
+returns c = last_wins 0
