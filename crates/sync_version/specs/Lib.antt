@@ -1,0 +1,4 @@
+pub mod Versions
+pub mod Computed
+pub mod Faults
+pub mod Walks
