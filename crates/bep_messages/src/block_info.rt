@@ -1,7 +1,7 @@
+ghost use Rattle.std.specs.Prelude.{refl};
 ghost use Rattle.bep_messages.specs.Protocol.{block_info_table};
 ghost use Rattle.bep_messages.specs.Structs.{block_info_parts, block_info};
 ghost use Rattle.bep_messages.specs.Wholes.{block_info_whole};
-ghost use Rattle.std.specs.Prelude.{refl};
 
 use crate::fault::MessageFault;
 use crate::items::Copied;

@@ -1,7 +1,7 @@
+ghost use Rattle.std.specs.Prelude.{refl};
 ghost use Rattle.bep_messages.specs.Protocol.{close_table};
 ghost use Rattle.bep_messages.specs.Structs.{close_parts, close};
 ghost use Rattle.bep_messages.specs.Wholes.{close_whole};
-ghost use Rattle.std.specs.Prelude.{refl};
 
 use crate::fault::MessageFault;
 use crate::items::Copied;

@@ -1,7 +1,7 @@
+ghost use Rattle.std.specs.Prelude.{refl};
 ghost use Rattle.bep_messages.specs.Protocol.{cluster_config_table};
 ghost use Rattle.bep_messages.specs.Structs.{cluster_config_parts, cluster_config};
 ghost use Rattle.bep_messages.specs.Wholes.{cluster_config_whole};
-ghost use Rattle.std.specs.Prelude.{refl};
 
 use crate::fault::MessageFault;
 use crate::folder::Folder;

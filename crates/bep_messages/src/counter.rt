@@ -1,7 +1,7 @@
+ghost use Rattle.std.specs.Prelude.{refl};
 ghost use Rattle.bep_messages.specs.Protocol.{counter_table};
 ghost use Rattle.bep_messages.specs.Structs.{counter_parts, counter};
 ghost use Rattle.bep_messages.specs.Wholes.{counter_whole};
-ghost use Rattle.std.specs.Prelude.{refl};
 
 use crate::fault::MessageFault;
 use crate::items::Copied;

@@ -1,7 +1,7 @@
+ghost use Rattle.std.specs.Prelude.{refl};
 ghost use Rattle.bep_messages.specs.Protocol.{device_table};
 ghost use Rattle.bep_messages.specs.Structs.{device_parts, device};
 ghost use Rattle.bep_messages.specs.Wholes.{device_whole};
-ghost use Rattle.std.specs.Prelude.{refl};
 
 use crate::fault::MessageFault;
 use crate::items::{Copied, Items};

@@ -1,7 +1,7 @@
+ghost use Rattle.std.specs.Prelude.{refl};
 ghost use Rattle.bep_messages.specs.Protocol.{download_progress_table};
 ghost use Rattle.bep_messages.specs.Structs.{download_progress_parts, download_progress};
 ghost use Rattle.bep_messages.specs.Wholes.{download_progress_whole};
-ghost use Rattle.std.specs.Prelude.{refl};
 
 use crate::fault::MessageFault;
 use crate::items::Copied;

@@ -1,7 +1,7 @@
+ghost use Rattle.std.specs.Prelude.{refl};
 ghost use Rattle.bep_messages.specs.Protocol.{file_info_table};
 ghost use Rattle.bep_messages.specs.Structs.{file_info_parts, file_info};
 ghost use Rattle.bep_messages.specs.Wholes.{file_info_whole};
-ghost use Rattle.std.specs.Prelude.{refl};
 
 use crate::block_info::BlockInfo;
 use crate::fault::MessageFault;

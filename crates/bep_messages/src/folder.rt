@@ -1,7 +1,7 @@
+ghost use Rattle.std.specs.Prelude.{refl};
 ghost use Rattle.bep_messages.specs.Protocol.{folder_table};
 ghost use Rattle.bep_messages.specs.Structs.{folder_parts, folder};
 ghost use Rattle.bep_messages.specs.Wholes.{folder_whole};
-ghost use Rattle.std.specs.Prelude.{refl};
 
 use crate::device::Device;
 use crate::fault::MessageFault;

@@ -1,7 +1,7 @@
+ghost use Rattle.std.specs.Prelude.{refl};
 ghost use Rattle.bep_messages.specs.Protocol.{header_table};
 ghost use Rattle.bep_messages.specs.Structs.{header_parts, header};
 ghost use Rattle.bep_messages.specs.Wholes.{header_whole};
-ghost use Rattle.std.specs.Prelude.{refl};
 
 use crate::fault::MessageFault;
 use crate::items::Copied;

@@ -1,7 +1,7 @@
+ghost use Rattle.std.specs.Prelude.{refl};
 ghost use Rattle.bep_messages.specs.Protocol.{hello_table};
 ghost use Rattle.bep_messages.specs.Structs.{hello_parts, hello};
 ghost use Rattle.bep_messages.specs.Wholes.{hello_whole};
-ghost use Rattle.std.specs.Prelude.{refl};
 
 use crate::fault::MessageFault;
 use crate::items::Copied;

@@ -1,7 +1,7 @@
+ghost use Rattle.std.specs.Prelude.{refl};
 ghost use Rattle.bep_messages.specs.Protocol.{index_table};
 ghost use Rattle.bep_messages.specs.Structs.{index_parts, index};
 ghost use Rattle.bep_messages.specs.Wholes.{index_whole};
-ghost use Rattle.std.specs.Prelude.{refl};
 
 use crate::fault::MessageFault;
 use crate::file_info::FileInfo;

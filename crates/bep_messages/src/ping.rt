@@ -1,7 +1,7 @@
+ghost use Rattle.std.specs.Prelude.{refl};
 ghost use Rattle.bep_messages.specs.Protocol.{ping_table};
 ghost use Rattle.bep_messages.specs.Structs.{ping_parts, ping};
 ghost use Rattle.bep_messages.specs.Wholes.{ping_whole};
-ghost use Rattle.std.specs.Prelude.{refl};
 
 use crate::fault::MessageFault;
 use crate::items::Copied;

@@ -1,7 +1,7 @@
+ghost use Rattle.std.specs.Prelude.{refl};
 ghost use Rattle.bep_messages.specs.Protocol.{request_table};
 ghost use Rattle.bep_messages.specs.Structs.{request_parts, request};
 ghost use Rattle.bep_messages.specs.Wholes.{request_whole};
-ghost use Rattle.std.specs.Prelude.{refl};
 
 use crate::fault::MessageFault;
 use crate::items::Copied;

@@ -1,7 +1,7 @@
+ghost use Rattle.std.specs.Prelude.{refl};
 ghost use Rattle.bep_messages.specs.Protocol.{response_table};
 ghost use Rattle.bep_messages.specs.Structs.{response_parts, response};
 ghost use Rattle.bep_messages.specs.Wholes.{response_whole};
-ghost use Rattle.std.specs.Prelude.{refl};
 
 use crate::fault::MessageFault;
 use crate::items::Copied;

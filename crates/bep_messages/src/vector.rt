@@ -1,7 +1,7 @@
+ghost use Rattle.std.specs.Prelude.{refl};
 ghost use Rattle.bep_messages.specs.Protocol.{vector_table};
 ghost use Rattle.bep_messages.specs.Structs.{vector_parts, vector};
 ghost use Rattle.bep_messages.specs.Wholes.{vector_whole};
-ghost use Rattle.std.specs.Prelude.{refl};
 
 use crate::counter::Counter;
 use crate::fault::MessageFault;
