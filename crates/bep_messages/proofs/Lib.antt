@@ -7,4 +7,4 @@ pub mod Says
 pub mod Again
 pub mod Moves
 pub mod Written
-pub mod FieldLaws
+pub mod Lemmas

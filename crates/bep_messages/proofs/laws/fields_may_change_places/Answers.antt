@@ -1,4 +1,4 @@
-use Rattle.bep_messages.proofs.FieldLaws.{exchange}
+use Rattle.bep_messages.proofs.Lemmas.{exchange}
 use Rattle.bep_messages.proofs.laws.fields_may_change_places.Goals as goal
 
 pub returns : goal.returns

@@ -1,4 +1,4 @@
-use Rattle.bep_messages.proofs.FieldLaws.{last_wins}
+use Rattle.bep_messages.proofs.Lemmas.{last_wins}
 use Rattle.bep_messages.proofs.laws.last_one_wins.Goals as goal
 
 pub returns : goal.returns

@@ -1,4 +1,4 @@
-use Rattle.bep_messages.proofs.FieldLaws.{unknown_value, unknown_fault}
+use Rattle.bep_messages.proofs.Lemmas.{unknown_value, unknown_fault}
 use Rattle.bep_messages.proofs.laws.unknown_fields_change_nothing.Goals as goal
 
 pub returns-clause-value : goal.returns-clause-value

@@ -1,0 +1,12 @@
+pub mod ComponentLemmas
+pub mod ExtensionLemmas
+pub mod InternalLemmas
+pub mod RefusalLemmas
+pub mod Base32Lemmas
+pub mod UtcLemmas
+pub mod MadeLemmas
+pub mod WalkLemmas
+pub mod BesideLemmas
+pub mod NfcLemmas
+pub mod ConflictLemmas
+pub mod Lemmas

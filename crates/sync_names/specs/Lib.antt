@@ -1,0 +1,11 @@
+pub mod Numbers
+pub mod Components
+pub mod Extension
+pub mod Internal
+pub mod Refusal
+pub mod Safe
+pub mod Parsing
+pub mod Base32
+pub mod Utc
+pub mod Made
+pub mod Walk

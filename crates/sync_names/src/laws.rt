@@ -1,0 +1,92 @@
+//! What the definitions say, as contracts of functions that do nothing.
+ghost use Rattle.std.specs.Prelude.{◌≡◌, ◌≢◌, ◌↔◌, ◌<◌, ◌≤◌, ◌+◌, ◌++◌, ◌∷◌, [], List, ℕ, Some, None, IsUtf8, codes, bytes_eq, length, map, slice_index, take, if◌then◌else◌};
+ghost use Rattle.std.specs.List.{join_with_byte};
+ghost use Rattle.sync_names.specs.Base32.{base32_digit};
+ghost use Rattle.sync_names.specs.Components.{components, folder_components, folder_of, last_component};
+ghost use Rattle.sync_names.specs.Extension.{stem_of, extension_of};
+ghost use Rattle.sync_names.specs.Internal.{IsInternal};
+ghost use Rattle.sync_names.specs.Made.{temp_text, conflict_mark, conflict_text, IsTempText};
+ghost use Rattle.sync_names.specs.Refusal.{refusal};
+ghost use Rattle.sync_names.specs.Safe.{IsFirstRefusal, IsSafe};
+ghost use Rattle.sync_names.specs.Utc.{utc_time, IsUtc};
+ghost use Rattle.sync_names.specs.Walk.{walk, leads_to};
+ghost use Rattle.sync_names.specs.declared.fault.NameFault.{NameFault};
+ghost use Rattle.sync_names.specs.declared.fault.NameFault.TheVariants.{Internal};
+ghost use Rattle.sync_names.specs.declared.utc.UtcTime.{UtcTime};
+
+/// A text is refused by the first of the tests whose condition holds, and one that nothing refuses is safe.
+pub fn first_refusal()
+    ensures told { (text : List ℕ) (fault : NameFault) →
+        (refusal text ≡ Some fault) ↔ IsFirstRefusal fault text }
+    ensures safe { (text : List ℕ) → IsUtf8 text → (refusal text ≡ None) ↔ IsSafe text }
+{}
+
+/// A safe name leads to its components below any folder, and never leaves the folder on the way; so does
+/// a temporary name.
+pub fn names_stay_below()
+    ensures whole { (folder : List (List ℕ)) (name : List ℕ) → IsSafe name →
+        leads_to folder name ≡ folder ++ components name }
+    ensures each_beginning { (folder : List (List ℕ)) (name : List ℕ) (n : ℕ) → IsSafe name →
+        walk folder (take n (components name)) ≡ folder ++ take n (components name) }
+    ensures temporary { (folder : List (List ℕ)) (name : List ℕ) → IsTempText name →
+        leads_to folder name ≡ folder ++ components name }
+    ensures temporary_beginning { (folder : List (List ℕ)) (name : List ℕ) (n : ℕ) → IsTempText name →
+        walk folder (take n (components name)) ≡ folder ++ take n (components name) }
+{}
+
+/// A text is its components, joined by slashes; and its folder and its last component.
+pub fn components_joined()
+    ensures joined { (text : List ℕ) → join_with_byte 47 (components text) ≡ text }
+    ensures folder { (text : List ℕ) → text ≡ folder_of text ++ last_component text }
+{}
+
+/// A component is cut before its last dot: what follows that dot has none, and one without a dot is
+/// its own stem.
+pub fn extension_after_last_dot()
+    ensures dot { (stem rest : List ℕ) → ((i : ℕ) → i < length rest → slice_index rest i ≢ 46) →
+        stem_of (stem ++ 46 ∷ rest) ≡ stem }
+    ensures extension { (stem rest : List ℕ) → ((i : ℕ) → i < length rest → slice_index rest i ≢ 46) →
+        extension_of (stem ++ 46 ∷ rest) ≡ 46 ∷ rest }
+    ensures whole { (component : List ℕ) → ((i : ℕ) → i < length component → slice_index component i ≢ 46) →
+        stem_of component ≡ component }
+    ensures nothing { (component : List ℕ) → ((i : ℕ) → i < length component → slice_index component i ≢ 46) →
+        extension_of component ≡ [] }
+{}
+
+/// A temporary name stands in its name's folder, and is internal, so that no safe name is one.
+pub fn temporary_names_stand_apart()
+    ensures folder { (name : List ℕ) → folder_components (temp_text name) ≡ folder_components name }
+    ensures last { (name : List ℕ) →
+        last_component (temp_text name) ≡ codes ".syncthing." ++ last_component name ++ codes ".tmp" }
+    ensures internal { (name : List ℕ) → IsInternal (temp_text name) }
+    ensures apart { (name temporary : List ℕ) → IsSafe name → IsTempText temporary → name ≢ temporary }
+    ensures one_each { (a b : List ℕ) → temp_text a ≡ temp_text b → a ≡ b }
+{}
+
+/// A conflict copy's name stands in its name's folder and is another name; it is refused exactly where
+/// the name's last component is `.syncthing.tmp`, and then as internal.
+pub fn conflict_names_stand_beside()
+    ensures folder { (name : List ℕ) (moment modified_by : ℕ) →
+        folder_components (conflict_text name moment modified_by) ≡ folder_components name }
+    ensures last { (name : List ℕ) (moment modified_by : ℕ) →
+        last_component (conflict_text name moment modified_by)
+        ≡ stem_of (last_component name) ++ conflict_mark moment modified_by
+        ++ extension_of (last_component name) }
+    ensures other { (name : List ℕ) (moment modified_by : ℕ) → conflict_text name moment modified_by ≢ name }
+    ensures refused { (name : List ℕ) (moment modified_by : ℕ) → IsSafe name → moment ≤ 250000000000 →
+        refusal (conflict_text name moment modified_by)
+        ≡ (if bytes_eq (last_component name) (codes ".syncthing.tmp") then Some Internal else None) }
+{}
+
+/// What is counted off is what the calendar and a clock in UTC show, and they show nothing else.
+pub fn utc_is_shown()
+    ensures shown { (moment : ℕ) → moment ≤ 250000000000 → IsUtc moment (utc_time moment) }
+    ensures only { (moment : ℕ) (a b : UtcTime) → IsUtc moment a → IsUtc moment b → a ≡ b }
+{}
+
+/// The digits of base32 are its alphabet's characters.
+pub fn base32_alphabet()
+    ensures { map base32_digit (0 ∷ 1 ∷ 2 ∷ 3 ∷ 4 ∷ 5 ∷ 6 ∷ 7 ∷ 8 ∷ 9 ∷ 10 ∷ 11 ∷ 12 ∷ 13 ∷ 14 ∷ 15 ∷ 16 ∷ 17
+        ∷ 18 ∷ 19 ∷ 20 ∷ 21 ∷ 22 ∷ 23 ∷ 24 ∷ 25 ∷ 26 ∷ 27 ∷ 28 ∷ 29 ∷ 30 ∷ 31 ∷ [])
+        ≡ codes "ABCDEFGHIJKLMNOPQRSTUVWXYZ234567" }
+{}

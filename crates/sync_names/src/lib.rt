@@ -1,0 +1,27 @@
+//! Which names may touch a disk, and the names that a folder makes itself.
+//!
+//! A safe name is relative, has no empty, `.` or `..` component, no NUL, is in Unicode's form NFC and
+//! isn't internal (`specs/Safe.antt`). [`SafeName::parse`] is the only way to one, so whatever holds
+//! a `SafeName` stays in its folder. [`temp_name`] and [`conflict_name`] make names in the same folder.
+#![tactic(auto)]
+
+mod base32;
+mod fault;
+mod internal;
+mod laws;
+mod made;
+mod name;
+mod order;
+#[cfg(test)]
+mod tests;
+mod text;
+mod utc;
+
+pub use fault::NameFault;
+pub use internal::is_internal;
+pub use laws::{
+    base32_alphabet, components_joined, conflict_names_stand_beside, extension_after_last_dot,
+    first_refusal, names_stay_below, temporary_names_stand_apart, utc_is_shown,
+};
+pub use made::{TempName, conflict_name, temp_name};
+pub use name::SafeName;

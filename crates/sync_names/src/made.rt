@@ -1,0 +1,76 @@
+ghost use Rattle.std.specs.Prelude.{◌≡◌, ◌⊎◌, List, ℕ, IfOk, OnOk, IfErr, IsErr, Err, codes};
+ghost use Rattle.sync_names.specs.Components.{last_component};
+ghost use Rattle.sync_names.specs.Made.{temp_text, conflict_text, IsTempText};
+ghost use Rattle.sync_names.specs.Parsing.{ParsesTo};
+ghost use Rattle.sync_names.specs.Safe.{IsSafe};
+
+use crate::{NameFault, SafeName, base32, text, utc};
+use std::alloc::AllocError;
+use std::marker::Model;
+use sync_version::Moment;
+
+/// The name of the temporary file of a safe name, in whose folder it stands.
+#[derive(Drop, Debug)]
+pub struct TempName {
+    text: String,
+}
+
+impl Model for TempName {
+    ghost use Rattle.std.specs.Prelude.{ℕ, List, string_bytes};
+    ghost use Rattle.sync_names.specs.Made.{IsTempText};
+
+    ghost Value = { List ℕ };
+
+    ghost view = { λ name. string_bytes name.text };
+
+    ghost invariant = { λ name. IsTempText (string_bytes name.text) };
+}
+
+impl TempName {
+    /// The text of the name. O(1).
+    pub fn as_str(&self) -> &str
+        ensures value { result.now ≡ self.now }
+        ensures temporary { IsTempText result.now }
+    {
+        self.text.as_str()
+    }
+}
+
+/// The name of a name's temporary file: in the same folder, `.syncthing.`, the last component and
+/// `.tmp`. It is internal, so it is no other file's name. O(n).
+pub fn temp_name(name: &SafeName) -> Result<TempName, AllocError>
+    ensures { IfOk result (λ temp. temp ≡ temp_text name.now) }
+{
+    let (folder, last) = text::split_last_component(name.as_str());
+    let text = format!(in name.allocator(); "{folder}.syncthing.{last}.tmp")?;
+    Ok(TempName { text })
+}
+
+/// The name of a name's conflict copy: in the same folder, the last component with
+/// `.sync-conflict-`, the date as YYYYMMDD, `-`, the time as HHMMSS, `-` and `modified_by` before its
+/// extension, which begins at its last dot. The date and time are the moment in UTC, and `modified_by`
+/// is the first seven characters of the base32 text of its eight bytes (RFC 4648, section 6).
+///
+/// `Internal` exactly where the last component is `.syncthing.tmp`, whose conflict copy would have an
+/// internal name; nothing else but want of memory refuses. O(n) as [`SafeName::parse`].
+pub fn conflict_name(
+    name: &SafeName,
+    moment: Moment,
+    modified_by: u64,
+) -> Result<SafeName, NameFault>
+    ensures answer { ParsesTo (conflict_text name.now moment modified_by) result }
+    ensures safe { OnOk result (IsSafe (conflict_text name.now moment modified_by)) }
+    ensures refusals { IfErr result
+        (λ fault. (fault ≡ NameFault.Internal) ⊎ (fault ≡ NameFault.OutOfMemory)) }
+    ensures internal { result ≡ Err NameFault.Internal → last_component name.now ≡ codes ".syncthing.tmp" }
+    ensures not_safe { last_component name.now ≡ codes ".syncthing.tmp" → IsErr result }
+{
+    let (folder, last) = text::split_last_component(name.as_str());
+    let (stem, extension) = text::split_extension(last);
+    let mut text = format!(in name.allocator(); "{folder}{stem}.sync-conflict-")?;
+    utc::push_date_and_time(&mut text, moment)?;
+    text.push('-')?;
+    base32::push_short_base32(&mut text, modified_by)?;
+    text.push_str(extension)?;
+    SafeName::from_string(text)
+}
