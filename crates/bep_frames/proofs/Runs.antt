@@ -1,0 +1,102 @@
+-- What a reader gave and what it has to give are one stream, whatever comes.
+use Rattle.std.specs.List.{flat_map}
+use Rattle.std.proofs.Math.ListN.{drop_of_length-le}
+use Rattle.bep_frames.specs.declared.fault.FrameFault.TheVariants.{BadMagic, TooLong, Compressed, BadHeader, BadBody, OutOfMemory}
+use Rattle.std.proofs.Common.{◌≡◌, ℕ, zero, suc, get_or, drop, add-one, ◌+◌, ◌<◌, ◌≤◌, Bool, List, [], ◌∷◌, ◌++◌, length, Result, Ok, Err, Option, Some, None, refl, sym, ap, subst, ◌∙◌, inl, inr, arith, append_assoc, append-nil}
+use Rattle.bep_frames.specs.declared.fault.FrameFault.{FrameFault}
+use Rattle.bep_frames.specs.declared.frame.Frame.{Frame}
+use Rattle.bep_frames.specs.Stream.{Stream, first_then, ended, stream}
+use Rattle.bep_frames.specs.State.{State, start, grown, fed, TellsFault, Gives, to_give, remaining, with_front, Stops, EndsAs}
+use Rattle.bep_frames.proofs.Readings.{empty_more, stream_more, stream_whole, stream_broken, whole_longer, broken_longer, step_shorter}
+
+remaining_none : (s : State) (more : List ℕ) → s.fault ≡ None → remaining (fed s more) ≡ stream s.hello (s.rest ++ more)
+remaining_none s more e = ap (λ (f : Option FrameFault). to_give s.hello (grown s.rest more f) f) e
+
+remaining_fault : (s : State) (more : List ℕ) (e : FrameFault) → s.fault ≡ Some e → remaining (fed s more) ≡ ended (Err e)
+remaining_fault s more e is = ap (λ (f : Option FrameFault). to_give s.hello (grown s.rest more f) f) is
+
+pub after_frame : (old new : State) (f : Frame) (more : List ℕ) → Gives old (Some (Ok f)) new → remaining (fed old more) ≡ first_then f (remaining (fed new more))
+after_frame old new f more g =
+    remaining_none old more g.0
+    ∙ stream_whole old.hello (old.rest ++ more) f (new.rest ++ more) (whole_longer old.hello old.rest more f new.rest g.1)
+    ∙ ap (first_then f) (sym (remaining_none new more g.3 ∙ ap (λ (due : Bool). stream due (new.rest ++ more)) g.2))
+
+pub after_fault : (old new : State) (e : FrameFault) (more : List ℕ) → TellsFault old e new → remaining (fed new more) ≡ remaining (fed old more)
+after_fault old new e more (inl h) = ap (λ (s : State). remaining (fed s more)) h.1
+after_fault old new e more (inr h) =
+    ap (λ (s : State). remaining (fed s more)) h.2 ∙ sym (remaining_none old more h.0 ∙ stream_broken old.hello (old.rest ++ more) e (broken_longer old.hello old.rest more e h.1))
+
+pub fault_stops : (old new : State) (e : FrameFault) → TellsFault old e new → new.fault ≡ Some e
+fault_stops old new e (inl h) = ap (λ (s : State). s.fault) h.1 ∙ h.0
+fault_stops old new e (inr h) = ap (λ (s : State). s.fault) h.2
+
+pub shorter : (old new : State) (f : Frame) → Gives old (Some (Ok f)) new → length new.rest < length old.rest
+shorter old new f g = step_shorter old.hello old.rest f new.rest g.1
+
+-- one more frame at the front
+pub front_push : (frames : List Frame) (f : Frame) (s : Stream) → with_front (frames ++ f ∷ []) s ≡ with_front frames (first_then f s)
+front_push frames f s = ap (λ (l : List Frame). record { frames = l; end = s.end }) (append_assoc frames (f ∷ []) s.frames)
+
+fed_by : (s : State) (f : Option FrameFault) (a b : List ℕ) → grown (grown s.rest a f) b f ≡ grown s.rest (a ++ b) f
+fed_by s None a b = append_assoc s.rest a b
+fed_by s (Some e) a b = refl
+
+-- two pieces are one
+pub fed_fed : (s : State) (a b : List ℕ) → fed (fed s a) b ≡ fed s (a ++ b)
+fed_fed s a b = ap (λ (l : List ℕ). record { hello = s.hello; rest = l; fault = s.fault }) (fed_by s s.fault a b)
+
+-- where nothing more comes
+pub ends_stream : (s : State) (fault : Option FrameFault) → Stops s fault → (frames : List Frame) (all : Stream) → with_front frames (remaining (fed s [])) ≡ all → frames ≡ all.frames
+ends_stream s None h frames all e =
+    let last : remaining (fed s []) ≡ ended (Ok s.rest) = remaining_none s [] h.0 ∙ ap (stream s.hello) (append-nil s.rest) ∙ stream_more s.hello s.rest h.1 in
+    sym (append-nil frames) ∙ ap (λ (r : Stream). frames ++ r.frames) (sym last) ∙ ap (λ (r : Stream). r.frames) e
+ends_stream s (Some f) h frames all e =
+    let last = remaining_fault s [] f h in
+    sym (append-nil frames) ∙ ap (λ (r : Stream). frames ++ r.frames) (sym last) ∙ ap (λ (r : Stream). r.frames) e
+
+pub ends_rest : (s : State) (frames : List Frame) (all : Stream) → Stops s None → with_front frames (remaining (fed s [])) ≡ all → EndsAs all.end (Ok (length s.rest))
+ends_rest s frames all h e =
+    let last : remaining (fed s []) ≡ ended (Ok s.rest) = remaining_none s [] h.0 ∙ ap (stream s.hello) (append-nil s.rest) ∙ stream_more s.hello s.rest h.1 in
+    let end = ap (λ (r : Stream). r.end) (sym last) ∙ ap (λ (r : Stream). r.end) e in
+    subst (λ (r : Result (List ℕ) FrameFault). EndsAs r (Ok (length s.rest))) end refl
+
+pub ends_fault : (s : State) (f : FrameFault) (frames : List Frame) (all : Stream) → Stops s (Some f) → with_front frames (remaining (fed s [])) ≡ all → EndsAs all.end (Err f)
+ends_fault s f frames all h e =
+    let end = ap (λ (r : Stream). r.end) (sym (remaining_fault s [] f h)) ∙ ap (λ (r : Stream). r.end) e in
+    subst (λ (r : Result (List ℕ) FrameFault). EndsAs r (Err f)) end refl
+
+pub starts : (due : Bool) → Stops (start due) None
+starts due = (refl, empty_more due)
+
+pub begin : (due : Bool) (s : State) (frames : List Frame) (all : List ℕ) → s ≡ start due → frames ≡ [] → with_front frames (remaining (fed s all)) ≡ stream due all
+begin due s frames all e none = ap (λ (t : State). with_front frames (remaining (fed t all))) e ∙ ap (λ (l : List Frame). with_front l (stream due all)) none
+
+pub begin_stops : (due : Bool) (s : State) → s ≡ start due → Stops s None
+begin_stops due s e = subst (λ (t : State). Stops t None) (sym e) (starts due)
+
+pub gives_tells : (old new : State) (e : FrameFault) → Gives old (Some (Err e)) new → (e ≡ OutOfMemory → ⊥) → TellsFault old e new
+gives_tells old new BadMagic g ne = g
+gives_tells old new TooLong g ne = g
+gives_tells old new Compressed g ne = g
+gives_tells old new BadHeader g ne = g
+gives_tells old new BadBody g ne = g
+gives_tells old new OutOfMemory g ne = absurd (ne refl)
+
+-- one more piece
+pub more_given : (reader fed_reader new : State) (frames given : List Frame) (piece rest : List ℕ) (all : Stream) → fed_reader ≡ fed reader piece → ((more : List ℕ) → with_front given (remaining (fed new more)) ≡ with_front frames (remaining (fed fed_reader more))) → with_front frames (remaining (fed reader (piece ++ rest))) ≡ all → with_front given (remaining (fed new rest)) ≡ all
+more_given reader fed_reader new frames given piece rest all is more e =
+    more rest ∙ ap (λ (s : State). with_front frames (remaining (fed s rest))) is ∙ ap (λ (s : State). with_front frames (remaining s)) (fed_fed reader piece rest) ∙ e
+
+pieces_suc : {A : Type 0} (bytes : A → List ℕ) (pieces : List A) (i : ℕ) (x : A) (piece : List ℕ) → i < length pieces → x ≡ get_or pieces i x → piece ≡ bytes x → flat_map bytes (drop i pieces) ≡ piece ++ flat_map bytes (drop (suc i) pieces)
+pieces_suc bytes [] i x piece lt is e = absurd (omega (arith, lt))
+pieces_suc bytes (y ∷ pieces) zero x piece lt is e = ap (λ (l : List ℕ). l ++ flat_map bytes pieces) (sym (e ∙ ap bytes is))
+pieces_suc bytes (y ∷ pieces) (suc i) x piece lt is e = pieces_suc bytes pieces i x piece (omega (arith, lt)) is e
+
+pub pieces_next : {A : Type 0} (bytes : A → List ℕ) (pieces : List A) (i : ℕ) (x : A) (piece : List ℕ) → i < length pieces → x ≡ get_or pieces i x → piece ≡ bytes x → flat_map bytes (drop i pieces) ≡ piece ++ flat_map bytes (drop (i + 1) pieces)
+pieces_next bytes pieces i x piece lt is e = pieces_suc bytes pieces i x piece lt is e ∙ ap (λ (k : ℕ). piece ++ flat_map bytes (drop k pieces)) (sym (add-one i))
+
+pub pieces_over : {A : Type 0} (bytes : A → List ℕ) (pieces : List A) (i : ℕ) → length pieces ≤ i → flat_map bytes (drop i pieces) ≡ []
+pieces_over bytes pieces i le = ap (flat_map bytes) (drop_of_length-le pieces le)
+
+pub whole_over : {A : Type 0} (bytes : A → List ℕ) (pieces : List A) (i : ℕ) (frames : List Frame) (s : State) (all : Stream) → length pieces ≤ i → with_front frames (remaining (fed s (flat_map bytes (drop i pieces)))) ≡ all → with_front frames (remaining (fed s [])) ≡ all
+whole_over bytes pieces i frames s all le e = ap (λ (l : List ℕ). with_front frames (remaining (fed s l))) (sym (pieces_over bytes pieces i le)) ∙ e

@@ -1,0 +1,9 @@
+pub mod Numbers
+pub mod Carried
+pub mod Readable
+pub mod Grammar
+pub mod Reading
+pub mod Stream
+pub mod State
+pub mod Found
+pub mod Written

@@ -1,0 +1,18 @@
+-- The numbers under which programs report faults (own rule).
+use Rattle.std.specs.Prelude.{ℕ}
+use Rattle.bep_frames.specs.declared.fault.FrameFault.{FrameFault}
+use Rattle.bep_frames.specs.declared.fault.FrameFault.TheVariants.{BadMagic, TooLong, Compressed, BadHeader, BadBody, OutOfMemory}
+use Rattle.bep_frames.specs.declared.fault.WriteFault.{WriteFault}
+use Rattle.bep_frames.specs.declared.fault.WriteFault.TheVariants.{TooLong as FormTooLong, OutOfMemory as NoMemory}
+
+abbrev pub frame_fault_number : FrameFault → ℕ
+frame_fault_number BadMagic = 10
+frame_fault_number TooLong = 11
+frame_fault_number Compressed = 12
+frame_fault_number BadHeader = 13
+frame_fault_number BadBody = 14
+frame_fault_number OutOfMemory = 33
+
+abbrev pub write_fault_number : WriteFault → ℕ
+write_fault_number FormTooLong = 11
+write_fault_number NoMemory = 33

@@ -1,0 +1,76 @@
+ghost use Rattle.std.specs.Prelude.{◌≡◌};
+ghost use Rattle.bep_frames.specs.Numbers.{frame_fault_number, write_fault_number};
+ghost use Rattle.bep_frames.specs.declared.fault.WriteFault.TheVariants.{OutOfMemory};
+
+use std::alloc::AllocError;
+use thiserror::Error;
+
+/// Why no frame is read.
+#[derive(Clone, Copy, Debug, PartialEq, Eq, Error)]
+pub enum FrameFault {
+    /// A Hello is due, and the first four bytes aren't `0x2EA7D90B`.
+    #[error("BadMagic")]
+    BadMagic,
+    /// A message has more than 500,000,000 bytes.
+    #[error("TooLong")]
+    TooLong,
+    /// A header says that its message is compressed.
+    #[error("Compressed")]
+    Compressed,
+    /// A whole header can't be read.
+    #[error("BadHeader")]
+    BadHeader,
+    /// A whole message of a known type can't be read.
+    #[error("BadBody")]
+    BadBody,
+    /// Memory ran out.
+    #[error("OutOfMemory")]
+    OutOfMemory,
+}
+
+impl FrameFault {
+    /// The number under which programs report the fault: 10 to 14, or 33 for want of memory.
+    pub fn number(self) -> u8
+        ensures { result ≡ frame_fault_number self }
+    {
+        match self {
+            FrameFault::BadMagic => 10,
+            FrameFault::TooLong => 11,
+            FrameFault::Compressed => 12,
+            FrameFault::BadHeader => 13,
+            FrameFault::BadBody => 14,
+            FrameFault::OutOfMemory => 33,
+        }
+    }
+}
+
+/// Why no frame is written.
+#[derive(Clone, Copy, Debug, PartialEq, Eq, Error)]
+pub enum WriteFault {
+    /// The written form has more than 65,535 bytes (a Hello) or 500,000,000 (any other message).
+    #[error("TooLong")]
+    TooLong,
+    /// Memory ran out.
+    #[error("OutOfMemory")]
+    OutOfMemory,
+}
+
+impl WriteFault {
+    /// The number under which programs report the fault: 11, or 33 for want of memory.
+    pub fn number(self) -> u8
+        ensures { result ≡ write_fault_number self }
+    {
+        match self {
+            WriteFault::TooLong => 11,
+            WriteFault::OutOfMemory => 33,
+        }
+    }
+}
+
+impl From<AllocError> for WriteFault {
+    ghost from_gives = { λ _ e. e ≡ OutOfMemory };
+
+    fn from(_refused: AllocError) -> WriteFault {
+        WriteFault::OutOfMemory
+    }
+}

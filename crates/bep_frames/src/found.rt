@@ -1,0 +1,101 @@
+ghost use Rattle.std.specs.Prelude.{◌≡◌, MatchResult};
+ghost use Rattle.bep_frames.specs.Found.{Finds, Fails};
+ghost use Rattle.bep_frames.specs.Reading.{hello_sized, hello_at, message_at, later_at, frame_at};
+
+use crate::carried::{carried, read};
+use crate::fault::FrameFault;
+use crate::frame::Frame;
+use crate::size::{number16, number32};
+use bep_messages::{Header, Hello};
+use std::alloc::Global;
+
+const MAGIC: [u8; 4] = [0x2E, 0xA7, 0xD9, 0x0B];
+
+/// The most bytes of a message.
+const MOST_BYTES: usize = 500_000_000;
+
+/// What a look at some bytes finds.
+pub enum Found {
+    /// No frame or fault is there before so many more bytes are.
+    Missing(usize),
+    /// A frame, with so many bytes behind it.
+    Whole(Frame, usize),
+}
+
+/// The frame that stands first.
+pub fn frame_at(alloc: Global, hello_is_due: bool, bytes: &[u8]) -> Result<Found, FrameFault>
+    ensures { MatchResult result (Finds (frame_at hello_is_due) bytes.now) (Fails (frame_at hello_is_due bytes.now)) }
+{
+    if hello_is_due {
+        hello_at(alloc, bytes)
+    } else {
+        later_at(alloc, bytes)
+    }
+}
+
+fn hello_at(alloc: Global, bytes: &[u8]) -> Result<Found, FrameFault>
+    ensures { MatchResult result (Finds hello_at bytes.now) (Fails (hello_at bytes.now)) }
+{
+    if bytes.len() < 4 {
+        return Ok(Found::Missing(4 - bytes.len()));
+    }
+    let (front, behind) = bytes.split_at(4);
+    if !front.starts_with(&MAGIC) {
+        return Err(FrameFault::BadMagic);
+    }
+    hello_sized(alloc, behind)
+}
+
+fn hello_sized(alloc: Global, bytes: &[u8]) -> Result<Found, FrameFault>
+    ensures { MatchResult result (Finds hello_sized bytes.now) (Fails (hello_sized bytes.now)) }
+{
+    if bytes.len() < 2 {
+        return Ok(Found::Missing(2 - bytes.len()));
+    }
+    let (size, behind) = bytes.split_at(2);
+    let len = number16(size);
+    if behind.len() < len {
+        return Ok(Found::Missing(len - behind.len()));
+    }
+    let (body, rest) = behind.split_at(len);
+    let hello = read::<Hello>(alloc, body, FrameFault::BadBody)?;
+    Ok(Found::Whole(Frame::Hello(hello), rest.len()))
+}
+
+fn later_at(alloc: Global, bytes: &[u8]) -> Result<Found, FrameFault>
+    ensures { MatchResult result (Finds later_at bytes.now) (Fails (later_at bytes.now)) }
+{
+    if bytes.len() < 2 {
+        return Ok(Found::Missing(2 - bytes.len()));
+    }
+    let (size, behind) = bytes.split_at(2);
+    let len = number16(size);
+    if behind.len() < len {
+        return Ok(Found::Missing(len - behind.len()));
+    }
+    let (text, rest) = behind.split_at(len);
+    let header = read::<Header>(alloc, text, FrameFault::BadHeader)?;
+    if header.compression != 0 {
+        return Err(FrameFault::Compressed);
+    }
+    message_at(alloc, header.kind, rest)
+}
+
+fn message_at(alloc: Global, kind: i32, bytes: &[u8]) -> Result<Found, FrameFault>
+    ensures { MatchResult result (Finds (message_at kind) bytes.now) (Fails (message_at kind bytes.now)) }
+{
+    if bytes.len() < 4 {
+        return Ok(Found::Missing(4 - bytes.len()));
+    }
+    let (size, behind) = bytes.split_at(4);
+    let len = number32(size);
+    if len > MOST_BYTES {
+        return Err(FrameFault::TooLong);
+    }
+    if behind.len() < len {
+        return Ok(Found::Missing(len - behind.len()));
+    }
+    let (body, rest) = behind.split_at(len);
+    let frame = carried(alloc, kind, body)?;
+    Ok(Found::Whole(frame, rest.len()))
+}

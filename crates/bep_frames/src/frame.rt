@@ -1,0 +1,35 @@
+use bep_messages::{
+    Close, ClusterConfig, DownloadProgress, Hello, Index, IndexUpdate, Ping, Request, Response,
+};
+
+/// A message behind a header (Block Exchange Protocol v1, "Post-authentication Messages"), by its type.
+#[derive(Debug, Drop)]
+pub enum Message {
+    /// Type 0.
+    ClusterConfig(ClusterConfig),
+    /// Type 1.
+    Index(Index),
+    /// Type 2.
+    IndexUpdate(IndexUpdate),
+    /// Type 3.
+    Request(Request),
+    /// Type 4.
+    Response(Response),
+    /// Type 5.
+    DownloadProgress(DownloadProgress),
+    /// Type 6.
+    Ping(Ping),
+    /// Type 7.
+    Close(Close),
+}
+
+/// One frame of a stream.
+#[derive(Debug, Drop)]
+pub enum Frame {
+    /// The first, where a Hello is due.
+    Hello(Hello),
+    /// Any later one, of a known type.
+    Message(Message),
+    /// Any later one of another type, which is told. What it holds isn't read.
+    Unknown(i32),
+}

@@ -1,0 +1,24 @@
+//! Frames of the Block Exchange Protocol v1: read from a stream that comes in any pieces, and written.
+//!
+//! A stream is the spellings of its frames in order, and then a rest that begins with no whole frame
+//! (`specs/Grammar.antt`, `specs/Stream.antt`). A rest may show a fault.
+#![tactic(auto)]
+
+mod carried;
+mod fault;
+mod found;
+mod frame;
+mod laws;
+mod reader;
+mod run;
+mod size;
+#[cfg(test)]
+mod tests;
+mod writing;
+
+pub use fault::{FrameFault, WriteFault};
+pub use frame::{Frame, Message};
+pub use laws::{no_frame_begins_another, one_reading};
+pub use reader::FrameReader;
+pub use run::{FrameStream, frames_of};
+pub use writing::{write_frame, write_hello};
