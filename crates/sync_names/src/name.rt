@@ -48,8 +48,8 @@ impl SafeName {
         Ok(SafeName { text })
     }
 
-    /// The name with this text, as [`SafeName::parse`] with no copy.
-    pub(crate) fn from_string(text: String) -> Result<SafeName, NameFault>
+    /// The name with this text, as [`SafeName::parse`], in the memory of the text itself: it is not copied.
+    pub fn from_string(text: String) -> Result<SafeName, NameFault>
         ensures answer { ParsesTo (string_bytes text) result }
         ensures safe { OnOk result (IsSafe (string_bytes text)) }
     {

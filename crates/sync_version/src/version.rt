@@ -47,11 +47,21 @@ impl Version {
         ensures value { IfOk result (λ v. v ≡ from_counters counters.now) }
         ensures gathered { IfOk result (λ v. IsGatheredFrom counters.now v) }
     {
-        let mut kept = counters.to_vec(alloc)?;
+        let pairs = counters.to_vec(alloc)?;
+        Ok(Version::from_pairs(pairs))
+    }
+
+    /// The version with these counters, as [`Version::from_counters`], in the memory of the list itself. Takes no
+    /// memory. O(n log n).
+    pub fn from_pairs(pairs: Vec<(u64, u64)>) -> Version
+        ensures value { result ≡ from_counters pairs.items }
+        ensures gathered { IsGatheredFrom pairs.items result }
+    {
+        let mut kept = pairs;
         kept.retain(|c| c.1 > 0);
         kept.sort_unstable_by_key(|c| (c.0, Reverse(c.1)));
         kept.dedup_by_key(|c| c.0);
-        Ok(Version { counters: kept })
+        Version { counters: kept }
     }
 
     /// The pairs of id and counter, in strictly rising id, none of the counters 0. O(1).

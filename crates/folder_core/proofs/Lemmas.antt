@@ -1,0 +1,16 @@
+-- The laws, as the functions of src/laws.rt state them, for the proofs of other crates.
+pub use Rattle.folder_core.proofs.Orders.{bytes_total, exact_names, keys_total, exact_keys}
+pub use Rattle.folder_core.proofs.BestLaws.{best-found, best-only, best-one, best-some, best-none, best-undominated, best_any_order}
+pub use Rattle.folder_core.proofs.DeviceLaws.{devices-rise, devices-tell}
+pub use Rattle.folder_core.proofs.Indexes.{get-announce_own, get-announce, get-index_own, get-index_other, get-without_own, get-without_other, either_order, announce-only, without-only, index-only}
+pub use Rattle.folder_core.proofs.NeedLaws.{need-rising, need-tells}
+pub use Rattle.folder_core.proofs.StepLaws.{step-keeps}
+pub use Rattle.folder_core.proofs.FrameLaws.{step-me, step-devices, step-pulls}
+pub use Rattle.folder_core.proofs.FolderLaws.{empty-folder, step-folder, legal-folder}
+pub use Rattle.folder_core.proofs.NumberLaws.{step-numbered, step-last, step-new}
+pub use Rattle.folder_core.proofs.PullNumbers.{number-least}
+pub use Rattle.folder_core.proofs.BeginLaws.{begin-busy, begin-unneeded, begin-unsupported, begin-begun}
+pub use Rattle.folder_core.proofs.RecordLaws.{found-number, found-elsewhere, file-recorded, directory-recorded, gone-number, gone-elsewhere, gone-recorded, Finishes, finish-tells}
+pub use Rattle.folder_core.proofs.AnswerLaws.{found-busy, found-moved, found-unchanged, found-counter, found-sequence, found-made, gone-busy, gone-moved, gone-unchanged, gone-counter, gone-sequence, gone-made}
+pub use Rattle.folder_core.proofs.AnswerLaws.{Stands, enter-stray, enter-moved, enter-superseded, enter-sequence, enter-entered, finish-stray, finish-done, give_up-stray, give_up-closed, abort-stray, abort-closed}
+pub use Rattle.folder_core.proofs.CommitLaws.{commits-legal, legal-begin}

@@ -1,0 +1,151 @@
+-- The entries of one name stand side by side, and have the best of it and the devices that have it.
+use Rattle.std.proofs.Common.{◌≡◌, ℕ, suc, ◌<◌, ◌≤◌, Bool, true, false, List, [], ◌∷◌, length, take, drop, refl, sym, ap, ◌∙◌, inl, inr, arith}
+use Rattle.std.specs.Prelude.{bytes_eq, ◌&&◌, ◌||◌, not, cond, T, filter, map, slice_index_or}
+use Rattle.std.specs.Bool.{passes}
+use Rattle.std.specs.List.{list_all, AllWithin}
+use Rattle.std.specs.List.Sorted.{IsPartitionedBy}
+use Rattle.std.specs.declared.cmp.Ordering.{Ordering}
+use Rattle.std.specs.declared.cmp.Ordering.TheVariants.{Less, Equal, Greater}
+use Rattle.std.specs.Ordering.{is_lt, ordering_then}
+use Rattle.std.specs.Cmp.{tied_itself}
+use Rattle.std.specs.Cmp.Lexicographic.{nat_list_cmp_total}
+use Rattle.std.specs.FinMap.Entries.{below_all}
+use Rattle.std.proofs.lemmas.Map.Lookups.{exact_bytes}
+use mathlib.Core.Bool.{true≢false}
+use Rattle.sync_record.specs.Contents.{same_content}
+use Rattle.sync_record.specs.Devices.{bytes_cmp}
+use Rattle.sync_record.specs.Records.{Name}
+use Rattle.sync_record.specs.Validity.{is_valid}
+use Rattle.sync_version.specs.Computed.{dominates, same_version}
+use Rattle.folder_core.specs.declared.plain.entry.Entry.{Entry}
+use Rattle.folder_core.specs.Announced.{In, Announcement, Key, key_cmp, is_of, is_candidate, is_best, best, devices_of, is_by, is_preferred}
+use Rattle.folder_core.specs.Kept.{Rises, filed}
+use Rattle.folder_core.proofs.PlainTests.{both, none_left, same_bytes, alike_bytes, parts, any_filter, filter_filter, find_filter, find_same}
+use Rattle.folder_core.proofs.PlainOrders.{is_less}
+
+-- ---- where the entries of a name begin and end
+
+abbrev pub is_before : Name → Entry → Bool
+is_before n e = is_lt (bytes_cmp e.record.name n)
+
+abbrev pub is_named : Name → Entry → Bool
+is_named n e = bytes_eq e.record.name n
+
+below_at : (k : Key) (es : List Entry) → T (below_all key_cmp k (map filed es)) → (j : ℕ) (d : Entry) → j < length es → key_cmp k (filed (slice_index_or es j d)).0 ≡ Less
+below_at k [] b j d short = absurd (omega arith)
+below_at k (e ∷ es) b ℕ.zero d short = is_less _ (parts _ _ b).0
+below_at k (e ∷ es) b (suc j) d short = below_at k es (parts _ _ b).1 j d (omega arith)
+
+rest_rises : (e : Entry) (es : List Entry) → Rises (e ∷ es) → Rises es
+rest_rises e es h = (both _ _ h).1
+
+pub drop_rises : (i : ℕ) (es : List Entry) → Rises es → Rises (drop i es)
+drop_rises ℕ.zero es h = h
+drop_rises (suc i) [] h = h
+drop_rises (suc i) (e ∷ es) h = drop_rises i es (rest_rises e es h)
+
+-- a test that holds of each entry before one of which it holds, where all are of a kind
+pub partitioned : (P : Entry → Type 0) (p : Entry → Bool) → ((x y : Entry) → P x → key_cmp (filed x).0 (filed y).0 ≡ Less → p y ≡ true → p x ≡ true) →
+    (es : List Entry) → Rises es → ((x : Entry) → In x es → P x) → IsPartitionedBy p es
+partitioned P p down [] h each i j d le short t = absurd (omega arith)
+partitioned P p down (e ∷ es) h each ℕ.zero ℕ.zero d le short t = t
+partitioned P p down (e ∷ es) h each ℕ.zero (suc j) d le short t =
+    down e (slice_index_or es j d) (each e (inl refl)) (below_at (filed e).0 es (passes _ (both _ _ h).0) j d (omega arith)) t
+partitioned P p down (e ∷ es) h each (suc i) ℕ.zero d le short t = absurd (omega arith)
+partitioned P p down (e ∷ es) h each (suc i) (suc j) d le short t =
+    partitioned P p down es (rest_rises e es h) (λ x k. each x (inr k)) i j d (omega arith) (omega arith) t
+
+-- the entries up to a partition point are those that pass, and the others are behind it
+pub front_is : {A : Type 0} (p : A → Bool) (xs : List A) (i : ℕ) → i ≤ length xs → AllWithin (λ y. p y ≡ true) xs 0 i → AllWithin (λ y. p y ≡ false) xs i (length xs) → take i xs ≡ filter p xs
+front_is p [] ℕ.zero le pass fail = refl
+front_is p [] (suc i) le pass fail = refl
+front_is p (x ∷ xs) ℕ.zero le pass fail =
+    front_is p xs 0 (omega arith) (λ k d l s. absurd (omega arith)) (λ k d l s. fail (suc k) d (omega arith) (omega arith))
+    ∙ ap (λ b. cond b (x ∷ filter p xs) (filter p xs)) (sym (fail 0 x (omega arith) (omega arith)))
+front_is p (x ∷ xs) (suc i) le pass fail =
+    ap (λ ys. x ∷ ys) (front_is p xs i (omega arith) (λ k d l s. pass (suc k) d (omega arith) (omega arith)) (λ k d l s. fail (suc k) d (omega arith) (omega arith)))
+    ∙ ap (λ b. cond b (x ∷ filter p xs) (filter p xs)) (sym (pass 0 x (omega arith) (omega arith)))
+
+pub back_is : {A : Type 0} (p : A → Bool) (xs : List A) (i : ℕ) → i ≤ length xs → AllWithin (λ y. p y ≡ true) xs 0 i → AllWithin (λ y. p y ≡ false) xs i (length xs) → drop i xs ≡ filter (λ x. not (p x)) xs
+back_is p [] ℕ.zero le pass fail = refl
+back_is p [] (suc i) le pass fail = refl
+back_is p (x ∷ xs) ℕ.zero le pass fail =
+    ap (λ ys. x ∷ ys) (back_is p xs 0 (omega arith) (λ k d l s. absurd (omega arith)) (λ k d l s. fail (suc k) d (omega arith) (omega arith)))
+    ∙ ap (λ b. cond (not b) (x ∷ filter (λ y. not (p y)) xs) (filter (λ y. not (p y)) xs)) (sym (fail 0 x (omega arith) (omega arith)))
+back_is p (x ∷ xs) (suc i) le pass fail =
+    back_is p xs i (omega arith) (λ k d l s. pass (suc k) d (omega arith) (omega arith)) (λ k d l s. fail (suc k) d (omega arith) (omega arith))
+    ∙ ap (λ b. cond (not b) (x ∷ filter (λ y. not (p y)) xs) (filter (λ y. not (p y)) xs)) (sym (pass 0 x (omega arith) (omega arith)))
+
+less_before : (r s : Ordering) → ordering_then r s ≡ Less → (r ≡ Less → ⊥) → r ≡ Equal
+less_before Less s e f = absurd (f refl)
+less_before Equal s e f = refl
+less_before Greater s e f = absurd (true≢false (sym (ap is_lt e)))
+
+is_less_of : (r : Ordering) → is_lt r ≡ true → r ≡ Less
+is_less_of r e = is_less r (passes _ e)
+
+-- a name before one that stands before n
+pub before_down : (n : Name) (x y : Entry) → key_cmp (filed x).0 (filed y).0 ≡ Less → is_before n y ≡ true → is_before n x ≡ true
+before_down n x y less t =
+    let below : bytes_cmp y.record.name n ≡ Less = is_less_of _ t in
+    elim (bytes_cmp x.record.name y.record.name) as (λ r. bytes_cmp x.record.name y.record.name ≡ r → ordering_then r (bytes_cmp x.device y.device) ≡ Less → is_lt (bytes_cmp x.record.name n) ≡ true) [
+      | Less ↦ λ e l. ap is_lt (nat_list_cmp_total.trans x.record.name y.record.name n e below)
+      | Equal ↦ λ e l. ap is_lt (nat_list_cmp_total.congr x.record.name y.record.name n e ∙ below)
+      | Greater ↦ λ e l. absurd (true≢false (sym (ap is_lt l)))
+    ] refl less
+
+-- a name that doesn't stand before n, before one that is n
+pub named_down : (n : Name) (x y : Entry) → is_before n x ≡ false → key_cmp (filed x).0 (filed y).0 ≡ Less → is_named n y ≡ true → is_named n x ≡ true
+named_down n x y late less t =
+    let there : y.record.name ≡ n = same_bytes y.record.name n t in
+    let tie : bytes_cmp x.record.name y.record.name ≡ Equal = less_before _ _ less (λ e. true≢false (sym (ap is_lt e) ∙ ap (λ m. is_lt (bytes_cmp x.record.name m)) there ∙ late)) in
+    alike_bytes x.record.name n (exact_bytes x.record.name y.record.name tie ∙ there)
+
+pub named_is_late : (n : Name) (x : Entry) → is_named n x ≡ (not (is_before n x) && is_named n x)
+named_is_late n x =
+    elim (is_named n x) as (λ b. is_named n x ≡ b → b ≡ (not (is_before n x) && b)) [
+      | true ↦ λ t. ap (λ b. not b && true) (sym (ap (λ m. is_lt (bytes_cmp m n)) (same_bytes x.record.name n t) ∙ ap is_lt (tied_itself nat_list_cmp_total n)))
+      | false ↦ λ t. sym (none_left (not (is_before n x)))
+    ] refl
+
+-- ---- a name's entries alone
+
+module _ (n : Name) (es : List Announcement) where
+  abbrev pub group : List Announcement
+  group = filter (is_of n) es
+
+  of_name : (e f : Announcement) → is_of n e ≡ true → is_of e.0.name f ≡ true → is_of n f ≡ true
+  of_name e f t u = alike_bytes f.0.name n (same_bytes f.0.name e.0.name u ∙ same_bytes e.0.name n t)
+
+  pub candidate_in_group : (e : Announcement) → is_of n e ≡ true → is_candidate group e ≡ is_candidate es e
+  candidate_in_group e t =
+      ap (λ b. is_valid e.1 && not b) (any_filter (is_of n) (λ f. is_of e.0.name f && is_valid f.1 && dominates f.1.version e.1.version) es (λ f u. of_name e f t (both _ _ (both _ _ u).0).0))
+
+  pub best_in_group_test : (e : Announcement) → is_of n e ≡ true → is_best group e ≡ is_best es e
+  best_in_group_test e t =
+      let rivals : filter (λ f. is_of e.0.name f && is_candidate group f) group ≡ filter (λ f. is_of e.0.name f && is_candidate es f) es =
+      filter_filter (is_of n) (λ f. is_of e.0.name f && is_candidate group f) (λ f. is_of e.0.name f && is_candidate es f) es (λ f.
+      elim (is_of e.0.name f) as (λ b. is_of e.0.name f ≡ b → (b && is_candidate es f) ≡ (is_of n f && (b && is_candidate group f))) [
+        | true ↦ λ u. sym (candidate_in_group f (of_name e f t u)) ∙ ap (λ b. b && is_candidate group f) (sym (of_name e f t u))
+        | false ↦ λ u. sym (none_left (is_of n f))
+      ] refl) in
+      λ i. candidate_in_group e t i && list_all (λ f. is_by e.0.device f || is_preferred e f) (rivals i)
+
+  pub best_in_group : best group n ≡ best es n
+  best_in_group =
+      find_filter (is_of n) (is_best group) group
+      ∙ find_filter (λ e. is_best group e && is_of n e) (is_of n) es
+      ∙ find_same _ _ es (λ e.
+      elim (is_of n e) as (λ b. is_of n e ≡ b → (b && (is_best group e && b)) ≡ (is_best es e && b)) [
+        | true ↦ λ t. ap (λ b. b && true) (best_in_group_test e t)
+        | false ↦ λ t. sym (none_left (is_best es e))
+      ] refl)
+      ∙ sym (find_filter (is_of n) (is_best es) es)
+
+  pub devices_in_group : (b : Announcement) → b.0.name ≡ n → devices_of es b ≡ devices_of group b
+  devices_in_group b named =
+      ap (map (λ e. e.0.device)) (sym (filter_filter (is_of n) _ (λ e. is_of b.0.name e && is_valid e.1 && same_version e.1.version b.1.version && same_content e.1 b.1) es (λ e.
+      elim (is_of b.0.name e) as (λ t. is_of b.0.name e ≡ t → (t && is_valid e.1 && same_version e.1.version b.1.version && same_content e.1 b.1) ≡ (is_of n e && (t && is_valid e.1 && same_version e.1.version b.1.version && same_content e.1 b.1))) [
+        | true ↦ λ t. ap (λ x. x && (is_valid e.1 && same_version e.1.version b.1.version && same_content e.1 b.1)) (sym (ap (bytes_eq e.0.name) (sym named) ∙ t))
+        | false ↦ λ t. sym (none_left (is_of n e))
+      ] refl)))

@@ -1,0 +1,11 @@
+use Rattle.folder_core.proofs.FrameLaws.{step-me, step-devices, step-pulls}
+use Rattle.folder_core.proofs.laws.changes_leave_the_rest.Goals as goal
+
+pub returns-clause-device : goal.returns-clause-device
+returns-clause-device c = step-me
+
+pub returns-clause-others : goal.returns-clause-others
+returns-clause-others c = step-devices
+
+pub returns-clause-pulls : goal.returns-clause-pulls
+returns-clause-pulls c = step-pulls

@@ -1,0 +1,92 @@
+-- A folder that several callers share: the history of its changes.
+use Rattle.std.specs.Prelude.{bytes_eq, false, ◌++◌, count_by, option_map, ◌≡◌, ℕ, ◌+◌, ◌≤◌, Bool, ◌&&◌, ◌==◌, nat_lt, if◌then◌else◌, List, [], ◌∷◌, length, filter, fold, IsTrue, ⊤}
+use Rattle.std.specs.FinMap.{len}
+use Rattle.sync_record.specs.Records.{Name, FileRecord}
+use Rattle.folder_core.specs.States.{FolderState, IsFolder, local_version}
+use Rattle.folder_core.specs.Steps.{Change, Answer, Token, Begun, Entered, Finish, HistoryFull, is_accepted, step, MayChange}
+
+-- an accepted change: whose it was, what was asked, and what was answered
+pub record Entry : Type 0 where
+  pub pass : ℕ
+  pub change : Change
+  pub answer : Answer
+
+abbrev pub after : FolderState → Entry → FolderState
+after s e = (step s e.change).1
+
+abbrev pub state_after : FolderState → List Entry → FolderState
+state_after s es = fold after s es
+
+-- at this state the entry may come next: its pass was given out, its caller kept the change's conditions,
+-- and it was accepted with this answer
+pub record MayFollow (passes : ℕ) (s : FolderState) (e : Entry) : Type 0 where
+  pub given : (1 ≤ e.pass) × (e.pass ≤ passes)
+  pub allowed : MayChange s e.change
+  pub answered : (step s e.change).0 ≡ e.answer
+  pub accepted : IsTrue (is_accepted e.answer)
+
+-- each entry of the history may follow those before it
+abbrev pub IsLegal : ℕ → FolderState → List Entry → Type 0
+IsLegal passes s [] = ⊤
+IsLegal passes s (e ∷ es) = MayFollow passes s e × IsLegal passes (after s e) es
+
+-- the history leads from one state to another
+abbrev pub IsReplay : ℕ → FolderState → List Entry → FolderState → Type 0
+IsReplay passes opening es end = IsLegal passes opening es × (state_after opening es ≡ end)
+
+-- with the entries that the open pulls will add, the history has no room for what was done
+abbrev pub is_over : ℕ → ℕ → Answer × FolderState → Bool
+is_over limit entries done = is_accepted done.0 && nat_lt limit (entries + 1 + len done.1.pulls)
+
+-- a change's answer and state behind a history of some length
+abbrev pub shared_step : ℕ → ℕ → FolderState → Change → Answer × FolderState
+shared_step limit entries s change = if is_over limit entries (step s change) then (HistoryFull, s) else step s change
+
+-- the answer at the point that a history leads to
+abbrev pub shared_answer : ℕ → FolderState → List Entry → Change → Answer
+shared_answer limit opening es change = (shared_step limit (length es) (state_after opening es) change).0
+
+-- the entries of a pass
+abbrev pub own_entries : ℕ → List Entry → List Entry
+own_entries pass es = filter (λ e. e.pass == pass) es
+
+-- behind a history of some length each change gives its answer and its state, one after another
+abbrev pub SharedLeads : ℕ → ℕ → FolderState → List (Change × Answer × FolderState) → Type 0
+SharedLeads limit entries s [] = ⊤
+SharedLeads limit entries s (m ∷ ms) =
+    (shared_step limit entries s m.0 ≡ (m.1, m.2)) × SharedLeads limit (if is_accepted m.1 then entries + 1 else entries) m.2 ms
+
+-- the entry begins a pull of the name, or enters its commit
+abbrev pub is_begin_of : Name → Answer → Bool
+is_begin_of n (Begun t) = bytes_eq t.name n
+is_begin_of n _ = false
+
+abbrev pub is_enter_of : Name → Answer → Bool
+is_enter_of n (Entered t) = bytes_eq t.name n
+is_enter_of n _ = false
+
+-- A finish that stands behind some entries ends the pull that was begun and entered there, over the
+-- local version of its begin, with its target assembled.
+pub record EndsPull (opening : FolderState) (front : List Entry) (commit : Token) (assembled : FileRecord) : Type 0 where
+  pub before : List Entry
+  pub begun : Entry
+  pub between : List Entry
+  pub ticket : Token
+  pub stands : front ≡ before ++ begun ∷ between
+  pub began : begun.answer ≡ Begun ticket
+  pub same : (ticket.number ≡ commit.number) × (ticket.name ≡ commit.name) × (ticket.target ≡ commit.target)
+  pub no_other_begin : count_by (λ e. is_begin_of commit.name e.answer) between ≡ 0
+  pub one_enter : count_by (λ e. is_enter_of commit.name e.answer) between ≡ 1
+  pub unmoved : local_version (state_after opening front) commit.name ≡ option_map (λ r. r.version) ticket.base
+  pub target : assembled ≡ commit.target
+
+-- in a legal history each finish ends a pull
+abbrev pub CommitsAreLegal : Type 0
+CommitsAreLegal =
+    (passes : ℕ) (opening : FolderState) (front rest : List Entry) (done : Entry) (commit : Token) (assembled : FileRecord)
+    → IsFolder opening → len opening.pulls ≡ 0 → IsLegal passes opening (front ++ done ∷ rest) → done.change ≡ Finish commit assembled
+    → EndsPull opening front commit assembled
+
+-- each state that a folder comes to is a folder's
+abbrev pub ChangesKeepFolders : Type 0
+ChangesKeepFolders = (s : FolderState) (c : Change) → IsFolder s → MayChange s c → IsFolder (step s c).1

@@ -1,0 +1,10 @@
+pub mod Announced
+pub mod States
+pub mod Steps
+pub mod Reads
+pub mod Histories
+pub mod Shared
+pub mod Codes
+pub mod Calls
+pub mod Samples
+pub mod Kept

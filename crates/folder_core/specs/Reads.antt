@@ -1,0 +1,103 @@
+-- What each read of a folder answers.
+use Rattle.std.specs.Prelude.{bytes_eq, ◌≡◌, ℕ, ◌+◌, Bool, true, if◌then◌else◌, unwrap_or, not, ◌&&◌, ◌||◌, nat_lt, nat_le, max, List, [], length, map, filter, take, sum_by, count_by, flat_map, fold, Option, None, option_map, MatchOption, Contains}
+use Rattle.std.specs.List.{last_or, range_with_len}
+use Rattle.std.specs.Option.{option_map_or}
+use Rattle.std.specs.Ordering.{nat_cmp, is_gt}
+use Rattle.std.specs.FinMap.{entries, len, put}
+use Rattle.folder_core.specs.declared.place.Place.{Place}
+use Rattle.folder_core.specs.declared.counts.Counts.{Counts}
+use Rattle.sync_record.specs.Devices.{Identity, bytes_cmp}
+use Rattle.sync_record.specs.Records.{Name, FileRecord, is_live, is_live_file, is_directory}
+use Rattle.folder_core.specs.Announced.{is_by, best, devices_of}
+use Rattle.folder_core.specs.States.{FolderState, local, need}
+
+-- this device's records, in byte order of their names
+abbrev pub locals : FolderState → List FileRecord
+locals s = map (λ e. e.1) (filter (is_by s.me) (entries s.announced))
+
+-- the best of a name, with the devices that have it
+abbrev pub best_found : FolderState → Name → Option (FileRecord × List Identity)
+best_found s n = option_map (λ b. (b.1, devices_of (entries s.announced) b)) (best (entries s.announced) n)
+
+-- the first needed names behind a name, at most limit of them
+abbrev pub need_page : FolderState → Option Name → ℕ → List Name
+need_page s after limit =
+    take limit (filter (λ n. option_map_or (λ a. is_gt (bytes_cmp n a)) after true) (need s))
+
+-- records in rising sequence
+abbrev pub by_sequence : List FileRecord → List FileRecord
+by_sequence rs = map (λ e. e.1) (fold (λ es r. put nat_cmp r.sequence r es) [] rs)
+
+-- the beginnings of a list, the empty one first
+abbrev pub beginnings : {X : Type 0} → List X → List (List X)
+beginnings xs = map (λ n. take n xs) (range_with_len 0 (length xs + 1))
+
+-- no more than limit records, and no more than 1,000,000 blocks, but one record always fits
+abbrev pub fits_page : ℕ → List FileRecord → Bool
+fits_page limit rs =
+    nat_le (length rs) limit && (nat_le (sum_by (λ r. length r.blocks) rs) 1000000 || nat_le (length rs) 1)
+
+-- the longest beginning that fits
+abbrev pub page_of : ℕ → List FileRecord → List FileRecord
+page_of limit rs = unwrap_or (last_or None (filter (fits_page limit) (beginnings rs))) []
+
+-- the local records of greater sequence, in rising sequence, as many as a page has
+abbrev pub local_since : FolderState → ℕ → ℕ → List FileRecord
+local_since s seq limit = page_of limit (by_sequence (filter (λ r. nat_lt seq r.sequence) (locals s)))
+
+-- the blocks with this digest in live local files
+abbrev pub places : FolderState → List ℕ → List Place
+places s hash =
+    flat_map (λ r. map (λ b. record { name = r.name; offset = b.offset; size = b.size })
+    (filter (λ b. bytes_eq b.hash hash) r.blocks))
+    (filter is_live_file (locals s))
+
+-- any of them may be found, and none only where there is none
+abbrev pub IsPlaceFound : FolderState → List ℕ → Option Place → Type 0
+IsPlaceFound s hash found = MatchOption found (places s hash ≡ []) (λ p. Contains (places s hash) p)
+
+-- the greatest sequence that a device announced, 0 without any; of this device the last one given
+abbrev pub known : FolderState → Identity → ℕ
+known s d =
+    if bytes_eq d s.me then s.last
+    else fold max 0 (map (λ e. e.1.sequence) (filter (is_by d) (entries s.announced)))
+
+-- what a folder has, counted
+abbrev pub counts : FolderState → Counts
+counts s = record {
+  files = count_by is_live_file (locals s);
+  directories = count_by (λ r. is_live r && is_directory r) (locals s);
+  deletions = count_by (λ r. r.deleted) (locals s);
+  needed = length (need s);
+  others = count_by (λ e. not (is_by s.me e)) (entries s.announced);
+  pulls = len s.pulls;
+  last = s.last;
+}
+
+pub data Query : Type 0 where
+  Local Best : Name → Query
+  Need : Option Name → ℕ → Query
+  LocalSince : ℕ → ℕ → Query
+  FindBlock : List ℕ → Query
+  Known : Identity → Query
+  CountAll : Query
+
+-- what kind of answer a query has
+abbrev pub Reply : Query → Type 0
+Reply (Local n) = Option FileRecord
+Reply (Best n) = Option (FileRecord × List Identity)
+Reply (Need after limit) = List Name
+Reply (LocalSince seq limit) = List FileRecord
+Reply (FindBlock hash) = Option Place
+Reply (Known d) = ℕ
+Reply CountAll = Counts
+
+-- the folder may answer so
+abbrev pub Reads : FolderState → (q : Query) → Reply q → Type 0
+Reads s (Local n) r = r ≡ local s n
+Reads s (Best n) r = r ≡ best_found s n
+Reads s (Need after limit) r = r ≡ need_page s after limit
+Reads s (LocalSince seq limit) r = r ≡ local_since s seq limit
+Reads s (FindBlock hash) r = IsPlaceFound s hash r
+Reads s (Known d) r = r ≡ known s d
+Reads s CountAll r = r ≡ counts s

@@ -1,0 +1,43 @@
+-- What a call of a shared folder tells its caller.
+use Rattle.std.specs.Prelude.{◌≡◌, ℕ, List, [], ◌∷◌, ◌++◌, Option, Some, None, MatchBool}
+use mathlib.Core.List.{IsPrefix}
+use Rattle.folder_core.specs.States.{FolderState}
+use Rattle.folder_core.specs.Steps.{Change, Answer, is_accepted}
+use Rattle.folder_core.specs.Reads.{Query, Reply, Reads}
+use Rattle.folder_core.specs.Histories.{Entry, state_after, shared_answer, own_entries}
+
+-- what a caller knows: the state that the folder was opened with, the history's limit, the caller's pass,
+-- and the beginning of the history that it has seen
+pub record View : Type 0 where
+  pub opening : FolderState
+  pub limit : ℕ
+  pub pass : ℕ
+  pub seen : List Entry
+
+-- the caller saw the history go on, without an entry of its own
+pub record Sees (old new : View) : Type 0 where
+  pub longer : IsPrefix old.seen new.seen
+  pub own : own_entries old.pass new.seen ≡ own_entries old.pass old.seen
+  pub same : new ≡ record old { seen = new.seen }
+
+-- the change was made behind what the caller then saw, and its entry is the last
+pub record Makes (old new : View) (change : Change) (answer : Answer) : Type 0 where
+  pub point : View
+  pub sees : Sees old point
+  pub told : answer ≡ shared_answer old.limit old.opening point.seen change
+  pub entered : new ≡ record point { seen = point.seen ++ (record { pass = old.pass; change = change; answer = answer }) ∷ [] }
+
+-- the change was refused at the point that the caller then knows
+pub record Declines (old new : View) (change : Change) (answer : Answer) : Type 0 where
+  pub sees : Sees old new
+  pub told : answer ≡ shared_answer old.limit old.opening new.seen change
+
+-- Without an answer memory was wanting: nothing was changed and nothing seen.
+abbrev pub Tells : View → Change → Option Answer → View → Type 0
+Tells old change None new = new ≡ old
+Tells old change (Some answer) new = MatchBool (is_accepted answer) (Makes old new change answer) (Declines old new change answer)
+
+-- a read answers of the point that the caller then knows
+pub record ReadsThere (old new : View) (q : Query) (r : Reply q) : Type 0 where
+  pub sees : Sees old new
+  pub told : Reads (state_after old.opening new.seen) q r

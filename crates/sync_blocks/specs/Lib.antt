@@ -1,0 +1,5 @@
+pub mod BlockList
+pub mod Groups
+pub mod Reading
+pub mod Sizes
+pub mod Tiling

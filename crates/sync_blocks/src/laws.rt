@@ -1,0 +1,45 @@
+//! What the definitions say, as contracts of functions that do nothing.
+ghost use Rattle.std.specs.Prelude.{◌≡◌, ◌↔◌, ℕ, ◌+◌, ◌-◌, ◌*◌, ◌<◌, ◌≤◌, min, All, List, [], ◌∷◌, Some, None};
+ghost use Rattle.std.specs.Prelude.{IsTrue, drop, flat_map, length, slice_get, take};
+ghost use Rattle.std.specs.List.{range_with_len};
+ghost use Rattle.sha2.specs.Sha256.{sha256};
+ghost use Rattle.sync_blocks.specs.declared.block.Block.{Block};
+ghost use Rattle.sync_blocks.specs.BlockList.{block_at, block_count, block_list, cut};
+ghost use Rattle.sync_blocks.specs.Tiling.{Tiles, same_block, tiles};
+
+/// A tiling is tested rightly, and no block of one ends past the size.
+pub fn tiling_is_tested()
+    ensures tested { (blocks : List Block) (size block_size : ℕ) →
+        IsTrue (tiles blocks size block_size) ↔ Tiles blocks size block_size }
+    ensures within { (blocks : List Block) (size block_size : ℕ) →
+        IsTrue (tiles blocks size block_size) → All (λ b. b.offset + b.size ≤ size) blocks }
+{}
+
+/// The block list of bytes has a block for each multiple of the block size at which bytes are left, of as many bytes
+/// as the block size or as are left, with their digest; that of no bytes has one block of no bytes. The cuts one
+/// after the other are the bytes.
+pub fn block_list_is_by_cuts()
+    ensures each { (bytes : List ℕ) (block_size i : ℕ) → 1 ≤ block_size → i * block_size < length bytes →
+        slice_get (block_list bytes block_size) i ≡ Some (record {
+          offset = i * block_size;
+          size = min block_size (length bytes - i * block_size);
+          hash = sha256 (take block_size (drop (i * block_size) bytes));
+        }) }
+    ensures no_other { (bytes : List ℕ) (block_size i : ℕ) → 1 ≤ block_size → 1 ≤ i →
+        length bytes ≤ i * block_size → slice_get (block_list bytes block_size) i ≡ None }
+    ensures of_none { (block_size : ℕ) → 1 ≤ block_size →
+        block_list [] block_size ≡ record { offset = 0; size = 0; hash = sha256 [] } ∷ [] }
+    ensures joined { (bytes : List ℕ) (block_size : ℕ) → 1 ≤ block_size →
+        flat_map (cut bytes block_size) (range_with_len 0 (block_count (length bytes) block_size)) ≡ bytes }
+{}
+
+/// The block list of bytes tiles them.
+pub fn block_list_tiles()
+    ensures { (bytes : List ℕ) (block_size : ℕ) → 1 ≤ block_size →
+        IsTrue (tiles (block_list bytes block_size) (length bytes) block_size) }
+{}
+
+/// Blocks are the same where offset, size and digest are, and that is what is tested.
+pub fn same_blocks_are_equal()
+    ensures { (a b : Block) → IsTrue (same_block a b) ↔ (a ≡ b) }
+{}

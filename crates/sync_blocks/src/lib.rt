@@ -1,0 +1,18 @@
+//! What a file is made of: its blocks, each with its SHA-256 digest.
+#![tactic(auto)]
+
+mod block;
+mod fault;
+mod hashing;
+pub mod laws;
+mod reading;
+mod size;
+#[cfg(test)]
+mod tests;
+mod tiling;
+
+pub use block::Block;
+pub use fault::ReadFault;
+pub use reading::blocks_of;
+pub use size::block_size_for;
+pub use tiling::tiles;

@@ -1,0 +1,156 @@
+ghost use Rattle.std.specs.Prelude.{◌≡◌, ◌+◌, ◌*◌, ◌^◌, ◌<◌, ◌≤◌, ◌++◌, ◌∷◌, ℕ, List, [], min, take, length};
+ghost use Rattle.std.specs.Prelude.{IfErr, IfOk, IfSome, OnErr, OnOk};
+ghost use Rattle.std.specs.Io.KnownBytes.{Consumes, IsAtEnd};
+ghost use Rattle.sync_blocks.specs.BlockList.{block_at, block_list};
+ghost use Rattle.sync_blocks.specs.Groups.{blocks_from, group_bytes};
+ghost use Rattle.sync_blocks.specs.Reading.{TakesFront, Tells, TellsEarly};
+
+use crate::hashing::push_blocks;
+use crate::{Block, ReadFault};
+use sha2::{Digest, Sha256};
+use std::alloc::{AllocError, Global};
+use std::io::{ErrorKind, Read};
+use std::thread::Threads;
+
+/// As many whole blocks are read at once as fit so many bytes, and at least one.
+const GROUP_BYTES: u64 = 64 * 1024 * 1024;
+
+/// The block list of the `size` bytes that the reader gives up to its end, each block but the last of `block_size`
+/// bytes; of an empty file one block of size 0.
+///
+/// `Short` where the reader ended with fewer bytes, `Long` where it has more, of which it then has given one. `Read`
+/// where a read failed, though not where one was interrupted, which is tried again. `OutOfMemory` where the buffer
+/// or the list could not be allocated. After a refusal the reader has given some of its bytes.
+///
+/// As many whole blocks as fit 64 MiB, and at least one, are read at once, and hashed in a few threads for each
+/// processor; one block is hashed in this thread. O(size) time; memory for the list, and one buffer for the bytes
+/// that are read at once.
+pub fn blocks_of<R: Read>(
+    rt: &(impl Threads + Sync),
+    alloc: Global,
+    reader: &mut R,
+    size: u64,
+    block_size: u32,
+) -> Result<Vec<Block>, ReadFault>
+    requires { 1 ≤ block_size }
+    ensures blocks { IfOk result (λ v. (bytes : List ℕ) × Consumes (R.remaining reader.old) (R.remaining reader.new) bytes
+        × (length bytes ≡ size) × (v.items ≡ block_list bytes block_size)) }
+    ensures end { OnOk result (IsAtEnd (R.remaining reader.new)) }
+    ensures known { IfOk result (λ v. IfSome (R.remaining reader.old)
+        (λ bytes. (length bytes ≡ size) × (v.items ≡ block_list bytes block_size))) }
+    ensures refused { IfErr result (λ fault. Tells fault (R.remaining reader.old) size) }
+    ensures taken { TakesFront (R.remaining reader.old) (R.remaining reader.new) }
+{
+    let mut list = read_groups(rt, alloc, reader, size, block_size)?;
+    if fill(reader, &mut [0])? > 0 {
+        return Err(ReadFault::Long);
+    }
+    if size == 0 {
+        push_empty_block(&mut list)?;
+    }
+    Ok(list)
+}
+
+// Adds the one block of an empty file.
+fn push_empty_block(blocks: &mut Vec<Block>) -> Result<(), AllocError>
+    ensures { (block_size : ℕ) → OnOk result (blocks.new.items ≡ blocks.old.items ++ block_at [] block_size 0 ∷ []) }
+{
+    blocks.push(Block {
+        offset: 0,
+        size: 0,
+        hash: Sha256::digest(&[]),
+    })?;
+    Ok(())
+}
+
+// The blocks of the next `size` bytes, none of no bytes.
+fn read_groups<R: Read>(
+    rt: &(impl Threads + Sync),
+    alloc: Global,
+    reader: &mut R,
+    size: u64,
+    block_size: u32,
+) -> Result<Vec<Block>, ReadFault>
+    requires { 1 ≤ block_size }
+    ensures read { IfOk result (λ v. (bytes : List ℕ) × Consumes (R.remaining reader.old) (R.remaining reader.new) bytes
+        × (length bytes ≡ size) × (v.items ≡ blocks_from 0 bytes block_size)) }
+    ensures refused { IfErr result (λ fault. TellsEarly fault (R.remaining reader.old) size) }
+    ensures taken { TakesFront (R.remaining reader.old) (R.remaining reader.new) }
+{
+    let mut blocks = Vec::new(alloc);
+    let mut bytes = vec![in alloc; 0u8; buffer_len(size, block_size)]?;
+    let buffer = bytes.as_mut_slice();
+    let mut done = 0;
+    while done < size {
+        let next = buffer.len().min((size - done) as usize);
+        read_group(
+            rt,
+            alloc,
+            reader,
+            done,
+            &mut buffer[..next],
+            block_size,
+            &mut blocks,
+        )?;
+        done += next as u64;
+    }
+    Ok(blocks)
+}
+
+// How many bytes are read at once, no more than the file has.
+fn buffer_len(size: u64, block_size: u32) -> usize
+    requires { 1 ≤ block_size }
+    ensures { result ≡ min size (group_bytes block_size) }
+{
+    let block_size = u64::from(block_size);
+    let group = block_size * (GROUP_BYTES / block_size).max(1);
+    group.min(size) as usize
+}
+
+// Fills the buffer with the next bytes, which begin at `first` in the file, and adds their blocks.
+fn read_group<R: Read>(
+    rt: &(impl Threads + Sync),
+    alloc: Global,
+    reader: &mut R,
+    first: u64,
+    buffer: &mut [u8],
+    block_size: u32,
+    blocks: &mut Vec<Block>,
+) -> Result<(), ReadFault>
+    requires some { 1 ≤ block_size }
+    requires fits { first + length buffer.old < 2 ^ 64 }
+    ensures read { OnOk result ((bytes : List ℕ) × Consumes (R.remaining reader.old) (R.remaining reader.new) bytes
+        × (length bytes ≡ length buffer.old)
+        × (blocks.new.items ≡ blocks.old.items ++ blocks_from first bytes block_size)) }
+    ensures refused { IfErr result (λ fault. TellsEarly fault (R.remaining reader.old) (length buffer.old)) }
+    ensures taken { TakesFront (R.remaining reader.old) (R.remaining reader.new) }
+{
+    if fill(reader, buffer)? < buffer.len() {
+        return Err(ReadFault::Short);
+    }
+    push_blocks(rt, alloc, first, buffer, block_size, blocks)?;
+    Ok(())
+}
+
+// Reads until the buffer is full or the reader at its end, and gives how many bytes that were.
+fn fill<R: Read>(reader: &mut R, buffer: &mut [u8]) -> Result<usize, ReadFault>
+    ensures bound { IfOk result (λ n. n ≤ length buffer.new) }
+    ensures bytes { IfOk result (λ n. Consumes (R.remaining reader.old) (R.remaining reader.new) (take n buffer.new)) }
+    ensures end { IfOk result (λ n. n < length buffer.new → IsAtEnd (R.remaining reader.new)) }
+    ensures refused { IfErr result (λ fault. fault ≡ ReadFault.Read) }
+    ensures taken { TakesFront (R.remaining reader.old) (R.remaining reader.new) }
+{
+    let mut filled = 0;
+    for _ in 0..u64::MAX {
+        if filled == buffer.len() {
+            return Ok(filled);
+        }
+        match reader.read(&mut buffer[filled..]) {
+            Ok(0) => return Ok(filled),
+            Ok(count) => filled += count,
+            Err(error) if error.kind() == ErrorKind::Interrupted => {}
+            Err(_) => return Err(ReadFault::Read),
+        }
+    }
+    Err(ReadFault::Read)
+}

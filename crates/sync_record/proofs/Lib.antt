@@ -1,0 +1,6 @@
+pub mod Again
+pub mod Kept
+pub mod Lemmas
+pub mod Placed
+pub mod PreferenceOrder
+pub mod SameContent

@@ -1,0 +1,131 @@
+ghost use Rattle.std.specs.Prelude.{◌≡◌, ◌↔◌, ◌<◌, ◌&&◌, IfOk, IfErr, IsOk, IsTrue, IfSome, length, slice_get};
+ghost use Rattle.sync_record.specs.Assemblies.{IsAssembled, is_complete, is_plain, nothing_placed, put_answer, with_put};
+ghost use Rattle.sync_record.specs.Records.{is_live_file};
+ghost use Rattle.sync_record.specs.Validity.{is_valid};
+
+use crate::{Put, Record};
+use sha2::{Digest, Sha256};
+use std::alloc::{AllocError, Global};
+use std::marker::Model;
+use sync_blocks::Block;
+
+/// A file that is put together from its blocks. Contracts see what it is to be, and of each block whether it was put.
+#[derive(Debug, Drop)]
+pub struct Assembly {
+    target: Record,
+    placed: Vec<bool>,
+}
+
+impl Model for Assembly {
+    ghost use Rattle.sync_record.specs.Assemblies.{Assembling, IsAssembling};
+
+    ghost Value = { Assembling };
+
+    ghost view = { λ a. record { target = a.target; placed = a.placed.items } };
+
+    ghost invariant = { λ a. IsAssembling (record { target = a.target; placed = a.placed.items }) };
+}
+
+impl Assembly {
+    /// Begins to put a valid live file together: no block was put. Refused by want of memory alone. O(n) for n blocks.
+    pub fn new(alloc: Global, target: Record) -> Result<Assembly, AllocError>
+        requires { IsTrue (is_valid target && is_live_file target) }
+        ensures { IfOk result (λ a. a ≡ nothing_placed target) }
+    {
+        let placed = Vec::from_elem(alloc, false, target.blocks().len())?;
+        Ok(Assembly { target, placed })
+    }
+
+    /// What it is to be. O(1).
+    pub fn target(&self) -> &Record
+        ensures { result.now ≡ self.now.target }
+    {
+        &self.target
+    }
+
+    /// Puts bytes as a block, which has to be one of the target's: WrongSize where they are not as many as the block
+    /// has, else WrongHash where their SHA-256 digest is another, and else Ok. Only Ok changes anything. Takes no memory.
+    /// O(n) for n bytes.
+    pub fn put(&mut self, block: usize, bytes: &[u8]) -> Put
+        requires { block < length self.old.target.blocks }
+        ensures answer { IfSome (slice_get self.old.target.blocks block) (λ b. result ≡ put_answer b bytes.now) }
+        ensures placed { self.new ≡ with_put result block self.old }
+    {
+        let answer = try_block(&self.target.blocks()[block], bytes);
+        if let Put::Ok = answer {
+            self.placed[block] = true;
+        }
+        answer
+    }
+
+    /// The file, exactly where every block was put; else the assembly as it was. Takes no memory. O(n) for n blocks.
+    pub fn done(self) -> Result<Assembled, Assembly>
+        ensures exactly { IsOk result ↔ IsTrue (is_complete self) }
+        ensures ok { IfOk result (λ file. file ≡ self.target) }
+        ensures err { IfErr result (λ a. a ≡ self) }
+    {
+        if self.placed.iter().all(|placed| *placed) {
+            let Assembly { target, .. } = self;
+            Ok(Assembled { target })
+        } else {
+            Err(self)
+        }
+    }
+}
+
+// What the put of the bytes as the block comes to.
+fn try_block(block: &Block, bytes: &[u8]) -> Put
+    ensures { result ≡ put_answer block.now bytes.now }
+{
+    if bytes.len() as u64 != u64::from(block.size) {
+        return Put::WrongSize;
+    }
+    if Sha256::digest(bytes) != block.hash {
+        return Put::WrongHash;
+    }
+    Put::Ok
+}
+
+/// A target that may be committed: a file of which every block was put, a directory or a deletion. Of each block some
+/// bytes have the size and the digest. It can't be copied, and must be used up.
+#[derive(Debug)]
+pub struct Assembled {
+    target: Record,
+}
+
+impl Model for Assembled {
+    ghost use Rattle.sync_record.specs.Records.{FileRecord};
+    ghost use Rattle.sync_record.specs.Assemblies.{IsAssembled};
+
+    ghost Value = { FileRecord };
+
+    ghost view = { λ a. a.target };
+
+    ghost invariant = { λ a. IsAssembled a.target };
+}
+
+impl Assembled {
+    /// A deletion or a directory, of which there is nothing to put. O(1).
+    pub fn plain(target: Record) -> Assembled
+        requires { IsTrue (is_plain target) }
+        ensures { result ≡ target }
+    {
+        Assembled { target }
+    }
+
+    /// The target. O(1).
+    pub fn target(&self) -> &Record
+        ensures value { result.now ≡ self.now }
+        ensures assembled { IsAssembled self.now }
+    {
+        &self.target
+    }
+
+    /// Uses it up, and gives the target. O(1).
+    pub fn into_target(self) -> Record
+        ensures { result ≡ self }
+    {
+        let Assembled { target } = self;
+        target
+    }
+}

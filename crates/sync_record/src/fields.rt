@@ -1,0 +1,73 @@
+ghost use Rattle.std.specs.Prelude.{◌≡◌, IfOk};
+
+use bep_messages::{Copied, Octets};
+use std::alloc::AllocError;
+use std::marker::Model;
+use sync_blocks::Block;
+use sync_names::SafeName;
+use sync_version::Version;
+
+/// The fields of a record, of any values.
+#[derive(Debug, Drop)]
+pub(crate) struct Fields {
+    pub name: SafeName,
+    pub version: Version,
+    pub blocks: Vec<Block>,
+    pub symlink_target: Octets,
+    pub plain: Plain,
+}
+
+/// Those of them that are numbers and flags.
+#[derive(Clone, Copy, Debug)]
+pub(crate) struct Plain {
+    pub size: i64,
+    pub modified_s: i64,
+    pub modified_by: u64,
+    pub sequence: u64,
+    pub type_number: i32,
+    pub modified_ns: i32,
+    pub block_size: i32,
+    pub permissions: u32,
+    pub deleted: bool,
+    pub invalid: bool,
+    pub no_permissions: bool,
+}
+
+impl Model for Fields {
+    ghost use Rattle.sync_record.specs.Records.{FileRecord};
+
+    ghost Value = { FileRecord };
+
+    ghost view = { λ f. record {
+      name = f.name;
+      type_number = f.plain.type_number;
+      size = f.plain.size;
+      permissions = f.plain.permissions;
+      modified_s = f.plain.modified_s;
+      modified_ns = f.plain.modified_ns;
+      modified_by = f.plain.modified_by;
+      deleted = f.plain.deleted;
+      invalid = f.plain.invalid;
+      no_permissions = f.plain.no_permissions;
+      version = f.version;
+      sequence = f.plain.sequence;
+      block_size = f.plain.block_size;
+      blocks = f.blocks.items;
+      symlink_target = f.symlink_target;
+    } };
+}
+
+impl Fields {
+    /// The same fields once more. Refused by want of memory alone.
+    pub fn copy(&self) -> Result<Fields, AllocError>
+        ensures { IfOk result (λ f. f ≡ self.now) }
+    {
+        Ok(Fields {
+            name: self.name.copy()?,
+            version: self.version.copy()?,
+            blocks: self.blocks.clone()?,
+            symlink_target: self.symlink_target.copy()?,
+            plain: self.plain,
+        })
+    }
+}

@@ -1,0 +1,8 @@
+/// What stands under a name.
+#[derive(Clone, Copy, Debug, PartialEq, Eq)]
+pub enum Kind {
+    File,
+    Directory,
+    /// A symlink, or what this version of the protocol does not know.
+    Other,
+}
