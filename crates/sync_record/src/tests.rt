@@ -67,36 +67,44 @@ fn read(alloc: Global, fields: &[u8], blocks: &[(&[u8], &[u8])]) -> Result<Recor
     }
 }
 
+/// Whether the record of a message with these fields and blocks is valid; one that isn't has no blocks.
+fn accepts(alloc: Global, fields: &[u8], blocks: &[(&[u8], &[u8])]) -> Result<bool, NameFault> {
+    let record = read(alloc, fields, blocks)?;
+    Ok(record.is_valid() || !record.blocks().is_empty())
+}
+
 #[test]
 fn files_are_valid_where_blocks_tile_them(rt: HostRuntime) -> Result<(), Fail> {
-    let table: [(&[u8], &[(&[u8], &[u8])], bool); 13] = [
-        (&[], &[], true),
-        (&[], &[(&[], &ABC)], true),
-        (&[], &[(&[0x08, 1], &ABC)], false),
-        (&[], &[(&[0x10, 1], &ABC)], false),
-        (&[], &[(&[], &ABC), (&[], &ABC)], false),
-        (&[0x18, 1], &[], false),
-        (&[0x18, 0x80, 0x80, 0x08], &[(FULL, &ABC)], true),
-        (
-            &[0x18, 0x81, 0x80, 0x08],
-            &[(FULL, &ABC), (ONE_BEHIND, &ABC)],
-            true,
-        ),
-        (
-            &[0x18, 0x80, 0x80, 0x08],
-            &[(FULL, &ABC), (&[0x08, 0x80, 0x80, 0x08], &ABC)],
-            false,
-        ),
-        (&[0x18, 0x80, 0x80, 0x10], &[(FULL, &ABC)], false),
-        (minus_one!(0x18), &[], false),
-        (&[], &[(minus_one!(0x08), &ABC)], false),
-        (&[], &[(minus_one!(0x10), &ABC)], false),
-    ];
-    for (fields, blocks, valid) in table {
-        let record = read(rt.alloc(), fields, blocks)?;
-        assert_eq!(rt; record.is_valid(), valid, "of {fields:?}");
-        assert!(rt; valid || record.blocks().is_empty());
-    }
+    let alloc = rt.alloc();
+    assert!(rt; accepts(alloc, &[], &[])?);
+    assert!(rt; accepts(alloc, &[], &[(&[], &ABC)])?);
+    assert!(rt; accepts(alloc, &[0x18, 0x80, 0x80, 0x08], &[(FULL, &ABC)])?);
+    let two: [(&[u8], &[u8]); 2] = [(FULL, &ABC), (ONE_BEHIND, &ABC)];
+    assert!(rt; accepts(alloc, &[0x18, 0x81, 0x80, 0x08], &two)?);
+    Ok(())
+}
+
+#[test]
+fn files_are_invalid_where_blocks_do_not_tile_them(rt: HostRuntime) -> Result<(), Fail> {
+    let alloc = rt.alloc();
+    // a block behind the beginning, and one too many, of an empty file
+    assert!(rt; !accepts(alloc, &[], &[(&[0x08, 1], &ABC)])?);
+    assert!(rt; !accepts(alloc, &[], &[(&[0x10, 1], &ABC)])?);
+    assert!(rt; !accepts(alloc, &[], &[(&[], &ABC), (&[], &ABC)])?);
+    // no block of 1 byte, an empty last block, and half of 262,144 bytes
+    assert!(rt; !accepts(alloc, &[0x18, 1], &[])?);
+    let two: [(&[u8], &[u8]); 2] = [(FULL, &ABC), (&[0x08, 0x80, 0x80, 0x08], &ABC)];
+    assert!(rt; !accepts(alloc, &[0x18, 0x80, 0x80, 0x08], &two)?);
+    assert!(rt; !accepts(alloc, &[0x18, 0x80, 0x80, 0x10], &[(FULL, &ABC)])?);
+    Ok(())
+}
+
+#[test]
+fn negative_numbers_are_refused(rt: HostRuntime) -> Result<(), Fail> {
+    let alloc = rt.alloc();
+    assert!(rt; !accepts(alloc, minus_one!(0x18), &[])?);
+    assert!(rt; !accepts(alloc, &[], &[(minus_one!(0x08), &ABC)])?);
+    assert!(rt; !accepts(alloc, &[], &[(minus_one!(0x10), &ABC)])?);
     Ok(())
 }
 
