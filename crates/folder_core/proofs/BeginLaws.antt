@@ -8,7 +8,7 @@ use Rattle.folder_core.specs.declared.stage.Stage.TheVariants.{Pulling}
 use Rattle.folder_core.specs.Announced.{Announcement, best}
 use Rattle.folder_core.specs.States.{FolderState, Pull, is_needed, need}
 use Rattle.folder_core.specs.Steps.{Answer, step, begin_pull, next_ticket, with_pull, refuse, BeginPull, Busy, NotNeeded, Unsupported, Begun}
-use Rattle.folder_core.proofs.Tests.{inside}
+use Rattle.folder_core.proofs.TestLemmas.{inside}
 use Rattle.folder_core.proofs.StepCases.{holds, fails}
 use Rattle.folder_core.proofs.NeedLaws.{needed-listed, listed-needed}
 

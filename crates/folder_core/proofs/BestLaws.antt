@@ -1,6 +1,6 @@
 -- The best of a name, in the words of the rules: a candidate that is preferred to every other.
 use Rattle.folder_core.proofs.Listings.{lists-entries}
-use Rattle.folder_core.proofs.Tests.{inside, none_some, In, all_in, in_all, any_in, in_any, in_filter, of_filter, found_in, only_found, some_free}
+use Rattle.folder_core.proofs.TestLemmas.{inside, none_some, In, all_in, in_all, any_in, in_any, in_filter, of_filter, found_in, only_found, some_free}
 use Rattle.folder_core.specs.Announced.{Announced, Announcement, key, is_of, is_by, is_candidate, is_preferred, is_best, best, bests, Lists, IsCandidate, IsBest}
 use Rattle.std.proofs.Common.{◌≡◌, ℕ, Bool, true, false, List, [], ◌∷◌, refl, sym, ap, subst, ◌∙◌, ◌↔◌}
 use Rattle.std.proofs.lemmas.Bool.{true≢false, and_parts, and_from, not-true, false_from_ne_true}

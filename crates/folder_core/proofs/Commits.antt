@@ -11,7 +11,7 @@ use Rattle.sync_record.specs.Devices.{bytes_cmp}
 use Rattle.sync_record.specs.Records.{Name}
 use Rattle.folder_core.specs.States.{FolderState, Pull, is_committing, open_commits}
 use Rattle.folder_core.proofs.Orders.{bytes_total, exact_names, entries-remove}
-use Rattle.folder_core.proofs.Tests.{inside}
+use Rattle.folder_core.proofs.TestLemmas.{inside}
 
 -- counts of entries by their values
 abbrev one : {X : Type 0} → (X → Bool) → X → ℕ

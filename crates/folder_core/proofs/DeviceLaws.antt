@@ -17,7 +17,7 @@ use Rattle.sync_record.specs.Records.{Name, FileRecord}
 use Rattle.sync_record.specs.Validity.{is_valid}
 use Rattle.folder_core.specs.Announced.{Announced, Announcement, key, key_cmp, is_of, best, devices_of}
 use Rattle.folder_core.proofs.Orders.{bytes_total, keys_total, exact_keys}
-use Rattle.folder_core.proofs.Tests.{parts, In, in_contains, contains_in, in_map, of_map, in_filter, of_filter, below_in, get_in, in_get}
+use Rattle.folder_core.proofs.TestLemmas.{parts, In, in_contains, contains_in, in_map, of_map, in_filter, of_filter, below_in, get_in, in_get}
 use Rattle.folder_core.proofs.BestLaws.{best-found}
 
 abbrev has_it : Announcement → Announcement → Bool

@@ -15,7 +15,7 @@ use Rattle.folder_core.specs.States.{FolderState, Pull, local, local_version, sa
 use Rattle.folder_core.specs.Steps.{Change, Finding, FoundContent, FoundDirectory, FoundFile, step, is_pull_committing, with_local, without_pull, is_found, found_record, committed_record, next_version, next_ticket, MayChange}
 use Rattle.folder_core.specs.Histories.{Entry, IsLegal, after, state_after}
 use Rattle.folder_core.proofs.Orders.{keys_total, exact_keys, bytes_total, exact_names}
-use Rattle.folder_core.proofs.Tests.{none_some}
+use Rattle.folder_core.proofs.TestLemmas.{none_some}
 use Rattle.folder_core.proofs.Maps.{insert_split, insert_other, remove_split}
 use Rattle.folder_core.proofs.Commits.{commits-put, commits-remove, commits-finish, none_counted}
 use Rattle.folder_core.proofs.OpenPulls.{pull_of-is}

@@ -1,4 +1,4 @@
-pub mod Tests
+pub mod TestLemmas
 pub mod Orders
 pub mod Listings
 pub mod Maps

@@ -1,6 +1,6 @@
 -- Lists of what is announced, in any order.
 use Rattle.folder_core.proofs.Orders.{keys_total, exact_keys}
-use Rattle.folder_core.proofs.Tests.{get_in, in_get}
+use Rattle.folder_core.proofs.TestLemmas.{get_in, in_get}
 use Rattle.folder_core.specs.Announced.{Announced, Lists}
 use Rattle.std.specs.FinMap.{entries}
 

@@ -2,7 +2,7 @@
 use Rattle.folder_core.proofs.BestLaws.{of_is_best, one_best, is_best_found}
 use Rattle.folder_core.proofs.Listings.{lists-entries}
 use Rattle.folder_core.proofs.Orders.{bytes_total, keys_total, exact_keys}
-use Rattle.folder_core.proofs.Tests.{parts, inside, none_some, In, in_contains, contains_in, in_map, of_map, in_filter, of_filter, found_in, below_in, in_get}
+use Rattle.folder_core.proofs.TestLemmas.{parts, inside, none_some, In, in_contains, contains_in, in_map, of_map, in_filter, of_filter, found_in, below_in, in_get}
 use Rattle.folder_core.specs.Announced.{Announced, Announcement, key_cmp, is_of, is_best, best, bests, IsBest}
 use Rattle.folder_core.specs.States.{FolderState, local, local_version, same_local_version, is_needed, need}
 use Rattle.std.proofs.Common.{◌≡◌, Bool, true, false, List, [], ◌∷◌, refl, sym, ap, subst, ◌∙◌, ◌↔◌, ◌≢◌, inl, inr}

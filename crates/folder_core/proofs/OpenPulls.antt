@@ -7,7 +7,7 @@ use Rattle.sync_record.specs.Same.{same_record}
 use Rattle.folder_core.specs.declared.stage.Stage.{Stage}
 use Rattle.folder_core.specs.States.{FolderState, Pull, same_stage}
 use Rattle.folder_core.specs.Steps.{Token, pull_of}
-use Rattle.folder_core.proofs.Tests.{inside}
+use Rattle.folder_core.proofs.TestLemmas.{inside}
 
 -- an open pull that a ticket stands for
 abbrev pub fits : Token → Stage → Pull → Bool
