@@ -4,5 +4,6 @@ pub mod Sound
 pub mod Places
 pub mod Readings
 pub mod Runs
+pub mod Counts
 pub mod Written
 pub mod Lemmas

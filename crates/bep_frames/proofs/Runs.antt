@@ -65,6 +65,13 @@ ends_fault s f frames all h e =
     let end = ap (λ (r : Stream). r.end) (sym (remaining_fault s [] f h)) ∙ ap (λ (r : Stream). r.end) e in
     subst (λ (r : Result (List ℕ) FrameFault). EndsAs r (Err f)) end refl
 
+-- after an answer: a fault ends the stream, and with no answer all that is left is less than a frame
+pub fault_ends : (old new : State) (e : FrameFault) (more : List ℕ) → TellsFault old e new → remaining (fed new more) ≡ ended (Err e)
+fault_ends old new e more tells = remaining_fault new more e (fault_stops old new e tells)
+
+pub none_ends : (s new : State) → Gives s None new → remaining (fed s []) ≡ ended (Ok s.rest)
+none_ends s new g = remaining_none s [] g.0 ∙ ap (stream s.hello) (append-nil s.rest) ∙ stream_more s.hello s.rest g.1
+
 pub starts : (due : Bool) → Stops (start due) None
 starts due = (refl, empty_more due)
 

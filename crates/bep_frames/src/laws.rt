@@ -1,9 +1,16 @@
 //! What the definitions say, as contracts of functions that do nothing.
-ghost use Rattle.std.specs.Prelude.{◌≡◌, ◌++◌, ℕ, Bool, true, false, [], List, Result};
+ghost use Rattle.std.specs.Prelude.{◌≡◌, ◌≢◌, ◌++◌, ◌+◌, ◌<◌, ℕ, Bool, true, false, [], List, None, Some, Ok, Err, Result, length};
+ghost use Rattle.bep_messages.specs.declared.index.Index.{Index};
+ghost use Rattle.bep_messages.specs.declared.index_update.IndexUpdate.{IndexUpdate};
 ghost use Rattle.bep_frames.specs.declared.fault.FrameFault.{FrameFault};
+ghost use Rattle.bep_frames.specs.declared.fault.FrameFault.TheVariants.{OutOfMemory};
 ghost use Rattle.bep_frames.specs.declared.frame.Frame.{Frame};
+ghost use Rattle.bep_frames.specs.declared.frame.Frame.TheVariants.{Message as MessageFrame};
+ghost use Rattle.bep_frames.specs.declared.frame.Message.TheVariants.{Index as IndexMessage, IndexUpdate as IndexUpdateMessage};
 ghost use Rattle.bep_frames.specs.Grammar.{IsFrame};
-ghost use Rattle.bep_frames.specs.Stream.{Splits, stream};
+ghost use Rattle.bep_frames.specs.Reading.{Whole, frame_at};
+ghost use Rattle.bep_frames.specs.State.{Gives, State, fed, remaining, start};
+ghost use Rattle.bep_frames.specs.Stream.{Splits, ended, first_then, stream};
 
 /// Each byte list has exactly one reading as a stream: its frames, and the rest or the fault that it shows.
 pub fn one_reading()
@@ -20,4 +27,26 @@ pub fn no_frame_begins_another()
         IsFrame true bytes f → IsFrame true (bytes ++ rest) g → rest ≡ [] }
     ensures later { (bytes rest : List ℕ) (f g : Frame) →
         IsFrame false bytes f → IsFrame false (bytes ++ rest) g → rest ≡ [] }
+{}
+
+/// What a reader gives and what it has yet to give are one stream, however its bytes come.
+pub fn a_reader_gives_its_stream()
+    ensures pieces { (s : State) (a b : List ℕ) → fed (fed s a) b ≡ fed s (a ++ b) }
+    ensures starts { (due : Bool) (bytes : List ℕ) → remaining (fed (start due) bytes) ≡ stream due bytes }
+    ensures frame { (old new : State) (f : Frame) (more : List ℕ) →
+        Gives old (Some (Ok f)) new → remaining (fed old more) ≡ first_then f (remaining (fed new more)) }
+    ensures fault { (old new : State) (e : FrameFault) (more : List ℕ) →
+        Gives old (Some (Err e)) new → e ≢ OutOfMemory →
+        (remaining (fed new more) ≡ remaining (fed old more)) × (remaining (fed new more) ≡ ended (Err e)) }
+    ensures none { (s new : State) → Gives s None new → remaining (fed s []) ≡ ended (Ok s.rest) }
+{}
+
+/// A message has fewer records than its frame has bytes.
+pub fn records_are_fewer_than_bytes()
+    ensures index { (bytes rest : List ℕ) (m : Index) →
+        frame_at false bytes ≡ Whole (MessageFrame (IndexMessage m)) rest → length m.files + length rest < length bytes }
+    ensures update { (bytes rest : List ℕ) (m : IndexUpdate) →
+        frame_at false bytes ≡ Whole (MessageFrame (IndexUpdateMessage m)) rest → length m.files + length rest < length bytes }
+    ensures frame_shorter { (due : Bool) (bytes rest : List ℕ) (f : Frame) →
+        frame_at due bytes ≡ Whole f rest → length rest < length bytes }
 {}

@@ -18,7 +18,9 @@ mod writing;
 
 pub use fault::{FrameFault, WriteFault};
 pub use frame::{Frame, Message};
-pub use laws::{no_frame_begins_another, one_reading};
+pub use laws::{
+    a_reader_gives_its_stream, no_frame_begins_another, one_reading, records_are_fewer_than_bytes,
+};
 pub use reader::FrameReader;
 pub use run::{FrameStream, frames_of};
 pub use writing::{write_frame, write_hello};

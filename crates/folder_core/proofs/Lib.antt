@@ -6,6 +6,7 @@ pub mod Indexes
 pub mod BestLaws
 pub mod DeviceLaws
 pub mod NeedLaws
+pub mod AllBests
 pub mod Commits
 pub mod OpenPulls
 pub mod SameRecords

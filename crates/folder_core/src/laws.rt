@@ -1,5 +1,5 @@
 //! What the definitions of a folder say, as contracts of functions that do nothing.
-ghost use Rattle.std.specs.Prelude.{[], ◌∷◌, ◌++◌, ◌≡◌, ◌≢◌, ◌↔◌, ◌⊎◌, ◌<◌, ◌≤◌, ◌+◌, ◌-◌, ◌^◌, ℕ, pos, unwrap_or, Option, List, Some, None, IsTrue, true, false, bytes_eq, find, reverse, replicate, Contains};
+ghost use Rattle.std.specs.Prelude.{[], ◌∷◌, ◌++◌, ◌≡◌, ◌≢◌, ◌↔◌, ◌⊎◌, ◌<◌, ◌≤◌, ◌+◌, ◌-◌, ◌^◌, ℕ, pos, unwrap_or, Option, List, Some, None, IsTrue, true, false, bytes_eq, filter_map, find, map, reverse, replicate, Contains};
 ghost use Rattle.std.specs.List.Sorted.{IsStrictlySortedBy};
 ghost use Rattle.std.specs.Option.{option_or};
 ghost use Rattle.std.specs.FinMap.{empty, get, entries};
@@ -10,7 +10,7 @@ ghost use Rattle.sync_record.specs.Devices.{Identity, bytes_cmp, short_id};
 ghost use Rattle.sync_record.specs.Records.{Name, FileRecord, is_file, is_directory};
 ghost use Rattle.sync_record.specs.Contents.{same_content};
 ghost use Rattle.sync_record.specs.Validity.{is_valid};
-ghost use Rattle.folder_core.specs.Announced.{Announced, Announcement, Lists, key, announce, is_candidate, best, devices_of, IsBest};
+ghost use Rattle.folder_core.specs.Announced.{Announced, Announcement, Lists, key, announce, is_candidate, best, bests, devices_of, IsBest};
 ghost use Rattle.folder_core.specs.States.{FolderState, Pull, IsFolder, IsNumbered, local, local_version, need, open_commits};
 ghost use Rattle.folder_core.specs.declared.stage.Stage.TheVariants.{Pulling, Committing};
 ghost use Rattle.folder_core.specs.Reads.{best_found, local_since, places, counts, known, need_page};
@@ -42,6 +42,17 @@ pub fn best_is_preferred()
     ensures undominated { (a : Announced) (n : Name) (e : Announcement) (d : Identity) (r : FileRecord) →
         best (entries a) n ≡ Some e → get a (key n d) ≡ Some r → IsTrue (is_valid r) →
         ¬ (Dominates r.version e.1.version) }
+{}
+
+/// The list of all bests has the best of each name that has one, once, in byte order of the names; and looked up
+/// name by name, over any rising names among which all of them are, it is the same list.
+pub fn bests_stand_once_in_order()
+    ensures rise { (a : Announced) → IsStrictlySortedBy bytes_cmp (map (λ e. e.0.name) (bests (entries a))) }
+    ensures told { (a : Announced) (n : Name) (e : Announcement) →
+        (Contains (bests (entries a)) e × (e.0.name ≡ n)) ↔ (best (entries a) n ≡ Some e) }
+    ensures by_name { (a : Announced) (names : List Name) → IsStrictlySortedBy bytes_cmp names →
+        ((e : Announcement) → Contains (bests (entries a)) e → Contains names e.0.name) →
+        filter_map (λ n. best (entries a) n) names ≡ bests (entries a) }
 {}
 
 /// In whatever order the announced records are listed, and in whatever order two devices announced theirs,

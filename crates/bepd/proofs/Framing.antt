@@ -1,0 +1,185 @@
+-- One more frame, and one more piece, of what was heard.
+use Rattle.std.proofs.Common.{◌≡◌, ℕ, ◌+◌, ◌≤◌, ◌<◌, Bool, true, false, List, [], ◌∷◌, ◌++◌, length, Option, Some, None, Ok, Err, sym, ap, subst, ◌∙◌, inl, inr, arith, append_assoc, append-nil}
+use Rattle.std.specs.Prelude.{bytes_eq, if◌then◌else◌, flat_map, filter, not}
+use Rattle.std.specs.FinMap.{get}
+use Rattle.std.proofs.lemmas.List.{length-append}
+use Rattle.std.proofs.lemmas.List.Concat.{flat_map-append}
+use Rattle.std.proofs.lemmas.List.Elements.{filter-append}
+use Rattle.std.proofs.lemmas.List.Sums.{fold-append}
+use Rattle.bep_frames.specs.declared.fault.FrameFault.{FrameFault}
+use Rattle.bep_frames.specs.declared.fault.FrameFault.TheVariants.{BadMagic, TooLong, Compressed, BadHeader, BadBody, OutOfMemory}
+use Rattle.bep_frames.specs.declared.frame.Frame.{Frame}
+use Rattle.bep_frames.specs.declared.frame.Frame.TheVariants.{Hello, Message as MessageFrame, Unknown}
+use Rattle.bep_frames.specs.declared.frame.Message.TheVariants.{ClusterConfig, Index, IndexUpdate, Request, Response, DownloadProgress, Ping, Close}
+use Rattle.bep_frames.specs.Reading.{Whole, frame_at}
+use Rattle.bep_frames.specs.State.{State, TellsFault, fed, grown, Gives, remaining, with_front}
+use Rattle.bep_frames.specs.Stream.{Stream, ended, first_then, stream}
+use Rattle.bep_frames.proofs.Lemmas.{fed_pieces, given_fault, given_frame, given_none, given_shorter, index_records_few, update_records_few}
+use Rattle.bep_messages.specs.declared.file_info.FileInfo.{FileInfo}
+use Rattle.folder_core.specs.Announced.{In, Key}
+use Rattle.folder_core.specs.Kept.{empty_folder}
+use Rattle.folder_core.specs.States.{FolderState}
+use Rattle.folder_core.specs.Steps.{Answer, Change, IndexFull, IndexMore, step}
+use Rattle.folder_core.proofs.Lemmas.{IsOneOrWas, full-names, more-names}
+use Rattle.sync_record.specs.Records.{Name, FileRecord}
+use Rattle.bepd.specs.Heard.{own_device, peer, is_kept, kept_records, skipped_records, frame_changes, frame_files, changed, heard_folder, skipped_count}
+use Rattle.bepd.specs.Progress.{IsHeard, IsHeardOf, Leaves}
+
+-- ---- a frame
+
+abbrev after : FolderState → Change → FolderState
+after s change = (step s change).1
+
+-- the folder after one more frame
+folder_more : (folder : List ℕ) (frames : List Frame) (f : Frame) → heard_folder folder (frames ++ f ∷ []) ≡ changed (heard_folder folder frames) (frame_changes folder f)
+folder_more folder frames f =
+    let start = empty_folder own_device in
+    let one : flat_map (frame_changes folder) (f ∷ []) ≡ frame_changes folder f = append-nil (frame_changes folder f) in
+    ap (changed start) (flat_map-append (frame_changes folder) frames (f ∷ []) ∙ ap (λ l. flat_map (frame_changes folder) frames ++ l) one)
+    ∙ fold-append after start (flat_map (frame_changes folder) frames) (frame_changes folder f)
+
+-- and how many records are skipped
+count_more : (folder : List ℕ) (frames : List Frame) (f : Frame) → skipped_count folder (frames ++ f ∷ []) ≡ skipped_count folder frames + length (skipped_records (frame_files folder f))
+count_more folder frames f =
+    let skips = λ (info : FileInfo). not (is_kept info) in
+    let before = flat_map (frame_files folder) frames in
+    let one : flat_map (frame_files folder) (f ∷ []) ≡ frame_files folder f = append-nil (frame_files folder f) in
+    ap (λ l. length (filter skips l)) (flat_map-append (frame_files folder) frames (f ∷ []) ∙ ap (λ l. before ++ l) one)
+    ∙ ap length (filter-append skips before (frame_files folder f))
+    ∙ length-append (filter skips before) (filter skips (frame_files folder f))
+
+module _ (folder : List ℕ) (frames : List Frame) (f : Frame) (s new : FolderState) (old names : List Name) (skipped count : ℕ) (files : List FileInfo) where
+  frame_heard : new ≡ changed s (frame_changes folder f) → frame_files folder f ≡ files → count ≡ skipped + length (skipped_records files)
+      → ((k : Key) (r : FileRecord) → get new.announced k ≡ Some r → In k.name names)
+      → IsHeard folder frames s old skipped → IsHeard folder (frames ++ f ∷ []) new names count
+  frame_heard changes told counts named h = record {
+    state = changes ∙ ap (λ t. changed t (frame_changes folder f)) h.state ∙ sym (folder_more folder frames f);
+    named = named;
+    counted = counts ∙ ap (λ n. n + length (skipped_records files)) h.counted
+        ∙ ap (λ l. skipped_count folder frames + length (skipped_records l)) (sym told) ∙ sym (count_more folder frames f);
+  }
+
+  name_of : (k : Key) (r : FileRecord) → IsOneOrWas s.announced (kept_records files) k r → ((n : Name) → In n old → In n names)
+      → ((q : FileRecord) → In q (kept_records files) → In q.name names) → IsHeard folder frames s old skipped → In k.name names
+  name_of k r (inl one) stays noted h = subst (λ n. In n names) one.1 (noted r one.0)
+  name_of k r (inr was) stays noted h = stays k.name (h.named k r was)
+
+  pub full_heard : (records : List FileRecord) (answer : Answer) → frame_changes folder f ≡ IndexFull peer (kept_records files) ∷ [] → frame_files folder f ≡ files → records ≡ kept_records files
+      → step s (IndexFull peer records) ≡ (answer, new) → count ≡ skipped + length (skipped_records files) → ((n : Name) → In n old → In n names)
+      → ((q : FileRecord) → In q (kept_records files) → In q.name names) → IsHeard folder frames s old skipped → IsHeard folder (frames ++ f ∷ []) new names count
+  full_heard records answer changes told kept stepped counts stays noted h =
+      let made : new ≡ after s (IndexFull peer (kept_records files)) =
+      ap (λ (p : Answer × FolderState). p.1) (sym stepped) ∙ ap (λ rs. after s (IndexFull peer rs)) kept in
+      frame_heard (made ∙ ap (changed s) (sym changes)) told counts
+      (λ k r e. name_of k r (full-names s peer (kept_records files) k r (ap (λ (t : FolderState). get t.announced k) (sym made) ∙ e)) stays noted h) h
+
+  pub more_heard : (records : List FileRecord) (answer : Answer) → frame_changes folder f ≡ IndexMore peer (kept_records files) ∷ [] → frame_files folder f ≡ files → records ≡ kept_records files
+      → step s (IndexMore peer records) ≡ (answer, new) → count ≡ skipped + length (skipped_records files) → ((n : Name) → In n old → In n names)
+      → ((q : FileRecord) → In q (kept_records files) → In q.name names) → IsHeard folder frames s old skipped → IsHeard folder (frames ++ f ∷ []) new names count
+  more_heard records answer changes told kept stepped counts stays noted h =
+      let made : new ≡ after s (IndexMore peer (kept_records files)) =
+      ap (λ (p : Answer × FolderState). p.1) (sym stepped) ∙ ap (λ rs. after s (IndexMore peer rs)) kept in
+      frame_heard (made ∙ ap (changed s) (sym changes)) told counts
+      (λ k r e. name_of k r (more-names s peer (kept_records files) k r (ap (λ (t : FolderState). get t.announced k) (sym made) ∙ e)) stays noted h) h
+
+-- a frame that says nothing of the folder
+pub nothing_heard : (folder : List ℕ) (frames : List Frame) (f : Frame) (s : FolderState) (names : List Name) (skipped : ℕ) → frame_changes folder f ≡ [] → frame_files folder f ≡ []
+    → IsHeard folder frames s names skipped → IsHeard folder (frames ++ f ∷ []) s names skipped
+nothing_heard folder frames f s names skipped changes told h =
+    frame_heard folder frames f s s names names skipped skipped [] (ap (changed s) (sym changes)) told (omega arith) h.named h
+
+-- ---- the frames that a reader gives
+
+files_by : (b : Bool) (files : List FileInfo) (left all : ℕ) → length files + left < all → left < all → length (if b then files else []) + left ≤ all
+files_by true files left all few less = omega (arith, few)
+files_by false files left all few less = omega (arith, less)
+
+-- the records of the folder in a frame are fewer than its bytes
+files_few : (folder bytes rest : List ℕ) (f : Frame) → frame_at false bytes ≡ Whole f rest → length rest < length bytes → length (frame_files folder f) + length rest ≤ length bytes
+files_few folder bytes rest (Hello m) e less = omega (arith, less)
+files_few folder bytes rest (Unknown k) e less = omega (arith, less)
+files_few folder bytes rest (MessageFrame (ClusterConfig m)) e less = omega (arith, less)
+files_few folder bytes rest (MessageFrame (Request m)) e less = omega (arith, less)
+files_few folder bytes rest (MessageFrame (Response m)) e less = omega (arith, less)
+files_few folder bytes rest (MessageFrame (DownloadProgress m)) e less = omega (arith, less)
+files_few folder bytes rest (MessageFrame (Ping m)) e less = omega (arith, less)
+files_few folder bytes rest (MessageFrame (Close m)) e less = omega (arith, less)
+files_few folder bytes rest (MessageFrame (Index m)) e less = files_by (bytes_eq m.folder folder) m.files (length rest) (length bytes) (index_records_few bytes rest m e) less
+files_few folder bytes rest (MessageFrame (IndexUpdate m)) e less = files_by (bytes_eq m.folder folder) m.files (length rest) (length bytes) (update_records_few bytes rest m e) less
+
+pub given_few : (folder : List ℕ) (old new : State) (f : Frame) → old.hello ≡ false → Gives old (Some (Ok f)) new → length (frame_files folder f) + length new.rest ≤ length old.rest
+given_few folder old new f later gives =
+    files_few folder old.rest new.rest f (ap (λ due. frame_at due old.rest) (sym later) ∙ gives.1) (given_shorter old new f gives)
+
+front_push : (frames : List Frame) (f : Frame) (s : Stream) → with_front (frames ++ f ∷ []) s ≡ with_front frames (first_then f s)
+front_push frames f s = ap (λ l. record { frames = l; end = s.end }) (append_assoc frames (f ∷ []) s.frames)
+
+pub hears_frame : (folder bytes : List ℕ) (old new : State) (f : Frame) (s t : FolderState) (names more : List Name) (m n : ℕ) → Gives old (Some (Ok f)) new
+    → ((frames : List Frame) → IsHeard folder frames s names m → IsHeard folder (frames ++ f ∷ []) t more n) → n ≤ m + length (frame_files folder f)
+    → IsHeardOf folder bytes old s names m → IsHeardOf folder bytes new t more n
+hears_frame folder bytes old new f s t names more m n gives heard count h =
+    let few = given_few folder old new f h.later gives in
+    record {
+      frames = h.frames ++ f ∷ [];
+      heard = heard h.frames h.heard;
+      remains = λ rest. front_push h.frames f (remaining (fed new rest)) ∙ ap (with_front h.frames) (sym (given_frame old new f rest gives)) ∙ h.remains rest;
+      fits = omega (arith, few, count, h.fits);
+      later = gives.2;
+    }
+
+-- ---- the pieces that a reader is fed
+
+grown_few : (fault : Option FrameFault) (rest piece : List ℕ) → length (grown rest piece fault) ≤ length rest + length piece
+grown_few None rest piece = let sum : length (rest ++ piece) ≡ length rest + length piece = length-append rest piece in omega (arith, sum)
+grown_few (Some e) rest piece = omega arith
+
+pub hears_piece : (folder bytes piece : List ℕ) (old new : State) (s : FolderState) (names : List Name) (n : ℕ) → new ≡ fed old piece → IsHeardOf folder bytes old s names n → IsHeardOf folder (bytes ++ piece) new s names n
+hears_piece folder bytes piece old new s names n e h =
+    let more : length new.rest ≤ length old.rest + length piece = subst (λ (t : State). length t.rest ≤ length old.rest + length piece) (sym e) (grown_few old.fault old.rest piece) in
+    let sum : length (bytes ++ piece) ≡ length bytes + length piece = length-append bytes piece in
+    record {
+      frames = h.frames;
+      heard = h.heard;
+      remains = λ rest. ap (λ (t : State). with_front h.frames (remaining (fed t rest))) e
+          ∙ ap (λ (t : State). with_front h.frames (remaining t)) (fed_pieces old piece rest)
+          ∙ h.remains (piece ++ rest) ∙ ap (stream false) (sym (append_assoc bytes piece rest));
+      fits = omega (arith, more, sum, h.fits);
+      later = ap (λ (t : State). t.hello) e ∙ h.later;
+    }
+
+pub piece_few : (s : State) (piece : List ℕ) → length (fed s piece).rest ≤ length s.rest + length piece
+piece_few s piece = grown_few s.fault s.rest piece
+
+-- ---- what ends the reading
+
+kept_by : (old new : State) (e : FrameFault) → TellsFault old e new → (new.rest ≡ old.rest) × (new.hello ≡ old.hello)
+kept_by old new e (inl h) = (ap (λ (t : State). t.rest) h.1, ap (λ (t : State). t.hello) h.1)
+kept_by old new e (inr h) = (ap (λ (t : State). t.rest) h.2, ap (λ (t : State). t.hello) h.2)
+
+-- a fault leaves what stands there
+kept_at_fault : (old new : State) (e : FrameFault) → Gives old (Some (Err e)) new → (new.rest ≡ old.rest) × (new.hello ≡ old.hello)
+kept_at_fault old new BadMagic g = kept_by old new BadMagic g
+kept_at_fault old new TooLong g = kept_by old new TooLong g
+kept_at_fault old new Compressed g = kept_by old new Compressed g
+kept_at_fault old new BadHeader g = kept_by old new BadHeader g
+kept_at_fault old new BadBody g = kept_by old new BadBody g
+kept_at_fault old new OutOfMemory g = (ap (λ (t : State). t.rest) g, ap (λ (t : State). t.hello) g)
+
+pub hears_fault : (folder bytes : List ℕ) (old new : State) (e : FrameFault) (s : FolderState) (names : List Name) (n : ℕ) → Gives old (Some (Err e)) new → (e ≡ OutOfMemory → ⊥)
+    → IsHeardOf folder bytes old s names n → IsHeardOf folder bytes new s names n
+hears_fault folder bytes old new e s names n gives not h =
+    let kept = kept_at_fault old new e gives in
+    let same : length new.rest ≡ length old.rest = ap length kept.0 in
+    record {
+      frames = h.frames;
+      heard = h.heard;
+      remains = λ more. ap (with_front h.frames) (given_fault old new e more gives not).0 ∙ h.remains more;
+      fits = omega (arith, same, h.fits);
+      later = kept.1 ∙ h.later;
+    }
+
+pub leaves_fault : (old new : State) (e : FrameFault) → Gives old (Some (Err e)) new → (e ≡ OutOfMemory → ⊥) → Leaves new (Some e)
+leaves_fault old new e gives not = λ more. (given_fault old new e more gives not).1
+
+pub leaves_none : (old new : State) → Gives old None new → Leaves new None
+leaves_none old new gives = subst (λ (t : State). remaining (fed t []) ≡ ended (Ok t.rest)) (sym gives.2) (given_none old new gives)

@@ -1,0 +1,6 @@
+mod LineSteps
+pub mod Hearing
+pub mod Framing
+pub mod Reading
+pub mod Reports
+pub mod Answering

@@ -1,0 +1,105 @@
+-- A stream that is read in pieces, up to its end or its first fault.
+use Rattle.std.proofs.Common.{◌≡◌, ℕ, zero, suc, ◌+◌, ◌≤◌, false, List, [], ◌∷◌, ◌++◌, length, take, Option, Some, None, Ok, Err, IfSome, refl, sym, ap, subst, ◌∙◌, arith, append-nil, length-take-le}
+use Rattle.std.proofs.KnownBytes.{Consumes-trans, Consumes-kept}
+use Rattle.std.proofs.lemmas.List.{length-append}
+use Rattle.std.specs.Io.KnownBytes.{Consumes, IsAtEnd, Keeps}
+use Rattle.bep_frames.specs.declared.fault.FrameFault.{FrameFault}
+use Rattle.bep_frames.specs.State.{State, fed, remaining, start, with_front}
+use Rattle.bep_frames.specs.Stream as streams
+use Rattle.bep_frames.specs.Stream.{Stream, ended, stream}
+use Rattle.folder_core.specs.States.{FolderState}
+use Rattle.sync_record.specs.Records.{Name}
+use Rattle.bepd.specs.declared.ending.Ending.{Ending}
+use Rattle.bepd.specs.declared.ending.Ending.TheVariants.{Fault}
+use Rattle.bepd.specs.Endings.{IsEndOf, most_bytes}
+use Rattle.bepd.specs.Heard.{own_device}
+use Rattle.bepd.specs.Progress.{IsHeard, IsHeardOf, IsRead, Leaves}
+
+-- before the first piece
+pub hears_nothing : (folder : List ℕ) (reader : State) (s : FolderState) (names : List Name) (n : ℕ) → reader ≡ start false → IsHeard folder [] s names n → IsHeardOf folder [] reader s names n
+hears_nothing folder reader s names n e h =
+    let none : length reader.rest ≡ 0 = ap (λ (t : State). length t.rest) e in
+    record {
+      frames = [];
+      heard = h;
+      remains = λ more. ap (λ (t : State). with_front [] (remaining (fed t more))) e;
+      fits = omega (arith, none, h.counted);
+      later = ap (λ (t : State). t.hello) e;
+    }
+
+pub leaves_start : (reader : State) → reader ≡ start false → Leaves reader None
+unfolding stream streams.stream_within
+leaves_start reader e = subst (λ (t : State). remaining (fed t []) ≡ ended (Ok t.rest)) (sym e) refl
+
+-- the device that keeps the folder
+pub own_folder : (folder : List ℕ) (s : FolderState) (names : List Name) (n : ℕ) → IsHeard folder [] s names n → s.me ≡ own_device
+own_folder folder s names n h = ap (λ (t : FolderState). t.me) h.state
+
+-- a read that gave nothing
+pub read_over : (a b c : Option (List ℕ)) (bytes buffer : List ℕ) (n : ℕ) → n ≡ 0 → Consumes a b bytes → Consumes b c (take n buffer) → Consumes a c bytes
+read_over a b c bytes buffer n none p q =
+    subst (Consumes a c) (ap (λ k. bytes ++ take k buffer) none ∙ append-nil bytes) (Consumes-trans a b c bytes (take n buffer) p q)
+
+pub take_short : (n : ℕ) (buffer : List ℕ) → length (take n buffer) ≤ n
+take_short zero buffer = omega arith
+take_short (suc n) [] = omega arith
+take_short (suc n) (b ∷ buffer) = omega (arith, take_short n buffer)
+
+-- what was read and heard, after so many bytes
+abbrev pub IsReadSoFar : List ℕ → Option (List ℕ) → Option (List ℕ) → ℕ → State → FolderState → List Name → ℕ → Type 0
+IsReadSoFar folder old new total reader s names n = (bytes : List ℕ) × Consumes old new bytes × (length bytes ≡ total) × IsHeardOf folder bytes reader s names n
+
+pub read_piece : (folder : List ℕ) (a b c : Option (List ℕ)) (total count : ℕ) (buffer : List ℕ) (old new : State) (s t : FolderState) (names more : List Name) (m n : ℕ) → count ≤ length buffer
+    → Consumes b c (take count buffer)
+    → ((bytes : List ℕ) → IsHeardOf folder bytes old s names m → IsHeardOf folder (bytes ++ take count buffer) new t more n)
+    → IsReadSoFar folder a b total old s names m → IsReadSoFar folder a c (total + count) new t more n
+read_piece folder a b c total count buffer old new s t names more m n fits taken heard h =
+    let piece = take count buffer in
+    let size : length piece ≡ count = length-take-le count buffer fits in
+    let sum : length (h.0 ++ piece) ≡ length h.0 + length piece = length-append h.0 piece in
+    (h.0 ++ piece, Consumes-trans a b c h.0 piece h.1 taken, omega (arith, size, sum, h.2), heard h.0 h.3)
+
+pub read_kept : (folder : List ℕ) (a b c : Option (List ℕ)) (total : ℕ) (reader : State) (s : FolderState) (names : List Name) (n : ℕ) → Keeps b c
+    → IsReadSoFar folder a b total reader s names n → IsReadSoFar folder a c total reader s names n
+read_kept folder a b c total reader s names n kept h = (h.0, Consumes-kept a b c h.0 h.1 kept, h.2, h.3)
+
+-- ---- the whole stream
+
+each_known : (known : Option (List ℕ)) {P : List ℕ → Type 0} → ((rest : List ℕ) → P rest) → IfSome known P
+each_known None all = tt
+each_known (Some rest) all = all rest
+
+none_known : (known : Option (List ℕ)) (bytes : List ℕ) → IsAtEnd known → IfSome known (λ rest. stream false (bytes ++ rest) ≡ stream false bytes)
+none_known None bytes over = tt
+none_known (Some rest) bytes over = ap (λ l. stream false (bytes ++ l)) over ∙ ap (stream false) (append-nil bytes)
+
+-- a fault ends the stream, whatever follows
+pub read_fault : (folder bytes : List ℕ) (old new : Option (List ℕ)) (reader : State) (e : FrameFault) (s : FolderState) (names : List Name) (n : ℕ) → Consumes old new bytes → length bytes ≤ most_bytes
+    → IsHeardOf folder bytes reader s names n → Leaves reader (Some e) → IsRead folder old new (Fault e) s names n
+read_fault folder bytes old new reader e s names n taken within h leaves =
+    let all : (more : List ℕ) → record { frames = h.frames; end = Err e } ≡ stream false (bytes ++ more) =
+    λ more. ap (λ l. record { frames = l; end = Err e }) (sym (append-nil h.frames)) ∙ ap (with_front h.frames) (sym (leaves more)) ∙ h.remains more in
+    let here : record { frames = h.frames; end = Err e } ≡ stream false bytes = all [] ∙ ap (stream false) (append-nil bytes) in
+    record {
+      bytes = bytes;
+      taken = taken;
+      within = within;
+      heard = subst (λ (t : Stream). IsHeard folder t.frames s names n) here h.heard;
+      end = subst (λ (t : Stream). IsEndOf t.end (Fault e)) here refl;
+      whole = each_known new (λ more. sym (all more) ∙ here);
+    }
+
+-- the input ended
+pub read_all : (folder bytes : List ℕ) (old new : Option (List ℕ)) (reader : State) (ending : Ending) (s : FolderState) (names : List Name) (n : ℕ) → Consumes old new bytes → IsAtEnd new → length bytes ≤ most_bytes
+    → IsHeardOf folder bytes reader s names n → Leaves reader None → IsEndOf (Ok reader.rest) ending → IsRead folder old new ending s names n
+read_all folder bytes old new reader ending s names n taken over within h leaves end =
+    let here : record { frames = h.frames; end = Ok reader.rest } ≡ stream false bytes =
+    ap (λ l. record { frames = l; end = Ok reader.rest }) (sym (append-nil h.frames)) ∙ ap (with_front h.frames) (sym leaves) ∙ h.remains [] ∙ ap (stream false) (append-nil bytes) in
+    record {
+      bytes = bytes;
+      taken = taken;
+      within = within;
+      heard = subst (λ (t : Stream). IsHeard folder t.frames s names n) here h.heard;
+      end = subst (λ (t : Stream). IsEndOf t.end ending) here end;
+      whole = none_known new bytes over;
+    }

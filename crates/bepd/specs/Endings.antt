@@ -1,0 +1,65 @@
+-- How `bepd best` ends (own rule).
+use Rattle.std.specs.Prelude.{◌≡◌, ℕ, ◌^◌, ◌<◌, List, [], ◌++◌, length, Option, Result, Ok, Err, ⊤, codes, decimal}
+use Rattle.std.specs.Io.KnownBytes.{Appends, Keeps}
+use Rattle.bep_frames.specs.declared.fault.FrameFault.{FrameFault}
+use Rattle.bep_frames.specs.declared.fault.FrameFault.TheVariants as faults
+use Rattle.bep_frames.specs.Numbers.{frame_fault_number}
+use Rattle.bepd.specs.declared.ending.Ending.{Ending}
+use Rattle.bepd.specs.declared.ending.Ending.TheVariants.{Done, Rest, Fault, Failed}
+use Rattle.bepd.specs.declared.ending.Failure.{Failure}
+use Rattle.bepd.specs.declared.ending.Failure.TheVariants.{OutOfMemory, Read, Write}
+
+-- the most bytes of an input
+abbrev pub most_bytes : ℕ
+most_bytes = 2 ^ 40
+
+abbrev pub failure_status : Failure → ℕ
+failure_status OutOfMemory = 4
+failure_status Read = 5
+failure_status Write = 5
+
+abbrev pub status_of : Ending → ℕ
+status_of Done = 0
+status_of (Fault fault) = 2
+status_of (Rest count) = 3
+status_of (Failed failure) = failure_status failure
+
+-- The lines for standard error.
+
+abbrev pub fault_name : FrameFault → List ℕ
+fault_name faults.BadMagic = codes "BadMagic"
+fault_name faults.TooLong = codes "TooLong"
+fault_name faults.Compressed = codes "Compressed"
+fault_name faults.BadHeader = codes "BadHeader"
+fault_name faults.BadBody = codes "BadBody"
+fault_name faults.OutOfMemory = codes "OutOfMemory"
+
+abbrev pub failure_text : Failure → List ℕ
+failure_text OutOfMemory = codes "fault 33 OutOfMemory"
+failure_text Read = codes "fault read or write"
+failure_text Write = codes "fault read or write"
+
+abbrev pub ending_text : Ending → List ℕ
+ending_text Done = []
+ending_text (Rest count) = codes "rest " ++ decimal count
+ending_text (Fault e) = codes "fault " ++ decimal (frame_fault_number e) ++ codes " " ++ fault_name e
+ending_text (Failed failure) = failure_text failure
+
+-- the listing was written whole
+abbrev pub IsListed : Ending → Type 0
+IsListed (Failed failure) = ⊥
+IsListed _ = ⊤
+
+-- how a stream ends: with a whole frame, with so many bytes behind the last one, or with a fault
+abbrev pub IsEndOf : Result (List ℕ) FrameFault → Ending → Type 0
+IsEndOf (Ok rest) Done = length rest ≡ 0
+IsEndOf (Ok rest) (Rest count) = (0 < count) × (count ≡ length rest)
+IsEndOf (Err e) (Fault fault) = fault ≡ e
+IsEndOf _ _ = ⊥
+
+-- what a failure leaves of the bytes that were to be written: before a write failed, their front alone was written; and
+-- none after a failed read
+abbrev pub WritesFront : Failure → List ℕ → Option (List ℕ) → Option (List ℕ) → Type 0
+WritesFront OutOfMemory bytes old new = (front : List ℕ) × (rest : List ℕ) × (bytes ≡ front ++ rest) × Appends old new front
+WritesFront Read bytes old new = Keeps old new
+WritesFront Write bytes old new = ⊤

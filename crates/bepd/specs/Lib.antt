@@ -1,0 +1,6 @@
+pub mod Lines
+pub mod Heard
+pub mod Endings
+pub mod Listing
+pub mod Progress
+pub mod Refusals

@@ -1,0 +1,91 @@
+//! `bepd best FOLDER`.
+ghost use Rattle.std.specs.Prelude.{◌≡◌, ℕ, List, IfErr, IfOk, IfSome, false};
+ghost use Rattle.std.specs.Io.KnownBytes.{Appends, Consumes};
+ghost use Rattle.bep_frames.specs.Stream.{stream};
+ghost use Rattle.folder_core.specs.Kept.{empty_folder};
+ghost use Rattle.bepd.specs.Endings.{IsEndOf, IsListed, WritesFront};
+ghost use Rattle.bepd.specs.Heard.{own_device};
+ghost use Rattle.bepd.specs.Listing.{listing, Answers};
+
+use crate::ending::{Ending, Failure};
+use crate::heard::{Heard, own_device};
+use crate::input::hear_all;
+use crate::listing::write_listing;
+use folder_core::{FolderCore, PlainFolder};
+use std::alloc::Global;
+use std::io::{Read, Write};
+
+/// Reads a peer's stream without Hello up to its end or its first fault, and writes the listing of one folder: a line
+/// `best KIND SIZE VERSION NAME` for each name that has a best, in byte order, and then `skipped N`.
+///
+/// Only the Index and IndexUpdate messages of the folder count; others are read over. At a fault the listing is that of
+/// the frames before it. After a failed read nothing is written; after want of memory no more lines are; where a write
+/// failed, that is told before all else. An input of more than 2^40 bytes is a failed read.
+///
+/// The stream is read in pieces of 64 KiB. The plain folder merges each message with all that it keeps, so m messages
+/// over n names take O(m n); memory for the records and their names, and a small multiple of the greatest message.
+pub fn best<R: Read, W: Write>(
+    alloc: Global,
+    folder: &str,
+    reader: &mut R,
+    writer: &mut W,
+) -> Ending
+    // Exactly the listing of the bytes that the reader gave is written, unless something failed.
+    ensures listing { (bytes : List ℕ) × Consumes (R.remaining reader.old) (R.remaining reader.new) bytes
+        × Answers folder.now bytes result (W.contents writer.old) (W.contents writer.new) }
+    // Where the input is known, it is the listing of the whole input, and the ending is the stream's.
+    ensures known { IfSome (R.remaining reader.old) (λ input. IsListed result →
+        IsEndOf (stream false input).end result
+        × Appends (W.contents writer.old) (W.contents writer.new) (listing folder.now input)) }
+{
+    best_in(
+        alloc,
+        folder,
+        PlainFolder::new(alloc, own_device()),
+        reader,
+        writer,
+    )
+}
+
+/// The same with any keeping of the folder, which has to be empty.
+pub fn best_in<F: FolderCore + Drop, R: Read, W: Write>(
+    alloc: Global,
+    folder: &str,
+    empty: F,
+    reader: &mut R,
+    writer: &mut W,
+) -> Ending
+    requires { F.state empty ≡ empty_folder own_device }
+    ensures listing { (bytes : List ℕ) × Consumes (R.remaining reader.old) (R.remaining reader.new) bytes
+        × Answers folder.now bytes result (W.contents writer.old) (W.contents writer.new) }
+    ensures known { IfSome (R.remaining reader.old) (λ input. IsListed result →
+        IsEndOf (stream false input).end result
+        × Appends (W.contents writer.old) (W.contents writer.new) (listing folder.now input)) }
+{
+    match list(alloc, folder, empty, reader, writer) {
+        Ok(ending) => ending,
+        Err(failure) => Ending::Failed(failure),
+    }
+}
+
+fn list<F: FolderCore + Drop, R: Read, W: Write>(
+    alloc: Global,
+    folder: &str,
+    empty: F,
+    reader: &mut R,
+    writer: &mut W,
+) -> Result<Ending, Failure>
+    requires { F.state empty ≡ empty_folder own_device }
+    ensures listed { IfOk result (λ ending. (bytes : List ℕ) × Consumes (R.remaining reader.old) (R.remaining reader.new) bytes
+        × Answers folder.now bytes ending (W.contents writer.old) (W.contents writer.new)) }
+    ensures known { IfOk result (λ ending. IfSome (R.remaining reader.old) (λ input.
+        IsEndOf (stream false input).end ending
+        × Appends (W.contents writer.old) (W.contents writer.new) (listing folder.now input))) }
+    ensures failed { IfErr result (λ failure. (bytes : List ℕ) × Consumes (R.remaining reader.old) (R.remaining reader.new) bytes
+        × WritesFront failure (listing folder.now bytes) (W.contents writer.old) (W.contents writer.new)) }
+{
+    let mut heard = Heard::new(alloc, empty);
+    let ending = hear_all(alloc, folder, &mut heard, reader)?;
+    write_listing(alloc, &heard, writer)?;
+    Ok(ending)
+}

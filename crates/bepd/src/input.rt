@@ -1,0 +1,126 @@
+//! A stream read to its end, or to its first fault.
+ghost use Rattle.std.specs.Prelude.{◌≡◌, ◌≢◌, ◌++◌, ◌+◌, ◌<◌, ◌≤◌, ◌^◌, ℕ, List, IfErr, IfOk, OnErr, OnOk, Ok, [], false, length};
+ghost use Rattle.std.specs.Io.KnownBytes.{Consumes};
+ghost use Rattle.bepd.specs.Endings.{IsEndOf};
+ghost use Rattle.bepd.specs.Heard.{own_device};
+ghost use Rattle.bepd.specs.Progress.{IsHeard, IsHeardOf, IsRead, Leaves};
+
+use crate::ending::{Ending, Failure};
+use crate::heard::Heard;
+use bep_frames::{FrameFault, FrameReader};
+use folder_core::FolderCore;
+use std::alloc::{AllocError, Global};
+use std::io::{ErrorKind, Read};
+
+/// How many bytes are read at once at most.
+const PIECE_BYTES: usize = 65_536;
+
+/// The most bytes of an input.
+const MOST_BYTES: u64 = 0x100_0000_0000;
+
+/// Reads a stream without Hello up to its end or its first fault, and takes its frames.
+///
+/// `Read` where a read failed, though not where one was interrupted, which is tried again, or where the input has more
+/// than 2^40 bytes.
+pub(crate) fn hear_all<F: FolderCore, R: Read>(
+    alloc: Global,
+    folder: &str,
+    heard: &mut Heard<F>,
+    reader: &mut R,
+) -> Result<Ending, Failure>
+    requires { IsHeard folder.now [] (F.state heard.old.folder) heard.old.names.keys heard.old.skipped }
+    ensures read { IfOk result (λ ending. IsRead folder.now (R.remaining reader.old) (R.remaining reader.new)
+        ending (F.state heard.new.folder) heard.new.names.keys heard.new.skipped) }
+    ensures taken { (bytes : List ℕ) × Consumes (R.remaining reader.old) (R.remaining reader.new) bytes }
+    ensures refused { IfErr result (λ failure. failure ≢ Failure.Write) }
+{
+    let mut frames = FrameReader::after_hello(alloc);
+    let mut bytes = make_buffer(alloc, PIECE_BYTES)?;
+    let buffer = bytes.as_mut_slice();
+    let mut total = 0;
+    for _ in 0..u64::MAX {
+        match reader.read(buffer) {
+            Ok(0) => return Ok(end_of(&frames)),
+            Ok(count) => {
+                total += count as u64;
+                if total > MOST_BYTES {
+                    return Err(Failure::Read);
+                }
+                let piece = &buffer[..count];
+                if let Some(fault) = hear_piece(alloc, folder, heard, &mut frames, piece)? {
+                    return Ok(Ending::Fault(fault));
+                }
+            }
+            Err(error) => {
+                if error.kind() != ErrorKind::Interrupted {
+                    return Err(Failure::Read);
+                }
+            }
+        }
+    }
+    Err(Failure::Read)
+}
+
+/// So many bytes.
+fn make_buffer(alloc: Global, size: usize) -> Result<Vec<u8>, AllocError>
+    ensures { IfOk result (λ buffer. length buffer.items ≡ size) }
+{
+    vec![in alloc; 0u8; size]
+}
+
+/// How a stream ends of which no whole frame and no fault is left.
+fn end_of(frames: &FrameReader) -> Ending
+    ensures { IsEndOf (Ok frames.now.rest) result }
+{
+    match frames.rest() {
+        0 => Ending::Done,
+        rest => Ending::Rest(rest),
+    }
+}
+
+/// Feeds the next bytes of the stream to the reader, and takes the frames that stand there then.
+fn hear_piece<F: FolderCore>(
+    alloc: Global,
+    folder: &str,
+    heard: &mut Heard<F>,
+    frames: &mut FrameReader,
+    piece: &[u8],
+) -> Result<Option<FrameFault>, AllocError>
+    requires me { (F.state heard.old.folder).me ≡ own_device }
+    requires later { frames.old.hello ≡ false }
+    requires few { heard.old.skipped + length frames.old.rest + length piece.now < 2 ^ 64 }
+    ensures heard { OnOk result ((bytes : List ℕ) →
+        IsHeardOf folder.now bytes frames.old (F.state heard.old.folder) heard.old.names.keys heard.old.skipped →
+        IsHeardOf folder.now (bytes ++ piece.now) frames.new (F.state heard.new.folder) heard.new.names.keys heard.new.skipped) }
+    ensures me { OnOk result ((F.state heard.new.folder).me ≡ own_device) }
+    ensures leaves { IfOk result (Leaves frames.new) }
+{
+    frames.feed(piece)?;
+    hear(alloc, folder, heard, frames)
+}
+
+/// Takes the frames that stand in the reader, until there is none or a fault.
+fn hear<F: FolderCore>(
+    alloc: Global,
+    folder: &str,
+    heard: &mut Heard<F>,
+    frames: &mut FrameReader,
+) -> Result<Option<FrameFault>, AllocError>
+    requires me { (F.state heard.old.folder).me ≡ own_device }
+    requires later { frames.old.hello ≡ false }
+    requires few { heard.old.skipped + length frames.old.rest < 2 ^ 64 }
+    ensures heard { OnOk result ((bytes : List ℕ) →
+        IsHeardOf folder.now bytes frames.old (F.state heard.old.folder) heard.old.names.keys heard.old.skipped →
+        IsHeardOf folder.now bytes frames.new (F.state heard.new.folder) heard.new.names.keys heard.new.skipped) }
+    ensures me { OnOk result ((F.state heard.new.folder).me ≡ own_device) }
+    ensures leaves { IfOk result (Leaves frames.new) }
+{
+    while let Some(answer) = frames.next() {
+        match answer {
+            Ok(frame) => heard.take_frame(alloc, folder, frame)?,
+            Err(FrameFault::OutOfMemory) => return Err(AllocError),
+            Err(fault) => return Ok(Some(fault)),
+        }
+    }
+    Ok(None)
+}
