@@ -31,7 +31,7 @@ true_or_false : (b : Bool) → (b ≡ true) ⊎ (b ≡ false)
 true_or_false true = inl refl
 true_or_false false = inr refl
 
-same_front : (front : List ℕ) → length front ≡ 4 → starts_with nat_eq front magic ≡ true → front ≡ magic
+pub same_front : (front : List ℕ) → length front ≡ 4 → starts_with nat_eq front magic ≡ true → front ≡ magic
 same_front [] w e = absurd (omega (arith, w))
 same_front (a ∷ []) w e = absurd (omega (arith, w))
 same_front (a ∷ b ∷ []) w e = absurd (omega (arith, w))

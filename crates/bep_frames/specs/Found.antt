@@ -1,5 +1,5 @@
 -- What a look at some bytes finds (own rule).
-use Rattle.std.specs.Prelude.{◌≡◌, ◌≢◌, ℕ, ◌<◌, ◌≤◌, Bool, List, ◌++◌, length, drop}
+use Rattle.std.specs.Prelude.{◌≡◌, ◌≢◌, ℕ, ◌+◌, ◌<◌, ◌≤◌, Bool, List, ◌++◌, length, drop, Option, Some}
 use Rattle.bep_frames.specs.declared.fault.FrameFault.{FrameFault}
 use Rattle.bep_frames.specs.declared.fault.FrameFault.TheVariants.{OutOfMemory}
 use Rattle.bep_frames.specs.declared.found.Found.{Found}
@@ -19,7 +19,10 @@ Finds at bytes (WholeFound f left) = (rest : List ℕ) × (length rest ≡ left)
 abbrev pub Fails : Step → FrameFault → Type 0
 Fails step e = e ≢ OutOfMemory → step ≡ Broken e
 
--- what a reader holds: the bytes from a place on are its rest, and nothing stands there before so many more bytes
-pub record IsHeld (hello : Bool) (bytes : List ℕ) (start missing : ℕ) : Type 0 where
+-- what a reader holds: the bytes from a place on are its rest, those before it are no more, and nothing stands there
+-- before so many more bytes; the fault that was told isn't want of memory
+pub record IsHeld (hello : Bool) (bytes : List ℕ) (start missing : ℕ) (fault : Option FrameFault) : Type 0 where
   pub within : start ≤ length bytes
+  pub half : start + start ≤ length bytes
   pub wants : WantsMore (frame_at hello) (drop start bytes) missing
+  pub told : fault ≢ Some OutOfMemory

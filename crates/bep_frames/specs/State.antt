@@ -1,8 +1,9 @@
 -- What a reader of frames is, and what its calls do to it (own rule).
-use Rattle.std.specs.Prelude.{◌≡◌, ◌⊎◌, ℕ, Bool, false, List, [], ◌++◌, length, Option, Some, None, Result, Ok, Err}
+use Rattle.std.specs.Prelude.{◌≡◌, ◌⊎◌, ℕ, ◌≤◌, Bool, true, false, List, [], ◌++◌, length, take, Option, Some, None, Result, Ok, Err}
 use Rattle.bep_frames.specs.declared.fault.FrameFault.{FrameFault}
 use Rattle.bep_frames.specs.declared.fault.FrameFault.TheVariants.{BadMagic, TooLong, Compressed, BadHeader, BadBody, OutOfMemory}
 use Rattle.bep_frames.specs.declared.frame.Frame.{Frame}
+use Rattle.bep_frames.specs.Grammar.{magic}
 use Rattle.bep_frames.specs.Reading.{More, Whole, Broken, frame_at}
 use Rattle.bep_frames.specs.Stream.{Stream, ended, stream}
 
@@ -29,7 +30,8 @@ TellsFault old e new =
     ((old.fault ≡ Some e) × (new ≡ old))
     ⊎ ((old.fault ≡ None) × (frame_at old.hello old.rest ≡ Broken e) × (new ≡ record { hello = old.hello; rest = old.rest; fault = Some e }))
 
--- what `next` may answer, and what it leaves
+-- what `next` may answer, and what it leaves; memory is wanted for a header or a message, so behind a length alone, and where a
+-- Hello is due behind its magic
 abbrev pub Gives : State → Option (Result Frame FrameFault) → State → Type 0
 Gives old None new = (old.fault ≡ None) × (frame_at old.hello old.rest ≡ More) × (new ≡ old)
 Gives old (Some (Ok f)) new = (old.fault ≡ None) × (frame_at old.hello old.rest ≡ Whole f new.rest) × (new.hello ≡ false) × (new.fault ≡ None)
@@ -38,7 +40,7 @@ Gives old (Some (Err TooLong)) new = TellsFault old TooLong new
 Gives old (Some (Err Compressed)) new = TellsFault old Compressed new
 Gives old (Some (Err BadHeader)) new = TellsFault old BadHeader new
 Gives old (Some (Err BadBody)) new = TellsFault old BadBody new
-Gives old (Some (Err OutOfMemory)) new = new ≡ old
+Gives old (Some (Err OutOfMemory)) new = (old.fault ≡ None) × (2 ≤ length old.rest) × (old.hello ≡ true → take 4 old.rest ≡ magic) × (new ≡ old)
 
 -- the stream that a reader still has to give
 abbrev pub to_give : Bool → List ℕ → Option FrameFault → Stream

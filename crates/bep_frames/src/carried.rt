@@ -1,7 +1,8 @@
 ghost use Rattle.std.specs.Prelude.{◌≡◌, ◌≢◌, ℤ, Err, Ok, MatchResult};
 ghost use Rattle.bep_messages.specs.Values.{decoded};
-ghost use Rattle.bep_frames.specs.Carried.{carried};
-ghost use Rattle.bep_frames.specs.Readable.{ReadsAs};
+ghost use Rattle.bep_frames.specs.Carried.{IsUnknown, carried};
+ghost use Rattle.bep_frames.specs.declared.frame.Frame.TheVariants.{Unknown};
+ghost use Rattle.bep_frames.specs.Readable.{ReadsAs, told_as};
 
 use crate::fault::FrameFault;
 use crate::frame::{Frame, Message};
@@ -16,10 +17,17 @@ pub fn read<M: ProtoMessage>(
 ) -> Result<M, FrameFault>
     ensures { ReadsAs (decoded M.table M.whole bytes.now) unreadable result }
 {
-    M::decode(alloc, bytes).map_err(|fault| match fault {
+    M::decode(alloc, bytes).map_err(|fault| told(fault, unreadable))
+}
+
+/// What a fault of a message makes of its frame.
+fn told(fault: MessageFault, unreadable: FrameFault) -> FrameFault
+    ensures { result ≡ told_as fault unreadable }
+{
+    match fault {
         MessageFault::OutOfMemory => FrameFault::OutOfMemory,
-        _ => unreadable,
-    })
+        MessageFault::Wire(_) | MessageFault::NotUtf8 => unreadable,
+    }
 }
 
 fn body<M: ProtoMessage>(alloc: Global, bytes: &[u8]) -> Result<M, FrameFault>
@@ -30,7 +38,9 @@ fn body<M: ProtoMessage>(alloc: Global, bytes: &[u8]) -> Result<M, FrameFault>
 
 /// What a whole message of this type is.
 pub fn carried(alloc: Global, kind: i32, bytes: &[u8]) -> Result<Frame, FrameFault>
-    ensures { result ≢ Err FrameFault.OutOfMemory → result ≡ carried kind bytes.now }
+    ensures carried { result ≢ Err FrameFault.OutOfMemory → result ≡ carried kind bytes.now }
+    // An unknown type wants no memory.
+    ensures unknown { IsUnknown kind → result ≡ Ok (Unknown kind) }
 {
     Ok(Frame::Message(match kind {
         0 => Message::ClusterConfig(body(alloc, bytes)?),

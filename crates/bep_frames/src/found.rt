@@ -1,5 +1,6 @@
-ghost use Rattle.std.specs.Prelude.{◌≡◌, MatchResult};
+ghost use Rattle.std.specs.Prelude.{◌≡◌, ◌≤◌, true, Err, length, take, MatchResult};
 ghost use Rattle.bep_frames.specs.Found.{Finds, Fails};
+ghost use Rattle.bep_frames.specs.Grammar.{magic};
 ghost use Rattle.bep_frames.specs.Reading.{hello_sized, hello_at, message_at, later_at, frame_at};
 
 use crate::carried::{carried, read};
@@ -24,7 +25,9 @@ pub enum Found {
 
 /// The frame that stands first.
 pub fn frame_at(alloc: Global, hello_is_due: bool, bytes: &[u8]) -> Result<Found, FrameFault>
-    ensures { MatchResult result (Finds (frame_at hello_is_due) bytes.now) (Fails (frame_at hello_is_due bytes.now)) }
+    ensures found { MatchResult result (Finds (frame_at hello_is_due) bytes.now) (Fails (frame_at hello_is_due bytes.now)) }
+    ensures memory { result ≡ Err FrameFault.OutOfMemory → 2 ≤ length bytes.now }
+    ensures magic { result ≡ Err FrameFault.OutOfMemory → hello_is_due ≡ true → take 4 bytes.now ≡ magic }
 {
     if hello_is_due {
         hello_at(alloc, bytes)
@@ -34,7 +37,9 @@ pub fn frame_at(alloc: Global, hello_is_due: bool, bytes: &[u8]) -> Result<Found
 }
 
 fn hello_at(alloc: Global, bytes: &[u8]) -> Result<Found, FrameFault>
-    ensures { MatchResult result (Finds hello_at bytes.now) (Fails (hello_at bytes.now)) }
+    ensures found { MatchResult result (Finds hello_at bytes.now) (Fails (hello_at bytes.now)) }
+    ensures memory { result ≡ Err FrameFault.OutOfMemory → 2 ≤ length bytes.now }
+    ensures magic { result ≡ Err FrameFault.OutOfMemory → take 4 bytes.now ≡ magic }
 {
     if bytes.len() < 4 {
         return Ok(Found::Missing(4 - bytes.len()));
@@ -47,7 +52,8 @@ fn hello_at(alloc: Global, bytes: &[u8]) -> Result<Found, FrameFault>
 }
 
 fn hello_sized(alloc: Global, bytes: &[u8]) -> Result<Found, FrameFault>
-    ensures { MatchResult result (Finds hello_sized bytes.now) (Fails (hello_sized bytes.now)) }
+    ensures found { MatchResult result (Finds hello_sized bytes.now) (Fails (hello_sized bytes.now)) }
+    ensures memory { result ≡ Err FrameFault.OutOfMemory → 2 ≤ length bytes.now }
 {
     if bytes.len() < 2 {
         return Ok(Found::Missing(2 - bytes.len()));
@@ -63,7 +69,8 @@ fn hello_sized(alloc: Global, bytes: &[u8]) -> Result<Found, FrameFault>
 }
 
 fn later_at(alloc: Global, bytes: &[u8]) -> Result<Found, FrameFault>
-    ensures { MatchResult result (Finds later_at bytes.now) (Fails (later_at bytes.now)) }
+    ensures found { MatchResult result (Finds later_at bytes.now) (Fails (later_at bytes.now)) }
+    ensures memory { result ≡ Err FrameFault.OutOfMemory → 2 ≤ length bytes.now }
 {
     if bytes.len() < 2 {
         return Ok(Found::Missing(2 - bytes.len()));

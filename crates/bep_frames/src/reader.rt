@@ -1,4 +1,4 @@
-ghost use Rattle.std.specs.Prelude.{◌≡◌, ◌≤◌, length, drop, vec_len, OnOk, OnErr, true, false};
+ghost use Rattle.std.specs.Prelude.{◌≡◌, ◌≢◌, ◌+◌, ◌≤◌, [], None, length, drop, vec_len, IsOk, OnOk, OnErr, true, false};
 ghost use Rattle.bep_frames.specs.State.{start, fed, Gives};
 
 use crate::fault::FrameFault;
@@ -34,7 +34,7 @@ impl Model for FrameReader {
 
     ghost view = { λ r. record { hello = r.hello_is_due; rest = drop r.start r.bytes.items; fault = r.fault } };
 
-    ghost invariant = { λ r. IsHeld r.hello_is_due r.bytes.items r.start r.missing };
+    ghost invariant = { λ r. IsHeld r.hello_is_due r.bytes.items r.start r.missing r.fault };
 }
 
 impl FrameReader {
@@ -70,6 +70,9 @@ impl FrameReader {
     pub fn feed(&mut self, piece: &[u8]) -> Result<(), AllocError>
         ensures ok { OnOk result (self.new ≡ fed self.old piece.now) }
         ensures err { OnErr result (self.new ≡ self.old) }
+        // A piece that is dropped, or is empty, wants no memory.
+        ensures dropped { self.old.fault ≢ None → IsOk result }
+        ensures nothing { piece.now ≡ [] → IsOk result }
     {
         if self.fault.is_some() {
             return Ok(());
@@ -128,6 +131,8 @@ fn cut_front(bytes: &mut Vec<u8>, from: usize) -> usize
     requires { from ≤ length bytes.old.items }
     ensures kept { drop result bytes.new.items ≡ drop from bytes.old.items }
     ensures within { result ≤ length bytes.new.items }
+    // What is left of the bytes that were given is no more than what is unread.
+    ensures half { result + result ≤ length bytes.new.items }
 {
     let left = bytes.len() - from;
     if from <= left {

@@ -1,4 +1,4 @@
-ghost use Rattle.std.specs.Prelude.{◌≡◌, ℕ, List, IfOk, OnOk, ◌++◌};
+ghost use Rattle.std.specs.Prelude.{◌≡◌, ℕ, List, [], IsOk, IfOk, OnOk, ◌++◌};
 ghost use Rattle.std.specs.List.{flat_map};
 ghost use Rattle.bep_frames.specs.Stream.{stream};
 ghost use Rattle.bep_frames.specs.State.{fed, remaining, with_front, Stops, EndsAs};
@@ -28,6 +28,7 @@ pub fn frames_of(
         s.frames.items ≡ (stream hello_is_due (flat_map (λ piece. piece.items) pieces.now)).frames) }
     ensures end { IfOk result (λ s.
         EndsAs (stream hello_is_due (flat_map (λ piece. piece.items) pieces.now)).end s.end) }
+    ensures none { pieces.now ≡ [] → IsOk result }
 {
     let mut reader = if hello_is_due {
         FrameReader::new(alloc)

@@ -131,6 +131,11 @@ fn faults_as_soon_as_they_show(rt: HostRuntime) -> Result<(), Fail> {
     expect_stream(&rt, alloc, &[0x2E, 0xA7, 0xD9], true, &[], Ok(3))?;
     let hello = [0x2E, 0xA7, 0xD9, 0x0B, 0, 1, 0x0B];
     expect_stream(&rt, alloc, &hello, true, &[], Err(FrameFault::BadBody))?;
+    // A reason and a name that aren't UTF-8.
+    let close = [0, 2, 8, 7, 0, 0, 0, 3, 0x0A, 1, 0xFF];
+    expect_stream(&rt, alloc, &close, false, &[], Err(FrameFault::BadBody))?;
+    let hello = [0x2E, 0xA7, 0xD9, 0x0B, 0, 3, 0x0A, 1, 0xFF];
+    expect_stream(&rt, alloc, &hello, true, &[], Err(FrameFault::BadBody))?;
     // What stands before a fault comes out first.
     let behind = [0, 0, 0, 0, 0, 0, 0, 2, 8, 6, 0, 0, 0, 0, 0, 1, 0x0B];
     expect_stream(

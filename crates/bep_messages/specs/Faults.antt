@@ -1,5 +1,5 @@
 -- The first fault of a message, from left to right.
-use Rattle.std.specs.Prelude.{◌≡◌, ℕ, ◌==◌, List, [], ◌∷◌, Option, Some, None, Result, Ok, Err, if◌then◌else◌}
+use Rattle.std.specs.Prelude.{◌≡◌, ◌⊎◌, ℕ, ◌==◌, List, [], ◌∷◌, Option, Some, None, Result, Ok, Err, if◌then◌else◌}
 use Rattle.std.specs.Str.{is_utf8}
 use Rattle.bep_wire.specs.declared.fault.WireFault.{WireFault}
 use Rattle.bep_wire.specs.Content.{Content, Number, Eight, Bytes, Four, Item}
@@ -61,6 +61,18 @@ message_fault table bytes = first_fault (item_fault table) (fields bytes).items 
 abbrev pub outcome : {A : Type 0} → Option MessageFault → A → Result A MessageFault
 outcome None value = Ok value
 outcome (Some f) value = Err f
+
+-- what is kept in memory of its own: a text, bytes or a message
+abbrev pub IsBytes : Content → Type 0
+IsBytes (Number n) = ⊥
+IsBytes (Eight bytes) = ⊥
+IsBytes (Bytes bytes) = Unit {0}
+IsBytes (Four bytes) = ⊥
+
+-- one of these fields holds bytes
+abbrev pub HoldBytes : List Item → Type 0
+HoldBytes [] = ⊥
+HoldBytes (i ∷ items) = IsBytes i.content ⊎ HoldBytes items
 
 -- an error tells the fault, unless memory ran out
 abbrev pub Tells : Option MessageFault → MessageFault → Type 0

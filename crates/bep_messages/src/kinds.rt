@@ -4,7 +4,8 @@ ghost use Rattle.std.specs.Prelude.{◌≡◌, ◌≤◌, ◌∷◌, [], ◌++�
 ghost use Rattle.bep_wire.specs.Content.{content_of, content_in};
 ghost use Rattle.bep_messages.specs.Tables.{Int32, Int64, Uint32, Uint64, Enum, Boolean, Words, Octets};
 ghost use Rattle.bep_messages.specs.Contents.{scalar, byte_lists};
-ghost use Rattle.bep_messages.specs.Faults.{bytes_fault, text_fault, Tells};
+ghost use Rattle.bep_messages.specs.Faults.{bytes_fault, text_fault, IsBytes, Tells};
+ghost use Rattle.bep_messages.specs.declared.fault.MessageFault.TheVariants.{OutOfMemory};
 
 use crate::fault::MessageFault;
 use crate::items::Items;
@@ -73,7 +74,8 @@ pub fn octets(
     requires start { field.start ≤ field.end }
     requires end { field.end ≤ length source.now }
     ensures ok { OnOk result (slot.new ≡ scalar Octets slot.old (content_in source.now field ∷ [])) }
-    ensures memory { IfErr result (Tells None) }
+    ensures fault { IfErr result (Tells None) }
+    ensures memory { IfErr result (λ e. e ≡ OutOfMemory → IsBytes (content_in source.now field)) }
 {
     if let Value::Bytes = field.value {
         *slot = octets::Octets::from_slice(alloc, &source[field.start..field.end])?;
@@ -90,7 +92,8 @@ pub fn short_octets(
     requires start { field.start ≤ field.end }
     requires end { field.end ≤ length source.now }
     ensures ok { OnOk result (slot.new ≡ scalar Octets slot.old (content_in source.now field ∷ [])) }
-    ensures memory { IfErr result (Tells None) }
+    ensures fault { IfErr result (Tells None) }
+    ensures memory { IfErr result (λ e. e ≡ OutOfMemory → IsBytes (content_in source.now field)) }
 {
     if let Value::Bytes = field.value {
         *slot = octets::ShortOctets::from_slice(alloc, &source[field.start..field.end])?;
@@ -109,6 +112,8 @@ pub fn words(
     ensures ok { OnOk result ((bytes_fault text_fault (content_in source.now field) ≡ None)
         × (slot.new ≡ scalar Words slot.old (content_in source.now field ∷ []))) }
     ensures fault { IfErr result (Tells (bytes_fault text_fault (content_in source.now field))) }
+    ensures memory { IfErr result (λ e. e ≡ OutOfMemory → IsBytes (content_in source.now field)) }
+    ensures readable { IfErr result (λ e. e ≡ OutOfMemory → bytes_fault text_fault (content_in source.now field) ≡ None) }
 {
     if let Value::Bytes = field.value {
         match std::str::from_utf8(&source[field.start..field.end]) {
@@ -130,6 +135,8 @@ pub fn texts(
     ensures ok { OnOk result ((bytes_fault text_fault (content_in source.now field) ≡ None)
         × (slot.new ≡ slot.old ++ byte_lists (content_in source.now field ∷ []))) }
     ensures fault { IfErr result (Tells (bytes_fault text_fault (content_in source.now field))) }
+    ensures memory { IfErr result (λ e. e ≡ OutOfMemory → IsBytes (content_in source.now field)) }
+    ensures readable { IfErr result (λ e. e ≡ OutOfMemory → bytes_fault text_fault (content_in source.now field) ≡ None) }
 {
     if let Value::Bytes = field.value {
         let mut text = Text::new(alloc);

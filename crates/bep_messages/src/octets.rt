@@ -29,10 +29,14 @@ impl Octets {
         }
     }
 
-    /// A copy of bytes. Refused by want of memory alone.
+    /// A copy of bytes. Refused by want of memory alone, and never where there are none.
     pub fn from_slice(alloc: Global, bytes: &[u8]) -> Result<Self, AllocError>
-        ensures { IfOk result (λ s. s ≡ bytes.now) }
+        ensures value { IfOk result (λ s. s ≡ bytes.now) }
+        ensures empty { bytes.now ≡ [] → IsOk result }
     {
+        if bytes.is_empty() {
+            return Ok(Octets::new(alloc));
+        }
         Ok(Octets {
             bytes: Vec::from_slice(alloc, bytes)?,
         })

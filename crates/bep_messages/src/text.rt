@@ -1,4 +1,4 @@
-ghost use Rattle.std.specs.Prelude.{◌≡◌, [], IfOk, string_bytes};
+ghost use Rattle.std.specs.Prelude.{◌≡◌, [], IfOk, IsOk, string_bytes};
 ghost use Rattle.std.specs.Str.{IsUtf8};
 
 use crate::items::Copied;
@@ -31,10 +31,14 @@ impl Text {
         }
     }
 
-    /// A copy of a text. Refused by want of memory alone.
+    /// A copy of a text. Refused by want of memory alone, and never where the text is empty.
     pub fn from_str(alloc: Global, text: &str) -> Result<Self, AllocError>
-        ensures { IfOk result (λ s. s ≡ text.now) }
+        ensures value { IfOk result (λ s. s ≡ text.now) }
+        ensures empty { text.now ≡ [] → IsOk result }
     {
+        if text.is_empty() {
+            return Ok(Text::new(alloc));
+        }
         Ok(Text {
             text: String::from_str(alloc, text)?,
         })

@@ -3,6 +3,7 @@ ghost use Rattle.bep_wire.specs.Content.{wire_of, item_in, content_in};
 ghost use Rattle.bep_wire.specs.Grammar.{NoField};
 ghost use Rattle.bep_wire.specs.Reading.{varint_at, piece_at, content_at, field_at};
 ghost use Rattle.bep_wire.specs.Fields.{fields, broken};
+ghost use Rattle.bep_wire.specs.declared.fault.ReadFault.TheVariants.{OutOfMemory};
 ghost use Rattle.bep_wire.specs.Places.{FindsField, ReadsField, AreFields, TellsFault};
 
 use crate::fault::{ReadFault, WireFault};
@@ -128,6 +129,8 @@ pub fn read_fields(alloc: Global, source: &[u8]) -> Result<Vec<Field>, ReadFault
     ensures whole { IfOk result (λ _. (fields source.now).fault ≡ None) }
     // A fault of the bytes is the one that ends their reading.
     ensures fault { IfErr result (TellsFault (fields source.now).fault) }
+    // Memory is wanted for a field alone: where none is read, its want is never told.
+    ensures memory { IfErr result (λ e. e ≡ OutOfMemory → 0 < length (fields source.now).items) }
 {
     let mut found = Vec::new(alloc);
     let mut at = 0;

@@ -1,4 +1,4 @@
-ghost use Rattle.std.specs.Prelude.{◌≡◌, ◌+◌, ◌*◌, ◌<◌, ◌≤◌, ◌++◌, length, OnOk, OnErr};
+ghost use Rattle.std.specs.Prelude.{◌≡◌, ◌+◌, ◌*◌, ◌<◌, ◌≤◌, ◌++◌, length, OnOk, OnErr, vec_len, vec_capacity};
 ghost use Rattle.bep_wire.specs.Written.{shortest, bytes_field};
 
 use std::alloc::AllocError;
@@ -54,6 +54,9 @@ impl Shortest {
 pub fn put_varint(out: &mut Vec<u8>, value: u64) -> Result<(), AllocError>
     ensures ok { OnOk result (out.new.items ≡ out.old.items ++ shortest value) }
     ensures err { OnErr result (out.new.items ≡ out.old.items) }
+    // It fails only where room for the varint was missing.
+    ensures full { OnErr result (vec_capacity out.old < vec_len out.old + length (shortest value)) }
+    ensures capacity { vec_capacity out.old ≤ vec_capacity out.new }
 {
     out.extend_from_slice(Shortest::new(value).as_slice())
 }
@@ -68,6 +71,9 @@ pub fn put_bytes(out: &mut Vec<u8>, number: u32, bytes: &[u8]) -> Result<(), All
     requires high { number ≤ 536870911 }
     ensures ok { OnOk result (out.new.items ≡ out.old.items ++ bytes_field number bytes.now) }
     ensures err { OnErr result (out.new.items ≡ out.old.items) }
+    // It fails only where room for the field was missing.
+    ensures full { OnErr result (vec_capacity out.old < vec_len out.old + length (bytes_field number bytes.now)) }
+    ensures capacity { vec_capacity out.old ≤ vec_capacity out.new }
 {
     let key = Shortest::new(8 * number as u64 + 2);
     let len = Shortest::new(bytes.len() as u64);

@@ -163,7 +163,7 @@ kept_at_fault old new TooLong g = kept_by old new TooLong g
 kept_at_fault old new Compressed g = kept_by old new Compressed g
 kept_at_fault old new BadHeader g = kept_by old new BadHeader g
 kept_at_fault old new BadBody g = kept_by old new BadBody g
-kept_at_fault old new OutOfMemory g = (ap (λ (t : State). t.rest) g, ap (λ (t : State). t.hello) g)
+kept_at_fault old new OutOfMemory g = (ap (λ (t : State). t.rest) g.3, ap (λ (t : State). t.hello) g.3)
 
 pub hears_fault : (folder bytes : List ℕ) (old new : State) (e : FrameFault) (s : FolderState) (names : List Name) (n : ℕ) → Gives old (Some (Err e)) new → (e ≡ OutOfMemory → ⊥)
     → IsHeardOf folder bytes old s names n → IsHeardOf folder bytes new s names n

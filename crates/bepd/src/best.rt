@@ -22,8 +22,9 @@ use std::io::{Read, Write};
 /// the frames before it. After a failed read nothing is written; after want of memory no more lines are; where a write
 /// failed, that is told before all else. An input of more than 2^40 bytes is a failed read.
 ///
-/// The stream is read in pieces of 64 KiB. The plain folder merges each message with all that it keeps, so m messages
-/// over n names take O(m n); memory for the records and their names, and a small multiple of the greatest message.
+/// The stream is read in pieces of 64 KiB. For each message the plain folder moves what it keeps behind the message's
+/// first name, so m messages over n names take up to O(m n), and O(n log n) where they come in order of the names. Memory
+/// for the records and their names, and a small multiple of the greatest message.
 pub fn best<R: Read, W: Write>(
     alloc: Global,
     folder: &str,

@@ -14,6 +14,8 @@ mod heard;
 mod input;
 mod line;
 mod listing;
+#[cfg(test)]
+mod tests;
 
 use best::best;
 use clap::Error;

@@ -1,36 +1,100 @@
--- The merge of a device's records with a list of entries.
-use Rattle.std.proofs.Common.{◌≡◌, ◌<◌, List, [], ◌∷◌, length, drop, refl, sym, ap, subst, ◌∙◌, arith}
-use Rattle.std.specs.Prelude.{T, Option, Some, map, MatchOption, slice_index_or}
+-- The merge of a device's records with a list of entries, from behind.
+use Rattle.std.proofs.Common.{append-nil, ◌≡◌, ℕ, ◌+◌, ◌-◌, List, [], ◌∷◌, ◌++◌, get_or, length, take, refl, sym, ap, subst, ◌∙◌, arith}
+use Rattle.std.specs.Prelude.{T, Option, None, Some, map, MatchOption}
 use Rattle.std.specs.Bool.{passes}
+use Rattle.std.specs.List.{AllByRecursion, slice_get}
+use Rattle.std.specs.Option.{option_to_list}
 use Rattle.std.specs.declared.cmp.Ordering.{Ordering}
 use Rattle.std.specs.declared.cmp.Ordering.TheVariants.{Less, Equal, Greater}
-use Rattle.std.specs.Ordering.{is_lt, is_gt, is_eq, ordering_reverse, ordering_then}
+use Rattle.std.specs.Ordering.{is_eq, is_gt, ordering_reverse, ordering_then}
 use Rattle.std.specs.FinMap.{is_sorted, put}
 use Rattle.std.specs.FinMap.Entries.{below_all, by_order}
+use Rattle.std.proofs.lemmas.List.{get_or_push, length_push, map_push, take_all, take_more}
+use Rattle.std.proofs.lemmas.List.Sums.{fold-append}
+use Rattle.std.proofs.lemmas.Option.{get_or_from_slice_get, slice_get-get_or, slice_get_past, slice_get_within}
 use mathlib.Core.Bool.{true≢false}
 use Rattle.sync_record.specs.Devices.{Identity, bytes_cmp}
 use Rattle.sync_record.specs.Records.{FileRecord}
 use Rattle.folder_core.specs.declared.plain.entry.Entry.{Entry}
 use Rattle.folder_core.specs.Announced.{Announcement, Key, key, key_cmp}
-use Rattle.folder_core.specs.Kept.{NamesRise, filed, filed_by, heads_cmp, named, put_all}
-use Rattle.folder_core.proofs.PlainTests.{both, parts, join}
+use Rattle.folder_core.specs.Kept.{NamesRise, Rises, filed, filed_by, named, put_all}
+use Rattle.folder_core.proofs.PlainTests.{both, inside, is_t, parts, join}
 use Rattle.folder_core.proofs.PlainOrders.{keys_total, exact_keys, is_less, less_is}
 
--- ---- entries that stand before what is put
+-- ---- lists that stand before a key
+
+abbrev pub StandBefore : Key → List Announcement → Type 0
+StandBefore k es = AllByRecursion (λ e. key_cmp e.0 k ≡ Less) es
+
+stand_before_push : (k : Key) (es : List Announcement) (e : Announcement) → StandBefore k es → key_cmp e.0 k ≡ Less → StandBefore k (es ++ e ∷ [])
+stand_before_push k [] e b less = (less, tt)
+stand_before_push k (x ∷ es) e b less = (b.0, stand_before_push k es e b.1 less)
+
+stand_before_chain : (a b : Key) (es : List Announcement) → key_cmp a b ≡ Less → StandBefore a es → StandBefore b es
+stand_before_chain a b [] less h = tt
+stand_before_chain a b (e ∷ es) less h = (keys_total.trans e.0 a b h.0 less, stand_before_chain a b es less h.1)
+
+-- of a list in order the front is in order, and stands before the last
+module _ {K X : Type 0} (R : K → K → Ordering) where
+  below_push : (k : K) (es : List (K × X)) (e : K × X) → T (below_all R k (es ++ e ∷ [])) → T (below_all R k es) × (R k e.0 ≡ Less)
+  below_push k [] e b = (tt, is_less _ (parts _ _ b).0)
+  below_push k (x ∷ es) e b =
+      let rest = below_push k es e (parts _ _ b).1 in
+      (join _ _ (parts _ _ b).0 rest.0, rest.1)
+
+  sorted_push : (es : List (K × X)) (e : K × X) → T (is_sorted R (es ++ e ∷ [])) → T (is_sorted R es) × AllByRecursion (λ x. R x.0 e.0 ≡ Less) es
+  sorted_push [] e h = (tt, tt)
+  sorted_push (x ∷ es) e h =
+      let rest = sorted_push es e (parts _ _ h).1 in
+      let below = below_push x.0 es e (parts _ _ h).0 in
+      (join _ _ below.0 rest.0, (below.1, rest.1))
+
+-- ---- what is put before the last, behind it, or in its place
+
+put_before : (r e : Announcement) (es : List Announcement) → key_cmp r.0 e.0 ≡ Less → put key_cmp r.0 r.1 (es ++ e ∷ []) ≡ put key_cmp r.0 r.1 es ++ e ∷ []
+put_before r e [] less = ap (λ o. by_order o (r ∷ e ∷ []) ((e.0, r.1) ∷ []) (e ∷ r ∷ [])) less
+put_before r e (x ∷ es) less =
+    elim (key_cmp r.0 x.0) as (λ o. by_order o (r ∷ x ∷ es ++ e ∷ []) ((x.0, r.1) ∷ es ++ e ∷ []) (x ∷ put key_cmp r.0 r.1 (es ++ e ∷ [])) ≡ by_order o (r ∷ x ∷ es) ((x.0, r.1) ∷ es) (x ∷ put key_cmp r.0 r.1 es) ++ e ∷ []) [
+      | Less ↦ refl
+      | Equal ↦ refl
+      | Greater ↦ ap (λ ys. x ∷ ys) (put_before r e es less)
+    ]
 
 put_over : (x r : Announcement) (es : List Announcement) → key_cmp x.0 r.0 ≡ Less → put key_cmp r.0 r.1 (x ∷ es) ≡ x ∷ put key_cmp r.0 r.1 es
 put_over x r es less =
     ap (λ o. by_order o (r ∷ x ∷ es) ((x.0, r.1) ∷ es) (x ∷ put key_cmp r.0 r.1 es)) (keys_total.antisymm r.0 x.0 ∙ ap ordering_reverse less)
 
-pub all_over : (x : Announcement) (rs es : List Announcement) → T (below_all key_cmp x.0 rs) → put_all (x ∷ es) rs ≡ x ∷ put_all es rs
-all_over x [] es b = refl
-all_over x (r ∷ rs) es b =
-    ap (λ ys. put_all ys rs) (put_over x r es (is_less _ (parts _ _ b).0))
-    ∙ all_over x rs (put key_cmp r.0 r.1 es) (parts _ _ b).1
+put_behind : (r : Announcement) (es : List Announcement) → StandBefore r.0 es → put key_cmp r.0 r.1 es ≡ es ++ r ∷ []
+put_behind r [] b = refl
+put_behind r (x ∷ es) b = put_over x r es b.0 ∙ ap (λ ys. x ∷ ys) (put_behind r es b.1)
 
-below_chain : (a b : Key) (rs : List Announcement) → key_cmp a b ≡ Less → T (below_all key_cmp b rs) → T (below_all key_cmp a rs)
-below_chain a b [] l t = tt
-below_chain a b (r ∷ rs) l t = join _ _ (less_is _ (keys_total.trans a b r.0 l (is_less _ (parts _ _ t).0))) (below_chain a b rs l (parts _ _ t).1)
+put_instead : (r e : Announcement) (es : List Announcement) → StandBefore r.0 es → key_cmp e.0 r.0 ≡ Equal → put key_cmp r.0 r.1 (es ++ e ∷ []) ≡ es ++ r ∷ []
+put_instead r e [] b equal =
+    ap (λ o. by_order o (r ∷ e ∷ []) ((e.0, r.1) ∷ []) (e ∷ r ∷ [])) (keys_total.antisymm r.0 e.0 ∙ ap ordering_reverse equal)
+    ∙ ap (λ (k : Key). (k, r.1) ∷ []) (exact_keys e.0 r.0 equal)
+put_instead r e (x ∷ es) b equal = put_over x r (es ++ e ∷ []) b.0 ∙ ap (λ ys. x ∷ ys) (put_instead r e es b.1 equal)
+
+put_stands_before : (k : Key) (r : Announcement) (es : List Announcement) → key_cmp r.0 k ≡ Less → StandBefore k es → StandBefore k (put key_cmp r.0 r.1 es)
+put_stands_before k r [] less b = (less, tt)
+put_stands_before k r (x ∷ es) less b =
+    elim (key_cmp r.0 x.0) as (λ o. StandBefore k (by_order o (r ∷ x ∷ es) ((x.0, r.1) ∷ es) (x ∷ put key_cmp r.0 r.1 es))) [
+      | Less ↦ (less, b)
+      | Equal ↦ b
+      | Greater ↦ (b.0, put_stands_before k r es less b.1)
+    ]
+
+put_all_stand_before : (k : Key) (rs es : List Announcement) → StandBefore k rs → StandBefore k es → StandBefore k (put_all es rs)
+put_all_stand_before k [] es b c = c
+put_all_stand_before k (r ∷ rs) es b c = put_all_stand_before k rs (put key_cmp r.0 r.1 es) b.1 (put_stands_before k r es b.0 c)
+
+put_all_before : (e : Announcement) (rs es : List Announcement) → StandBefore e.0 rs → put_all (es ++ e ∷ []) rs ≡ put_all es rs ++ e ∷ []
+put_all_before e [] es b = refl
+put_all_before e (r ∷ rs) es b =
+    ap (λ ys. put_all ys rs) (put_before r e es b.0)
+    ∙ put_all_before e rs (put key_cmp r.0 r.1 es) b.1
+
+put_all_push : (es rs : List Announcement) (r : Announcement) → put_all es (rs ++ r ∷ []) ≡ put key_cmp r.0 r.1 (put_all es rs)
+put_all_push es rs r = fold-append (λ es r. put key_cmp r.0 r.1 es) es rs (r ∷ [])
 
 -- ---- records of a device, by their names
 
@@ -45,68 +109,102 @@ pub keys_rise : (d : Identity) (rs : List FileRecord) → NamesRise rs → T (is
 keys_rise d [] h = tt
 keys_rise d (r ∷ rs) h = join _ _ (below_by d r rs (passes _ (both _ _ h).0)) (keys_rise d rs (both _ _ h).1)
 
-pub rest_names_rise : (r : FileRecord) (rs : List FileRecord) → NamesRise (r ∷ rs) → NamesRise rs
-rest_names_rise r rs h = (both _ _ h).1
+-- ---- the last of a list, as `last` finds it and `pop` takes it
+
+module _ {X : Type 0} where
+  last_push : (xs : List X) (x : X) → slice_get (xs ++ x ∷ []) (length (xs ++ x ∷ []) - 1) ≡ Some x
+  last_push xs x =
+      let n = length_push xs x in
+      slice_get-get_or (xs ++ x ∷ []) (length (xs ++ x ∷ []) - 1) x (omega (arith, n))
+      ∙ ap Some (get_or_push xs x x _ (omega (arith, n)))
+
+  pub last_popped : (xs ys : List X) (n m : ℕ) (o : Option X) → n ≡ length xs → xs ≡ ys ++ option_to_list o → MatchOption o ((n ≡ 0) × (m ≡ 0)) (λ x. m + 1 ≡ n) → slice_get xs (length xs - 1) ≡ o
+  last_popped xs ys n m None count is empty = slice_get_past xs (length xs - 1) (omega (arith, count, empty.0))
+  last_popped xs ys n m (Some x) count is some = ap (λ zs. slice_get zs (length zs - 1)) is ∙ last_push ys x
+
+  pub same_last : (xs ys : List X) (x y : X) → xs ≡ ys ++ x ∷ [] → Some y ≡ slice_get xs (length xs - 1) → y ≡ x
+  same_last xs ys x y is found = inside y x (found ∙ ap (λ zs. slice_get zs (length zs - 1)) is ∙ last_push ys x)
+
+  split_last : (xs : List X) (x : X) → slice_get xs (length xs - 1) ≡ Some x → xs ≡ take (length xs - 1) xs ++ x ∷ []
+  split_last xs x found =
+      let short = slice_get_within xs (length xs - 1) x found in
+      sym (take_all (length xs - 1 + 1) xs (omega arith))
+      ∙ take_more xs (length xs - 1) x short
+      ∙ ap (λ y. take (length xs - 1) xs ++ y ∷ []) (get_or_from_slice_get xs (length xs - 1) x x found)
 
 -- ---- a step of the merge
+
+entries_push : (es : List Entry) (e : Entry) → Rises (es ++ e ∷ []) → Rises es × StandBefore (filed e).0 (map filed es)
+entries_push es e rises =
+    let sorted = sorted_push key_cmp (map filed es) (filed e) (subst (λ xs. T (is_sorted key_cmp xs)) (map_push filed es e) (passes _ rises)) in
+    (is_t _ sorted.0, sorted.1)
+
+pub front_rises : (es es' : List Entry) (o : Option Entry) → es ≡ es' ++ option_to_list o → Rises es → Rises es'
+front_rises es es' None is rises = subst Rises (is ∙ append-nil es') rises
+front_rises es es' (Some e) is rises = (entries_push es' e (subst Rises is rises)).0
+
+pub names_push : (rs : List FileRecord) (r : FileRecord) → NamesRise (rs ++ r ∷ []) → NamesRise rs
+names_push rs r rise = is_t _ (sorted_push bytes_cmp (map named rs) (named r) (subst (λ xs. T (is_sorted bytes_cmp xs)) (map_push named rs r) (passes _ rise))).0
+
+-- where the last stands before a key, so do all
+last_before : (k : Key) (es : List Entry) → Rises es → MatchOption (slice_get es (length es - 1)) (Less ≡ Less) (λ e. Less ≡ key_cmp (filed e).0 k) → StandBefore k (map filed es)
+last_before k [] rises less = tt
+last_before k (x ∷ xs) rises less =
+    let es : List Entry = x ∷ xs in
+    let e : Entry = get_or es (length es - 1) x in
+    let front : List Entry = take (length es - 1) es in
+    let found : slice_get es (length es - 1) ≡ Some e = slice_get-get_or es (length es - 1) x (omega arith) in
+    let split : es ≡ front ++ e ∷ [] = split_last es e found in
+    let here : Less ≡ key_cmp (filed e).0 k = subst (λ o. MatchOption o (Less ≡ Less) (λ e. Less ≡ key_cmp (filed e).0 k)) found less in
+    subst (StandBefore k) (sym (ap (map filed) split ∙ map_push filed front e))
+    (stand_before_push k (map filed front) (filed e) (stand_before_chain (filed e).0 k (map filed front) (sym here) (entries_push front e (subst Rises split rises)).1) (sym here))
 
 module _ (d : Identity) where
   abbrev pub merged : List Entry → List FileRecord → List Announcement
   merged es rs = put_all (map filed es) (map (filed_by d) rs)
 
-  abbrev pub entry_of : FileRecord → Entry
-  entry_of r = record { device = d; «record» = r }
+  -- how an entry stands to a record, and before it where there is none
+  abbrev pub Stands : Option Entry → FileRecord → Ordering → Type 0
+  Stands o r w = MatchOption o (w ≡ Less) (λ e. w ≡ key_cmp (filed e).0 (key r.name d))
 
-  entry_first : (e : Entry) (es : List Entry) (rs : List FileRecord) → NamesRise rs → heads_cmp d (e ∷ es) rs ≡ Less → merged (e ∷ es) rs ≡ filed e ∷ merged es rs
-  entry_first e es [] h less = refl
-  entry_first e es (r ∷ rs) h less =
-      all_over (filed e) (map (filed_by d) (r ∷ rs)) (map filed es)
-      (join _ _ (less_is _ less) (below_chain (filed e).0 (key r.name d) (map (filed_by d) rs) less (below_by d r rs (passes _ (both _ _ h).0))))
+  records_push : (rs : List FileRecord) (r : FileRecord) → NamesRise (rs ++ r ∷ []) → StandBefore (key r.name d) (map (filed_by d) rs)
+  records_push rs r rise = (sorted_push key_cmp (map (filed_by d) rs) (filed_by d r) (subst (λ xs. T (is_sorted key_cmp xs)) (map_push (filed_by d) rs r) (keys_rise d (rs ++ r ∷ []) rise))).1
 
-  record_first : (es : List Entry) (r : FileRecord) (rs : List FileRecord) → NamesRise (r ∷ rs) → heads_cmp d es (r ∷ rs) ≡ Greater → merged es (r ∷ rs) ≡ filed_by d r ∷ merged es rs
-  record_first [] r rs h greater = all_over (filed_by d r) (map (filed_by d) rs) [] (below_by d r rs (passes _ (both _ _ h).0))
-  record_first (e ∷ es) r rs h greater =
-      ap (λ o. put_all (by_order o (filed_by d r ∷ filed e ∷ map filed es) (((filed e).0, r) ∷ map filed es) (filed e ∷ put key_cmp (key r.name d) r (map filed es))) (map (filed_by d) rs))
-      (keys_total.antisymm (key r.name d) (filed e).0 ∙ ap ordering_reverse greater)
-      ∙ all_over (filed_by d r) (map (filed_by d) rs) (map filed (e ∷ es)) (below_by d r rs (passes _ (both _ _ h).0))
+  merged_push : (es : List Entry) (rs : List FileRecord) (r : FileRecord) → merged es (rs ++ r ∷ []) ≡ put key_cmp (key r.name d) r (merged es rs)
+  merged_push es rs r = ap (put_all (map filed es)) (map_push (filed_by d) rs r) ∙ put_all_push (map filed es) (map (filed_by d) rs) (filed_by d r)
 
-  record_instead : (e : Entry) (es : List Entry) (r : FileRecord) (rs : List FileRecord) → NamesRise (r ∷ rs) → heads_cmp d (e ∷ es) (r ∷ rs) ≡ Equal → merged (e ∷ es) (r ∷ rs) ≡ filed_by d r ∷ merged es rs
-  record_instead e es r rs h equal =
-      ap (λ o. put_all (by_order o (filed_by d r ∷ filed e ∷ map filed es) (((filed e).0, r) ∷ map filed es) (filed e ∷ put key_cmp (key r.name d) r (map filed es))) (map (filed_by d) rs))
-      (keys_total.antisymm (key r.name d) (filed e).0 ∙ ap ordering_reverse equal)
-      ∙ ap (λ (k : Key). put_all ((k, r) ∷ map filed es) (map (filed_by d) rs)) (exact_keys (filed e).0 (key r.name d) equal)
-      ∙ all_over (filed_by d r) (map (filed_by d) rs) (map filed es) (below_by d r rs (passes _ (both _ _ h).0))
+  pub entry_step : (es es' : List Entry) (rs : List FileRecord) (o : Option Entry) (r : FileRecord) → NamesRise rs →
+      es ≡ es' ++ option_to_list o → slice_get rs (length rs - 1) ≡ Some r → Stands o r Greater →
+      MatchOption o ((rs ≡ []) × (es' ≡ es)) (λ e. merged es rs ≡ merged es' rs ++ filed e ∷ [])
+  entry_step es es' rs None r rise is found greater = absurd (true≢false (ap is_gt greater))
+  entry_step es es' rs (Some e) r rise is found greater =
+      let front : List FileRecord = take (length rs - 1) rs in
+      let split : rs ≡ front ++ r ∷ [] = split_last rs r found in
+      let less : key_cmp (key r.name d) (filed e).0 ≡ Less = keys_total.antisymm (key r.name d) (filed e).0 ∙ ap ordering_reverse (sym greater) in
+      let before : StandBefore (filed e).0 (map (filed_by d) rs) =
+      subst (StandBefore (filed e).0) (sym (ap (map (filed_by d)) split ∙ map_push (filed_by d) front r))
+      (stand_before_push (filed e).0 (map (filed_by d) front) (filed_by d r)
+      (stand_before_chain (key r.name d) (filed e).0 (map (filed_by d) front) less (records_push front r (subst NamesRise split rise))) less) in
+      ap (λ ys. put_all ys (map (filed_by d) rs)) (ap (map filed) is ∙ map_push filed es' e)
+      ∙ put_all_before (filed e) (map (filed_by d) rs) (map filed es') before
 
-  -- o is the first of the merge of es with rs, and the others are the merge of es' with rs'
-  abbrev pub IsStep : List Entry → List FileRecord → Option Entry → List Entry → List FileRecord → Type 0
-  IsStep es rs o es' rs' = MatchOption o ((es ≡ []) × (rs ≡ [])) (λ e. merged es rs ≡ filed e ∷ merged es' rs')
+  pub record_step : (es : List Entry) (rs rs' : List FileRecord) (r : FileRecord) → Rises es → NamesRise rs →
+      rs ≡ rs' ++ r ∷ [] → Stands (slice_get es (length es - 1)) r Less → merged es rs ≡ merged es rs' ++ filed_by d r ∷ []
+  record_step es rs rs' r rises rise is less =
+      ap (merged es) is ∙ merged_push es rs' r
+      ∙ put_behind (filed_by d r) (merged es rs')
+      (put_all_stand_before (key r.name d) (map (filed_by d) rs') (map filed es) (records_push rs' r (subst NamesRise is rise)) (last_before (key r.name d) es rises less))
 
-  pub entry_step : (es : List Entry) (rs : List FileRecord) → NamesRise rs → heads_cmp d es rs ≡ Less →
-      (o : Option Entry) → ((x : Entry) → 0 < length es → o ≡ Some (slice_index_or es 0 x)) → (es' : List Entry) → es' ≡ drop 1 es → IsStep es rs o es' rs
-  entry_step [] rs h less o is es' rest = absurd (true≢false (sym (ap is_lt less)))
-  entry_step (e ∷ es) rs h less o is es' rest =
-      subst (λ p. IsStep (e ∷ es) rs p es' rs) (sym (is e (omega arith)))
-      (entry_first e es rs h less ∙ ap (λ ys. filed e ∷ merged ys rs) (sym rest))
-
-  pub record_step : (es : List Entry) (rs : List FileRecord) → NamesRise rs → heads_cmp d es rs ≡ Greater →
-      (r : FileRecord) (rs' : List FileRecord) → rs ≡ r ∷ rs' → IsStep es rs (Some (entry_of r)) es rs'
-  record_step es rs h greater r rs' is =
-      let rising : NamesRise (r ∷ rs') = subst NamesRise is h in
-      ap (merged es) is ∙ record_first es r rs' rising (ap (heads_cmp d es) (sym is) ∙ greater)
-
-  pub replace_step : (es : List Entry) (rs : List FileRecord) → NamesRise rs → heads_cmp d es rs ≡ Equal → (es' : List Entry) → es' ≡ drop 1 es →
-      (r : FileRecord) (rs' : List FileRecord) → rs ≡ r ∷ rs' → IsStep es rs (Some (entry_of r)) es' rs'
-  replace_step [] rs h equal es' rest r rs' is = absurd (true≢false (sym (ap is_eq equal)))
-  replace_step (e ∷ es) rs h equal es' rest r rs' is =
-      let rising : NamesRise (r ∷ rs') = subst NamesRise is h in
-      ap (merged (e ∷ es)) is ∙ record_instead e es r rs' rising (ap (heads_cmp d (e ∷ es)) (sym is) ∙ equal)
-      ∙ ap (λ ys. filed_by d r ∷ merged ys rs') (sym rest)
-
-  -- without a record the entries come first
-  pub nothing_left : (es : List Entry) (rs : List FileRecord) → rs ≡ [] → heads_cmp d es rs ≡ Greater → es ≡ []
-  nothing_left [] rs is greater = refl
-  nothing_left (e ∷ es) rs is greater = absurd (true≢false (sym (ap is_gt (ap (heads_cmp d (e ∷ es)) (sym is) ∙ greater))))
-
-  pub not_without_record : (es : List Entry) (rs : List FileRecord) → rs ≡ [] → heads_cmp d es rs ≡ Equal → ⊥
-  not_without_record [] rs is equal = true≢false (sym (ap is_eq equal))
-  not_without_record (e ∷ es) rs is equal = true≢false (sym (ap is_eq (ap (heads_cmp d (e ∷ es)) (sym is) ∙ equal)))
+  pub replace_step : (es es' : List Entry) (rs rs' : List FileRecord) (o : Option Entry) (r : FileRecord) → Rises es → NamesRise rs →
+      es ≡ es' ++ option_to_list o → rs ≡ rs' ++ r ∷ [] → Stands o r Equal → merged es rs ≡ merged es' rs' ++ filed_by d r ∷ []
+  replace_step es es' rs rs' None r rises rise taken is equal = absurd (true≢false (ap is_eq equal))
+  replace_step es es' rs rs' (Some e) r rises rise taken is equal =
+      let same : (filed e).0 ≡ key r.name d = exact_keys (filed e).0 (key r.name d) (sym equal) in
+      let records_before = records_push rs' r (subst NamesRise is rise) in
+      let entries_before = (entries_push es' e (subst Rises taken rises)).1 in
+      ap (merged es) is ∙ merged_push es rs' r
+      ∙ ap (λ ys. put key_cmp (key r.name d) r (put_all ys (map (filed_by d) rs'))) (ap (map filed) taken ∙ map_push filed es' e)
+      ∙ ap (put key_cmp (key r.name d) r) (put_all_before (filed e) (map (filed_by d) rs') (map filed es') (subst (λ k. StandBefore k (map (filed_by d) rs')) (sym same) records_before))
+      ∙ put_instead (filed_by d r) (filed e) (merged es' rs')
+      (put_all_stand_before (key r.name d) (map (filed_by d) rs') (map filed es') records_before (subst (λ k. StandBefore k (map filed es')) same entries_before))
+      (sym equal)

@@ -1,8 +1,6 @@
 -- How `PlainFolder` keeps a folder: one list of what is announced, by name and then by device.
-use Rattle.std.specs.Prelude.{◌≡◌, ℕ, Bool, not, ◌&&◌, if◌then◌else◌, List, [], ◌∷◌, fold, map, find, reverse, bytes_eq, Option, Some, None, IsTrue}
+use Rattle.std.specs.Prelude.{◌≡◌, ℕ, Bool, not, ◌&&◌, if◌then◌else◌, List, fold, map, find, reverse, bytes_eq, Option, Some, None, IsTrue}
 use Rattle.std.specs.List.{list_any}
-use Rattle.std.specs.declared.cmp.Ordering.{Ordering}
-use Rattle.std.specs.declared.cmp.Ordering.TheVariants.{Less, Greater}
 use Rattle.std.specs.FinMap as map
 use Rattle.folder_core.specs.declared.plain.entry.Entry.{Entry}
 use Rattle.sync_record.specs.Devices.{Identity, bytes_cmp}
@@ -52,13 +50,6 @@ last_of n rs = find (λ r. bytes_eq r.name n) (reverse rs)
 pub record IsLastOfEach (records kept : List FileRecord) : Type 0 where
   pub rise : NamesRise kept
   pub last : (n : Name) → find (λ r. bytes_eq r.name n) kept ≡ last_of n records
-
--- how the first entry stands to the first of a device's records: by name and then by device, and before where there is
--- no record, else behind where there is no entry
-abbrev pub heads_cmp : Identity → List Entry → List FileRecord → Ordering
-heads_cmp d [] rs = Greater
-heads_cmp d (e ∷ es) [] = Less
-heads_cmp d (e ∷ es) (r ∷ rs) = key_cmp (filed e).0 (key r.name d)
 
 -- of entries of one name: it is valid, and no valid one dominates it
 abbrev pub is_undominated : List Entry → Entry → Bool

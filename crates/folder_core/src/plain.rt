@@ -19,7 +19,8 @@ use sync_names::SafeName;
 use sync_record::{DeviceId, Record};
 
 /// A folder as one list of records, by name and then by device. A look-up takes O(log n) for n records; a message of m
-/// records is sorted and merged with the list, in O(n + m log m).
+/// records is sorted and merged with the list from behind, in O(t + m log m) for t records that stand behind the place
+/// of its first.
 #[derive(Debug, Drop)]
 pub struct PlainFolder {
     me: DeviceId,
@@ -66,16 +67,17 @@ impl FolderCore for PlainFolder {
     /// O(n + m log m) for n records kept and m given. None is copied, and there is room for n + m of them meanwhile.
     fn index_full(&mut self, device: DeviceId, records: Items<Record>) -> Result<(), AllocError> {
         let records = last_of_each_name(records.into_vec())?;
-        let room = room_for(&self.entries, &records)?;
+        let room = room_for(&mut self.entries, &records)?;
         self.entries.retain(|entry| entry.device != device);
         merge(&mut self.entries, device, records, room);
         Ok(())
     }
 
-    /// O(n + m log m) for n records kept and m given. None is copied, and there is room for n + m of them meanwhile.
+    /// O(t + m log m) for m records given and t kept behind the place of the first of them, amortized. None is copied,
+    /// and there is room for all kept and given ones meanwhile.
     fn index_more(&mut self, device: DeviceId, records: Items<Record>) -> Result<(), AllocError> {
         let records = last_of_each_name(records.into_vec())?;
-        let room = room_for(&self.entries, &records)?;
+        let room = room_for(&mut self.entries, &records)?;
         merge(&mut self.entries, device, records, room);
         Ok(())
     }
@@ -94,10 +96,13 @@ impl FolderCore for PlainFolder {
     }
 }
 
-/// An empty list with room for the entries and the records.
-fn room_for(entries: &Vec<Entry>, records: &Vec<Record>) -> Result<Vec<Entry>, AllocError>
+/// Makes room in the entries for the records too, and an empty list with room for both. The entries stay as they are.
+fn room_for(entries: &mut Vec<Entry>, records: &Vec<Record>) -> Result<Vec<Entry>, AllocError>
+    ensures entries_stay { entries.new.items ≡ entries.old.items }
+    ensures entries_fit { IfOk result (λ _. vec_len entries.new + vec_len records.now ≤ vec_capacity entries.new) }
     ensures is_empty { IfOk result (λ room. room.items ≡ []) }
-    ensures fits { IfOk result (λ room. vec_len entries.now + vec_len records.now ≤ vec_capacity room) }
+    ensures room_fits { IfOk result (λ room. vec_len entries.new + vec_len records.now ≤ vec_capacity room) }
 {
+    entries.reserve(records.len())?;
     Vec::with_capacity(*entries.allocator(), entries.len() + records.len())
 }

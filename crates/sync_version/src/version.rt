@@ -1,4 +1,4 @@
-ghost use Rattle.std.specs.Prelude.{◌≡◌, ◌↔◌, [], IfOk, IsErrOf, IsTrue};
+ghost use Rattle.std.specs.Prelude.{◌≡◌, ◌↔◌, [], IfOk, IsOk, IsErrOf, IsTrue};
 ghost use Rattle.sync_version.specs.Versions.{IsCanonical, IsGatheredFrom, IsMergeOf, IsRaiseOf, IsRelation, counter};
 ghost use Rattle.sync_version.specs.Computed.{from_counters, is_counter_full, merge, raised, relation};
 
@@ -41,13 +41,14 @@ impl Version {
     }
 
     /// The version with these counters, pairs of id and counter in any order: a 0 is no counter, and of a
-    /// repeated id the greatest counts. Fails where the list could not be allocated. O(n log n) time and
-    /// O(n) memory.
+    /// repeated id the greatest counts. Fails where the list could not be allocated, and never for no counter.
+    /// O(n log n) time and O(n) memory.
     pub fn from_counters(alloc: Global, counters: &[(u64, u64)]) -> Result<Version, AllocError>
         ensures value { IfOk result (λ v. v ≡ from_counters counters.now) }
         ensures gathered { IfOk result (λ v. IsGatheredFrom counters.now v) }
+        ensures free { counters.now ≡ [] → IsOk result }
     {
-        let pairs = counters.to_vec(alloc)?;
+        let pairs = copied(alloc, counters)?;
         Ok(Version::from_pairs(pairs))
     }
 
@@ -97,10 +98,12 @@ impl Version {
     }
 
     /// The version with the greater of each counter of both, which has seen what either has. Fails where
-    /// it could not be allocated. O(n + m) time, one walk over both, and one allocation.
+    /// it could not be allocated, and never where neither has a counter. O(n + m) time, one walk over both, and one
+    /// allocation.
     pub fn merge(&self, other: &Version) -> Result<Version, AllocError>
         ensures value { IfOk result (λ v. v ≡ merge self.now other.now) }
         ensures greatest { IfOk result (λ v. IsMergeOf self.now other.now v) }
+        ensures free { self.now ≡ [] → other.now ≡ [] → IsOk result }
     {
         merged(*self.counters.allocator(), self.beside(other))
     }
@@ -125,12 +128,14 @@ impl Version {
         Ok(merged(*self.counters.allocator(), walk)?)
     }
 
-    /// The same version once more. Fails where it could not be allocated. O(n) time and memory.
+    /// The same version once more. Fails where it could not be allocated, and never where it has no counter. O(n) time
+    /// and memory.
     pub fn copy(&self) -> Result<Version, AllocError>
-        ensures { IfOk result (λ v. v ≡ self.now) }
+        ensures value { IfOk result (λ v. v ≡ self.now) }
+        ensures free { self.now ≡ [] → IsOk result }
     {
         Ok(Version {
-            counters: self.counters.clone()?,
+            counters: copied(*self.counters.allocator(), &self.counters)?,
         })
     }
 
@@ -146,9 +151,20 @@ impl Version {
     }
 }
 
+// These pairs in a list of their own, for which memory is taken once, and none where there is no pair.
+fn copied(alloc: Global, pairs: &[(u64, u64)]) -> Result<Vec<(u64, u64)>, AllocError>
+    ensures value { IfOk result (λ v. v.items ≡ pairs.now) }
+    ensures free { pairs.now ≡ [] → IsOk result }
+{
+    let mut copy = Vec::with_capacity(alloc, pairs.len())?;
+    copy.extend_from_slice(pairs)?;
+    Ok(copy)
+}
+
 // The greater of each two counters of a walk.
 fn merged(alloc: Global, walk: Walk<'_>) -> Result<Version, AllocError>
-    ensures { IfOk result (λ v. v ≡ merge walk.entry.ours.now walk.entry.theirs.now) }
+    ensures value { IfOk result (λ v. v ≡ merge walk.entry.ours.now walk.entry.theirs.now) }
+    ensures free { walk.entry.ours.now ≡ [] → walk.entry.theirs.now ≡ [] → IsOk result }
 {
     let mut counters = Vec::with_capacity(alloc, walk.ours.len() + walk.theirs.len())?;
     for step in walk {

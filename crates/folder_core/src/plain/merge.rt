@@ -1,64 +1,75 @@
 //! The merge of a message with the list of a folder.
-ghost use Rattle.std.specs.Prelude.{◌≡◌, ◌+◌, ◌<◌, ◌≤◌, [], ◌∷◌, map, MatchOption, IfSome, vec_len, vec_capacity};
-ghost use Rattle.std.specs.VecDeque.{deque_len};
-ghost use Rattle.folder_core.specs.Kept.{filed, filed_by, put_all, NamesRise, heads_cmp};
+ghost use Rattle.std.specs.Prelude.{◌≡◌, ◌+◌, ◌<◌, ◌≤◌, [], ◌∷◌, ◌++◌, map, reverse, option_copied, MatchOption, IfSome, vec_len, vec_capacity};
+ghost use Rattle.std.specs.declared.cmp.Ordering.TheVariants.{Less};
+ghost use Rattle.folder_core.specs.Announced.{key, key_cmp};
+ghost use Rattle.folder_core.specs.Kept.{filed, filed_by, put_all, NamesRise, Rises};
 
 use super::entry::Entry;
 use std::cmp::Ordering;
-use std::collections::VecDeque;
-use std::mem;
 use sync_record::{DeviceId, Record};
 
 /// Puts a device's records among the entries, each in its place and in place of the device's record of its name. Takes
-/// no memory but the room that it is given. O(n + m) for n entries and m records, which are moved.
+/// no memory but the room that it is given. O(t + m) for m records and t entries behind the place of the first of them,
+/// which are moved; the entries before it stay where they are.
 pub(super) fn merge(
     entries: &mut Vec<Entry>,
     device: DeviceId,
-    records: Vec<Record>,
-    room: Vec<Entry>,
+    mut records: Vec<Record>,
+    mut room: Vec<Entry>,
 )
+    requires rises { Rises entries.old.items }
     requires names_rise { NamesRise records.items }
     requires is_empty { room.items ≡ [] }
-    requires fits { vec_len entries.old + vec_len records ≤ vec_capacity room }
+    requires entries_fit { vec_len entries.old + vec_len records ≤ vec_capacity entries.old }
+    requires room_fits { vec_len entries.old + vec_len records ≤ vec_capacity room }
     ensures { map filed entries.new.items ≡ put_all (map filed entries.old.items) (map (filed_by device) records.items) }
 {
-    let mut before = VecDeque::from_vec(mem::replace(entries, room));
-    let mut records = VecDeque::from_vec(records);
-    while let Some(entry) = next_entry(&mut before, device, &mut records) {
-        entries.push_reserved(entry);
+    while let Some(entry) = last_entry(entries, device, &mut records) {
+        room.push_reserved(entry);
     }
+    put_back(entries, room);
 }
 
-/// The first of the entries and the records; of equal keys the record.
-fn next_entry(
-    entries: &mut VecDeque<Entry>,
+/// Takes the last of the entries and the records; of equal keys the record. `None` where no record is left.
+fn last_entry(
+    entries: &mut Vec<Entry>,
     device: DeviceId,
-    records: &mut VecDeque<Record>,
+    records: &mut Vec<Record>,
 ) -> Option<Entry>
-    requires { NamesRise records.old.items }
-    ensures first { MatchOption result ((entries.old.items ≡ []) × (records.old.items ≡ [])) (λ e. put_all (map filed entries.old.items) (map (filed_by device) records.old.items) ≡ filed e ∷ put_all (map filed entries.new.items) (map (filed_by device) records.new.items)) }
+    requires rises { Rises entries.old.items }
+    requires names_rise { NamesRise records.old.items }
+    ensures last { MatchOption result ((records.old.items ≡ []) × (entries.new.items ≡ entries.old.items)) (λ e. put_all (map filed entries.old.items) (map (filed_by device) records.old.items) ≡ put_all (map filed entries.new.items) (map (filed_by device) records.new.items) ++ filed e ∷ []) }
+    ensures rises { Rises entries.new.items }
     ensures names_rise { NamesRise records.new.items }
-    ensures fewer { IfSome result (λ _. deque_len entries.new + deque_len records.new < deque_len entries.old + deque_len records.old) }
+    ensures fewer { IfSome result (λ _. vec_len entries.new + vec_len records.new < vec_len entries.old + vec_len records.old) }
+    ensures capacity { vec_capacity entries.new ≡ vec_capacity entries.old }
 {
-    match order(entries, device, records) {
-        Ordering::Less => return entries.pop_front(),
-        Ordering::Equal => drop(entries.pop_front()),
-        Ordering::Greater => {}
+    match order(entries.last(), device, records.last()?) {
+        Ordering::Greater => return entries.pop(),
+        Ordering::Equal => drop(entries.pop()),
+        Ordering::Less => {}
     }
-    let record = records.pop_front()?;
+    let record = records.pop()?;
     Some(Entry { device, record })
 }
 
-/// How the first of the entries stands to the first of the records: by name, and then by device.
-fn order(entries: &VecDeque<Entry>, device: DeviceId, records: &VecDeque<Record>) -> Ordering
-    ensures { result ≡ heads_cmp device entries.now.items records.now.items }
+/// How an entry stands to what the device announces: by name, and then by device. Before it where there is no entry.
+fn order(entry: Option<&Entry>, device: DeviceId, announced: &Record) -> Ordering
+    ensures { MatchOption (option_copied entry.entry) (result ≡ Less) (λ e. result ≡ key_cmp (filed e).0 (key announced.now.name device)) }
 {
-    match (entries.front(), records.front()) {
-        (None, _) => Ordering::Greater,
-        (Some(_), None) => Ordering::Less,
-        (Some(entry), Some(record)) => {
-            let by_device = entry.device.cmp(&device);
-            entry.record.name().cmp(record.name()).then(by_device)
-        }
+    let Some(entry) = entry else {
+        return Ordering::Less;
+    };
+    let by_device = entry.device.cmp(&device);
+    entry.record.name().cmp(announced.name()).then(by_device)
+}
+
+/// Puts behind the entries what was taken of them, the last of it first.
+fn put_back(entries: &mut Vec<Entry>, mut taken: Vec<Entry>)
+    requires { vec_len entries.old + vec_len taken ≤ vec_capacity entries.old }
+    ensures { entries.new.items ≡ entries.old.items ++ reverse taken.items }
+{
+    while let Some(entry) = taken.pop() {
+        entries.push_reserved(entry);
     }
 }

@@ -16,9 +16,9 @@ pub returns-in_err-frame : goal.returns-in_err-frame
 returns-in_err-frame c =
     let back : to_z w32 (of_z w32 c.args.kind) ≡ c.args.kind = search rules in
     let p = err_from_is_err_and c.from_residual.result c.from_residual.ensures.1 in
-    rw (p.1, p.2) (λ ne. pieces.message_at_is c.args.kind c.args.bytes.now _ _ c.split_at.ensures.by_index.0 c.split_at.ensures.front_len ∙ pieces.message_behind_is c.args.kind _ _ _ _ c.split_at-2.ensures.by_index.0 (c.split_at-2.ensures.front_len ∙ c.number32-len.ensures) (omega arith) ∙ pieces.message_bad _ _ _ _ _ back c.in_err-frame.ensures ne)
+    rw (p.1, p.2) (λ ne. pieces.message_at_is c.args.kind c.args.bytes.now _ _ c.split_at.ensures.by_index.0 c.split_at.ensures.front_len ∙ pieces.message_behind_is c.args.kind _ _ _ _ c.split_at-2.ensures.by_index.0 (c.split_at-2.ensures.front_len ∙ c.number32-len.ensures) (omega arith) ∙ pieces.message_bad _ _ _ _ _ back c.in_err-frame.ensures.carried ne)
 
 pub returns : goal.returns
 returns c =
     let back : to_z w32 (of_z w32 c.args.kind) ≡ c.args.kind = search rules in
-    (c.split_at-2.result.1.now, refl, pieces.message_at_is c.args.kind c.args.bytes.now _ _ c.split_at.ensures.by_index.0 c.split_at.ensures.front_len ∙ pieces.message_behind_is c.args.kind _ _ _ _ c.split_at-2.ensures.by_index.0 (c.split_at-2.ensures.front_len ∙ c.number32-len.ensures) (omega arith) ∙ pieces.message_good _ _ _ _ _ back c.in_ok-frame.ensures)
+    (c.split_at-2.result.1.now, refl, pieces.message_at_is c.args.kind c.args.bytes.now _ _ c.split_at.ensures.by_index.0 c.split_at.ensures.front_len ∙ pieces.message_behind_is c.args.kind _ _ _ _ c.split_at-2.ensures.by_index.0 (c.split_at-2.ensures.front_len ∙ c.number32-len.ensures) (omega arith) ∙ pieces.message_good _ _ _ _ _ back c.in_ok-frame.ensures.carried)

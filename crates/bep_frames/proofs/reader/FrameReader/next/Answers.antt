@@ -6,7 +6,7 @@ use Rattle.bep_frames.proofs.reader.FrameReader.next.Goals as goal
 
 pub overflow_sub-behind : goal.overflow_sub-behind
 overflow_sub-behind c =
-    let found = rw c.in-Ok-Whole.field-0-is at c.in-Ok-Whole.ensures in
+    let found = rw c.in-Ok-Whole.field-0-is at c.in-Ok-Whole.ensures.found in
     let start = c.self.inside.start in
     let at = take_rest c.deref.result.now start ∙ ap (drop start) c.deref.ensures.value in
     let within = left_within c.self.inside.hello_is_due c.self.inside.bytes.items _ start c.in-Ok-Whole.left c.in-Ok-Whole.frame found.0 at found.1 found.2 in
@@ -14,7 +14,7 @@ overflow_sub-behind c =
 
 pub returns-in-Ok-Whole : goal.returns-in-Ok-Whole
 returns-in-Ok-Whole c =
-    let found = rw c.in-Ok-Whole.field-0-is at c.in-Ok-Whole.ensures in
+    let found = rw c.in-Ok-Whole.field-0-is at c.in-Ok-Whole.ensures.found in
     let start = c.self.inside.start in
     let items = c.self.inside.bytes.items in
     let due = c.self.inside.hello_is_due in

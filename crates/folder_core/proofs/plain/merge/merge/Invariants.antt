@@ -1,14 +1,16 @@
-use Rattle.std.proofs.Common.{◌≡◌, ◌+◌, ◌≤◌, ◌++◌, vec_len, vec_capacity, deque_len}
+use Rattle.std.proofs.Common.{◌≡◌, ◌+◌, ◌≤◌, ◌++◌, reverse, vec_len, vec_capacity}
 use Rattle.std.specs.Prelude.{map}
-use Rattle.folder_core.specs.Kept.{NamesRise, filed, filed_by, put_all}
+use Rattle.folder_core.specs.Kept.{NamesRise, Rises, filed, filed_by, put_all}
 use Rattle.folder_core.proofs.plain.merge.merge.Given as goal
 
 abbrev pub invariant-loop-entry : goal.invariant-loop-entry
 invariant-loop-entry l = record {
-  all : map filed l.entries.items ++ put_all (map filed l.before.items) (map (filed_by l.device) l.records.items) ≡ put_all (map filed l.initial.before.items) (map (filed_by l.device) l.initial.records.items);
+  all : put_all (map filed l.entries.items) (map (filed_by l.device) l.records.items) ++ map filed (reverse l.room.items) ≡ put_all (map filed l.initial.entries.items) (map (filed_by l.device) l.initial.records.items);
+  rises : Rises l.entries.items;
   names_rise : NamesRise l.records.items;
-  fits : vec_len l.entries + deque_len l.before + deque_len l.records ≤ vec_capacity l.entries;
+  entries_fit : vec_len l.entries + vec_len l.records + vec_len l.room ≤ vec_capacity l.entries;
+  room_fits : vec_len l.entries + vec_len l.records + vec_len l.room ≤ vec_capacity l.room;
 }
 
 abbrev pub decreases-loop-entry : goal.decreases-loop-entry
-decreases-loop-entry l = deque_len l.before + deque_len l.records
+decreases-loop-entry l = vec_len l.entries + vec_len l.records

@@ -6,7 +6,7 @@ use Rattle.sync_version.proofs.Lemmas.{merge_is}
 use Rattle.sync_version.proofs.version.Version.merge.Goals as goal
 
 pub returns-clause-value : goal.returns-clause-value
-returns-clause-value c = rw (← c.beside.ensures.ours, ← c.beside.ensures.theirs) c.merged.ensures
+returns-clause-value c = rw (← c.beside.ensures.ours, ← c.beside.ensures.theirs) c.merged.ensures.value
 
 pub returns-clause-greatest : goal.returns-clause-greatest
 returns-clause-greatest c =
