@@ -24,12 +24,17 @@ sized16_is held le = record { size = to_be_bytes w16 (length held); split = refl
 sized32_is : (held : List ℕ) → length held ≤ 500000000 → IsSized32 (sized32 held) held
 sized32_is held le = record { size = to_be_bytes w32 (length held); split = refl; width = refl; size_is = sym (from_be_bytes-to_be_bytes_4 (length held) (omega arith)) }
 
-pub hello_written : (m : Hello) → length (hello_body m) ≤ 65535 → decoded hello_table hello (hello_body m) ≡ Ok m → (rest : List ℕ) → frame_at true (hello_frame m ++ rest) ≡ Whole (HelloFrame m) rest
+hello_written : (m : Hello) → length (hello_body m) ≤ 65535 → decoded hello_table hello (hello_body m) ≡ Ok m → (rest : List ℕ) → frame_at true (hello_frame m ++ rest) ≡ Whole (HelloFrame m) rest
 hello_written m le reads rest =
     frame_again true (hello_frame m) rest (HelloFrame m) (record { sized = sized16 (hello_body m); body = hello_body m; split = refl; sized_is = sized16_is (hello_body m) le; reads = reads })
 
+pub hello_again : {U E : Type 0} (r : Result U E) (m : Hello) → OnOk r (length (hello_body m) ≤ 65535) → OnOk r (decoded hello_table hello (hello_body m) ≡ Ok m)
+    → OnOk r ((rest : List ℕ) → frame_at true (hello_frame m ++ rest) ≡ Whole (HelloFrame m) rest)
+hello_again (Ok u) m le reads = hello_written m le reads
+hello_again (Err e) m le reads = tt
+
 -- a header takes two bytes at most
-pub header_short : (kind : ℕ) → kind < 8 → length (header_form kind) ≤ 2
+header_short : (kind : ℕ) → kind < 8 → length (header_form kind) ≤ 2
 unfolding number_form shortest shortest_within
 header_short zero lt = omega arith
 header_short (suc zero) lt = omega arith
@@ -41,7 +46,7 @@ header_short (suc (suc (suc (suc (suc (suc zero)))))) lt = omega arith
 header_short (suc (suc (suc (suc (suc (suc (suc zero))))))) lt = omega arith
 header_short (suc (suc (suc (suc (suc (suc (suc (suc n)))))))) lt = absurd (omega (arith, lt))
 
-pub later_written : (kind : ℕ) (body : List ℕ) (m : Message) → kind < 8 → length body ≤ 500000000 → decoded header_table header (header_form kind) ≡ Ok (record { kind = pos kind; compression = pos 0 }) → IsMessage (pos kind) body m → (rest : List ℕ) → frame_at false (later_frame kind body ++ rest) ≡ Whole (MessageFrame m) rest
+later_written : (kind : ℕ) (body : List ℕ) (m : Message) → kind < 8 → length body ≤ 500000000 → decoded header_table header (header_form kind) ≡ Ok (record { kind = pos kind; compression = pos 0 }) → IsMessage (pos kind) body m → (rest : List ℕ) → frame_at false (later_frame kind body ++ rest) ≡ Whole (MessageFrame m) rest
 later_written kind body m lt le reads is rest =
     frame_again false (later_frame kind body) rest (MessageFrame m)
     (record {
@@ -55,13 +60,9 @@ later_written kind body m lt le reads is rest =
       carries = is;
     })
 
-pub few : (old body new : List ℕ) (start len n : ℕ) → new ≡ old ++ body → start ≡ length old → len ≡ length new → len - start ≤ n → length body ≤ n
-few old body new start len n e s l le = omega (arith, ap length e, length-append old body, s, l, le)
-
-pub header_fits : (items before : List ℕ) (kind : ℕ) (z : ℤ) → z ≡ pos kind → before ≡ [] → items ≡ before ++ form header_table (z, (pos 0, tt)) → kind < 8 → length items ≤ 2
-header_fits items before kind z is none e lt =
-    let all : items ≡ header_form kind = e ∙ ap (λ (l : List ℕ). l ++ form header_table (z, (pos 0, tt))) none ∙ ap (λ (k : ℤ). form header_table (k, (pos 0, tt))) is in
-    omega (arith, ap length all, header_short kind lt)
+-- the length of a header is never too long
+pub header_fits : (kind : ℕ) (z : ℤ) → z ≡ pos kind → kind < 8 → length (form header_table (z, (pos 0, tt))) ≤ 2
+header_fits kind z is lt = omega (arith, ap (λ (k : ℤ). length (form header_table (k, (pos 0, tt)))) is, header_short kind lt)
 
 abbrev pub IsReadAgain : Message → Type 0
 IsReadAgain m = (rest : List ℕ) → frame_at false (message_frame m ++ rest) ≡ Whole (MessageFrame m) rest

@@ -1,4 +1,4 @@
-pub mod Numbers
+pub mod Faults
 pub mod Carried
 pub mod Readable
 pub mod Grammar

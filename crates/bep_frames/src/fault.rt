@@ -1,30 +1,25 @@
-ghost use Rattle.std.specs.Prelude.{◌≡◌};
-ghost use Rattle.bep_frames.specs.Numbers.{frame_fault_number, write_fault_number};
+ghost use Rattle.std.specs.Prelude.{◌≡◌, Some};
+ghost use Rattle.bep_frames.specs.Faults.{frame_fault_name, frame_fault_number, write_fault_number};
 ghost use Rattle.bep_frames.specs.declared.fault.WriteFault.TheVariants.{OutOfMemory};
 
 use std::alloc::AllocError;
+use std::fmt::{self, Display, Formatter};
 use thiserror::Error;
 
-/// Why no frame is read.
+/// Why no frame is read. Displayed, it is its name.
 #[derive(Clone, Copy, Debug, PartialEq, Eq, Error)]
 pub enum FrameFault {
     /// A Hello is due, and the first four bytes aren't `0x2EA7D90B`.
-    #[error("BadMagic")]
     BadMagic,
     /// A message has more than 500,000,000 bytes.
-    #[error("TooLong")]
     TooLong,
     /// A header says that its message is compressed.
-    #[error("Compressed")]
     Compressed,
     /// A whole header can't be read.
-    #[error("BadHeader")]
     BadHeader,
     /// A whole message of a known type can't be read.
-    #[error("BadBody")]
     BadBody,
     /// Memory ran out.
-    #[error("OutOfMemory")]
     OutOfMemory,
 }
 
@@ -41,6 +36,21 @@ impl FrameFault {
             FrameFault::BadBody => 14,
             FrameFault::OutOfMemory => 33,
         }
+    }
+}
+
+impl Display for FrameFault {
+    ghost output = { λ fault. Some (frame_fault_name fault) };
+
+    fn fmt<W: fmt::Write>(&self, f: &mut Formatter<W>) -> fmt::Result {
+        f.write_str(match self {
+            FrameFault::BadMagic => "BadMagic",
+            FrameFault::TooLong => "TooLong",
+            FrameFault::Compressed => "Compressed",
+            FrameFault::BadHeader => "BadHeader",
+            FrameFault::BadBody => "BadBody",
+            FrameFault::OutOfMemory => "OutOfMemory",
+        })
     }
 }
 

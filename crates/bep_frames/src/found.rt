@@ -6,14 +6,12 @@ ghost use Rattle.bep_frames.specs.Reading.{hello_sized, hello_at, message_at, la
 use crate::carried::{carried, read};
 use crate::fault::FrameFault;
 use crate::frame::Frame;
-use crate::size::{number16, number32};
+use crate::size::{MOST_BYTES, number16, number32};
 use bep_messages::{Header, Hello};
 use std::alloc::Global;
 
-const MAGIC: [u8; 4] = [0x2E, 0xA7, 0xD9, 0x0B];
-
-/// The most bytes of a message.
-const MOST_BYTES: usize = 500_000_000;
+/// What a Hello begins with.
+pub const MAGIC: [u8; 4] = [0x2E, 0xA7, 0xD9, 0x0B];
 
 /// What a look at some bytes finds.
 pub enum Found {

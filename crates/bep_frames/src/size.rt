@@ -1,6 +1,9 @@
 ghost use Rattle.std.specs.Prelude.{◌≡◌, ◌<◌, ◌^◌, length};
 ghost use Rattle.bep_frames.specs.Grammar.{number16, number32};
 
+/// The most bytes of a message.
+pub const MOST_BYTES: usize = 500_000_000;
+
 /// The number that two bytes are, big-endian.
 pub fn number16(size: &[u8]) -> usize
     requires { length size.now ≡ 2 }

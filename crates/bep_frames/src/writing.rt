@@ -1,23 +1,20 @@
-ghost use Rattle.std.specs.Prelude.{◌≡◌, ◌<◌, ◌≤◌, ◌++◌, ℕ, ℤ, pos, true, false, List, Ok, length, take, drop, IfOk, OnOk, OnErr, IsErrOf};
-ghost use Rattle.std.specs.Int.{w16, w32, to_be_bytes};
+ghost use Rattle.std.specs.Prelude.{◌≡◌, ◌<◌, ◌≤◌, ◌++◌, ℕ, pos, true, false, List, Ok, length, take, OnOk, OnErr, IsErrOf};
 ghost use Rattle.bep_messages.specs.Forms.{form};
-ghost use Rattle.bep_messages.specs.Protocol.{header_table};
-ghost use Rattle.bep_messages.specs.Structs.{header};
+ghost use Rattle.bep_messages.specs.Protocol.{header_table, hello_table};
+ghost use Rattle.bep_messages.specs.Structs.{header, hello};
 ghost use Rattle.bep_messages.specs.Values.{decoded};
 ghost use Rattle.bep_frames.specs.declared.frame.Frame.TheVariants.{Hello as HelloFrame, Message as MessageFrame};
 ghost use Rattle.bep_frames.specs.Reading.{Whole, frame_at};
-ghost use Rattle.bep_frames.specs.Written.{sized16, hello_body, hello_frame, header_form, kind_of, body_of, later_frame, message_frame};
+ghost use Rattle.bep_frames.specs.Written.{sized16, sized32, hello_body, hello_frame, header_form, body_of, later_frame, message_frame};
 
 use crate::fault::WriteFault;
+use crate::found::MAGIC;
 use crate::frame::Message;
+use crate::size::MOST_BYTES;
 use bep_messages::{Header, Hello, ProtoMessage};
-use std::alloc::{AllocError, Global};
 
-/// The most bytes of a Hello.
+/// The most bytes of a Hello, and of a header.
 const MOST_HELLO_BYTES: usize = 65_535;
-
-/// The most bytes of any other message.
-const MOST_BYTES: usize = 500_000_000;
 
 /// Appends the frame of a Hello (Block Exchange Protocol v1, "Pre-authentication Messages").
 ///
@@ -33,15 +30,11 @@ pub fn write_hello(message: &Hello, out: &mut Vec<u8>) -> Result<(), WriteFault>
         frame_at true (hello_frame message.now ++ rest) ≡ Whole (HelloFrame message.now) rest) }
 {
     let start = out.len();
-    message.encode(out)?;
-    let len = out.len() - start;
-    if len > MOST_HELLO_BYTES {
+    let written = put_hello(message, out);
+    if written.is_err() {
         out.truncate(start);
-        return Err(WriteFault::TooLong);
     }
-    let size = (len as u16).to_be_bytes();
-    put_before(out, start, &[0x2E, 0xA7, 0xD9, 0x0B, size[0], size[1]])?;
-    Ok(())
+    written
 }
 
 /// Appends the frame of any other message (Block Exchange Protocol v1, "Post-authentication Messages"), not
@@ -70,6 +63,7 @@ pub fn write_frame(message: &Message, out: &mut Vec<u8>) -> Result<(), WriteFaul
     }
 }
 
+/// Appends the frame of a message of this type, or nothing.
 fn write_later<M: ProtoMessage>(kind: u8, message: &M, out: &mut Vec<u8>) -> Result<(), WriteFault>
     requires { kind < 8 }
     ensures ok { OnOk result
@@ -82,61 +76,79 @@ fn write_later<M: ProtoMessage>(kind: u8, message: &M, out: &mut Vec<u8>) -> Res
         ≡ Ok (record { kind = pos kind; compression = pos 0 })) }
 {
     let start = out.len();
-    let mut head = sized_header(*out.allocator(), kind)?;
-    message.encode(out)?;
-    let len = out.len() - start;
-    if len > MOST_BYTES {
+    let written = put_later(kind, message, out);
+    if written.is_err() {
         out.truncate(start);
-        return Err(WriteFault::TooLong);
     }
-    if head.extend_from_slice(&(len as u32).to_be_bytes()).is_err() {
-        out.truncate(start);
-        return Err(WriteFault::OutOfMemory);
-    }
-    put_before(out, start, head.as_slice())?;
-    Ok(())
+    written
 }
 
-/// The header of a message, behind its length.
-fn sized_header(alloc: Global, kind: u8) -> Result<Vec<u8>, AllocError>
+/// Appends the frame of a Hello. After a refusal a part of it may stand behind what was there.
+fn put_hello(message: &Hello, out: &mut Vec<u8>) -> Result<(), WriteFault>
+    ensures ok { OnOk result (out.new.items ≡ out.old.items ++ hello_frame message.now) }
+    ensures short { OnOk result (length (hello_body message.now) ≤ 65535) }
+    ensures long { IsErrOf result WriteFault.TooLong → 65535 < length (hello_body message.now) }
+    ensures err { OnErr result (take (length out.old.items) out.new.items ≡ out.old.items) }
+    ensures again { OnOk result (decoded hello_table hello (hello_body message.now) ≡ Ok message.now) }
+{
+    out.extend_from_slice(&MAGIC)?;
+    put_sized16(message, out)
+}
+
+/// Appends the frame of a message of this type. After a refusal a part of it may stand behind what was there.
+fn put_later<M: ProtoMessage>(kind: u8, message: &M, out: &mut Vec<u8>) -> Result<(), WriteFault>
     requires { kind < 8 }
-    ensures form { IfOk result (λ head. head.items ≡ sized16 (header_form kind)) }
-    ensures again { OnOk result (decoded header_table header (header_form kind)
+    ensures ok { OnOk result
+        (out.new.items ≡ out.old.items ++ later_frame kind (form M.table (M.parts message.now))) }
+    ensures short { OnOk result (length (form M.table (M.parts message.now)) ≤ 500000000) }
+    ensures long { IsErrOf result WriteFault.TooLong → 500000000 < length (form M.table (M.parts message.now)) }
+    ensures err { OnErr result (take (length out.old.items) out.new.items ≡ out.old.items) }
+    ensures again { OnOk result (decoded M.table M.whole (form M.table (M.parts message.now)) ≡ Ok message.now) }
+    ensures header { OnOk result (decoded header_table header (header_form kind)
         ≡ Ok (record { kind = pos kind; compression = pos 0 })) }
 {
     let header = Header {
         kind: i32::from(kind),
         compression: 0,
     };
-    let mut head = Vec::new(alloc);
-    header.encode(&mut head)?;
-    let size = (head.len() as u16).to_be_bytes();
-    put_before(&mut head, 0, &size)?;
-    Ok(head)
+    put_sized16(&header, out)?;
+    put_sized32(message, out)
 }
 
-/// Puts a head before the bytes from a place on. Refused by want of memory alone, and then only the bytes
-/// before the place are left.
-fn put_before(out: &mut Vec<u8>, from: usize, head: &[u8]) -> Result<(), AllocError>
-    requires { from ≤ length out.old.items }
-    ensures ok { OnOk result (out.new.items ≡ take from out.old.items ++ (head.now ++ drop from out.old.items)) }
-    ensures err { OnErr result (out.new.items ≡ take from out.old.items) }
+/// Appends a message behind its length in 16 bits. After a refusal a part of it may stand behind what was there.
+fn put_sized16<M: ProtoMessage>(message: &M, out: &mut Vec<u8>) -> Result<(), WriteFault>
+    ensures ok { OnOk result (out.new.items ≡ out.old.items ++ sized16 (form M.table (M.parts message.now))) }
+    ensures short { OnOk result (length (form M.table (M.parts message.now)) ≤ 65535) }
+    ensures long { IsErrOf result WriteFault.TooLong → 65535 < length (form M.table (M.parts message.now)) }
+    ensures err { OnErr result (take (length out.old.items) out.new.items ≡ out.old.items) }
+    ensures again { OnOk result (decoded M.table M.whole (form M.table (M.parts message.now)) ≡ Ok message.now) }
 {
-    let end = out.len();
-    if out.extend_from_slice(head).is_err() {
-        out.truncate(from);
-        return Err(AllocError);
+    let start = out.len();
+    out.extend_from_slice(&[0; 2])?;
+    message.encode(out)?;
+    let len = out.len() - start - 2;
+    if len > MOST_HELLO_BYTES {
+        return Err(WriteFault::TooLong);
     }
-    to_front(out.as_mut_slice(), from, end);
+    out[start..start + 2].copy_from_slice(&(len as u16).to_be_bytes());
     Ok(())
 }
 
-/// Puts what stands from `end` on before what stands from `begin` to `end`.
-fn to_front(bytes: &mut [u8], begin: usize, end: usize)
-    requires order { begin ≤ end }
-    requires within { end ≤ length bytes.old }
-    ensures { bytes.new ≡ take begin bytes.old ++ (drop end bytes.old ++ drop begin (take end bytes.old)) }
+/// Appends a message behind its length in 32 bits. After a refusal a part of it may stand behind what was there.
+fn put_sized32<M: ProtoMessage>(message: &M, out: &mut Vec<u8>) -> Result<(), WriteFault>
+    ensures ok { OnOk result (out.new.items ≡ out.old.items ++ sized32 (form M.table (M.parts message.now))) }
+    ensures short { OnOk result (length (form M.table (M.parts message.now)) ≤ 500000000) }
+    ensures long { IsErrOf result WriteFault.TooLong → 500000000 < length (form M.table (M.parts message.now)) }
+    ensures err { OnErr result (take (length out.old.items) out.new.items ≡ out.old.items) }
+    ensures again { OnOk result (decoded M.table M.whole (form M.table (M.parts message.now)) ≡ Ok message.now) }
 {
-    let head = bytes.len() - end;
-    bytes[begin..].rotate_right(head);
+    let start = out.len();
+    out.extend_from_slice(&[0; 4])?;
+    message.encode(out)?;
+    let len = out.len() - start - 4;
+    if len > MOST_BYTES {
+        return Err(WriteFault::TooLong);
+    }
+    out[start..start + 4].copy_from_slice(&(len as u32).to_be_bytes());
+    Ok(())
 }

@@ -2,8 +2,7 @@
 use Rattle.std.specs.Prelude.{◌≡◌, ℕ, ◌^◌, ◌<◌, List, [], ◌++◌, length, Option, Result, Ok, Err, ⊤, codes, decimal}
 use Rattle.std.specs.Io.KnownBytes.{Appends, Keeps}
 use Rattle.bep_frames.specs.declared.fault.FrameFault.{FrameFault}
-use Rattle.bep_frames.specs.declared.fault.FrameFault.TheVariants as faults
-use Rattle.bep_frames.specs.Numbers.{frame_fault_number}
+use Rattle.bep_frames.specs.Faults.{frame_fault_name, frame_fault_number}
 use Rattle.bepd.specs.declared.ending.Ending.{Ending}
 use Rattle.bepd.specs.declared.ending.Ending.TheVariants.{Done, Rest, Fault, Failed}
 use Rattle.bepd.specs.declared.ending.Failure.{Failure}
@@ -26,14 +25,6 @@ status_of (Failed failure) = failure_status failure
 
 -- The lines for standard error.
 
-abbrev pub fault_name : FrameFault → List ℕ
-fault_name faults.BadMagic = codes "BadMagic"
-fault_name faults.TooLong = codes "TooLong"
-fault_name faults.Compressed = codes "Compressed"
-fault_name faults.BadHeader = codes "BadHeader"
-fault_name faults.BadBody = codes "BadBody"
-fault_name faults.OutOfMemory = codes "OutOfMemory"
-
 abbrev pub failure_text : Failure → List ℕ
 failure_text OutOfMemory = codes "fault 33 OutOfMemory"
 failure_text Read = codes "fault read or write"
@@ -42,7 +33,7 @@ failure_text Write = codes "fault read or write"
 abbrev pub ending_text : Ending → List ℕ
 ending_text Done = []
 ending_text (Rest count) = codes "rest " ++ decimal count
-ending_text (Fault e) = codes "fault " ++ decimal (frame_fault_number e) ++ codes " " ++ fault_name e
+ending_text (Fault e) = codes "fault " ++ decimal (frame_fault_number e) ++ codes " " ++ frame_fault_name e
 ending_text (Failed failure) = failure_text failure
 
 -- the listing was written whole

@@ -1,5 +1,5 @@
 ghost use Rattle.std.specs.Prelude.{◌≡◌, Some};
-ghost use Rattle.bepd.specs.Endings.{ending_text, failure_text, fault_name, status_of};
+ghost use Rattle.bepd.specs.Endings.{ending_text, failure_text, status_of};
 ghost use Rattle.bepd.specs.declared.ending.Failure.TheVariants.{OutOfMemory};
 
 use bep_frames::FrameFault;
@@ -75,22 +75,8 @@ impl Display for Ending {
         match self {
             Ending::Done => Ok(()),
             Ending::Rest(count) => write!(f, "rest {count}"),
-            Ending::Fault(fault) => write!(f, "fault {} {}", fault.number(), fault_name(*fault)),
+            Ending::Fault(fault) => write!(f, "fault {} {fault}", fault.number()),
             Ending::Failed(failure) => write!(f, "{failure}"),
         }
-    }
-}
-
-/// The fault's name.
-fn fault_name(fault: FrameFault) -> &'static str
-    ensures { result.now ≡ fault_name fault }
-{
-    match fault {
-        FrameFault::BadMagic => "BadMagic",
-        FrameFault::TooLong => "TooLong",
-        FrameFault::Compressed => "Compressed",
-        FrameFault::BadHeader => "BadHeader",
-        FrameFault::BadBody => "BadBody",
-        FrameFault::OutOfMemory => "OutOfMemory",
     }
 }

@@ -1,9 +1,7 @@
-use Rattle.std.proofs.Common.{arith}
-use Rattle.bep_frames.proofs.Written.{hello_written, few}
-use Rattle.bep_frames.specs.Written.{hello_body}
+use Rattle.std.proofs.Common.{◌≡◌, ◌≤◌, ℕ, true, List, Ok, Result, length}
+use Rattle.std.specs.Prelude.{OnOk}
+use Rattle.bep_frames.proofs.Written.{hello_again}
 use Rattle.bep_frames.proofs.writing.write_hello.Goals as goal
 
-pub returns-clause-again : goal.returns-clause-again
-returns-clause-again c =
-    let short = few c.args.out.now.items (hello_body c.args.message.now) c.encode.new.out.items c.len-start.result c.len.result 65535 c.in_ok-encode.ensures.ok (omega arith) (omega arith) (omega arith) in
-    hello_written c.args.message.now short c.in_ok-encode.ensures.again
+pub returns-else-is_err-clause-again : goal.returns-else-is_err-clause-again
+returns-else-is_err-clause-again c = hello_again c.put_hello-written.result c.args.message.now c.put_hello-written.ensures.short c.put_hello-written.ensures.again
