@@ -72,10 +72,6 @@ found_carries (pos (suc (suc (suc (suc (suc (suc (suc (suc n))))))))) bytes = (r
 pub none_carried : (kind : ℤ) (bytes : List ℕ) (e : FrameFault) → carried kind bytes ≡ Err e → (f : Frame) → Carries kind bytes f → ⊥
 none_carried kind bytes e h f c = found_not f e (sym (carries_found kind bytes f c) ∙ h)
 
-error_or : Result Frame FrameFault → FrameFault
-error_or (Ok f) = BadBody
-error_or (Err e) = e
-
 -- where the bytes are nothing, the error is told
 pub bad_carried : (kind : ℤ) (bytes : List ℕ) → ((f : Frame) → Carries kind bytes f → ⊥) → carried kind bytes ≡ Err BadBody
 bad_carried kind bytes none = go (carried kind bytes) (found_carries kind bytes)

@@ -16,6 +16,9 @@ use Rattle.bep_frames.proofs.Readings as readings
 use Rattle.bep_frames.proofs.Runs as runs
 use Rattle.bep_frames.proofs.Counts as counts
 
+-- one more frame in front
+pub use Rattle.bep_frames.proofs.Runs.{front_push}
+
 pub reading_is_read : (due : Bool) (bytes : List ℕ) → Splits due bytes (stream due bytes).frames (stream due bytes).end
 reading_is_read = readings.stream_splits
 

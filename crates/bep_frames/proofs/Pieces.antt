@@ -20,7 +20,7 @@ use Rattle.bep_frames.specs.Carried.{carried, carried_by, carried_of}
 use Rattle.bep_frames.specs.Readable.{FailsAs}
 use Rattle.bep_frames.specs.Grammar.{magic, most_bytes, number16, number32}
 use Rattle.bep_frames.specs.Found.{WantsMore, Finds, Fails}
-use Rattle.std.proofs.lemmas.List.{length-append, length-take-le, take-append-drop}
+use Rattle.std.proofs.lemmas.List.{length-append}
 use Rattle.std.proofs.Math.Seq.{take-append_seam, drop-append_seam}
 use Rattle.bep_frames.specs.Reading.{Step, More, Whole, Broken, piece_at, hello_found, hello_read, hello_behind, hello_sized, hello_front, hello_at, message_found, message_read, message_behind, message_at, is_zero, header_found, header_read, header_behind, later_at}
 
@@ -37,12 +37,6 @@ pub piece_split : (n : ℕ) (a b : List ℕ) (next : List ℕ → List ℕ → S
 piece_split n a b next e =
     let long = piece_long (length a) (a ++ b) next (omega (arith, length-append a b)) in
     subst (λ (m : ℕ). piece_at m (a ++ b) next ≡ next a b) e (long ∙ ap (λ (l : List ℕ). next l (drop (length a) (a ++ b))) (take-append_seam a b) ∙ ap (next a) (drop-append_seam a b))
-
--- a piece stays when more comes
-pub piece_more : (n : ℕ) (bytes more : List ℕ) (next : List ℕ → List ℕ → Step) → n ≤ length bytes → piece_at n (bytes ++ more) next ≡ next (take n bytes) (drop n bytes ++ more)
-piece_more n bytes more next le =
-    let split : bytes ++ more ≡ take n bytes ++ (drop n bytes ++ more) = ap (λ (l : List ℕ). l ++ more) (sym (take-append-drop n bytes)) ∙ append_assoc (take n bytes) (drop n bytes) more in
-    ap (λ (l : List ℕ). piece_at n l next) split ∙ piece_split n (take n bytes) (drop n bytes ++ more) next (length-take-le n bytes le)
 
 pub piece_missing : (n : ℕ) (bytes more : List ℕ) (next : List ℕ → List ℕ → Step) → length bytes < n → length more < n - length bytes → piece_at n (bytes ++ more) next ≡ More
 piece_missing n bytes more next lt few = piece_short n (bytes ++ more) next (omega (arith, length-append bytes more))

@@ -1,7 +1,7 @@
 -- Rows that are written: one behind the other, element by element, and with a head put before them.
-use Rattle.std.proofs.Common.{◌≡◌, ℕ, ◌+◌, ◌<◌, ◌≤◌, ◌^◌, List, [], ◌∷◌, ◌++◌, length, get_or, take, drop, map, refl, sym, ap, subst, ◌∙◌, append_assoc, arith}
+use Rattle.std.proofs.Common.{◌≡◌, ℕ, ◌+◌, ◌<◌, ◌≤◌, List, [], ◌∷◌, ◌++◌, length, get_or, take, drop, map, refl, sym, ap, subst, ◌∙◌, append_assoc, arith}
 use Rattle.std.specs.List.{AllByRecursion}
-use Rattle.std.proofs.lemmas.List.{take_more, append-nil, map-append, take_all, length-append}
+use Rattle.std.proofs.lemmas.List.{take_more, append-nil, map-append, length-append}
 use Rattle.std.proofs.lemmas.Grind.{flat_map-append}
 use Rattle.std.proofs.Math.Seq.{drop-append_seam, take-append_seam}
 use Rattle.bep_wire.specs.Written.{bytes_field}
@@ -11,10 +11,6 @@ use Rattle.bep_messages.specs.Writing.{Adds}
 -- a row, and those behind it
 pub adds_then : {a row b rest z : List ℕ} → Adds a row b → Adds b rest z → Adds a (row ++ rest) z
 adds_then {a} {row} {b} {rest} {z} p q = record { is = q.is ∙ ap (λ (l : List ℕ). l ++ rest) p.is ∙ append_assoc a row rest }
-
--- the last row
-pub adds_last : {a row z : List ℕ} → Adds a row z → Adds a (row ++ []) z
-adds_last {a} {row} {z} p = record { is = p.is ∙ ap (λ (l : List ℕ). a ++ l) (sym (append-nil row)) }
 
 -- ---- a head before what was written
 
@@ -33,10 +29,6 @@ pub no_form : (n from : ℕ) (old form written : List ℕ) → from ≡ length o
 unfolding bytes_form
 no_form n from old [] written e is le = is
 no_form n from old (b ∷ form) written e is le = absurd (omega (arith, e, ap length is, length-append old (b ∷ form)))
-
--- what was written behind something is shorter than all of it
-pub form_short : (old form written : List ℕ) → written ≡ old ++ form → length written < 2 ^ 64 → length form < 2 ^ 64
-form_short old form written is lt = omega (arith, ap length is, length-append old form)
 
 -- ---- lists
 
@@ -65,9 +57,6 @@ all_push P (y ∷ xs) x all here = (all.0, all_push P xs x all.1 here)
 
 pub all_more : {A B : Type 0} (P : B → Type 0) (f : A → B) (xs : List A) (i : ℕ) (x : A) → i < length xs → x ≡ get_or xs i x → AllByRecursion P (map f (take i xs)) → P (f x) → AllByRecursion P (map f (take (i + 1) xs))
 all_more P f xs i x lt is all here = subst (AllByRecursion P) (sym (mapped_next f xs i x lt is)) (all_push P (map f (take i xs)) (f x) all here)
-
-pub whole_list : {A : Type 0} (xs ys : List A) (i : ℕ) → length xs ≤ i → xs ≡ ys → take i xs ≡ ys
-whole_list xs ys i le e = take_all i xs le ∙ e
 
 pub map_id : (xs : List (List ℕ)) → map (λ t. t) xs ≡ xs
 map_id [] = refl

@@ -16,7 +16,7 @@ use Rattle.bepd.specs.declared.ending.Ending.{Ending}
 use Rattle.bepd.specs.declared.ending.Ending.TheVariants.{Done, Rest, Fault, Failed}
 use Rattle.bepd.specs.declared.ending.Failure.{Failure}
 use Rattle.bepd.specs.declared.ending.Failure.TheVariants.{OutOfMemory, Read, Write}
-use Rattle.bepd.specs.Endings.{IsEndOf, WritesFront, most_bytes}
+use Rattle.bepd.specs.Endings.{IsEndOf, StopsAtFault, WritesFront, most_bytes}
 use Rattle.bepd.specs.Heard.{own_device, heard_folder}
 use Rattle.bepd.specs.Lines.{skipped_line}
 use Rattle.bepd.specs.Listing.{Answers, best_lines, listing, listing_of}
@@ -39,11 +39,11 @@ listing_heard : (folder bytes : List ℕ) (s : FolderState) (names : List Name) 
 listing_heard folder bytes s names n h =
     ap (λ t. best_lines t ++ skipped_line n) h.state ∙ ap (λ m. best_lines (heard_folder folder (stream false bytes).frames) ++ skipped_line m) h.counted
 
-answered : (folder bytes : List ℕ) (ending : Ending) (old new : Option (List ℕ)) → length bytes ≤ most_bytes → IsEndOf (stream false bytes).end ending → Appends old new (listing folder bytes) → Answers folder bytes ending old new
-answered folder bytes Done old new within end written = (within, end, written)
-answered folder bytes (Rest n) old new within end written = (within, end, written)
-answered folder bytes (Fault e) old new within end written = (within, end, written)
-answered folder bytes (Failed f) old new within end written = absurd (not_failed (stream false bytes).end f end)
+answered : (folder bytes : List ℕ) (ending : Ending) (old new : Option (List ℕ)) → length bytes ≤ most_bytes → IsEndOf (stream false bytes).end ending → StopsAtFault bytes ending → Appends old new (listing folder bytes) → Answers folder bytes ending old new
+answered folder bytes Done old new within end stops written = (within, end, stops, written)
+answered folder bytes (Rest n) old new within end stops written = (within, end, stops, written)
+answered folder bytes (Fault e) old new within end stops written = (within, end, stops, written)
+answered folder bytes (Failed f) old new within end stops written = absurd (not_failed (stream false bytes).end f end)
   where
     not_failed : (end : Result (List ℕ) FrameFault) (f : Failure) → IsEndOf end (Failed f) → ⊥
     not_failed (Ok rest) f e = e
@@ -52,7 +52,7 @@ answered folder bytes (Failed f) old new within end written = absurd (not_failed
 module _ (folder : List ℕ) (a b : Option (List ℕ)) (ending : Ending) (s : FolderState) (names : List Name) (n : ℕ) (h : IsRead folder a b ending s names n) where
   pub listed : (old new : Option (List ℕ)) → Appends old new (best_lines s ++ skipped_line n) → (bytes : List ℕ) × Consumes a b bytes × Answers folder bytes ending old new
   listed old new written =
-      (h.bytes, h.taken, answered folder h.bytes ending old new h.within h.end (subst (Appends old new) (listing_heard folder h.bytes s names n h.heard) written))
+      (h.bytes, h.taken, answered folder h.bytes ending old new h.within h.end h.stops (subst (Appends old new) (listing_heard folder h.bytes s names n h.heard) written))
 
   abbrev IsKnown : Option (List ℕ) → Option (List ℕ) → List ℕ → Type 0
   IsKnown old new input = IsEndOf (stream false input).end ending × Appends old new (listing folder input)

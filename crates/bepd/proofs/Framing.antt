@@ -13,8 +13,8 @@ use Rattle.bep_frames.specs.declared.frame.Frame.TheVariants.{Hello, Message as 
 use Rattle.bep_frames.specs.declared.frame.Message.TheVariants.{ClusterConfig, Index, IndexUpdate, Request, Response, DownloadProgress, Ping, Close}
 use Rattle.bep_frames.specs.Reading.{Whole, frame_at}
 use Rattle.bep_frames.specs.State.{State, TellsFault, fed, grown, Gives, remaining, with_front}
-use Rattle.bep_frames.specs.Stream.{Stream, ended, first_then, stream}
-use Rattle.bep_frames.proofs.Lemmas.{fed_pieces, given_fault, given_frame, given_none, given_shorter, index_records_few, update_records_few}
+use Rattle.bep_frames.specs.Stream.{Stream, ended, first_then}
+use Rattle.bep_frames.proofs.Lemmas.{front_push, given_fault, given_frame, given_none, given_shorter, index_records_few, update_records_few}
 use Rattle.bep_messages.specs.declared.file_info.FileInfo.{FileInfo}
 use Rattle.folder_core.specs.Announced.{In, Key}
 use Rattle.folder_core.specs.Kept.{empty_folder}
@@ -82,12 +82,6 @@ module _ (folder : List ℕ) (frames : List Frame) (f : Frame) (s new : FolderSt
       frame_heard (made ∙ ap (changed s) (sym changes)) told counts
       (λ k r e. name_of k r (more-names s peer (kept_records files) k r (ap (λ (t : FolderState). get t.announced k) (sym made) ∙ e)) stays noted h) h
 
--- a frame that says nothing of the folder
-pub nothing_heard : (folder : List ℕ) (frames : List Frame) (f : Frame) (s : FolderState) (names : List Name) (skipped : ℕ) → frame_changes folder f ≡ [] → frame_files folder f ≡ []
-    → IsHeard folder frames s names skipped → IsHeard folder (frames ++ f ∷ []) s names skipped
-nothing_heard folder frames f s names skipped changes told h =
-    frame_heard folder frames f s s names names skipped skipped [] (ap (changed s) (sym changes)) told (omega arith) h.named h
-
 -- ---- the frames that a reader gives
 
 files_by : (b : Bool) (files : List FileInfo) (left all : ℕ) → length files + left < all → left < all → length (if b then files else []) + left ≤ all
@@ -111,9 +105,6 @@ pub given_few : (folder : List ℕ) (old new : State) (f : Frame) → old.hello 
 given_few folder old new f later gives =
     files_few folder old.rest new.rest f (ap (λ due. frame_at due old.rest) (sym later) ∙ gives.1) (given_shorter old new f gives)
 
-front_push : (frames : List Frame) (f : Frame) (s : Stream) → with_front (frames ++ f ∷ []) s ≡ with_front frames (first_then f s)
-front_push frames f s = ap (λ l. record { frames = l; end = s.end }) (append_assoc frames (f ∷ []) s.frames)
-
 pub hears_frame : (folder bytes : List ℕ) (old new : State) (f : Frame) (s t : FolderState) (names more : List Name) (m n : ℕ) → Gives old (Some (Ok f)) new
     → ((frames : List Frame) → IsHeard folder frames s names m → IsHeard folder (frames ++ f ∷ []) t more n) → n ≤ m + length (frame_files folder f)
     → IsHeardOf folder bytes old s names m → IsHeardOf folder bytes new t more n
@@ -132,23 +123,6 @@ hears_frame folder bytes old new f s t names more m n gives heard count h =
 grown_few : (fault : Option FrameFault) (rest piece : List ℕ) → length (grown rest piece fault) ≤ length rest + length piece
 grown_few None rest piece = let sum : length (rest ++ piece) ≡ length rest + length piece = length-append rest piece in omega (arith, sum)
 grown_few (Some e) rest piece = omega arith
-
-pub hears_piece : (folder bytes piece : List ℕ) (old new : State) (s : FolderState) (names : List Name) (n : ℕ) → new ≡ fed old piece → IsHeardOf folder bytes old s names n → IsHeardOf folder (bytes ++ piece) new s names n
-hears_piece folder bytes piece old new s names n e h =
-    let more : length new.rest ≤ length old.rest + length piece = subst (λ (t : State). length t.rest ≤ length old.rest + length piece) (sym e) (grown_few old.fault old.rest piece) in
-    let sum : length (bytes ++ piece) ≡ length bytes + length piece = length-append bytes piece in
-    record {
-      frames = h.frames;
-      heard = h.heard;
-      remains = λ rest. ap (λ (t : State). with_front h.frames (remaining (fed t rest))) e
-          ∙ ap (λ (t : State). with_front h.frames (remaining t)) (fed_pieces old piece rest)
-          ∙ h.remains (piece ++ rest) ∙ ap (stream false) (sym (append_assoc bytes piece rest));
-      fits = omega (arith, more, sum, h.fits);
-      later = ap (λ (t : State). t.hello) e ∙ h.later;
-    }
-
-pub piece_few : (s : State) (piece : List ℕ) → length (fed s piece).rest ≤ length s.rest + length piece
-piece_few s piece = grown_few s.fault s.rest piece
 
 -- ---- what ends the reading
 

@@ -94,17 +94,6 @@ pub count_kept : (n total : ℕ) (info : FileInfo) (files rest : List FileInfo) 
 count_kept n total info files rest safe first whole =
     ap (λ l. n + length l) (sym (ap skipped_records first ∙ skipped_not info rest safe)) ∙ whole
 
-pub count_skipped : (n total : ℕ) (info : FileInfo) (files rest : List FileInfo) (f : NameFault) → refusal info.name ≡ Some f → files ≡ info ∷ rest
-    → n + length (skipped_records files) ≡ total → (n + 1) + length (skipped_records rest) ≡ total
-count_skipped n total info files rest f refused first whole =
-    let skipped : length (skipped_records files) ≡ suc (length (skipped_records rest)) = ap length (ap skipped_records first ∙ skipped_first info rest f refused) in
-    omega (arith, skipped, whole)
-
-pub skipped_rest : (rs : List FileRecord) (info : FileInfo) (files rest : List FileInfo) (all : List FileRecord) (f : NameFault) → refusal info.name ≡ Some f → files ≡ info ∷ rest
-    → rs ++ kept_records files ≡ all → rs ++ kept_records rest ≡ all
-skipped_rest rs info files rest all f refused first whole =
-    ap (λ l. rs ++ l) (sym (ap kept_records first ∙ kept_not info rest f refused)) ∙ whole
-
 pub count_fits : (n s : ℕ) (files all : List FileInfo) (info : FileInfo) (rest : List FileInfo) (f : NameFault) → refusal info.name ≡ Some f → files ≡ info ∷ rest
     → n + length (skipped_records files) ≡ s + length (skipped_records all) → n + 1 ≤ s + length all
 count_fits n s files all info rest f refused first whole =

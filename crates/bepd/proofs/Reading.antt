@@ -10,8 +10,8 @@ use Rattle.bep_frames.specs.Stream.{Stream, ended, stream}
 use Rattle.folder_core.specs.States.{FolderState}
 use Rattle.sync_record.specs.Records.{Name}
 use Rattle.bepd.specs.declared.ending.Ending.{Ending}
-use Rattle.bepd.specs.declared.ending.Ending.TheVariants.{Fault}
-use Rattle.bepd.specs.Endings.{IsEndOf, most_bytes}
+use Rattle.bepd.specs.declared.ending.Ending.TheVariants.{Done, Rest, Fault, Failed}
+use Rattle.bepd.specs.Endings.{IsEndOf, StopsAtFault, most_bytes}
 use Rattle.bepd.specs.Heard.{own_device}
 use Rattle.bepd.specs.Progress.{IsHeard, IsHeardOf, IsRead, Leaves}
 
@@ -73,33 +73,59 @@ none_known : (known : Option (List ℕ)) (bytes : List ℕ) → IsAtEnd known �
 none_known None bytes over = tt
 none_known (Some rest) bytes over = ap (λ l. stream false (bytes ++ l)) over ∙ ap (stream false) (append-nil bytes)
 
+-- of bytes that were heard, and that show no fault, the rest is the reader's
+heard_all : (folder bytes : List ℕ) (reader : State) (s : FolderState) (names : List Name) (n : ℕ) (h : IsHeardOf folder bytes reader s names n) → Leaves reader None → record { frames = h.frames; end = Ok reader.rest } ≡ stream false bytes
+heard_all folder bytes reader s names n h leaves =
+    ap (λ l. record { frames = l; end = Ok reader.rest }) (sym (append-nil h.frames)) ∙ ap (with_front h.frames) (sym leaves) ∙ h.remains [] ∙ ap (stream false) (append-nil bytes)
+
 -- a fault ends the stream, whatever follows
-pub read_fault : (folder bytes : List ℕ) (old new : Option (List ℕ)) (reader : State) (e : FrameFault) (s : FolderState) (names : List Name) (n : ℕ) → Consumes old new bytes → length bytes ≤ most_bytes
-    → IsHeardOf folder bytes reader s names n → Leaves reader (Some e) → IsRead folder old new (Fault e) s names n
-read_fault folder bytes old new reader e s names n taken within h leaves =
+pub read_fault : (folder : List ℕ) (a b c : Option (List ℕ)) (total count : ℕ) (buffer : List ℕ) (old new : State) (s t : FolderState) (names more : List Name) (m n : ℕ) (e : FrameFault) → count ≤ length buffer
+    → length buffer ≡ 65536 → total + count ≤ most_bytes → Consumes b c (take count buffer)
+    → ((bytes : List ℕ) → IsHeardOf folder bytes old s names m → IsHeardOf folder (bytes ++ take count buffer) new t more n)
+    → Leaves old None → Leaves new (Some e) → IsReadSoFar folder a b total old s names m → IsRead folder a c (Fault e) t more n
+read_fault folder a b c total count buffer old new s t names more m n e fits room within taken heard left leaves r =
+    let piece = take count buffer in
+    let bytes = r.0 ++ piece in
+    let size : length piece ≡ count = length-take-le count buffer fits in
+    let sum : length bytes ≡ length r.0 + length piece = length-append r.0 piece in
+    let h = heard r.0 r.3 in
     let all : (more : List ℕ) → record { frames = h.frames; end = Err e } ≡ stream false (bytes ++ more) =
     λ more. ap (λ l. record { frames = l; end = Err e }) (sym (append-nil h.frames)) ∙ ap (with_front h.frames) (sym (leaves more)) ∙ h.remains more in
     let here : record { frames = h.frames; end = Err e } ≡ stream false bytes = all [] ∙ ap (stream false) (append-nil bytes) in
     record {
       bytes = bytes;
-      taken = taken;
-      within = within;
-      heard = subst (λ (t : Stream). IsHeard folder t.frames s names n) here h.heard;
-      end = subst (λ (t : Stream). IsEndOf t.end (Fault e)) here refl;
-      whole = each_known new (λ more. sym (all more) ∙ here);
+      taken = Consumes-trans a b c r.0 piece r.1 taken;
+      within = omega (arith, size, sum, r.2);
+      heard = subst (λ (u : Stream). IsHeard folder u.frames t more n) here h.heard;
+      end = subst (λ (u : Stream). IsEndOf u.end (Fault e)) here refl;
+      stops = record {
+        before = r.0;
+        piece = piece;
+        split = refl;
+        size = omega (arith, size, fits, room);
+        rest = old.rest;
+        sound = ap (λ (u : Stream). u.end) (sym (heard_all folder r.0 old s names m r.3 left));
+      };
+      whole = each_known c (λ more. sym (all more) ∙ here);
     }
+
+stops_at_rest : (bytes rest : List ℕ) (ending : Ending) → IsEndOf (Ok rest) ending → StopsAtFault bytes ending
+stops_at_rest bytes rest Done end = tt
+stops_at_rest bytes rest (Rest n) end = tt
+stops_at_rest bytes rest (Fault e) end = absurd end
+stops_at_rest bytes rest (Failed f) end = absurd end
 
 -- the input ended
 pub read_all : (folder bytes : List ℕ) (old new : Option (List ℕ)) (reader : State) (ending : Ending) (s : FolderState) (names : List Name) (n : ℕ) → Consumes old new bytes → IsAtEnd new → length bytes ≤ most_bytes
     → IsHeardOf folder bytes reader s names n → Leaves reader None → IsEndOf (Ok reader.rest) ending → IsRead folder old new ending s names n
 read_all folder bytes old new reader ending s names n taken over within h leaves end =
-    let here : record { frames = h.frames; end = Ok reader.rest } ≡ stream false bytes =
-    ap (λ l. record { frames = l; end = Ok reader.rest }) (sym (append-nil h.frames)) ∙ ap (with_front h.frames) (sym leaves) ∙ h.remains [] ∙ ap (stream false) (append-nil bytes) in
+    let here = heard_all folder bytes reader s names n h leaves in
     record {
       bytes = bytes;
       taken = taken;
       within = within;
       heard = subst (λ (t : Stream). IsHeard folder t.frames s names n) here h.heard;
       end = subst (λ (t : Stream). IsEndOf t.end ending) here end;
+      stops = stops_at_rest bytes reader.rest ending end;
       whole = none_known new bytes over;
     }

@@ -1,7 +1,8 @@
 -- How `bepd best` ends (own rule).
-use Rattle.std.specs.Prelude.{◌≡◌, ℕ, ◌^◌, ◌<◌, List, [], ◌++◌, length, Option, Result, Ok, Err, ⊤, codes, decimal}
+use Rattle.std.specs.Prelude.{◌≡◌, ℕ, ◌^◌, ◌<◌, ◌≤◌, false, List, [], ◌++◌, length, Option, Result, Ok, Err, ⊤, codes, decimal}
 use Rattle.std.specs.Io.KnownBytes.{Appends, Keeps}
 use Rattle.bep_frames.specs.declared.fault.FrameFault.{FrameFault}
+use Rattle.bep_frames.specs.Stream.{stream}
 use Rattle.bep_frames.specs.Faults.{frame_fault_name, frame_fault_number}
 use Rattle.bepd.specs.declared.ending.Ending.{Ending}
 use Rattle.bepd.specs.declared.ending.Ending.TheVariants.{Done, Rest, Fault, Failed}
@@ -47,6 +48,20 @@ IsEndOf (Ok rest) Done = length rest ≡ 0
 IsEndOf (Ok rest) (Rest count) = (0 < count) × (count ≡ length rest)
 IsEndOf (Err e) (Fault fault) = fault ≡ e
 IsEndOf _ _ = ⊥
+
+-- bytes of which some, up to a piece of 65,536, end what shows no fault yet
+pub record EndsInPiece (bytes : List ℕ) : Type 0 where
+  pub before : List ℕ
+  pub piece : List ℕ
+  pub split : bytes ≡ before ++ piece
+  pub size : length piece ≤ 65536
+  pub rest : List ℕ
+  pub sound : (stream false before).end ≡ Ok rest
+
+-- a fault is told in the piece that shows it: nothing behind that is read
+abbrev pub StopsAtFault : List ℕ → Ending → Type 0
+StopsAtFault bytes (Fault fault) = EndsInPiece bytes
+StopsAtFault bytes _ = ⊤
 
 -- what a failure leaves of the bytes that were to be written: before a write failed, their front alone was written; and
 -- none after a failed read

@@ -8,7 +8,7 @@ use Rattle.folder_core.specs.States.{FolderState}
 use Rattle.std.specs.Io.KnownBytes.{Appends}
 use Rattle.bepd.specs.declared.ending.Ending.{Ending}
 use Rattle.bepd.specs.declared.ending.Ending.TheVariants.{Failed}
-use Rattle.bepd.specs.Endings.{IsEndOf, WritesFront, most_bytes}
+use Rattle.bepd.specs.Endings.{IsEndOf, StopsAtFault, WritesFront, most_bytes}
 use Rattle.bepd.specs.Heard.{heard_folder, skipped_count}
 use Rattle.bepd.specs.Lines.{best_line, skipped_line}
 
@@ -26,4 +26,4 @@ listing folder bytes = listing_of folder (stream false bytes).frames
 -- what is written of the bytes that were read: their listing, where they end so; after a failure at most a front of it
 abbrev pub Answers : List ℕ → List ℕ → Ending → Option (List ℕ) → Option (List ℕ) → Type 0
 Answers folder bytes (Failed failure) old new = WritesFront failure (listing folder bytes) old new
-Answers folder bytes ending old new = (length bytes ≤ most_bytes) × IsEndOf (stream false bytes).end ending × Appends old new (listing folder bytes)
+Answers folder bytes ending old new = (length bytes ≤ most_bytes) × IsEndOf (stream false bytes).end ending × StopsAtFault bytes ending × Appends old new (listing folder bytes)

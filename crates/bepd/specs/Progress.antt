@@ -9,7 +9,7 @@ use Rattle.bep_frames.specs.Stream.{ended, stream}
 use Rattle.bep_frames.specs.declared.fault.FrameFault.{FrameFault}
 use Rattle.std.specs.Io.KnownBytes.{Consumes}
 use Rattle.bepd.specs.declared.ending.Ending.{Ending}
-use Rattle.bepd.specs.Endings.{IsEndOf, most_bytes}
+use Rattle.bepd.specs.Endings.{IsEndOf, StopsAtFault, most_bytes}
 use Rattle.folder_core.specs.Announced.{In, Key}
 use Rattle.folder_core.specs.States.{FolderState}
 use Rattle.sync_record.specs.Records.{Name, FileRecord}
@@ -56,4 +56,5 @@ pub record IsRead (folder : List ℕ) (old new : Option (List ℕ)) (ending : En
   pub within : length bytes ≤ most_bytes
   pub heard : IsHeard folder (stream false bytes).frames s names skipped
   pub end : IsEndOf (stream false bytes).end ending
+  pub stops : StopsAtFault bytes ending
   pub whole : IfSome new (λ rest. stream false (bytes ++ rest) ≡ stream false bytes)

@@ -19,8 +19,9 @@ use std::io::{Read, Write};
 /// `best KIND SIZE VERSION NAME` for each name that has a best, in byte order, and then `skipped N`.
 ///
 /// Only the Index and IndexUpdate messages of the folder count; others are read over. At a fault the listing is that of
-/// the frames before it. After a failed read nothing is written; after want of memory no more lines are; where a write
-/// failed, that is told before all else. An input of more than 2^40 bytes is a failed read.
+/// the frames before it, and nothing behind the piece that shows it is read. After a failed read nothing is written; after
+/// want of memory no more lines are; where a write failed, that is told before all else. An input of more than 2^40 bytes
+/// is a failed read.
 ///
 /// The stream is read in pieces of 64 KiB. For each message the plain folder moves what it keeps behind the message's
 /// first name, so m messages over n names take up to O(m n), and O(n log n) where they come in order of the names. Memory
@@ -31,7 +32,8 @@ pub fn best<R: Read, W: Write>(
     reader: &mut R,
     writer: &mut W,
 ) -> Ending
-    // Exactly the listing of the bytes that the reader gave is written, unless something failed.
+    // Exactly the listing of the bytes that the reader gave is written, unless something failed, and no more are read than
+    // up to the piece that shows a fault.
     ensures listing { (bytes : List ℕ) × Consumes (R.remaining reader.old) (R.remaining reader.new) bytes
         × Answers folder.now bytes result (W.contents writer.old) (W.contents writer.new) }
     // Where the input is known, it is the listing of the whole input, and the ending is the stream's.

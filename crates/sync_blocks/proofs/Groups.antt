@@ -4,7 +4,6 @@ use Rattle.std.proofs.lemmas.Bool.{cases_lt}
 use Rattle.std.proofs.lemmas.Grind.{div_ceil_times}
 use Rattle.std.proofs.lemmas.List.{length-append, length-drop, map-append, take-append-le, drop-append-le, drop-drop, drop_at}
 use Rattle.std.proofs.Math.Nat.{mul-le-mul_right}
-use Rattle.std.proofs.lemmas.Nat.{mul-le}
 use Rattle.std.specs.Int.{div_ceil}
 use Rattle.std.specs.List.{range_with_len}
 use Rattle.rayon.specs.Shown.{run-append}
@@ -124,10 +123,3 @@ stays_whole s done size buffer next some more (inr (n, whole)) b e = ⊎_elim
     inr (n + m, omega arith))
     (λ ge. inl (omega arith))
     (cases_lt buffer (size - done))
-
--- a group has a byte
-pub group_has_byte : (s : ℕ) → 0 < s → 1 ≤ group_bytes s
-group_has_byte s some =
-    let m = max 1 (67108864 / s) in
-    let least : 1 * 1 ≤ s * m = mul-le 1 1 s m (omega arith) (omega arith) in
-    omega arith

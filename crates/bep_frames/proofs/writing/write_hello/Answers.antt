@@ -1,5 +1,3 @@
-use Rattle.std.proofs.Common.{◌≡◌, ◌≤◌, ℕ, true, List, Ok, Result, length}
-use Rattle.std.specs.Prelude.{OnOk}
 use Rattle.bep_frames.proofs.Written.{hello_again}
 use Rattle.bep_frames.proofs.writing.write_hello.Goals as goal
 

@@ -73,13 +73,12 @@ pub returns-in-Some-clause-read : goal.returns-in-Some-clause-read
 returns-in-Some-clause-read g c =
     let state = g.F.FolderCore.state in
     let heard = c.hear_piece.new.heard in
-    let r = read_piece c.args.folder.now (g.R.Read.remaining c.args.reader.now) (g.R.Read.remaining c.loop.reader) (g.R.Read.remaining c.read.new.self)
+    let kept : length c.read.new.buf ≡ length c.loop.buffer = search rules in
+    read_fault c.args.folder.now (g.R.Read.remaining c.args.reader.now) (g.R.Read.remaining c.loop.reader) (g.R.Read.remaining c.read.new.self)
     c.loop.total c.in-Ok.count c.read.new.buf c.loop.frames c.hear_piece.new.frames (state c.loop.heard.folder) (state heard.folder)
-    c.loop.heard.names.keys heard.names.keys c.loop.heard.skipped heard.skipped c.in-Ok.ensures.bound.0 c.in-Ok.ensures.bytes.0
-    c.in_ok-fault-in-Ok.ensures.heard c.loop.invariant.read in
-    read_fault c.args.folder.now r.0 (g.R.Read.remaining c.args.reader.now) (g.R.Read.remaining c.read.new.self) c.hear_piece.new.frames c.in-Some.fault
-    (state heard.folder) heard.names.keys heard.skipped r.1 (omega (arith, r.2, c.if-total-gt-MOST_BYTES.false)) r.3
-    (rw c.in-Some.is at c.in_ok-fault-in-Ok.ensures.leaves)
+    c.loop.heard.names.keys heard.names.keys c.loop.heard.skipped heard.skipped c.in-Some.fault c.in-Ok.ensures.bound.0 (kept ∙ c.loop.invariant.buffer)
+    (omega (arith, c.if-total-gt-MOST_BYTES.false)) c.in-Ok.ensures.bytes.0 c.in_ok-fault-in-Ok.ensures.heard c.loop.invariant.leaves
+    (rw c.in-Some.is at c.in_ok-fault-in-Ok.ensures.leaves) c.loop.invariant.read
 
 pub returns-in-Some-clause-taken : goal.returns-in-Some-clause-taken
 returns-in-Some-clause-taken g c =
