@@ -42,6 +42,7 @@ impl<T> Items<T> {
         items
     }
 
+    /// The elements. O(1).
     pub fn as_slice(&self) -> &[T]
         ensures { result.now ≡ self.now }
     {

@@ -57,10 +57,11 @@ impl Octets {
         bytes
     }
 
+    /// The bytes. O(1).
     pub fn as_slice(&self) -> &[u8]
         ensures { result.now ≡ self.now }
     {
-        self.bytes.as_slice()
+        &self.bytes
     }
 }
 
@@ -105,6 +106,7 @@ impl ShortOctets {
         })
     }
 
+    /// The bytes. O(1).
     pub fn as_slice(&self) -> &[u8]
         ensures { result.now ≡ self.now }
     {

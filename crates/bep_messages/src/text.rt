@@ -59,6 +59,7 @@ impl Text {
         text
     }
 
+    /// The text. O(1).
     pub fn as_str(&self) -> &str
         ensures { result.now ≡ self.now }
     {
