@@ -1,5 +1,5 @@
 -- What is kept of a message is a record that is kept.
-use Rattle.std.proofs.Common.{◌≡◌, ◌≢◌, Bool, true, false, not, ◌&&◌, ◌||◌, ◌==◌, ℕ, ℤ, pos, if◌then◌else◌, List, [], ◌∷◌, map, length, All, IsTrue, refl, sym, subst, ap, rules, arith}
+use Rattle.std.proofs.Common.{◌≡◌, ◌≢◌, Bool, true, false, not, ◌&&◌, ◌||◌, ◌==◌, ℕ, ℤ, pos, if◌then◌else◌, List, [], ◌∷◌, map, length, All, IsTrue, refl, sym, subst, ap, ◌∙◌, rules, arith}
 use Rattle.std.specs.List.{list_all}
 use Rattle.std.specs.Ordering.{int_eq}
 use Rattle.std.proofs.lemmas.Bool.{and_parts}
@@ -7,7 +7,7 @@ use Rattle.sync_blocks.specs.declared.block.Block.{Block}
 use Rattle.bep_messages.specs.declared.file_info.FileInfo.{FileInfo}
 use Rattle.bep_messages.specs.declared.block_info.BlockInfo.{BlockInfo}
 use Rattle.sync_record.specs.Infos.{block_of, block_size_of, is_block, is_file_info, is_live_file_info, record_of, record_with, is_natural}
-use Rattle.sync_record.specs.Validity.{IsKept, is_well_formed, has_file, has_no_blocks, describes_file}
+use Rattle.sync_record.specs.Validity.{IsKept, is_valid, is_well_formed, has_file, has_no_blocks, describes_file}
 
 sized : (n : ℤ) (is_none : Bool) → int_eq n (pos 0) ≡ is_none → (if is_none then pos 131072 else n) ≢ pos 0
 sized n true e = λ p. search (rules, p)
@@ -54,3 +54,21 @@ other_is info l = ap (λ live. if live then (if is_file_info info then record_wi
 
 pub broken_is : (info : FileInfo) → IsTrue (is_live_file_info info) → is_file_info info ≡ false → record_of info ≡ record_with info true []
 broken_is info l f = λ i. if l i then (if f i then record_with info info.invalid (map block_of info.blocks) else record_with info true []) else record_with info info.invalid []
+
+none : (b : Bool) → (b && false) ≡ false
+none true = refl
+none false = refl
+
+valid_by : (info : FileInfo) (live is_file : Bool) → is_live_file_info info ≡ live → is_file_info info ≡ is_file
+    → is_valid (if live then (if is_file then record_with info info.invalid (map block_of info.blocks) else record_with info true []) else record_with info info.invalid [])
+    ≡ (not info.invalid && (not (is_live_file_info info) || is_file_info info))
+valid_by info false is_file l f =
+    ap (λ t. not info.invalid && (not t || describes_file info.size (block_size_of info.block_size) [])) l
+    ∙ sym (ap (λ t. not info.invalid && (not t || is_file_info info)) l)
+valid_by info true false l f = sym (none (not info.invalid)) ∙ sym (λ i. not info.invalid && (not (l i) || f i))
+valid_by info true true l f =
+    let parts = and_parts (list_all is_block info.blocks) _ f in
+    ap (λ t. not info.invalid && (not (is_live_file_info info) || t)) (parts.1 ∙ sym f)
+
+pub valid : (info : FileInfo) → is_valid (record_of info) ≡ (not info.invalid && (not (is_live_file_info info) || is_file_info info))
+valid info = valid_by info (is_live_file_info info) (is_file_info info) refl refl

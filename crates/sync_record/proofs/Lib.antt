@@ -1,4 +1,5 @@
 pub mod Again
+pub mod FirstDifference
 pub mod Kept
 pub mod Lemmas
 pub mod Placed

@@ -1,5 +1,5 @@
 -- Which of two devices' records of a name is preferred (own rule).
-use Rattle.std.specs.Prelude.{ℕ, ℤ, Bool}
+use Rattle.std.specs.Prelude.{◌≡◌, ℕ, ℤ, Bool}
 use Rattle.std.specs.Ordering.{nat_cmp, int_cmp, bool_cmp, on, flip_args, then_cmp, is_gt}
 use Rattle.std.specs.declared.cmp.Ordering.{Ordering}
 use Rattle.std.specs.Cmp.Lexicographic.{slice_cmp}
@@ -25,3 +25,7 @@ preference =
 
 abbrev pub is_preferred : Identity × FileRecord → Identity × FileRecord → Bool
 is_preferred a b = is_gt (preference a b)
+
+-- both are live or both deleted, and they are of one time
+abbrev pub AreAsOld : FileRecord → FileRecord → Type 0
+AreAsOld r q = (r.deleted ≡ q.deleted) × (r.modified_s ≡ q.modified_s) × (r.modified_ns ≡ q.modified_ns)

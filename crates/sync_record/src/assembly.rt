@@ -1,4 +1,4 @@
-ghost use Rattle.std.specs.Prelude.{◌≡◌, ◌↔◌, ◌<◌, ◌&&◌, IfOk, IfErr, IsOk, IsTrue, IfSome, length, slice_get};
+ghost use Rattle.std.specs.Prelude.{◌≡◌, ◌↔◌, ◌<◌, ◌&&◌, [], IfOk, IfErr, IsOk, IsTrue, IfSome, false, length, replicate, slice_get};
 ghost use Rattle.sync_record.specs.Assemblies.{IsAssembled, is_complete, is_plain, nothing_placed, put_answer, with_put};
 ghost use Rattle.sync_record.specs.Records.{is_live_file};
 ghost use Rattle.sync_record.specs.Validity.{is_valid};
@@ -27,12 +27,14 @@ impl Model for Assembly {
 }
 
 impl Assembly {
-    /// Begins to put a valid live file together: no block was put. Refused by want of memory alone. O(n) for n blocks.
+    /// Begins to put a valid live file together: no block was put. Refused by want of memory alone, and never where the
+    /// file has no blocks. O(n) for n blocks.
     pub fn new(alloc: Global, target: Record) -> Result<Assembly, AllocError>
         requires { IsTrue (is_valid target && is_live_file target) }
-        ensures { IfOk result (λ a. a ≡ nothing_placed target) }
+        ensures value { IfOk result (λ a. a ≡ nothing_placed target) }
+        ensures free { target.blocks ≡ [] → IsOk result }
     {
-        let placed = Vec::from_elem(alloc, false, target.blocks().len())?;
+        let placed = none_placed(alloc, target.blocks().len())?;
         Ok(Assembly { target, placed })
     }
 
@@ -71,6 +73,17 @@ impl Assembly {
             Err(self)
         }
     }
+}
+
+// The marks of so many blocks, none of which was put. They take memory only where there is a block.
+fn none_placed(alloc: Global, blocks: usize) -> Result<Vec<bool>, AllocError>
+    ensures value { IfOk result (λ placed. placed.items ≡ replicate blocks false) }
+    ensures free { blocks ≡ 0 → IsOk result }
+{
+    if blocks == 0 {
+        return Ok(Vec::new(alloc));
+    }
+    Vec::from_elem(alloc, false, blocks)
 }
 
 // What the put of the bytes as the block comes to.

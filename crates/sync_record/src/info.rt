@@ -1,11 +1,11 @@
 //! Records from messages, and messages from records.
-ghost use Rattle.std.specs.Prelude.{◌≡◌, ◌<◌, ◌^◌, All, IfOk, MatchResult, IfNone, IfSome, None, false, true, map};
+ghost use Rattle.std.specs.Prelude.{◌≡◌, ◌<◌, ◌^◌, [], All, IfOk, IsOk, MatchResult, IfNone, IfSome, None, false, true, map};
 ghost use Rattle.std.specs.List.{list_all};
 ghost use Rattle.sync_names.specs.Parsing.{IsToldOf};
 ghost use Rattle.sync_names.specs.Refusal.{refusal};
 ghost use Rattle.sync_version.specs.Versions.{IsCanonical};
 ghost use Rattle.sync_record.specs.Validity.{FitsBlockInfo, FitsFileInfo};
-ghost use Rattle.sync_record.specs.Infos.{block_of, block_info_of, block_size_of, counter_of, info_of, is_block, natural, plain_of, record_of, record_with, tells_file, version_of};
+ghost use Rattle.sync_record.specs.Infos.{block_of, block_info_of, block_size_of, counter_of, info_of, is_block, is_live_file_info, natural, plain_of, record_of, record_with, tells_file, version_of};
 
 use crate::Record;
 use crate::fields::{Fields, Plain};
@@ -23,7 +23,12 @@ const DEFAULT_BLOCK_SIZE: i32 = 131_072;
 fn read_version(alloc: Global, counters: &[Counter]) -> Result<Version, AllocError>
     ensures value { IfOk result (λ v. v ≡ version_of counters.now) }
     ensures canonical { IfOk result IsCanonical }
+    // Where there are no counters, no memory is taken.
+    ensures free { counters.now ≡ [] → IsOk result }
 {
+    if counters.is_empty() {
+        return Ok(Version::new(alloc));
+    }
     let pairs = counters
         .iter()
         .map(|counter| (counter.id, counter.value))
@@ -43,12 +48,13 @@ fn read_block(info: &BlockInfo) -> Option<Block>
     Some(Block { offset, size, hash })
 }
 
-// The blocks that a message tells, if each can be one.
+// The blocks that a message tells, if each can be one. Takes memory only where there is one.
 fn read_blocks(alloc: Global, infos: &[BlockInfo]) -> Result<Option<Vec<Block>>, AllocError>
     ensures none { IfOk result (λ read. IfNone read (list_all is_block infos.now ≡ false)) }
     ensures some { IfOk result (λ read. IfSome read (λ blocks.
         (list_all is_block infos.now ≡ true) × (blocks.items ≡ map block_of infos.now))) }
     ensures fit { IfOk result (λ read. IfSome read (λ blocks. All FitsBlockInfo blocks.items)) }
+    ensures free { infos.now ≡ [] → IsOk result }
 {
     let mut blocks = Vec::with_capacity(alloc, infos.len())?;
     for info in infos {
@@ -86,6 +92,7 @@ fn read_file(
     ensures some { IfOk result (λ read. IfSome read (λ blocks.
         (tells_file size block_size infos.now ≡ true) × (blocks.items ≡ map block_of infos.now))) }
     ensures fit { IfOk result (λ read. IfSome read (λ blocks. All FitsBlockInfo blocks.items)) }
+    ensures free { infos.now ≡ [] → IsOk result }
 {
     let read = read_blocks(alloc, infos)?;
     let block_size = read_block_size(block_size);
@@ -96,6 +103,9 @@ fn read_file(
 fn read_content(alloc: Global, info: &FileInfo) -> Result<(bool, Vec<Block>), AllocError>
     ensures value { IfOk result (λ read. record_with info.now read.0 read.1.items ≡ record_of info.now) }
     ensures fit { IfOk result (λ read. All FitsBlockInfo read.1.items) }
+    // Memory is taken for the blocks of a live file alone.
+    ensures no_file { is_live_file_info info.now ≡ false → IsOk result }
+    ensures no_blocks { info.now.blocks ≡ [] → IsOk result }
 {
     if info.deleted || info.kind != 0 {
         return Ok((info.invalid, Vec::new(alloc)));

@@ -8,11 +8,11 @@ use Rattle.sync_record.proofs.assembly.Assembly.new.Goals as goal
 pub invariant_of-result : goal.invariant_of-result
 invariant_of-result c =
     let marks : c.in_ok-placed.placed.items ≡ map (λ b. false) c.args.target.blocks =
-    c.in_ok-placed.ensures.items_if_clones_equal (λ y e. search rules) ∙ ap (λ (bs : List Block). replicate (length bs) false) c.blocks-2.ensures ∙ replicate_is c.args.target.blocks in
+    c.in_ok-placed.ensures.value ∙ ap (λ (bs : List Block). replicate (length bs) false) c.blocks-2.ensures ∙ replicate_is c.args.target.blocks in
     record { valid = c.requires; placed = subst (λ ps. AllZip IsPlaced ps c.args.target.blocks) (sym marks) (none_placed c.args.target.blocks) }
 
-pub returns : goal.returns
-returns c =
+pub returns-clause-value : goal.returns-clause-value
+returns-clause-value c =
     let marks : c.in_ok-placed.placed.items ≡ map (λ b. false) c.args.target.blocks =
-    c.in_ok-placed.ensures.items_if_clones_equal (λ y e. search rules) ∙ ap (λ (bs : List Block). replicate (length bs) false) c.blocks-2.ensures ∙ replicate_is c.args.target.blocks in
+    c.in_ok-placed.ensures.value ∙ ap (λ (bs : List Block). replicate (length bs) false) c.blocks-2.ensures ∙ replicate_is c.args.target.blocks in
     λ i. record { target = c.args.target; placed = marks i }
