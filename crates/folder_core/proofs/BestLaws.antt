@@ -1,22 +1,19 @@
 -- The best of a name, in the words of the rules: a candidate that is preferred to every other.
 use Rattle.folder_core.proofs.Listings.{lists-entries}
-use Rattle.folder_core.proofs.TestLemmas.{inside, none_some, In, all_in, in_all, any_in, in_any, in_filter, of_filter, found_in, only_found, some_free}
+use Rattle.folder_core.proofs.TestLemmas.{inside, none_some, same_bytes as same, alike_bytes as alike, by_or, other, In, all_in, in_all, any_in, in_any, in_filter, of_filter, found_in, only_found, some_free}
 use Rattle.folder_core.specs.Announced.{Announced, Announcement, key, is_of, is_by, is_candidate, is_preferred, is_best, best, bests, Lists, IsCandidate, IsBest}
-use Rattle.std.proofs.Common.{◌≡◌, ℕ, Bool, true, false, List, [], ◌∷◌, refl, sym, ap, subst, ◌∙◌, ◌↔◌}
+use Rattle.std.proofs.Common.{◌≡◌, Bool, true, false, List, [], ◌∷◌, refl, sym, ap, subst, ◌∙◌, ◌↔◌}
 use Rattle.std.proofs.lemmas.Bool.{true≢false, and_parts, and_from, not-true, false_from_ne_true}
-use Rattle.std.proofs.lemmas.Map.Lookups.{exact_bytes}
-use Rattle.std.proofs.lemmas.Slice.Eq.{bytes_eq-Decides}
 use Rattle.std.specs.Cmp.{tied_itself}
-use Rattle.std.specs.Cmp.Lexicographic.{slice_cmp}
 use Rattle.sync_record.proofs.Lemmas.{preference_total, preference_tied}
 use Rattle.std.specs.FinMap.{get, entries}
 use Rattle.std.specs.List.{list_all, list_any}
-use Rattle.std.specs.Ordering.{bool_cmp, int_cmp, nat_cmp, is_gt, is_lt, ordering_reverse, ordering_then}
+use Rattle.std.specs.Ordering.{is_gt, ordering_reverse}
 use Rattle.std.specs.Prelude.{bytes_eq, ◌&&◌, ◌||◌, not, IsTrue, Option, Some, None, filter}
 use Rattle.std.specs.declared.cmp.Ordering.{Ordering}
 use Rattle.std.specs.declared.cmp.Ordering.TheVariants.{Less, Equal, Greater}
 use Rattle.sync_record.specs.Devices.{Identity}
-use Rattle.sync_record.specs.Preference.{preference, counter_cmp}
+use Rattle.sync_record.specs.Preference.{preference}
 use Rattle.sync_record.specs.Records.{Name, FileRecord}
 use Rattle.sync_record.specs.Validity.{is_valid}
 use Rattle.sync_version.proofs.Lemmas.{dominates_itself, dominates_trans, dominates_tells}
@@ -29,14 +26,8 @@ not_both_greater Equal a b = true≢false (sym a)
 not_both_greater Greater a b = true≢false (sym b)
 
 -- of two no one is preferred to the other both ways
-one_way : (a b : Identity × FileRecord) → is_gt (preference a b) ≡ true → is_gt (preference b a) ≡ true → ⊥
+pub one_way : (a b : Identity × FileRecord) → is_gt (preference a b) ≡ true → is_gt (preference b a) ≡ true → ⊥
 one_way a b p q = not_both_greater (preference a b) p (ap is_gt (sym (preference_total.antisymm b a)) ∙ q)
-
-same : (xs ys : List ℕ) → bytes_eq xs ys ≡ true → xs ≡ ys
-same xs ys e = (bytes_eq-Decides xs ys).0 e
-
-alike : (xs ys : List ℕ) → xs ≡ ys → bytes_eq xs ys ≡ true
-alike xs ys e = (bytes_eq-Decides xs ys).1 e
 
 module _ (m : Announced) (es : List Announcement) (l : Lists m es) where
   -- what a record must not have against it
@@ -73,10 +64,6 @@ module _ (m : Announced) (es : List Announcement) (l : Lists m es) where
   abbrev outranks : Announcement → Announcement → Bool
   outranks e f = is_by e.0.device f || is_preferred e f
 
-  other : (a b : Bool) → (a || b) ≡ true → a ≡ false → b ≡ true
-  other true b e f = absurd (true≢false f)
-  other false b e f = e
-
   pub of_is_best : (e : Announcement) → get m e.0 ≡ Some e.1 → is_best es e ≡ true → IsBest m e.0.name e.0.device e.1
   of_is_best e g b = record {
     candidate = candidate e g (and_parts _ _ b).0;
@@ -87,10 +74,6 @@ module _ (m : Announced) (es : List Announcement) (l : Lists m es) where
         other (is_by e.0.device f) (is_preferred e f) (all_in (outranks e) _ (and_parts _ _ b).1 f listed)
         (false_from_ne_true (is_by e.0.device f) (λ t. apart (same d e.0.device t)));
   }
-
-  by_or : (b : Bool) (P : Type 0) → (b ≡ true → P) → (b ≡ false → P) → P
-  by_or true P f g = f refl
-  by_or false P f g = g refl
 
   pub is_best_of : (e : Announcement) → IsBest m e.0.name e.0.device e.1 → is_best es e ≡ true
   is_best_of e b =

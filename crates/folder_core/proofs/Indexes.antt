@@ -18,7 +18,7 @@ use Rattle.folder_core.proofs.Orders.{keys_total, exact_keys}
 abbrev pub last_named : Name → List FileRecord → Option FileRecord
 last_named n rs = find (λ r. bytes_eq r.name n) (reverse rs)
 
-same_key : (a b : Key) → eq_by_cmp key_cmp a b ≡ true → a ≡ b
+pub same_key : (a b : Key) → eq_by_cmp key_cmp a b ≡ true → a ≡ b
 same_key a b e = exact_keys a b ((Equal-is (key_cmp a b)).0 e)
 
 -- keys of one device tie where their names agree
@@ -83,9 +83,6 @@ pub record ChangesOnly (d : Identity) (change : Announced → Announced) (made :
 
 pub announce-only : (d : Identity) (rs : List FileRecord) → ChangesOnly d (announce d rs) (λ n o. option_or (last_named n rs) o)
 announce-only d rs = record { own = get-announce_own d rs; others = get-announce d rs }
-
-pub without-only : (d : Identity) → ChangesOnly d (without d) (λ n o. None)
-without-only d = record { own = get-without_own d; others = get-without_other d }
 
 pub index-only : (d : Identity) (rs : List FileRecord) → ChangesOnly d (λ a. announce d rs (without d a)) (λ n o. last_named n rs)
 index-only d rs = record { own = get-index_own d rs; others = get-index_other d rs }

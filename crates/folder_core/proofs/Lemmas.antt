@@ -2,7 +2,7 @@
 pub use Rattle.folder_core.proofs.Orders.{bytes_total, exact_names, keys_total, exact_keys}
 pub use Rattle.folder_core.proofs.BestLaws.{best-found, best-only, best-one, best-some, best-none, best-undominated, best_any_order}
 pub use Rattle.folder_core.proofs.DeviceLaws.{devices-rise, devices-tell}
-pub use Rattle.folder_core.proofs.Indexes.{get-announce_own, get-announce, get-index_own, get-index_other, get-without_own, get-without_other, either_order, announce-only, without-only, index-only}
+pub use Rattle.folder_core.proofs.Indexes.{get-announce_own, get-announce, get-index_own, get-index_other, get-without_own, get-without_other, either_order, announce-only, index-only}
 pub use Rattle.folder_core.proofs.NeedLaws.{need-rising, need-tells}
 pub use Rattle.folder_core.proofs.TestLemmas.{In, in_contains, contains_in}
 pub use Rattle.folder_core.proofs.AllBests.{bests-rise, bests-announced, bests-tell, bests-by_name, bests-lines, IsOneOrWas, full-names, more-names}

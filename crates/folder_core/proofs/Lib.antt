@@ -24,7 +24,6 @@ pub mod Listed
 pub mod Rows
 pub mod Lemmas
 pub mod PlainTests
-pub mod PlainOrders
 pub mod PlainBest
 pub mod PlainGroup
 pub mod PlainFound

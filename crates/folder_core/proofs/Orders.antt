@@ -3,17 +3,15 @@ use Rattle.folder_core.specs.Announced.{key_cmp}
 use Rattle.std.proofs.Common.{◌≡◌, ℕ, Bool, true, false, List, refl, sym, ap, ◌∙◌}
 use Rattle.std.proofs.lemmas.Map.Lookups.{exact_pairs, exact_bytes}
 use Rattle.std.specs.Bool.{passes}
-use Rattle.std.specs.Cmp.{IsTotalOrder, IsEquivalence, eq_by_cmp_equiv, on_total, then_total, back_total, nat_cmp_total, int_cmp_total, bool_cmp_total}
-use Rattle.std.specs.Cmp.Lexicographic.{nat_list_cmp_total, lists_total}
+use Rattle.std.specs.Cmp.{IsTotalOrder, IsEquivalence, eq_by_cmp_equiv, on_total, then_total}
+use Rattle.std.specs.Cmp.Lexicographic.{nat_list_cmp_total}
 use Rattle.std.specs.FinMap.{FinMap, IsAntisymmetric, get, insert, remove, find, put, entries-insert, get-remove, entries, entries_sorted, retain_keys, from_sorted, get-entries, get-retain_keys, get-from_sorted, entries-from_sorted, same_map, is_sorted}
 use Rattle.std.specs.FinMap.Entries.{where_key, is_sorted-where_key, find-where_key}
 use Rattle.std.specs.Ordering.{eq_by_cmp}
 use Rattle.std.specs.Prelude.{T, cond, None, not}
 use Rattle.std.specs.declared.cmp.Ordering.{Ordering}
 use Rattle.std.specs.declared.cmp.Ordering.TheVariants.{Equal}
-use Rattle.sync_record.specs.Devices.{Identity, bytes_cmp}
-use Rattle.sync_record.specs.Preference.{preference}
-use Rattle.sync_record.specs.Records.{FileRecord, is_live}
+use Rattle.sync_record.specs.Devices.{bytes_cmp}
 
 pub bytes_total : IsTotalOrder bytes_cmp
 bytes_total = nat_list_cmp_total

@@ -6,15 +6,18 @@ use Rattle.std.specs.declared.cmp.Ordering.TheVariants.{Less, Equal, Greater}
 use Rattle.std.specs.Ordering.{is_gt, ordering_reverse}
 use Rattle.std.specs.Cmp.{alike_right}
 use Rattle.std.specs.FinMap.{is_sorted}
-use mathlib.Core.Bool.{true≢false}
+use Rattle.std.proofs.lemmas.Bool.{and_parts, and_from, false_from_ne_true, true≢false}
+use Rattle.sync_record.proofs.Lemmas.{preference_total, preference_tied}
 use Rattle.sync_record.specs.Devices.{Identity}
 use Rattle.sync_record.specs.Preference.{preference}
 use Rattle.sync_record.specs.Records.{Name, FileRecord}
 use Rattle.sync_record.specs.Validity.{is_valid}
 use Rattle.sync_version.specs.Computed.{dominates}
 use Rattle.folder_core.specs.Announced.{In, Announcement, key_cmp, is_of, is_by, is_candidate, is_preferred, is_best, best, bests}
-use Rattle.folder_core.proofs.PlainTests.{both, with_both, refuted, same_bytes, alike_bytes, any_in, none_found, in_all, all_in, in_filter, of_filter, only_found}
-use Rattle.folder_core.proofs.PlainOrders.{preference_total, same_device, one_way, one_entry, keys_total}
+use Rattle.folder_core.proofs.BestLaws.{one_way}
+use Rattle.folder_core.proofs.Orders.{keys_total, exact_keys}
+use Rattle.folder_core.proofs.PlainTests.{any_same, none_found}
+use Rattle.folder_core.proofs.TestLemmas.{same_bytes, alike_bytes, by_or, other, in_all, all_in, in_filter, of_filter, only_found, one_entry}
 
 abbrev pub undominated : List Announcement → Announcement → Bool
 undominated es e = is_valid e.1 && not (list_any (λ f. is_valid f.1 && dominates f.1.version e.1.version) es)
@@ -37,7 +40,7 @@ rest_at_least e f p less =
     true≢false (ap is_gt (sym (preference_total.antisymm (who f) (who e) ∙ ap ordering_reverse less)) ∙ p)
 
 at_least_itself : (e : Announcement) → IsAtLeast e e
-at_least_itself e = rest_at_least e e (refuted (is_preferred e e) (λ t. one_way e e t t))
+at_least_itself e = rest_at_least e e (false_from_ne_true (is_preferred e e) (λ t. one_way (who e) (who e) t t))
 
 at_least_chain : (e f g : Announcement) → IsAtLeast e f → IsAtLeast f g → IsAtLeast e g
 at_least_chain e f g p q less =
@@ -81,7 +84,7 @@ ranked : (e f : Announcement) → IsAtLeast e f → (is_by e.0.device f || is_pr
 ranked e f p =
     elim (preference (who e) (who f)) as (λ r. preference (who e) (who f) ≡ r → (is_by e.0.device f || is_gt r) ≡ true) [
       | Less ↦ λ s. absurd (p s)
-      | Equal ↦ λ s. ap (λ b. b || false) (alike_bytes f.0.device e.0.device (sym (same_device (who e) (who f) s)))
+      | Equal ↦ λ s. ap (λ b. b || false) (alike_bytes f.0.device e.0.device (sym (preference_tied (who e) (who f) s)))
       | Greater ↦ λ s. or_true (is_by e.0.device f)
     ] refl
   where
@@ -92,7 +95,7 @@ ranked e f p =
 module _ (n : Name) (es : List Announcement) (named : (e : Announcement) → In e es → e.0.name ≡ n) (sorted : T (is_sorted key_cmp es)) where
   candidate_is : (e : Announcement) → In e es → is_candidate es e ≡ undominated es e
   candidate_is e i =
-      ap (λ b. is_valid e.1 && not b) (any_in _ (λ f. is_valid f.1 && dominates f.1.version e.1.version) es (λ f j.
+      ap (λ b. is_valid e.1 && not b) (any_same _ (λ f. is_valid f.1 && dominates f.1.version e.1.version) es (λ f j.
       ap (λ b. b && is_valid f.1 && dominates f.1.version e.1.version) (alike_bytes f.0.name e.0.name (named f j ∙ sym (named e i)))))
 
   abbrev outranks : Announcement → Announcement → Bool
@@ -101,33 +104,25 @@ module _ (n : Name) (es : List Announcement) (named : (e : Announcement) → In 
   abbrev rival : Announcement → Announcement → Bool
   rival e f = is_of e.0.name f && is_candidate es f
 
-  either : (a b : Bool) → (a || b) ≡ true → a ≡ false → b ≡ true
-  either true b e f = absurd (true≢false f)
-  either false b e f = e
-
-  by_or : (b : Bool) (P : Type 0) → (b ≡ true → P) → (b ≡ false → P) → P
-  by_or true P f g = f refl
-  by_or false P f g = g refl
-
   -- no two are the best
   one_best : (e f : Announcement) → In e es → In f es → is_best es e ≡ true → is_best es f ≡ true → e ≡ f
   one_best e f i j p q =
       let beats : (e f : Announcement) → In e es → In f es → is_best es e ≡ true → is_best es f ≡ true → outranks e f ≡ true =
-      λ e f i j p q. all_in (outranks e) _ (both _ _ p).1 f
-      (in_filter (rival e) es f j (with_both _ _ (alike_bytes f.0.name e.0.name (named f j ∙ sym (named e i))) (both _ _ q).0)) in
+      λ e f i j p q. all_in (outranks e) _ (and_parts _ _ p).1 f
+      (in_filter (rival e) es f j (and_from _ _ (alike_bytes f.0.name e.0.name (named f j ∙ sym (named e i))) (and_parts _ _ q).0)) in
       by_or (bytes_eq f.0.device e.0.device) (e ≡ f)
-      (λ t. one_entry keys_total es sorted e f i j (λ k. record {
+      (λ t. one_entry keys_total exact_keys es sorted e f i j (λ k. record {
         name = (named e i ∙ sym (named f j)) k;
         device = sym (same_bytes f.0.device e.0.device t) k;
       }))
-      (λ t. absurd (one_way e f (either _ _ (beats e f i j p q) t)
-      (either _ _ (beats f e j i q p) (refuted (bytes_eq e.0.device f.0.device) (λ s. true≢false (sym (alike_bytes f.0.device e.0.device (sym (same_bytes e.0.device f.0.device s))) ∙ t))))))
+      (λ t. absurd (one_way (who e) (who f) (other _ _ (beats e f i j p q) t)
+      (other _ _ (beats f e j i q p) (false_from_ne_true (bytes_eq e.0.device f.0.device) (λ s. true≢false (sym (alike_bytes f.0.device e.0.device (sym (same_bytes e.0.device f.0.device s))) ∙ t))))))
 
   best_reduced_from : (cs : List Announcement) → cs ≡ filter (undominated es) es → best es n ≡ reduce higher cs
   best_reduced_from [] is =
       none_found (is_of n) (bests es) (λ e i.
       let r = of_filter (is_best es) es e i in
-      absurd (subst (In e) (sym is) (in_filter (undominated es) es e r.0 (sym (candidate_is e r.0) ∙ (both _ _ r.1).0))))
+      absurd (subst (In e) (sym is) (in_filter (undominated es) es e r.0 (sym (candidate_is e r.0) ∙ (and_parts _ _ r.1).0))))
   best_reduced_from (c ∷ cs) is =
       let e : Announcement = fold higher c cs in
       let t = top c cs in
@@ -135,8 +130,8 @@ module _ (n : Name) (es : List Announcement) (named : (e : Announcement) → In 
       let above : list_all (outranks e) (filter (rival e) es) ≡ true =
       in_all (outranks e) (filter (rival e) es) (λ f i.
       let s = of_filter (rival e) es f i in
-      ranked e f (t.highest f (subst (In f) (sym is) (in_filter (undominated es) es f s.0 (sym (candidate_is f s.0) ∙ (both _ _ s.1).1))))) in
-      let chosen : is_best es e ≡ true = with_both _ _ (candidate_is e r.0 ∙ r.1) above in
+      ranked e f (t.highest f (subst (In f) (sym is) (in_filter (undominated es) es f s.0 (sym (candidate_is f s.0) ∙ (and_parts _ _ s.1).1))))) in
+      let chosen : is_best es e ≡ true = and_from _ _ (candidate_is e r.0 ∙ r.1) above in
       only_found (is_of n) (bests es) e (in_filter (is_best es) es e r.0 chosen) (alike_bytes e.0.name n (named e r.0)) (λ f i _.
       let s = of_filter (is_best es) es f i in
       one_best f e s.0 r.0 s.1 chosen)

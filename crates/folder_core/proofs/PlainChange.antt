@@ -1,90 +1,44 @@
 -- What the merge with a message makes of a folder is the message's step.
-use Rattle.std.proofs.Common.{◌≡◌, ℕ, Bool, true, false, List, [], ◌∷◌, ◌++◌, refl, sym, ap, subst, ◌∙◌}
-use Rattle.std.specs.Prelude.{bytes_eq, ◌&&◌, not, cond, T, Option, Some, None, filter, map, reverse, find as first_where}
+use Rattle.std.proofs.Common.{◌≡◌, ℕ, Bool, true, false, List, [], ◌∷◌, refl, sym, ap, subst, ◌∙◌}
+use Rattle.std.proofs.lemmas.Bool.{true≢false}
+use Rattle.std.specs.Prelude.{bytes_eq, ◌&&◌, not, cond, T, Option, Some, None, filter, map, find as first_where}
 use Rattle.std.specs.Bool.{passes}
 use Rattle.std.specs.Option.{option_or}
 use Rattle.std.specs.declared.cmp.Ordering.{Ordering}
 use Rattle.std.specs.declared.cmp.Ordering.TheVariants.{Less, Equal, Greater}
 use Rattle.std.specs.Ordering.{eq_by_cmp, is_eq, ordering_then}
-use Rattle.std.specs.Cmp.{both_ways, Equal-is}
+use Rattle.std.specs.Cmp.{both_ways}
 use Rattle.std.specs.Cmp.Lexicographic.{texts_ties}
-use Rattle.std.specs.FinMap.{empty, find, from_sorted, get, get-empty, get-from_sorted, get-insert, get-retain_keys, insert, is_sorted, put, same_map}
-use Rattle.std.specs.FinMap.Entries.{below_all, find-put, find-where_key, is_sorted-put, is_sorted-where_key, where_key}
-use Rattle.std.proofs.lemmas.List.{reverse-append}
+use Rattle.std.specs.FinMap.{empty, find, from_sorted, get, get-empty, get-from_sorted, is_sorted, put, same_map}
+use Rattle.std.specs.FinMap.Entries.{below_all, find-put, is_sorted-put, is_sorted-where_key}
 use Rattle.sync_record.specs.Devices.{Identity, bytes_cmp}
 use Rattle.sync_record.specs.Records.{Name, FileRecord}
 use Rattle.folder_core.specs.declared.plain.entry.Entry.{Entry}
 use Rattle.folder_core.specs.Announced.{Announced, Announcement, Key, announce, key, key_cmp, without}
 use Rattle.folder_core.specs.Codes.{Pulls}
-use Rattle.folder_core.specs.Kept.{IsLastOfEach, Rises, filed, filed_by, folder_of, put_all}
+use Rattle.folder_core.specs.Kept.{IsLastOfEach, Rises, filed, filed_by, folder_of, last_of, put_all}
 use Rattle.folder_core.specs.Steps.{Applied, IndexFull, IndexMore, step}
-use Rattle.folder_core.proofs.PlainTests.{alike_bytes, filter_map, is_t, parts, same_bytes}
-use Rattle.folder_core.proofs.PlainOrders.{exact_keys, is_less, keys_total}
+use Rattle.folder_core.proofs.Indexes.{get-announce, get-announce_own, same_key}
+use Rattle.folder_core.proofs.Orders.{exact_keys, is_true, keys_total, retain_listed}
 use Rattle.folder_core.proofs.PlainMerge.{keys_rise}
+use Rattle.folder_core.proofs.PlainTests.{filter_map}
+use Rattle.folder_core.proofs.TestLemmas.{alike_bytes, by_or, is_less, parts, same_bytes}
 
-or_assoc : {A : Type 0} (x y z : Option A) → option_or x (option_or y z) ≡ option_or (option_or x y) z
-or_assoc None y z = refl
-or_assoc (Some a) y z = refl
+-- ---- what is found in a list in which others were put
 
-or_cond : {A : Type 0} (b : Bool) (v : A) (o : Option A) → cond b (Some v) o ≡ option_or (cond b (Some v) None) o
-or_cond true v o = refl
-or_cond false v o = refl
+find-above : (k : Key) (es : List Announcement) → T (below_all key_cmp k es) → find key_cmp k es ≡ None
+find-above k [] b = refl
+find-above k (e ∷ es) b = ap (λ r. cond (is_eq r) (Some e.1) (find key_cmp k es)) (is_less _ (parts _ _ b).0) ∙ find-above k es (parts _ _ b).1
 
-reverse-cons : {A : Type 0} (x : A) (xs : List A) → reverse (x ∷ xs) ≡ reverse xs ++ x ∷ []
-reverse-cons x xs = reverse-append (x ∷ []) xs
-
--- ---- what is found in a list that is turned round
-
-find-push : (q : Key) (xs : List Announcement) (x : Announcement) → find key_cmp q (xs ++ x ∷ []) ≡ option_or (find key_cmp q xs) (cond (eq_by_cmp key_cmp q x.0) (Some x.1) None)
-find-push q [] x = refl
-find-push q (y ∷ xs) x =
-    elim (eq_by_cmp key_cmp q y.0) as (λ b. cond b (Some y.1) (find key_cmp q (xs ++ x ∷ [])) ≡ option_or (cond b (Some y.1) (find key_cmp q xs)) (cond (eq_by_cmp key_cmp q x.0) (Some x.1) None)) [
-      | true ↦ refl
-      | false ↦ find-push q xs x
-    ]
-
--- a later one, or else this one, or else what there was
-more-found : (q : Key) (x : Announcement) (xs : List Announcement) (o : Option FileRecord) → option_or (find key_cmp q (reverse xs)) (cond (eq_by_cmp key_cmp q x.0) (Some x.1) o) ≡ option_or (find key_cmp q (reverse (x ∷ xs))) o
-more-found q x xs o =
-    ap (option_or (find key_cmp q (reverse xs))) (or_cond (eq_by_cmp key_cmp q x.0) x.1 o)
-    ∙ or_assoc (find key_cmp q (reverse xs)) (cond (eq_by_cmp key_cmp q x.0) (Some x.1) None) o
-    ∙ ap (λ p. option_or p o) (sym (find-push q (reverse xs) x) ∙ ap (find key_cmp q) (sym (reverse-cons x xs)))
-
-find-put_all : (q : Key) (es rs : List Announcement) → find key_cmp q (put_all es rs) ≡ option_or (find key_cmp q (reverse rs)) (find key_cmp q es)
-find-put_all q es [] = refl
-find-put_all q es (r ∷ rs) =
-    find-put_all q (put key_cmp r.0 r.1 es) rs
-    ∙ ap (option_or (find key_cmp q (reverse rs))) (find-put key_cmp keys_total q r.0 r.1 es)
-    ∙ more-found q r rs (find key_cmp q es)
-
-get-announce : (q : Key) (d : Identity) (rs : List FileRecord) (a : Announced) → get (announce d rs a) q ≡ option_or (find key_cmp q (reverse (map (filed_by d) rs))) (get a q)
-get-announce q d [] a = refl
-get-announce q d (r ∷ rs) a =
-    get-announce q d rs (insert a (key r.name d) r)
-    ∙ ap (option_or (find key_cmp q (reverse (map (filed_by d) rs)))) (get-insert keys_total a (key r.name d) r q)
-    ∙ more-found q (filed_by d r) (map (filed_by d) rs) (get a q)
-
--- in a list in order it makes no difference
-find-reverse : (q : Key) (xs : List Announcement) → T (is_sorted key_cmp xs) → find key_cmp q (reverse xs) ≡ find key_cmp q xs
-find-reverse q [] h = refl
-find-reverse q (x ∷ xs) h =
-    ap (find key_cmp q) (reverse-cons x xs) ∙ find-push q (reverse xs) x
-    ∙ ap (λ o. option_or o (cond (eq_by_cmp key_cmp q x.0) (Some x.1) None)) (find-reverse q xs (parts _ _ h).1)
-    ∙ elim (eq_by_cmp key_cmp q x.0) as (λ b. eq_by_cmp key_cmp q x.0 ≡ b → option_or (find key_cmp q xs) (cond b (Some x.1) None) ≡ cond b (Some x.1) (find key_cmp q xs)) [
-      | true ↦ λ t. ap (λ o. option_or o (Some x.1)) (find-above q xs (subst (λ k. T (below_all key_cmp k xs)) (sym (tied q x.0 t)) (parts _ _ h).0))
-      | false ↦ λ t. or_none (find key_cmp q xs)
+find-put_all : (q : Key) (es rs : List Announcement) → T (is_sorted key_cmp rs) → find key_cmp q (put_all es rs) ≡ option_or (find key_cmp q rs) (find key_cmp q es)
+find-put_all q es [] h = refl
+find-put_all q es (r ∷ rs) h =
+    find-put_all q (put key_cmp r.0 r.1 es) rs (parts _ _ h).1
+    ∙ ap (option_or (find key_cmp q rs)) (find-put key_cmp keys_total q r.0 r.1 es)
+    ∙ elim (eq_by_cmp key_cmp q r.0) as (λ b. eq_by_cmp key_cmp q r.0 ≡ b → option_or (find key_cmp q rs) (cond b (Some r.1) (find key_cmp q es)) ≡ option_or (cond b (Some r.1) (find key_cmp q rs)) (find key_cmp q es)) [
+      | true ↦ λ t. ap (λ o. option_or o (Some r.1)) (find-above q rs (subst (λ k. T (below_all key_cmp k rs)) (sym (same_key q r.0 t)) (parts _ _ h).0))
+      | false ↦ λ t. refl
     ] refl
-  where
-    or_none : (o : Option FileRecord) → option_or o None ≡ o
-    or_none None = refl
-    or_none (Some r) = refl
-
-    tied : (a b : Key) → eq_by_cmp key_cmp a b ≡ true → a ≡ b
-    tied a b e = exact_keys a b ((Equal-is (key_cmp a b)).0 e)
-
-    find-above : (k : Key) (es : List Announcement) → T (below_all key_cmp k es) → find key_cmp k es ≡ None
-    find-above k [] b = refl
-    find-above k (e ∷ es) b = ap (λ r. cond (is_eq r) (Some e.1) (find key_cmp k es)) (is_less _ (parts _ _ b).0) ∙ find-above k es (parts _ _ b).1
 
 -- ---- a device's records by their names
 
@@ -113,24 +67,13 @@ find-by q d (r ∷ rs) =
     either true false x y = refl
     either false b x y = refl
 
-map-reverse : (d : Identity) (rs : List FileRecord) → reverse (map (filed_by d) rs) ≡ map (filed_by d) (reverse rs)
-map-reverse d [] = refl
-map-reverse d (r ∷ rs) =
-    reverse-cons (filed_by d r) (map (filed_by d) rs)
-    ∙ ap (λ xs. xs ++ filed_by d r ∷ []) (map-reverse d rs)
-    ∙ sym (ap (map (filed_by d)) (reverse-cons r rs) ∙ map-push (reverse rs) r)
-  where
-    map-push : (xs : List FileRecord) (x : FileRecord) → map (filed_by d) (xs ++ x ∷ []) ≡ map (filed_by d) xs ++ filed_by d x ∷ []
-    map-push [] x = refl
-    map-push (y ∷ xs) x = ap (λ ys. filed_by d y ∷ ys) (map-push xs x)
-
--- the last of each name are found where all are looked through from behind
-same-found : (q : Key) (d : Identity) (records kept : List FileRecord) → IsLastOfEach records kept → find key_cmp q (reverse (map (filed_by d) kept)) ≡ find key_cmp q (reverse (map (filed_by d) records))
-same-found q d records kept l =
-    find-reverse q (map (filed_by d) kept) (keys_rise d kept l.rise)
-    ∙ find-by q d kept
-    ∙ ap (λ o. cond (bytes_eq q.device d) o None) (l.last q.name)
-    ∙ sym (ap (find key_cmp q) (map-reverse d records) ∙ find-by q d (reverse records))
+get-announce_at : (q : Key) (d : Identity) (rs : List FileRecord) (a : Announced) → get (announce d rs a) q ≡ option_or (cond (bytes_eq q.device d) (last_of q.name rs) None) (get a q)
+get-announce_at q d rs a =
+    by_or (bytes_eq q.device d) (get (announce d rs a) q ≡ option_or (cond (bytes_eq q.device d) (last_of q.name rs) None) (get a q))
+    (λ t. (λ i. get (announce d rs a) (key q.name (same_bytes q.device d t i))) ∙ get-announce_own d rs a q.name
+    ∙ (λ i. option_or (cond (sym t i) (last_of q.name rs) None) (get a (key q.name (sym (same_bytes q.device d t) i)))))
+    (λ f. get-announce d rs a q.device q.name (λ s. true≢false (sym (alike_bytes q.device d (sym s)) ∙ f))
+    ∙ ap (λ b. option_or (cond b (last_of q.name rs) None) (get a q)) (sym f))
 
 -- ---- the changes
 
@@ -141,34 +84,28 @@ put_all-rises es (r ∷ rs) h = put_all-rises (put key_cmp r.0 r.1 es) rs (is_so
 announce-sorted : (d : Identity) (records kept : List FileRecord) (es : List Announcement) → IsLastOfEach records kept → T (is_sorted key_cmp es) →
     announce d records (from_sorted es) ≡ from_sorted (put_all es (map (filed_by d) kept))
 announce-sorted d records kept es l h = same_map keys_total exact_keys _ _ (λ q.
-    get-announce q d records (from_sorted es)
-    ∙ (λ i. option_or (sym (same-found q d records kept l) i) (get-from_sorted key_cmp es q h i))
+    get-announce_at q d records (from_sorted es)
+    ∙ (λ i. option_or (cond (bytes_eq q.device d) (sym (l.last q.name) i) None) (get-from_sorted key_cmp es q h i))
     ∙ sym (get-from_sorted key_cmp (put_all es (map (filed_by d) kept)) q (put_all-rises es (map (filed_by d) kept) h)
-    ∙ find-put_all q es (map (filed_by d) kept)))
+    ∙ find-put_all q es (map (filed_by d) kept) (keys_rise d kept l.rise)
+    ∙ ap (λ o. option_or o (find key_cmp q es)) (find-by q d kept)))
 
 abbrev pub is_of_another : Identity → Entry → Bool
 is_of_another d e = not (bytes_eq e.device d)
 
 without-sorted : (d : Identity) (es : List Entry) → Rises es → without d (from_sorted (map filed es)) ≡ from_sorted (map filed (filter (is_of_another d) es))
 without-sorted d es rises =
-    let kept : Key → Bool = λ k. not (bytes_eq k.device d) in
-    let sorted : T (is_sorted key_cmp (map filed es)) = passes _ rises in
-    let alike : (q k : Key) → key_cmp q k ≡ Equal → kept k ≡ kept q = λ q k e. ap kept (sym (exact_keys q k e)) in
-    same_map keys_total exact_keys _ _ (λ q.
-    get-retain_keys (from_sorted (map filed es)) kept q (alike q)
-    ∙ ap (λ o. cond (kept q) o None) (get-from_sorted key_cmp (map filed es) q sorted)
-    ∙ sym (get-from_sorted key_cmp (where_key key_cmp kept (map filed es)) q (is_sorted-where_key key_cmp kept (map filed es) sorted)
-    ∙ find-where_key key_cmp kept q (alike q) (map filed es)))
-    ∙ ap from_sorted (filter_map filed (λ e. kept e.0) es)
+    retain_listed keys_total exact_keys (map filed es) (λ k. not (bytes_eq k.device d)) rises
+    ∙ ap from_sorted (filter_map filed (λ e. not (bytes_eq e.0.device d)) es)
 
 pub others-rise : (d : Identity) (es : List Entry) → Rises es → Rises (filter (is_of_another d) es)
 others-rise d es rises =
     ap (is_sorted key_cmp) (sym (filter_map filed (λ e. not (bytes_eq e.0.device d)) es))
-    ∙ is_t _ (is_sorted-where_key key_cmp (λ k. not (bytes_eq k.device d)) (map filed es) (passes _ rises))
+    ∙ is_true _ (is_sorted-where_key key_cmp (λ k. not (bytes_eq k.device d)) (map filed es) (passes _ rises))
 
 module _ (me d : Identity) (es new : List Entry) (last : ℕ) (pulls : Pulls) (records kept : List FileRecord) (l : IsLastOfEach records kept) (rises : Rises es) where
   pub more_rises : map filed new ≡ put_all (map filed es) (map (filed_by d) kept) → Rises new
-  more_rises is = ap (is_sorted key_cmp) is ∙ is_t _ (put_all-rises (map filed es) (map (filed_by d) kept) (passes _ rises))
+  more_rises is = ap (is_sorted key_cmp) is ∙ is_true _ (put_all-rises (map filed es) (map (filed_by d) kept) (passes _ rises))
 
   pub more_step : map filed new ≡ put_all (map filed es) (map (filed_by d) kept) → step (folder_of me es last pulls) (IndexMore d records) ≡ (Applied, folder_of me new last pulls)
   more_step is =
@@ -177,7 +114,7 @@ module _ (me d : Identity) (es new : List Entry) (last : ℕ) (pulls : Pulls) (r
 
   pub full_rises : map filed new ≡ put_all (map filed (filter (is_of_another d) es)) (map (filed_by d) kept) → Rises new
   full_rises is =
-      ap (is_sorted key_cmp) is ∙ is_t _ (put_all-rises (map filed (filter (is_of_another d) es)) (map (filed_by d) kept) (passes _ (others-rise d es rises)))
+      ap (is_sorted key_cmp) is ∙ is_true _ (put_all-rises (map filed (filter (is_of_another d) es)) (map (filed_by d) kept) (passes _ (others-rise d es rises)))
 
   pub full_step : map filed new ≡ put_all (map filed (filter (is_of_another d) es)) (map (filed_by d) kept) → step (folder_of me es last pulls) (IndexFull d records) ≡ (Applied, folder_of me new last pulls)
   full_step is =

@@ -17,7 +17,8 @@ use Rattle.folder_core.specs.Announced.{In, Announcement, key_cmp, is_of, is_pre
 use Rattle.folder_core.specs.Codes.{Pulls}
 use Rattle.folder_core.specs.Reads.{best_found}
 use Rattle.folder_core.specs.Kept.{Rises, better, better_of, filed, folder_of, is_undominated}
-use Rattle.folder_core.proofs.PlainTests.{same_bytes, alike_bytes, filter_in, filter_map, any_map, of_filter}
+use Rattle.folder_core.proofs.PlainTests.{filter_in, filter_map, any_map}
+use Rattle.folder_core.proofs.TestLemmas.{none_some, same_bytes, alike_bytes, of_filter}
 use Rattle.folder_core.proofs.PlainBest.{undominated, higher, best_reduced, top}
 use Rattle.folder_core.proofs.PlainGroup.{best_in_group, devices_in_group, is_named}
 
@@ -123,3 +124,6 @@ module _ (me : Identity) (n : Name) (es : List Entry) (last : ℕ) (pulls : Pull
       let here : b.record.name ≡ n = same_bytes b.record.name n (of_filter (is_named n) es b among.0).1 in
       sym (found_is ∙ ap (option_map (λ b. (b.1, devices_of (map filed es) b))) (best_is n es rises ∙ ap (option_map filed) (sym some))
       ∙ ap (λ ds. Some (b.record, ds)) (devices_is n es rises b here))
+
+  pub none_is_missing : (b : Entry) → Some b ≡ reduce better (filter (is_undominated (filter (is_named n) es)) (filter (is_named n) es)) → best_found (folder_of me es last pulls) n ≡ None → ⊥
+  none_is_missing b some none = none_some _ (sym (one_is_found b some ∙ none))

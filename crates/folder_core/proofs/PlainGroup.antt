@@ -11,7 +11,7 @@ use Rattle.std.specs.Cmp.{tied_itself}
 use Rattle.std.specs.Cmp.Lexicographic.{nat_list_cmp_total}
 use Rattle.std.specs.FinMap.Entries.{below_all}
 use Rattle.std.proofs.lemmas.Map.Lookups.{exact_bytes}
-use mathlib.Core.Bool.{true≢false}
+use Rattle.std.proofs.lemmas.Bool.{and_parts, true≢false}
 use Rattle.sync_record.specs.Contents.{same_content}
 use Rattle.sync_record.specs.Devices.{bytes_cmp}
 use Rattle.sync_record.specs.Records.{Name}
@@ -20,8 +20,8 @@ use Rattle.sync_version.specs.Computed.{dominates, same_version}
 use Rattle.folder_core.specs.declared.plain.entry.Entry.{Entry}
 use Rattle.folder_core.specs.Announced.{In, Announcement, Key, key_cmp, is_of, is_candidate, is_best, best, devices_of, is_by, is_preferred}
 use Rattle.folder_core.specs.Kept.{Rises, filed}
-use Rattle.folder_core.proofs.PlainTests.{both, none_left, same_bytes, alike_bytes, parts, any_filter, filter_filter, find_filter, find_same}
-use Rattle.folder_core.proofs.PlainOrders.{is_less}
+use Rattle.folder_core.proofs.PlainTests.{none_left, any_filter, filter_filter, find_filter, find_same}
+use Rattle.folder_core.proofs.TestLemmas.{same_bytes, alike_bytes, is_less, parts}
 
 -- ---- where the entries of a name begin and end
 
@@ -37,7 +37,7 @@ below_at k (e ∷ es) b ℕ.zero d short = is_less _ (parts _ _ b).0
 below_at k (e ∷ es) b (suc j) d short = below_at k es (parts _ _ b).1 j d (omega arith)
 
 rest_rises : (e : Entry) (es : List Entry) → Rises (e ∷ es) → Rises es
-rest_rises e es h = (both _ _ h).1
+rest_rises e es h = (and_parts _ _ h).1
 
 pub drop_rises : (i : ℕ) (es : List Entry) → Rises es → Rises (drop i es)
 drop_rises ℕ.zero es h = h
@@ -50,7 +50,7 @@ pub partitioned : (P : Entry → Type 0) (p : Entry → Bool) → ((x y : Entry)
 partitioned P p down [] h each i j d le short t = absurd (omega arith)
 partitioned P p down (e ∷ es) h each ℕ.zero ℕ.zero d le short t = t
 partitioned P p down (e ∷ es) h each ℕ.zero (suc j) d le short t =
-    down e (slice_index_or es j d) (each e (inl refl)) (below_at (filed e).0 es (passes _ (both _ _ h).0) j d (omega arith)) t
+    down e (slice_index_or es j d) (each e (inl refl)) (below_at (filed e).0 es (passes _ (and_parts _ _ h).0) j d (omega arith)) t
 partitioned P p down (e ∷ es) h each (suc i) ℕ.zero d le short t = absurd (omega arith)
 partitioned P p down (e ∷ es) h each (suc i) (suc j) d le short t =
     partitioned P p down es (rest_rises e es h) (λ x k. each x (inr k)) i j d (omega arith) (omega arith) t
@@ -119,7 +119,7 @@ module _ (n : Name) (es : List Announcement) where
 
   pub candidate_in_group : (e : Announcement) → is_of n e ≡ true → is_candidate group e ≡ is_candidate es e
   candidate_in_group e t =
-      ap (λ b. is_valid e.1 && not b) (any_filter (is_of n) (λ f. is_of e.0.name f && is_valid f.1 && dominates f.1.version e.1.version) es (λ f u. of_name e f t (both _ _ (both _ _ u).0).0))
+      ap (λ b. is_valid e.1 && not b) (any_filter (is_of n) (λ f. is_of e.0.name f && is_valid f.1 && dominates f.1.version e.1.version) es (λ f u. of_name e f t (and_parts _ _ (and_parts _ _ u).0).0))
 
   pub best_in_group_test : (e : Announcement) → is_of n e ≡ true → is_best group e ≡ is_best es e
   best_in_group_test e t =

@@ -12,14 +12,15 @@ use Rattle.std.specs.FinMap.Entries.{below_all, by_order}
 use Rattle.std.proofs.lemmas.List.{get_or_push, length_push, map_push, take_all, take_more}
 use Rattle.std.proofs.lemmas.List.Sums.{fold-append}
 use Rattle.std.proofs.lemmas.Option.{get_or_from_slice_get, slice_get-get_or, slice_get_past, slice_get_within}
-use mathlib.Core.Bool.{true≢false}
+use Rattle.std.proofs.lemmas.Bool.{and_parts, true≢false}
 use Rattle.sync_record.specs.Devices.{Identity, bytes_cmp}
 use Rattle.sync_record.specs.Records.{FileRecord}
 use Rattle.folder_core.specs.declared.plain.entry.Entry.{Entry}
 use Rattle.folder_core.specs.Announced.{Announcement, Key, key, key_cmp}
 use Rattle.folder_core.specs.Kept.{NamesRise, Rises, filed, filed_by, named, put_all}
-use Rattle.folder_core.proofs.PlainTests.{both, inside, is_t, parts, join}
-use Rattle.folder_core.proofs.PlainOrders.{keys_total, exact_keys, is_less, less_is}
+use Rattle.folder_core.proofs.Orders.{keys_total, exact_keys, is_true}
+use Rattle.folder_core.proofs.PlainTests.{join, less_is}
+use Rattle.folder_core.proofs.TestLemmas.{inside, is_less, parts}
 
 -- ---- lists that stand before a key
 
@@ -107,7 +108,7 @@ below_by d r (q ∷ rs) b = join _ _ (less_is _ (then_less (bytes_cmp r.name q.n
 
 pub keys_rise : (d : Identity) (rs : List FileRecord) → NamesRise rs → T (is_sorted key_cmp (map (filed_by d) rs))
 keys_rise d [] h = tt
-keys_rise d (r ∷ rs) h = join _ _ (below_by d r rs (passes _ (both _ _ h).0)) (keys_rise d rs (both _ _ h).1)
+keys_rise d (r ∷ rs) h = join _ _ (below_by d r rs (passes _ (and_parts _ _ h).0)) (keys_rise d rs (and_parts _ _ h).1)
 
 -- ---- the last of a list, as `last` finds it and `pop` takes it
 
@@ -137,14 +138,14 @@ module _ {X : Type 0} where
 entries_push : (es : List Entry) (e : Entry) → Rises (es ++ e ∷ []) → Rises es × StandBefore (filed e).0 (map filed es)
 entries_push es e rises =
     let sorted = sorted_push key_cmp (map filed es) (filed e) (subst (λ xs. T (is_sorted key_cmp xs)) (map_push filed es e) (passes _ rises)) in
-    (is_t _ sorted.0, sorted.1)
+    (is_true _ sorted.0, sorted.1)
 
 pub front_rises : (es es' : List Entry) (o : Option Entry) → es ≡ es' ++ option_to_list o → Rises es → Rises es'
 front_rises es es' None is rises = subst Rises (is ∙ append-nil es') rises
 front_rises es es' (Some e) is rises = (entries_push es' e (subst Rises is rises)).0
 
 pub names_push : (rs : List FileRecord) (r : FileRecord) → NamesRise (rs ++ r ∷ []) → NamesRise rs
-names_push rs r rise = is_t _ (sorted_push bytes_cmp (map named rs) (named r) (subst (λ xs. T (is_sorted bytes_cmp xs)) (map_push named rs r) (passes _ rise))).0
+names_push rs r rise = is_true _ (sorted_push bytes_cmp (map named rs) (named r) (subst (λ xs. T (is_sorted bytes_cmp xs)) (map_push named rs r) (passes _ rise))).0
 
 -- where the last stands before a key, so do all
 last_before : (k : Key) (es : List Entry) → Rises es → MatchOption (slice_get es (length es - 1)) (Less ≡ Less) (λ e. Less ≡ key_cmp (filed e).0 k) → StandBefore k (map filed es)

@@ -13,12 +13,13 @@ use Rattle.std.specs.FinMap.Entries.{below_all}
 use Rattle.std.proofs.lemmas.List.Sorted.{ranks_by}
 use Rattle.std.proofs.lemmas.List.Kept.{IsStrictlySortedBy-dedup}
 use Rattle.std.proofs.lemmas.Map.Lookups.{exact_bytes}
-use mathlib.Core.Bool.{true≢false}
+use Rattle.std.proofs.lemmas.Bool.{and_from, and_parts, not-true, true≢false}
 use Rattle.sync_record.specs.Devices.{bytes_cmp}
 use Rattle.sync_record.specs.Records.{Name, FileRecord}
 use Rattle.folder_core.specs.Kept.{NamesRise, named}
-use Rattle.folder_core.proofs.PlainTests.{alike_bytes, both, is_not, is_t, join, same_bytes, with_both}
-use Rattle.folder_core.proofs.PlainOrders.{less_is}
+use Rattle.folder_core.proofs.Orders.{is_true}
+use Rattle.folder_core.proofs.PlainTests.{join, less_is}
+use Rattle.folder_core.proofs.TestLemmas.{alike_bytes, same_bytes}
 
 -- records by their names
 abbrev pub before : FileRecord → FileRecord → Bool
@@ -71,8 +72,8 @@ name_of_any n = refl
 tie : (m n : Name) → (not (is_lt (bytes_cmp m n)) && not (is_lt (bytes_cmp n m))) ≡ bytes_eq n m
 tie m n =
     both_ways _ _
-    (λ t. let b = both _ _ t in alike_bytes n m (sym (exact_bytes m n (neither (bytes_cmp m n) (is_not _ b.0) (ap is_lt (sym (nat_list_cmp_total.antisymm n m)) ∙ is_not _ b.1)))))
-    (λ t. let e = same_bytes n m t in with_both _ _ (ap (λ x. not (is_lt (bytes_cmp m x))) e ∙ itself m) (ap (λ x. not (is_lt (bytes_cmp x m))) e ∙ itself m))
+    (λ t. let b = and_parts _ _ t in alike_bytes n m (sym (exact_bytes m n (neither (bytes_cmp m n) (not-true _ b.0) (ap is_lt (sym (nat_list_cmp_total.antisymm n m)) ∙ not-true _ b.1)))))
+    (λ t. let e = same_bytes n m t in and_from _ _ (ap (λ x. not (is_lt (bytes_cmp m x))) e ∙ itself m) (ap (λ x. not (is_lt (bytes_cmp x m))) e ∙ itself m))
   where
     neither : (r : Ordering) → is_lt r ≡ false → is_lt (ordering_reverse r) ≡ false → r ≡ Equal
     neither Less a b = absurd (true≢false a)
@@ -121,4 +122,4 @@ rise_from [] h = tt
 rise_from (x ∷ xs) h = join _ _ (all_below x.name xs h.0) (rise_from xs h.1)
 
 pub dedup_rises : (xs : List FileRecord) → IsSortedBy before xs → NamesRise (dedup same_name xs)
-dedup_rises xs h = is_t _ (rise_from (dedup same_name xs) (IsStrictlySortedBy-dedup (on_total (λ (r : FileRecord). r.name) nat_list_cmp_total) (λ q r. texts_ties q.name r.name) xs h))
+dedup_rises xs h = is_true _ (rise_from (dedup same_name xs) (IsStrictlySortedBy-dedup (on_total (λ (r : FileRecord). r.name) nat_list_cmp_total) (λ q r. texts_ties q.name r.name) xs h))

@@ -1,12 +1,13 @@
 -- Tests of lists of entries, and what they say of the map.
 use Rattle.std.proofs.Common.{◌≡◌, ℕ, zero, suc, ◌<◌, length, get_or, arith, Bool, true, false, List, [], ◌∷◌, refl, sym, ap, subst, ◌∙◌, inl, inr}
 use Rattle.std.proofs.lemmas.Bool.{true≢false, and_parts, and_from, or_cases, false_from_ne_true}
+use Rattle.std.proofs.lemmas.Slice.Eq.{bytes_eq-Decides}
 use Rattle.std.specs.Cmp.{IsTotalOrder, Equal-is, tied_itself}
 use Rattle.std.specs.FinMap.{FinMap, IsAntisymmetric, entries, entries_sorted, get, get-entries, find, is_sorted}
 use Rattle.std.specs.FinMap.Entries.{below_all}
 use Rattle.std.specs.List.{list_all, list_any, find as first_where}
 use Rattle.std.specs.Ordering.{eq_by_cmp, is_lt, is_eq, ordering_reverse}
-use Rattle.std.specs.Prelude.{◌&&◌, ◌||◌, ◌⊎◌, cond, T, Some, None, unwrap_or, map, filter, Contains}
+use Rattle.std.specs.Prelude.{bytes_eq, ◌&&◌, ◌||◌, ◌⊎◌, cond, T, Some, None, unwrap_or, map, filter, Contains}
 use Rattle.std.specs.declared.cmp.Ordering.{Ordering}
 use Rattle.std.specs.declared.cmp.Ordering.TheVariants.{Less, Equal, Greater}
 pub use Rattle.folder_core.specs.Announced.{In}
@@ -16,6 +17,21 @@ inside x y e = ap (λ o. unwrap_or o x) e
 
 pub none_some : {A : Type 0} (x : A) → None ≡ Some x → ⊥
 none_some x e = cc
+
+pub same_bytes : (xs ys : List ℕ) → bytes_eq xs ys ≡ true → xs ≡ ys
+same_bytes xs ys e = (bytes_eq-Decides xs ys).0 e
+
+pub alike_bytes : (xs ys : List ℕ) → xs ≡ ys → bytes_eq xs ys ≡ true
+alike_bytes xs ys e = (bytes_eq-Decides xs ys).1 e
+
+pub by_or : (b : Bool) (P : Type 0) → (b ≡ true → P) → (b ≡ false → P) → P
+by_or true P f g = f refl
+by_or false P f g = g refl
+
+-- the other of two of which one holds
+pub other : (a b : Bool) → (a || b) ≡ true → a ≡ false → b ≡ true
+other true b e f = absurd (true≢false f)
+other false b e f = e
 
 module _ {A : Type 0} (p : A → Bool) where
   pub all_in : (xs : List A) → list_all p xs ≡ true → (x : A) → In x xs → p x ≡ true
@@ -116,7 +132,7 @@ module _ {A B : Type 0} (f : A → B) where
 tied : {K : Type 0} {R : K → K → Ordering} → IsAntisymmetric R → (x y : K) → eq_by_cmp R x y ≡ true → x ≡ y
 tied {R = R} same x y e = same x y ((Equal-is (R x y)).0 e)
 
-is_less : (r : Ordering) → T (is_lt r) → r ≡ Less
+pub is_less : (r : Ordering) → T (is_lt r) → r ≡ Less
 is_less Less h = refl
 is_less Equal h = absurd h
 is_less Greater h = absurd h
@@ -151,6 +167,12 @@ module _ {K X : Type 0} {R : K → K → Ordering} (o : IsTotalOrder R) (same : 
   in_find (e ∷ es) h x (inr i) =
       not_equal (R x.0 e.0) (o.antisymm x.0 e.0 ∙ ap ordering_reverse (below_in e.0 es (parts _ _ h).0 x i)) (Some e.1) (find R x.0 es)
       ∙ in_find es (parts _ _ h).1 x i
+
+  -- of one key there is one entry
+  pub one_entry : (es : List (K × X)) → T (is_sorted R es) → (x y : K × X) → In x es → In y es → x.0 ≡ y.0 → x ≡ y
+  one_entry es h x y i j k =
+      let values : x.1 ≡ y.1 = inside x.1 y.1 (sym (in_find es h x i) ∙ ap (λ q. find R q es) k ∙ in_find es h y j) in
+      λ t. (k t, values t)
 
   -- the entries are what the map has
   pub get_in : (m : FinMap R X) (k : K) (v : X) → get m k ≡ Some v → In (k, v) (entries m)

@@ -1,6 +1,9 @@
 //! A folder as one list in order.
-ghost use Rattle.std.specs.Prelude.{◌≡◌, ◌+◌, ◌≤◌, [], IfOk, vec_len, vec_capacity};
+ghost use Rattle.std.specs.Prelude.{◌≡◌, ◌≢◌, ◌+◌, ◌<◌, ◌≤◌, [], IfOk, IsOk, None, option_map, vec_len, vec_capacity};
+ghost use Rattle.folder_core.specs.Calls.{Changes, index_answer};
 ghost use Rattle.folder_core.specs.Kept.{empty_folder};
+ghost use Rattle.folder_core.specs.Reads.{best_found};
+ghost use Rattle.folder_core.specs.Steps.{IndexFull, IndexMore};
 
 mod entry;
 mod group;
@@ -64,8 +67,13 @@ impl FolderCore for PlainFolder {
         self.me
     }
 
-    /// O(n + m log m) for n records kept and m given. None is copied, and there is room for n + m of them meanwhile.
-    fn index_full(&mut self, device: DeviceId, records: Items<Record>) -> Result<(), AllocError> {
+    /// O(n + m log m) for n records kept and m given. None is copied, and there is room for n + m of them meanwhile. A
+    /// message without records takes no memory.
+    fn index_full(&mut self, device: DeviceId, records: Items<Record>) -> Result<(), AllocError>
+        requires { device ≢ self.old.me }
+        ensures changes { Changes self.old (IndexFull device records) (index_answer result) self.new }
+        ensures nothing { records ≡ [] → IsOk result }
+    {
         let records = last_of_each_name(records.into_vec())?;
         let room = room_for(&mut self.entries, &records)?;
         self.entries.retain(|entry| entry.device != device);
@@ -74,16 +82,24 @@ impl FolderCore for PlainFolder {
     }
 
     /// O(t + m log m) for m records given and t kept behind the place of the first of them, amortized. None is copied,
-    /// and there is room for all kept and given ones meanwhile.
-    fn index_more(&mut self, device: DeviceId, records: Items<Record>) -> Result<(), AllocError> {
-        let records = last_of_each_name(records.into_vec())?;
-        let room = room_for(&mut self.entries, &records)?;
-        merge(&mut self.entries, device, records, room);
+    /// and there is room for all kept and given ones meanwhile. A message without records takes no memory.
+    fn index_more(&mut self, device: DeviceId, records: Items<Record>) -> Result<(), AllocError>
+        requires { device ≢ self.old.me }
+        ensures changes { Changes self.old (IndexMore device records) (index_answer result) self.new }
+        ensures nothing { records ≡ [] → IsOk result }
+    {
+        let latest = last_of_each_name(records.into_vec())?;
+        let room = room_for(&mut self.entries, &latest)?;
+        merge(&mut self.entries, device, latest, room);
         Ok(())
     }
 
-    /// O(log n + k^2) for n records kept and k devices that announce the name, and the copy.
-    fn best(&self, name: &SafeName) -> Result<Option<Best>, AllocError> {
+    /// O(log n + k^2) for n records kept and k devices that announce the name, and the copy. A name without a best takes
+    /// no memory.
+    fn best(&self, name: &SafeName) -> Result<Option<Best>, AllocError>
+        ensures found { IfOk result (λ b. option_map (λ b. (b.record, b.devices)) b ≡ best_found self.now name.now) }
+        ensures none { best_found self.now name.now ≡ None → IsOk result }
+    {
         let group = entries_of(self.entries.as_slice(), name);
         let Some(best) = best_of(group) else {
             return Ok(None);
@@ -96,13 +112,18 @@ impl FolderCore for PlainFolder {
     }
 }
 
-/// Makes room in the entries for the records too, and an empty list with room for both. The entries stay as they are.
+/// Makes room in the entries for the records too, and an empty list, with room for just both where there is a record.
+/// The entries stay as they are. Without a record no memory is taken.
 fn room_for(entries: &mut Vec<Entry>, records: &Vec<Record>) -> Result<Vec<Entry>, AllocError>
     ensures entries_stay { entries.new.items ≡ entries.old.items }
     ensures entries_fit { IfOk result (λ _. vec_len entries.new + vec_len records.now ≤ vec_capacity entries.new) }
     ensures is_empty { IfOk result (λ room. room.items ≡ []) }
-    ensures room_fits { IfOk result (λ room. vec_len entries.new + vec_len records.now ≤ vec_capacity room) }
+    ensures room_fits { IfOk result (λ room. 0 < vec_len records.now → vec_capacity room ≡ vec_len entries.new + vec_len records.now) }
+    ensures nothing { vec_len records.now ≡ 0 → IsOk result }
 {
     entries.reserve(records.len())?;
+    if records.is_empty() {
+        return Ok(Vec::new(*entries.allocator()));
+    }
     Vec::with_capacity(*entries.allocator(), entries.len() + records.len())
 }

@@ -21,7 +21,7 @@ pub(super) fn merge(
     requires names_rise { NamesRise records.items }
     requires is_empty { room.items ≡ [] }
     requires entries_fit { vec_len entries.old + vec_len records ≤ vec_capacity entries.old }
-    requires room_fits { vec_len entries.old + vec_len records ≤ vec_capacity room }
+    requires room_fits { 0 < vec_len records → vec_len entries.old + vec_len records ≤ vec_capacity room }
     ensures { map filed entries.new.items ≡ put_all (map filed entries.old.items) (map (filed_by device) records.items) }
 {
     while let Some(entry) = last_entry(entries, device, &mut records) {
@@ -42,6 +42,7 @@ fn last_entry(
     ensures rises { Rises entries.new.items }
     ensures names_rise { NamesRise records.new.items }
     ensures fewer { IfSome result (λ _. vec_len entries.new + vec_len records.new < vec_len entries.old + vec_len records.old) }
+    ensures some { IfSome result (λ _. 0 < vec_len records.old) }
     ensures capacity { vec_capacity entries.new ≡ vec_capacity entries.old }
 {
     match order(entries.last(), device, records.last()?) {

@@ -17,12 +17,12 @@ pub invariant_of-self-2 : goal.invariant_of-self-2
 invariant_of-self-2 c =
     let others : c.retain.new.self.items ≡ filter (is_of_another c.args.device) c.room_for.new.entries.items = filter_same _ (is_of_another c.args.device) _ (λ x b f' calls. search rules) _ _ c.retain.ensures.filtered in
     full_rises c.self.inside.me c.args.device c.self.inside.entries.items _ 0 empty c.into_vec.result.items c.in_ok-records.records.items
-    c.in_ok-records.ensures c.self.invariant
+    c.in_ok-records.ensures.last c.self.invariant
     (c.merge.ensures ∙ ap (λ (es : List Entry). put_all (map filed es) (map (filed_by c.args.device) c.in_ok-records.records.items)) (others ∙ ap (filter (is_of_another c.args.device)) c.room_for.ensures.entries_stay))
 
-pub returns : goal.returns
-returns c =
+pub returns-clause-changes : goal.returns-clause-changes
+returns-clause-changes c =
     let others : c.retain.new.self.items ≡ filter (is_of_another c.args.device) c.room_for.new.entries.items = filter_same _ (is_of_another c.args.device) _ (λ x b f' calls. search rules) _ _ c.retain.ensures.filtered in
-    let last = subst (λ rs. IsLastOfEach rs c.in_ok-records.records.items) c.into_vec.ensures c.in_ok-records.ensures in
+    let last = subst (λ rs. IsLastOfEach rs c.in_ok-records.records.items) c.into_vec.ensures c.in_ok-records.ensures.last in
     rw (← c.self.view_is) (full_step c.self.inside.me c.args.device c.self.inside.entries.items _ 0 empty c.args.records c.in_ok-records.records.items last c.self.invariant
     (c.merge.ensures ∙ ap (λ (es : List Entry). put_all (map filed es) (map (filed_by c.args.device) c.in_ok-records.records.items)) (others ∙ ap (filter (is_of_another c.args.device)) c.room_for.ensures.entries_stay)))

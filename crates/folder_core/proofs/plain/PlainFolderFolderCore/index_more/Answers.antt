@@ -7,12 +7,12 @@ use Rattle.folder_core.proofs.plain.PlainFolderFolderCore.index_more.Goals as go
 
 pub invariant_of-self-2 : goal.invariant_of-self-2
 invariant_of-self-2 c =
-    more_rises c.self.inside.me c.args.device c.self.inside.entries.items _ 0 empty c.into_vec.result.items c.in_ok-records.records.items
-    c.in_ok-records.ensures c.self.invariant
-    (c.merge.ensures ∙ ap (λ (es : List Entry). put_all (map filed es) (map (filed_by c.args.device) c.in_ok-records.records.items)) c.room_for.ensures.entries_stay)
+    more_rises c.self.inside.me c.args.device c.self.inside.entries.items _ 0 empty c.into_vec.result.items c.in_ok-latest.latest.items
+    c.in_ok-latest.ensures.last c.self.invariant
+    (c.merge.ensures ∙ ap (λ (es : List Entry). put_all (map filed es) (map (filed_by c.args.device) c.in_ok-latest.latest.items)) c.room_for.ensures.entries_stay)
 
-pub returns : goal.returns
-returns c =
-    let last = subst (λ rs. IsLastOfEach rs c.in_ok-records.records.items) c.into_vec.ensures c.in_ok-records.ensures in
-    rw (← c.self.view_is) (more_step c.self.inside.me c.args.device c.self.inside.entries.items _ 0 empty c.args.records c.in_ok-records.records.items last c.self.invariant
-    (c.merge.ensures ∙ ap (λ (es : List Entry). put_all (map filed es) (map (filed_by c.args.device) c.in_ok-records.records.items)) c.room_for.ensures.entries_stay))
+pub returns-clause-changes : goal.returns-clause-changes
+returns-clause-changes c =
+    let last = subst (λ rs. IsLastOfEach rs c.in_ok-latest.latest.items) c.into_vec.ensures c.in_ok-latest.ensures.last in
+    rw (← c.self.view_is) (more_step c.self.inside.me c.args.device c.self.inside.entries.items _ 0 empty c.args.records c.in_ok-latest.latest.items last c.self.invariant
+    (c.merge.ensures ∙ ap (λ (es : List Entry). put_all (map filed es) (map (filed_by c.args.device) c.in_ok-latest.latest.items)) c.room_for.ensures.entries_stay))

@@ -4,7 +4,9 @@ use Rattle.std.proofs.lemmas.List.{take_all, length-drop}
 use Rattle.std.proofs.lemmas.List.Sorted.{IsPartitionPoint-from_clause}
 use Rattle.folder_core.specs.Announced.{In}
 use Rattle.folder_core.specs.Kept.{Rises}
-use Rattle.folder_core.proofs.PlainTests.{is_not, filter_filter, of_filter}
+use Rattle.std.proofs.lemmas.Bool.{not-true}
+use Rattle.folder_core.proofs.PlainTests.{filter_filter}
+use Rattle.folder_core.proofs.TestLemmas.{of_filter}
 use Rattle.folder_core.proofs.PlainGroup.{is_before, is_named, partitioned, before_down, named_down, drop_rises, front_is, back_is, named_is_late}
 use Rattle.folder_core.proofs.plain.group.entries_of.Goals as goal
 
@@ -24,7 +26,7 @@ returns c =
     let second = IsPartitionPoint-from_clause (is_named n) behind count c.partition_point-count.ensures.partitioned
     (partitioned (λ x. is_before n x ≡ false) (is_named n) (λ x y. named_down n x y) behind
     (subst Rises (sym whole) (drop_rises start entries c.requires))
-    (λ x i. is_not _ (of_filter (λ e. not (is_before n e)) entries x (subst (In x) late i)).1))
+    (λ x i. not-true _ (of_filter (λ e. not (is_before n e)) entries x (subst (In x) late i)).1))
     (λ a r f k. search rules) in
     front_is (is_named n) behind count c.partition_point-count.ensures.bound second.0 second.1
     ∙ ap (filter (is_named n)) late

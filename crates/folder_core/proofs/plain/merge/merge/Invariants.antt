@@ -1,4 +1,4 @@
-use Rattle.std.proofs.Common.{◌≡◌, ◌+◌, ◌≤◌, ◌++◌, reverse, vec_len, vec_capacity}
+use Rattle.std.proofs.Common.{◌≡◌, ◌+◌, ◌<◌, ◌≤◌, ◌++◌, reverse, vec_len, vec_capacity}
 use Rattle.std.specs.Prelude.{map}
 use Rattle.folder_core.specs.Kept.{NamesRise, Rises, filed, filed_by, put_all}
 use Rattle.folder_core.proofs.plain.merge.merge.Given as goal
@@ -9,7 +9,7 @@ invariant-loop-entry l = record {
   rises : Rises l.entries.items;
   names_rise : NamesRise l.records.items;
   entries_fit : vec_len l.entries + vec_len l.records + vec_len l.room ≤ vec_capacity l.entries;
-  room_fits : vec_len l.entries + vec_len l.records + vec_len l.room ≤ vec_capacity l.room;
+  room_fits : 0 < vec_len l.records → vec_len l.entries + vec_len l.records + vec_len l.room ≤ vec_capacity l.room;
 }
 
 abbrev pub decreases-loop-entry : goal.decreases-loop-entry

@@ -5,8 +5,8 @@ use Rattle.folder_core.specs.Kept.{IsLastOfEach}
 use Rattle.folder_core.proofs.PlainMessage.{before, before_ranks, dedup_first, dedup_rises, is_record_of, same_name, stable_first}
 use Rattle.folder_core.proofs.plain.message.last_of_each_name.Goals as goal
 
-pub returns : goal.returns
-returns c =
+pub returns-clause-last : goal.returns-clause-last
+returns-clause-last c =
     let sorted = c.sort_by.new.self.items in
     let kept : c.dedup_by.new.self.items ≡ dedup same_name sorted = dedup_same _ same_name _ (λ x y b f x' y' k. search rules) _ _ c.dedup_by.ensures.filtered in
     subst (IsLastOfEach c.args.records.items) (sym kept) (record {
