@@ -7,6 +7,7 @@ use Rattle.sync_blocks.specs.declared.block.Block.{Block}
 use Rattle.bep_messages.specs.declared.file_info.FileInfo.{FileInfo}
 use Rattle.bep_messages.specs.declared.block_info.BlockInfo.{BlockInfo}
 use Rattle.sync_record.specs.Infos.{block_of, block_size_of, is_block, is_file_info, is_live_file_info, record_of, record_with, is_natural}
+use Rattle.sync_record.specs.Records.{FileRecord, is_live_file}
 use Rattle.sync_record.specs.Validity.{IsKept, is_valid, is_well_formed, has_file, has_no_blocks, describes_file}
 
 sized : (n : ℤ) (is_none : Bool) → int_eq n (pos 0) ≡ is_none → (if is_none then pos 131072 else n) ≢ pos 0
@@ -72,3 +73,8 @@ valid_by info true true l f =
 
 pub valid : (info : FileInfo) → is_valid (record_of info) ≡ (not info.invalid && (not (is_live_file_info info) || is_file_info info))
 valid info = valid_by info (is_live_file_info info) (is_file_info info) refl refl
+
+pub whole : (r : FileRecord) → IsTrue (is_valid r) → IsTrue (is_live_file r) → IsTrue (describes_file r.size r.block_size r.blocks)
+whole r v l =
+    let parts = and_parts (not r.invalid) (is_well_formed r) v in
+    sym (ap (λ t. not t || describes_file r.size r.block_size r.blocks) l) ∙ parts.1

@@ -4,11 +4,11 @@ ghost use Rattle.std.specs.Cmp.{IsTotalOrder};
 ghost use Rattle.bep_messages.specs.declared.file_info.FileInfo.{FileInfo};
 ghost use Rattle.std.specs.declared.cmp.Ordering.TheVariants.{Less};
 ghost use Rattle.sync_record.specs.Devices.{Identity, bytes_cmp};
-ghost use Rattle.sync_record.specs.Records.{FileRecord, is_live};
+ghost use Rattle.sync_record.specs.Records.{FileRecord, is_live, is_live_file};
 ghost use Rattle.sync_record.specs.Contents.{same_content};
 ghost use Rattle.sync_record.specs.Infos.{is_file_info, is_live_file_info, record_of};
 ghost use Rattle.sync_record.specs.Preference.{AreAsOld, is_preferred, preference};
-ghost use Rattle.sync_record.specs.Validity.{IsKept, is_valid};
+ghost use Rattle.sync_record.specs.Validity.{IsKept, describes_file, is_valid};
 
 /// Of the records of two devices exactly one is preferred, and preference goes along a chain.
 pub fn preference_is_a_strict_order()
@@ -54,7 +54,7 @@ pub fn same_content_is_an_equivalence()
 {}
 
 /// Of a message that isn't well formed the record is invalid and has no blocks, and what isn't a live file has none. Any
-/// other record is valid where the message isn't marked invalid.
+/// other record is valid where the message isn't marked invalid. The blocks of a valid live file make it up.
 pub fn only_well_formed_files_have_blocks()
     ensures kept { (info : FileInfo) → IsKept (record_of info) }
     ensures broken { (info : FileInfo) → IsTrue (is_live_file_info info) → is_file_info info ≡ false →
@@ -62,4 +62,6 @@ pub fn only_well_formed_files_have_blocks()
     ensures no_file { (info : FileInfo) → is_live_file_info info ≡ false → (record_of info).blocks ≡ [] }
     ensures valid { (info : FileInfo) →
         is_valid (record_of info) ≡ (not info.invalid && (not (is_live_file_info info) || is_file_info info)) }
+    ensures whole { (r : FileRecord) → IsTrue (is_valid r) → IsTrue (is_live_file r) →
+        IsTrue (describes_file r.size r.block_size r.blocks) }
 {}

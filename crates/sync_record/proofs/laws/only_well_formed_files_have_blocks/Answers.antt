@@ -1,5 +1,5 @@
 use Rattle.std.proofs.Common.{ap, ◌∙◌}
-use Rattle.sync_record.proofs.Kept.{kept, broken_is, other_is, valid}
+use Rattle.sync_record.proofs.Kept.{kept, broken_is, other_is, valid, whole}
 use Rattle.sync_record.proofs.laws.only_well_formed_files_have_blocks.Goals as goal
 
 pub returns-clause-kept : goal.returns-clause-kept
@@ -13,3 +13,6 @@ returns-clause-no_file c = λ info l. ap (λ r. r.blocks) (other_is info l)
 
 pub returns-clause-valid : goal.returns-clause-valid
 returns-clause-valid c = valid
+
+pub returns-clause-whole : goal.returns-clause-whole
+returns-clause-whole c = whole
