@@ -18,7 +18,7 @@ use Rattle.folder_core.specs.States.{FolderState, Pull, local, local_version, sa
 use Rattle.folder_core.specs.Steps.{Answer, Token, Finding, ScanFound, ScanGone, EnterCommit, Finish, GiveUp, Abort, Busy, Moved, Unchanged, CounterFull, SequenceFull, Recorded, Stray, LocalMoved, Superseded, Entered, Done, Closed, step, refuse, scan_gone, scan_tests, enter_commit, finish, close_pull, pull_of, is_pull_committing, is_still_best, with_local, with_commit}
 use Rattle.folder_core.proofs.FolderLaws.{same_local}
 use Rattle.folder_core.proofs.OpenPulls.{pull_of-is, pull_of-fits}
-use Rattle.folder_core.proofs.SameRecords.{same_record-is, same_record-own}
+use Rattle.sync_record.proofs.Lemmas.{same_record-is, same_record-own}
 use Rattle.folder_core.proofs.StepCases.{holds, fails, found_now, gone_now}
 
 same_local-own : (v : Option Vector) → same_local_version v v ≡ true

@@ -1,9 +1,10 @@
 -- The best of a name, in the words of the rules: a candidate that is preferred to every other.
 use Rattle.folder_core.proofs.Listings.{lists-entries}
 use Rattle.folder_core.proofs.TestLemmas.{inside, none_some, same_bytes as same, alike_bytes as alike, by_or, other, In, all_in, in_all, any_in, in_any, in_filter, of_filter, found_in, only_found, some_free}
-use Rattle.folder_core.specs.Announced.{Announced, Announcement, key, is_of, is_by, is_candidate, is_preferred, is_best, best, bests, Lists, IsCandidate, IsBest}
+use Rattle.folder_core.specs.Announced.{Announced, Announcement, key, is_of, is_by, is_candidate, is_best, best, bests, Lists, IsCandidate, IsBest}
 use Rattle.std.proofs.Common.{◌≡◌, Bool, true, false, List, [], ◌∷◌, refl, sym, ap, subst, ◌∙◌, ◌↔◌}
 use Rattle.std.proofs.lemmas.Bool.{true≢false, and_parts, and_from, not-true, false_from_ne_true}
+use Rattle.folder_core.proofs.Preferred.{is_preferred}
 use Rattle.std.specs.Cmp.{tied_itself}
 use Rattle.sync_record.proofs.Lemmas.{preference_total, preference_tied}
 use Rattle.std.specs.FinMap.{get, entries}

@@ -1,6 +1,6 @@
 -- In a legal history each finish ends a pull that was begun and entered there.
 use Rattle.std.proofs.Common.{◌≡◌, ◌≢◌, ℕ, ◌+◌, Bool, true, false, List, [], ◌∷◌, ◌++◌, refl, sym, ap, subst, ◌∙◌, arith, ◌⊎◌, inl, inr, append_assoc, append-nil}
-use Rattle.std.specs.Prelude.{cond, Option, Some, None, option_map, is_some, count_by, bytes_eq, fold}
+use Rattle.std.specs.Prelude.{cond, Option, Some, None, option_map, is_some, count_by, bytes_eq, fold, ◌==◌}
 use Rattle.std.specs.FinMap.{get, entries, len, empty_of_len, get-empty}
 use Rattle.std.proofs.lemmas.Bool.{true≢false, false_from_ne_true, and_parts, eqb-true}
 use Rattle.std.proofs.lemmas.List.Sums.{sum_by-cons, sum_by-append}
@@ -16,9 +16,22 @@ use Rattle.folder_core.specs.Histories.{Entry, MayFollow, is_begin_of, is_enter_
 use Rattle.folder_core.proofs.Orders.{bytes_total, exact_names}
 use Rattle.folder_core.proofs.Maps.{insert_split, insert_apart, remove_split}
 use Rattle.folder_core.proofs.OpenPulls.{pull_of-is, pull_of-fits}
-use Rattle.folder_core.proofs.SameRecords.{same_record-is}
+use Rattle.sync_record.proofs.Lemmas.{same_record-is}
+use Rattle.folder_core.proofs.ReadLaws.{in_left, in_right}
 use Rattle.folder_core.proofs.StepCases.{step-cases}
 use Rattle.folder_core.proofs.FolderLaws.{step-folder}
+use Rattle.folder_core.proofs.TestLemmas.{In, in_contains}
+use Rattle.sync_record.specs.Same.{same_record}
+
+-- an entry by which the pull entered its commit
+record Entrance (es : List Entry) (n : Name) (p : Pull) : Type 0 where
+  entry : Entry
+  ticket : Token
+  listed : In entry es
+  answered : entry.answer ≡ Entered ticket
+  number : ticket.number ≡ p.number
+  name : ticket.name ≡ n
+  target : ticket.target ≡ p.target
 
 -- What stands in the history of an open pull: its begin, and behind it its entrance to the commit, if it entered.
 record Opened (front : List Entry) (n : Name) (p : Pull) : Type 0 where
@@ -34,6 +47,19 @@ record Opened (front : List Entry) (n : Name) (p : Pull) : Type 0 where
   base : option_map (λ r. r.version) ticket.base ≡ p.base
   begins : count_by (λ e. is_begin_of n e.answer) between ≡ 0
   enters : count_by (λ e. is_enter_of n e.answer) between ≡ cond (is_committing p) 1 0
+  entrance : is_committing p ≡ true → Entrance between n p
+
+-- one more entry behind those among which the entrance stands
+further : (es : List Entry) (e : Entry) (n : Name) (p : Pull) → Entrance es n p → Entrance (es ++ e ∷ []) n p
+further es e n p x = record {
+  entry = x.entry;
+  ticket = x.ticket;
+  listed = in_left es (e ∷ []) x.entry x.listed;
+  answered = x.answered;
+  number = x.number;
+  name = x.name;
+  target = x.target;
+}
 
 counted-push : (f : Entry → Bool) (es : List Entry) (e : Entry) → count_by f (es ++ e ∷ []) ≡ count_by f es + cond (f e) 1 0
 counted-push f es e = sum_by-append (λ x. cond (f x) 1 0) es (e ∷ []) ∙ ap (λ k. count_by f es + k) (sum_by-cons (λ x. cond (f x) 1 0) e [] ∙ one_and (cond (f e) 1 0))
@@ -42,8 +68,9 @@ counted-push f es e = sum_by-append (λ x. cond (f x) 1 0) es (e ∷ []) ∙ ap 
     one_and k = omega arith
 
 -- one more entry, by which the pull enters its commit, or which is of no pull of the name
-goes_on : (front : List Entry) (e : Entry) (n : Name) (p q : Pull) → Opened front n p → is_begin_of n e.answer ≡ false → p.number ≡ q.number → p.target ≡ q.target → p.base ≡ q.base → cond (is_committing p) 1 0 + cond (is_enter_of n e.answer) 1 0 ≡ cond (is_committing q) 1 0 → Opened (front ++ e ∷ []) n q
-goes_on front e n p q o quiet number target base enters = record {
+goes_on : (front : List Entry) (e : Entry) (n : Name) (p q : Pull) → Opened front n p → is_begin_of n e.answer ≡ false → p.number ≡ q.number → p.target ≡ q.target → p.base ≡ q.base → cond (is_committing p) 1 0 + cond (is_enter_of n e.answer) 1 0 ≡ cond (is_committing q) 1 0
+    → ((es : List Entry) → (is_committing p ≡ true → Entrance es n p) → is_committing q ≡ true → Entrance (es ++ e ∷ []) n q) → Opened (front ++ e ∷ []) n q
+goes_on front e n p q o quiet number target base enters entrance = record {
   before = o.before;
   begun = o.begun;
   between = o.between ++ e ∷ [];
@@ -56,10 +83,12 @@ goes_on front e n p q o quiet number target base enters = record {
   base = o.base ∙ base;
   begins = counted-push (λ x. is_begin_of n x.answer) o.between e ∙ ap (λ k. k + cond (is_begin_of n e.answer) 1 0) o.begins ∙ ap (λ b. 0 + cond b 1 0) quiet;
   enters = counted-push (λ x. is_enter_of n x.answer) o.between e ∙ ap (λ k. k + cond (is_enter_of n e.answer) 1 0) o.enters ∙ enters;
+  entrance = entrance o.between o.entrance;
 }
 
 later : (front : List Entry) (e : Entry) (n : Name) (p : Pull) → Opened front n p → is_begin_of n e.answer ≡ false → is_enter_of n e.answer ≡ false → Opened (front ++ e ∷ []) n p
 later front e n p o quiet idle = goes_on front e n p p o quiet refl refl refl (ap (λ b. cond (is_committing p) 1 0 + cond b 1 0) idle ∙ and_none (cond (is_committing p) 1 0))
+    (λ es old c. further es e n p (old c))
   where
     and_none : (k : ℕ) → k + 0 ≡ k
     and_none k = omega arith
@@ -103,6 +132,7 @@ module _ (s : FolderState) (front : List Entry) (e : Entry) (accepted : is_accep
           base = ap (λ (y : Pull). y.base) x.1;
           begins = refl;
           enters = ap (λ (y : Pull). cond (is_committing y) 1 0) x.1;
+          entrance = λ c. absurd (true≢false (sym c ∙ sym (ap is_committing x.1)));
         }
         by (inr f) = later front e n q (old n q f)
             (ap (is_begin_of n) (sym is) ∙ other_name m n (λ x. true≢false (sym (ap is_some (sym (ap (get s.pulls) x) ∙ f)) ∙ free)))
@@ -117,6 +147,9 @@ module _ (s : FolderState) (front : List Entry) (e : Entry) (accepted : is_accep
         open_pull : (get s.pulls t.name ≡ Some p) × (same_stage p.stage Pulling ≡ true)
         open_pull = pull_of-is s t Pulling p found
 
+        same : ((p.number == t.number) ≡ true) × (same_record p.target t.target ≡ true)
+        same = and_parts _ _ (and_parts _ _ (pull_of-fits s t Pulling p found)).0
+
         by : ((n ≡ t.name) × (p' ≡ q)) ⊎ ((n ≢ t.name) × (get s.pulls n ≡ Some q)) → Opened (front ++ e ∷ []) n q
         by (inl x) =
             let was : is_committing p ≡ false = not_committing p.stage open_pull.1 in
@@ -124,6 +157,15 @@ module _ (s : FolderState) (front : List Entry) (e : Entry) (accepted : is_accep
             goes_on front e n p q (old n p (ap (get s.pulls) x.0 ∙ open_pull.0)) (ap (is_begin_of n) (sym is))
             (ap (λ (y : Pull). y.number) x.1) (ap (λ (y : Pull). y.target) x.1) (ap (λ (y : Pull). y.base) x.1)
             ((λ i. cond (was i) 1 0 + cond (now i) 1 0) ∙ ap (λ (y : Pull). cond (is_committing y) 1 0) x.1)
+            (λ es old c. record {
+              entry = e;
+              ticket = t;
+              listed = in_right es (e ∷ []) e (inl refl);
+              answered = sym is;
+              number = sym (eqb-true p.number t.number same.0) ∙ ap (λ (y : Pull). y.number) x.1;
+              name = sym x.0;
+              target = sym (same_record-is p.target t.target same.1) ∙ ap (λ (y : Pull). y.target) x.1;
+            })
         by (inr x) = later front e n q (old n q x.1) (ap (is_begin_of n) (sym is)) (ap (is_enter_of n) (sym is) ∙ other_name t.name n x.0)
 
     traced_step : (c : Change) → (step s c).0 ≡ e.answer → Traced (step s c).1
@@ -140,60 +182,6 @@ module _ (s : FolderState) (front : List Entry) (e : Entry) (accepted : is_accep
       given_up = λ t p _ is. closed Closed (λ _. refl) (λ _. refl) is t.name;
       aborted = λ t p _ is. closed Closed (λ _. refl) (λ _. refl) is t.name;
     })
-
-abbrev Traces : List Entry → FolderState → Type 0
-Traces front s = (n : Name) (q : Pull) → get s.pulls n ≡ Some q → Opened front n q
-
--- along a legal history each open pull stays traced, and each state is a folder
-walk : (passes : ℕ) (front es rest : List Entry) (s : FolderState) → Traces front s → IsFolder s → IsLegal passes s (es ++ rest) → Traces (front ++ es) (fold after s es) × IsFolder (fold after s es) × IsLegal passes (fold after s es) rest
-walk passes front [] rest s traced folder legal = (λ n q g. subst (λ f. Opened f n q) (sym (append-nil front)) (traced n q g), folder, legal)
-walk passes front (e ∷ es) rest s traced folder legal =
-    let may = legal.0 in
-    let r = walk passes (front ++ e ∷ []) es rest (after s e) (traced_step s front e may.accepted traced e.change may.answered) (step-folder s e.change folder may.allowed) legal.1 in
-    (λ n q g. subst (λ f. Opened f n q) (append_assoc front (e ∷ []) es) (r.0 n q g), r.1, r.2)
-
-is_committing_stage : (st : Stage) → same_stage st Committing ≡ true → st ≡ Committing
-is_committing_stage Pulling e = absurd (true≢false (sym e))
-is_committing_stage Committing e = refl
-
-module _ (opening : FolderState) (front : List Entry) (commit : Token) (assembled : FileRecord) where
-  abbrev end : FolderState
-  end = state_after opening front
-
-  ends : (p : Pull) → pull_of end commit Committing ≡ Some p → Traces front end → IsFolder end → assembled ≡ commit.target → EndsPull opening front commit assembled
-  ends p found traced folder target =
-      let open_pull = pull_of-is end commit Committing p found in
-      let fit = and_parts _ _ (pull_of-fits end commit Committing p found) in
-      let same = and_parts _ _ fit.0 in
-      let o = traced commit.name p open_pull.0 in
-      record {
-        before = o.before;
-        begun = o.begun;
-        between = o.between;
-        ticket = o.ticket;
-        stands = o.stands;
-        began = o.began;
-        same = (o.number ∙ eqb-true p.number commit.number same.0, o.name, o.target ∙ same_record-is p.target commit.target same.1);
-        no_other_begin = o.begins;
-        one_enter = o.enters ∙ ap (λ b. cond b 1 0) open_pull.1;
-        unmoved = folder.unmoved commit.name p open_pull.0 (is_committing_stage p.stage open_pull.1) ∙ sym o.base;
-        target = target;
-      }
-
-  finished : (o : Option Pull) → pull_of end commit Committing ≡ o → is_accepted (finish end commit o).0 ≡ true → Traces front end → IsFolder end → assembled ≡ commit.target → EndsPull opening front commit assembled
-  finished None found accepted traced folder target = absurd (true≢false (sym accepted))
-  finished (Some p) found accepted traced folder target = ends p found traced folder target
-
-no_pull : (s : FolderState) → len s.pulls ≡ 0 → (n : Name) (q : Pull) → get s.pulls n ≡ Some q → Opened [] n q
-no_pull s none n q g = absurd (let e : None ≡ Some q = sym (ap (λ m. get m n) (empty_of_len s.pulls none) ∙ get-empty bytes_cmp n) ∙ g in cc)
-
-pub commits-legal : CommitsAreLegal
-commits-legal passes opening front rest done commit assembled folder none legal is =
-    let r = walk passes [] front (done ∷ rest) opening (no_pull opening none) folder legal in
-    let may = r.2.0 in
-    finished opening front commit assembled (pull_of (state_after opening front) commit Committing) refl
-    (ap (λ c. is_accepted (step (state_after opening front) c).0) (sym is) ∙ ap is_accepted may.answered ∙ may.accepted)
-    r.0 r.1 (subst (MayChange (state_after opening front)) is may.allowed)
 
 -- ---- the begin of a pull in a legal history
 
@@ -236,3 +224,66 @@ legal-at passes (f ∷ front) rest e s legal = legal-at passes front rest e (aft
 pub legal-begin : (passes : ℕ) (opening : FolderState) (front rest : List Entry) (e : Entry) (t : Token) → IsLegal passes opening (front ++ e ∷ rest) → e.answer ≡ Begun t → BeginsWell (state_after opening front) t
 legal-begin passes opening front rest e t legal is =
     begins-well (state_after opening front) e.change t ((legal-at passes front rest e opening legal).answered ∙ is)
+
+-- ---- the end of a pull
+
+abbrev Traces : List Entry → FolderState → Type 0
+Traces front s = (n : Name) (q : Pull) → get s.pulls n ≡ Some q → Opened front n q
+
+-- along a legal history each open pull stays traced, and each state is a folder
+walk : (passes : ℕ) (front es rest : List Entry) (s : FolderState) → Traces front s → IsFolder s → IsLegal passes s (es ++ rest) → Traces (front ++ es) (fold after s es) × IsFolder (fold after s es) × IsLegal passes (fold after s es) rest
+walk passes front [] rest s traced folder legal = (λ n q g. subst (λ f. Opened f n q) (sym (append-nil front)) (traced n q g), folder, legal)
+walk passes front (e ∷ es) rest s traced folder legal =
+    let may = legal.0 in
+    let r = walk passes (front ++ e ∷ []) es rest (after s e) (traced_step s front e may.accepted traced e.change may.answered) (step-folder s e.change folder may.allowed) legal.1 in
+    (λ n q g. subst (λ f. Opened f n q) (append_assoc front (e ∷ []) es) (r.0 n q g), r.1, r.2)
+
+is_committing_stage : (st : Stage) → same_stage st Committing ≡ true → st ≡ Committing
+is_committing_stage Pulling e = absurd (true≢false (sym e))
+is_committing_stage Committing e = refl
+
+module _ (passes : ℕ) (opening : FolderState) (front rest : List Entry) (done : Entry) (commit : Token) (assembled : FileRecord) (legal : IsLegal passes opening (front ++ done ∷ rest)) where
+  abbrev end : FolderState
+  end = state_after opening front
+
+  ends : (p : Pull) → pull_of end commit Committing ≡ Some p → Traces front end → IsFolder end → assembled ≡ commit.target → EndsPull opening front commit assembled
+  ends p found traced folder target =
+      let open_pull = pull_of-is end commit Committing p found in
+      let fit = and_parts _ _ (pull_of-fits end commit Committing p found) in
+      let same = and_parts _ _ fit.0 in
+      let o = traced commit.name p open_pull.0 in
+      let x = o.entrance open_pull.1 in
+      record {
+        before = o.before;
+        begun = o.begun;
+        between = o.between;
+        ticket = o.ticket;
+        stands = o.stands;
+        began = o.began;
+        over = (legal-begin passes opening o.before (o.between ++ done ∷ rest) o.begun o.ticket
+            (subst (IsLegal passes opening) (ap (λ es. es ++ done ∷ rest) o.stands ∙ append_assoc o.before (o.begun ∷ o.between) (done ∷ rest)) legal) o.began).0;
+        same = (o.number ∙ eqb-true p.number commit.number same.0, o.name, o.target ∙ same_record-is p.target commit.target same.1);
+        entered = x.entry;
+        entrance = x.ticket;
+        enters = (in_contains o.between x.entry x.listed, x.answered);
+        same_entrance = (x.number ∙ eqb-true p.number commit.number same.0, x.name, x.target ∙ same_record-is p.target commit.target same.1);
+        no_other_begin = o.begins;
+        one_enter = o.enters ∙ ap (λ b. cond b 1 0) open_pull.1;
+        unmoved = folder.unmoved commit.name p open_pull.0 (is_committing_stage p.stage open_pull.1) ∙ sym o.base;
+        target = target;
+      }
+
+  finished : (o : Option Pull) → pull_of end commit Committing ≡ o → is_accepted (finish end commit o).0 ≡ true → Traces front end → IsFolder end → assembled ≡ commit.target → EndsPull opening front commit assembled
+  finished None found accepted traced folder target = absurd (true≢false (sym accepted))
+  finished (Some p) found accepted traced folder target = ends p found traced folder target
+
+no_pull : (s : FolderState) → len s.pulls ≡ 0 → (n : Name) (q : Pull) → get s.pulls n ≡ Some q → Opened [] n q
+no_pull s none n q g = absurd (let e : None ≡ Some q = sym (ap (λ m. get m n) (empty_of_len s.pulls none) ∙ get-empty bytes_cmp n) ∙ g in cc)
+
+pub commits-legal : CommitsAreLegal
+commits-legal passes opening front rest done commit assembled folder none legal is =
+    let r = walk passes [] front (done ∷ rest) opening (no_pull opening none) folder legal in
+    let may = r.2.0 in
+    finished passes opening front rest done commit assembled legal (pull_of (state_after opening front) commit Committing) refl
+    (ap (λ c. is_accepted (step (state_after opening front) c).0) (sym is) ∙ ap is_accepted may.answered ∙ may.accepted)
+    r.0 r.1 (subst (MayChange (state_after opening front)) is may.allowed)

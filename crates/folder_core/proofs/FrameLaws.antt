@@ -1,18 +1,22 @@
 -- What a change leaves as it is.
 use Rattle.std.proofs.Common.{◌≡◌, ◌≢◌, ℕ, true, false, List, refl, sym, ap, ◌∙◌, ◌⊎◌, inl, inr}
-use Rattle.std.specs.Prelude.{bytes_eq}
+use Rattle.std.specs.Prelude.{bytes_eq, Option}
 use Rattle.std.specs.FinMap.{get}
 use Rattle.std.proofs.lemmas.Bool.{cases_Bool, true≢false}
 use Rattle.std.proofs.lemmas.Slice.Eq.{bytes_eq-Decides}
 use Rattle.sync_record.specs.Devices.{Identity}
 use Rattle.sync_record.specs.Records.{Name, FileRecord}
+use Rattle.folder_core.specs.declared.stage.Stage.TheVariants.{Committing}
 use Rattle.folder_core.specs.Announced.{Key, key}
-use Rattle.folder_core.specs.States.{FolderState}
-use Rattle.folder_core.specs.Steps.{Change, Token, IndexFull, IndexMore, Forget, BeginPull, EnterCommit, Finish, GiveUp, Abort, step, with_local, committed_record}
+use Rattle.sync_version.specs.Versions.{Vector}
+use Rattle.folder_core.specs.States.{FolderState, local, IsFolder}
+use Rattle.folder_core.specs.Steps.{Change, Finding, MayChange, next_version, Token, ScanFound, ScanGone, IndexFull, IndexMore, Forget, BeginPull, EnterCommit, Finish, GiveUp, Abort, step, with_local, committed_record}
 use Rattle.folder_core.proofs.Orders.{keys_total, exact_keys, bytes_total, exact_names}
 use Rattle.folder_core.proofs.Maps.{insert_other, remove_other}
+use Rattle.folder_core.proofs.OpenPulls.{pull_of-is}
 use Rattle.folder_core.proofs.Indexes.{get-announce, get-without_other, get-index_other}
-use Rattle.folder_core.proofs.RecordLaws.{numbered}
+use Rattle.folder_core.proofs.FolderLaws.{found-name}
+use Rattle.folder_core.proofs.RecordLaws.{numbered, local-elsewhere}
 use Rattle.folder_core.proofs.StepCases.{step-cases, found_now, gone_now}
 
 pub step-me : (s : FolderState) (c : Change) → (step s c).1.me ≡ s.me
@@ -87,4 +91,30 @@ step-pulls s = step-cases s (λ x o. (n : Name) → (get o.1.pulls n ≡ get s.p
       (λ apart. inl (remove_other bytes_total exact_names s.pulls t.name n (λ e. apart (sym e))));
   aborted = λ t p _ n. same_or_not t.name n (λ same. inr (inr (t, same, inr (inr (inr refl)))))
       (λ apart. inl (remove_other bytes_total exact_names s.pulls t.name n (λ e. apart (sym e))));
+})
+
+-- the change is of the local record of the name
+abbrev pub LocalAt : Change → Name → Type 0
+LocalAt c n =
+    ((expected : Option Vector) × (f : Finding) × (moment : ℕ) × (c ≡ ScanFound n expected f moment))
+    ⊎ (((expected : Option Vector) × (moment : ℕ) × (c ≡ ScanGone n expected moment))
+    ⊎ ((t : Token) × (r : FileRecord) × (t.name ≡ n) × (c ≡ Finish t r)))
+
+-- local records change by scans and finishes of their names alone
+pub step-locals : (s : FolderState) → IsFolder s → (c : Change) (n : Name) → MayChange s c → (local (step s c).1 n ≡ local s n) ⊎ LocalAt c n
+step-locals s folder = step-cases s (λ x o. (n : Name) → MayChange s x → (local o.1 n ≡ local s n) ⊎ LocalAt x n) (record {
+  refused = λ _ a _ n _. inl refl;
+  found = λ m expected f moment _ n _. same_or_not m n (λ same. inr (inl (expected, f, moment, ap (λ x. ScanFound x expected f moment) same)))
+      (λ apart. inl (local-elsewhere s (found_now s m f moment) m n (found-name s m (next_version s m moment) f f.content) (λ e. apart (sym e))));
+  gone = λ m expected moment r is _ n _. same_or_not m n (λ same. inr (inr (inl (expected, moment, ap (λ x. ScanGone x expected moment) same))))
+      (λ apart. inl (local-elsewhere s (gone_now s m r moment) m n (folder.named (key m s.me) r is) (λ e. apart (sym e))));
+  full = λ d rs n may. inl (get-index_other d rs s.announced s.me n may);
+  more = λ d rs n may. inl (get-announce d rs s.announced s.me n may);
+  forgotten = λ d n may. inl (get-without_other d s.announced s.me n may);
+  begun = λ m b _ _ n _. inl refl;
+  entered = λ t p _ _ n _. inl refl;
+  finished = λ t assembled p found n _. same_or_not t.name n (λ same. inr (inr (inr (t, assembled, same, refl))))
+      (λ apart. inl (local-elsewhere s (committed_record p.base p.target) t.name n (folder.targets t.name p (pull_of-is s t Committing p found).0).0 (λ e. apart (sym e))));
+  given_up = λ t p _ n _. inl refl;
+  aborted = λ t p _ n _. inl refl;
 })

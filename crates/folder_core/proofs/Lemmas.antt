@@ -7,12 +7,20 @@ pub use Rattle.folder_core.proofs.NeedLaws.{need-rising, need-tells}
 pub use Rattle.folder_core.proofs.TestLemmas.{In, in_contains, contains_in}
 pub use Rattle.folder_core.proofs.AllBests.{bests-rise, bests-announced, bests-tell, bests-by_name, bests-lines, IsOneOrWas, full-names, more-names}
 pub use Rattle.folder_core.proofs.StepLaws.{step-keeps}
-pub use Rattle.folder_core.proofs.FrameLaws.{step-me, step-devices, step-pulls}
+pub use Rattle.folder_core.proofs.FrameLaws.{step-me, step-devices, step-locals, step-pulls}
 pub use Rattle.folder_core.proofs.FolderLaws.{empty-folder, step-folder, legal-folder}
-pub use Rattle.folder_core.proofs.NumberLaws.{step-numbered, step-last, step-new}
+pub use Rattle.folder_core.proofs.NumberLaws.{step-numbered, step-new}
+pub use Rattle.folder_core.proofs.SequenceLaws.{step-taken, step-kept, step-fits}
+pub use Rattle.folder_core.proofs.PullLaws.{begin-opens, enter-commits, give_up-closes, abort-closes}
 pub use Rattle.folder_core.proofs.PullNumbers.{number-least}
 pub use Rattle.folder_core.proofs.BeginLaws.{begin-busy, begin-unneeded, begin-unsupported, begin-begun}
 pub use Rattle.folder_core.proofs.RecordLaws.{found-number, found-elsewhere, file-recorded, directory-recorded, gone-number, gone-elsewhere, gone-recorded, Finishes, finish-tells}
 pub use Rattle.folder_core.proofs.AnswerLaws.{found-busy, found-moved, found-unchanged, found-counter, found-sequence, found-made, gone-busy, gone-moved, gone-unchanged, gone-counter, gone-sequence, gone-made}
 pub use Rattle.folder_core.proofs.AnswerLaws.{Stands, enter-stray, enter-moved, enter-superseded, enter-sequence, enter-entered, finish-stray, finish-done, give_up-stray, give_up-closed, abort-stray, abort-closed}
 pub use Rattle.folder_core.proofs.CommitLaws.{commits-legal, legal-begin}
+pub use Rattle.folder_core.proofs.HistoryLaws.{legal-front, legal-push, state-push, own-push, own-skip, shared-full, shared-same, shared-room, finish-fits, give_up-fits, abort-fits}
+pub use Rattle.folder_core.proofs.SharedLaws.{OfOneCaller, tells-longer, tells-entered, tells-refused, shared-legal}
+pub use Rattle.folder_core.proofs.ReadLaws.{BestTold, best-read, no_best-read, need-page_rises, need-page_fits, need-page_of, need-page_has, StandsIn, place-read, no_place-read, known-own, known-greatest, known-reached}
+pub use Rattle.folder_core.proofs.PageLaws.{page-rises, page-fits, page-of, page-has}
+pub use Rattle.folder_core.proofs.SameLaws.{HasFound, unchanged-has, has-unchanged}
+pub use Rattle.folder_core.proofs.CopyLaws.{InConflict, copy-due}

@@ -1,5 +1,6 @@
 pub mod TestLemmas
 pub mod Orders
+pub mod Preferred
 pub mod Listings
 pub mod Maps
 pub mod Indexes
@@ -9,7 +10,8 @@ pub mod NeedLaws
 pub mod AllBests
 pub mod Commits
 pub mod OpenPulls
-pub mod SameRecords
+pub mod PullLaws
+pub mod SequenceLaws
 pub mod PullNumbers
 pub mod StepCases
 pub mod StepLaws
@@ -20,6 +22,12 @@ pub mod FrameLaws
 pub mod BeginLaws
 pub mod AnswerLaws
 pub mod CommitLaws
+pub mod HistoryLaws
+pub mod SharedLaws
+pub mod CopyLaws
+pub mod SameLaws
+pub mod ReadLaws
+pub mod PageLaws
 pub mod Listed
 pub mod Rows
 pub mod Lemmas

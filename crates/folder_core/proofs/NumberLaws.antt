@@ -96,19 +96,3 @@ step-new s = step-cases s (λ x d. MayChange s x → IsNew s d.1) (record {
   given_up = λ t p _ _ n r e. inl e;
   aborted = λ t p _ _ n r e. inl e;
 })
-
--- the last sequence never falls
-pub step-last : (s : FolderState) (c : Change) → s.last ≤ (step s c).1.last
-step-last s = step-cases s (λ _ d. s.last ≤ d.1.last) (record {
-  refused = λ _ a _. omega arith;
-  found = λ n expected f moment _. omega arith;
-  gone = λ n expected moment r _ _. omega arith;
-  full = λ d rs. omega arith;
-  more = λ d rs. omega arith;
-  forgotten = λ d. omega arith;
-  begun = λ n b _ _. omega arith;
-  entered = λ t p _ _. omega arith;
-  finished = λ t assembled p _. omega arith;
-  given_up = λ t p _. omega arith;
-  aborted = λ t p _. omega arith;
-})

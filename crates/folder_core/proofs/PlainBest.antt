@@ -13,11 +13,12 @@ use Rattle.sync_record.specs.Preference.{preference}
 use Rattle.sync_record.specs.Records.{Name, FileRecord}
 use Rattle.sync_record.specs.Validity.{is_valid}
 use Rattle.sync_version.specs.Computed.{dominates}
-use Rattle.folder_core.specs.Announced.{In, Announcement, key_cmp, is_of, is_by, is_candidate, is_preferred, is_best, best, bests}
+use Rattle.folder_core.specs.Announced.{In, Announcement, key_cmp, is_of, is_by, is_candidate, is_best, best, bests}
 use Rattle.folder_core.proofs.BestLaws.{one_way}
 use Rattle.folder_core.proofs.Orders.{keys_total, exact_keys}
 use Rattle.folder_core.proofs.PlainTests.{any_same, none_found}
 use Rattle.folder_core.proofs.TestLemmas.{same_bytes, alike_bytes, by_or, other, in_all, all_in, in_filter, of_filter, only_found, one_entry}
+use Rattle.folder_core.proofs.Preferred.{is_preferred}
 
 abbrev pub undominated : List Announcement → Announcement → Bool
 undominated es e = is_valid e.1 && not (list_any (λ f. is_valid f.1 && dominates f.1.version e.1.version) es)

@@ -13,7 +13,8 @@ use Rattle.sync_record.specs.Records.{Name, FileRecord}
 use Rattle.sync_record.specs.Validity.{is_valid}
 use Rattle.sync_version.specs.Computed.{dominates, same_version}
 use Rattle.folder_core.specs.declared.plain.entry.Entry.{Entry}
-use Rattle.folder_core.specs.Announced.{In, Announcement, key_cmp, is_of, is_preferred, best, devices_of}
+use Rattle.folder_core.specs.Announced.{In, Announcement, key_cmp, is_of, best, devices_of}
+use Rattle.folder_core.proofs.Preferred.{is_preferred}
 use Rattle.folder_core.specs.Codes.{Pulls}
 use Rattle.folder_core.specs.Reads.{best_found}
 use Rattle.folder_core.specs.Kept.{Rises, better, better_of, filed, folder_of, is_undominated}

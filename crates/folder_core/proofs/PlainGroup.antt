@@ -18,7 +18,8 @@ use Rattle.sync_record.specs.Records.{Name}
 use Rattle.sync_record.specs.Validity.{is_valid}
 use Rattle.sync_version.specs.Computed.{dominates, same_version}
 use Rattle.folder_core.specs.declared.plain.entry.Entry.{Entry}
-use Rattle.folder_core.specs.Announced.{In, Announcement, Key, key_cmp, is_of, is_candidate, is_best, best, devices_of, is_by, is_preferred}
+use Rattle.folder_core.specs.Announced.{In, Announcement, Key, key_cmp, is_of, is_candidate, is_best, best, devices_of, is_by}
+use Rattle.folder_core.proofs.Preferred.{is_preferred}
 use Rattle.folder_core.specs.Kept.{Rises, filed}
 use Rattle.folder_core.proofs.PlainTests.{none_left, any_filter, filter_filter, find_filter, find_same}
 use Rattle.folder_core.proofs.TestLemmas.{same_bytes, alike_bytes, is_less, parts}

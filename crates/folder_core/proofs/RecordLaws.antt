@@ -1,6 +1,6 @@
 -- What scans and commits record.
 use Rattle.std.proofs.Common.{◌≡◌, ◌≢◌, ℕ, ◌+◌, true, false, List, [], refl, sym, ap, subst, ◌∙◌}
-use Rattle.std.specs.Prelude.{cond, Option, Some, None, unwrap_or, option_map, ⊤}
+use Rattle.std.specs.Prelude.{cond, Option, Some, None, unwrap_or, option_map, IsTrue, ⊤}
 use Rattle.std.specs.Ordering.{eq_by_cmp, is_eq}
 use Rattle.std.specs.Cmp.{tied_itself}
 use Rattle.std.specs.FinMap.{get, remove, get-insert, get-remove}
@@ -10,15 +10,16 @@ use Rattle.sync_version.specs.Versions.{Vector}
 use Rattle.sync_blocks.specs.declared.block.Block.{Block}
 use Rattle.sync_record.specs.Devices.{short_id}
 use Rattle.sync_record.specs.Records.{Name, FileRecord}
+use Rattle.sync_record.specs.Validity.{is_valid}
 use Rattle.folder_core.specs.declared.stage.Stage.{Stage}
 use Rattle.folder_core.specs.declared.stage.Stage.TheVariants.{Pulling, Committing}
 use Rattle.folder_core.specs.Announced.{Key, key, key_cmp}
-use Rattle.folder_core.specs.States.{FolderState, Pull, local, same_stage, IsFolder}
+use Rattle.folder_core.specs.States.{FolderState, Pull, local, local_version, same_stage, IsFolder}
 use Rattle.folder_core.specs.Steps.{Answer, Change, Token, Finding, FoundDirectory, FoundFile, ScanFound, ScanGone, IndexFull, IndexMore, Forget, BeginPull, EnterCommit, Finish, GiveUp, Abort, Recorded, Done, is_accepted, step, with_local, without_pull, committed_record, gone_record, next_version}
 use Rattle.folder_core.proofs.Orders.{keys_total, exact_keys, bytes_total}
 use Rattle.folder_core.proofs.Maps.{insert_other}
 use Rattle.folder_core.proofs.OpenPulls.{pull_of-is, pull_of-fits}
-use Rattle.folder_core.proofs.SameRecords.{same_record-is}
+use Rattle.sync_record.proofs.Lemmas.{same_record-is}
 use Rattle.folder_core.proofs.StepCases.{step-cases, found_now, gone_now}
 use Rattle.folder_core.proofs.FolderLaws.{found-name}
 
@@ -141,6 +142,8 @@ pub record Finishes (s : FolderState) (c : Token) (k : ℕ) (t : FolderState) : 
   pub stage : pull.stage ≡ Committing
   pub number : pull.number ≡ c.number
   pub target : pull.target ≡ c.target
+  pub valid : IsTrue (is_valid c.target)
+  pub unmoved : local_version s c.name ≡ pull.base
   pub given : k ≡ s.last + 1
   pub here : local t c.name ≡ Some (record c.target { version = merge (unwrap_or pull.base []) c.target.version; sequence = k })
   pub elsewhere : (m : Name) → m ≢ c.name → local t m ≡ local s m
@@ -161,6 +164,8 @@ finishes s c p k folder is stage number target given = record {
   stage = stage;
   number = number;
   target = target;
+  valid = ap is_valid (sym target) ∙ (folder.targets c.name p is).1;
+  unmoved = folder.unmoved c.name p is stage;
   given = given;
   here = local-here s (committed_record p.base p.target) c.name name
       ∙ (λ i. Some (record (target i) { version = merge (unwrap_or p.base []) (target i).version; sequence = sym given i }));

@@ -1,13 +1,12 @@
 -- The worked rows, by computation.
 use Rattle.std.proofs.Common.{◌≡◌, [], ◌∷◌, refl}
-use Rattle.std.specs.Prelude.{replicate, Some, None, false}
+use Rattle.std.specs.Prelude.{replicate, pos, Some, None, false}
 use Rattle.std.specs.FinMap.{entries}
 use Rattle.folder_core.specs.Announced.{best, is_candidate}
 use Rattle.folder_core.specs.States.{need}
 use Rattle.folder_core.specs.Reads.{best_found, local_since, places, counts, known, need_page}
-use Rattle.folder_core.specs.Steps.{step, Leads, BeginPull, IndexFull, IndexMore, NotNeeded, Unsupported, Applied, Begun}
-use Rattle.folder_core.specs.Histories.{SharedLeads}
-use Rattle.folder_core.specs.Samples.{me, p2, y, recorded, two_files, places_of_abd, counts_of_two, p1, p2, p3, x, file, deletion, content, modified, abc, by, folder, target, full_target, ring, deleted_and_live, deleted_alone, modified_by_5_and_7, cut_short, one_version, one_content, invalid_above, deleted_there, deletion_pulled, deletion_ticket, offered, appeared, local_moves, commit_is_closed, target_is_withdrawn, commit_merges, stray_tickets, other_tickets, no_sequence_to_enter, link_offered, scans, counter_is_full, sequences_end, commit_keeps_sequence, history_of_2, history_of_3, history_of_4}
+use Rattle.folder_core.specs.Steps.{step, BeginPull, IndexFull, IndexMore, NotNeeded, Unsupported, Applied, Begun}
+use Rattle.folder_core.specs.Samples.{Leads, SharedLeads, me, p2, y, recorded, two_files, places_of_abd, counts_of_two, p1, p2, p3, x, file, deletion, content, modified, abc, by, folder, target, full_target, ring, deleted_and_live, deleted_alone, modified_by_5_and_7, cut_short, one_version, one_content, invalid_above, nanoseconds_apart, counters_apart, shared_by_two, of_each_kind, counts_of_each_kind, deleted_there, deletion_pulled, deletion_ticket, offered, appeared, local_moves, commit_is_closed, target_is_withdrawn, commit_merges, stray_tickets, other_tickets, no_sequence_to_enter, link_offered, scans, counter_is_full, sequences_end, commit_keeps_sequence, history_of_2, history_of_3, history_of_4}
 use Rattle.folder_core.proofs.Listed.{listed}
 
 pub ring-best : best ring x ≡ Some (by p3 (file ((3, 1) ∷ []) 2))
@@ -45,6 +44,18 @@ content-devices = simp listed
 
 pub invalid-passed : best invalid_above x ≡ Some (by p2 (file ((1, 1) ∷ []) 1))
 invalid-passed = refl
+
+pub nanoseconds-later : best nanoseconds_apart x ≡ Some (by p2 (record (file ((2, 1) ∷ []) 1) { modified_ns = pos 4 }))
+nanoseconds-later = refl
+
+pub counters-greater : best counters_apart x ≡ Some (by p2 (file ((1, 2) ∷ []) 1))
+counters-greater = refl
+
+pub shared-devices : best_found (folder shared_by_two 1 []) x ≡ Some (content 3 abc (file ((1, 1) ∷ []) 2), me ∷ p1 ∷ [])
+shared-devices = simp listed
+
+pub kinds-counted : counts of_each_kind ≡ counts_of_each_kind
+kinds-counted = simp listed
 
 pub deletion-needed : need deleted_there ≡ x ∷ []
 deletion-needed = simp listed

@@ -1,12 +1,12 @@
 -- The records that devices announce, and the best of each name (Syncthing, "Understanding Synchronization").
 use Rattle.std.specs.Prelude.{bytes_eq, ◌≡◌, ◌≢◌, Bool, not, ◌&&◌, ◌||◌, ◌⊎◌, List, [], ◌∷◌, map, filter, find, fold, Option, Some, IsTrue}
 use Rattle.std.specs.List.{list_all, list_any}
-use Rattle.std.specs.Ordering.{on, then_cmp, is_gt}
+use Rattle.std.specs.Ordering.{on, then_cmp}
 use Rattle.std.specs.declared.cmp.Ordering.{Ordering}
 use Rattle.std.specs.FinMap.{FinMap, get, insert, retain_keys}
 use Rattle.sync_record.specs.Contents.{same_content}
 use Rattle.sync_record.specs.Devices.{Identity, bytes_cmp}
-use Rattle.sync_record.specs.Preference.{preference}
+use Rattle.sync_record.specs.Preference.{is_preferred}
 use Rattle.sync_record.specs.Records.{Name, FileRecord}
 use Rattle.sync_record.specs.Validity.{is_valid}
 use Rattle.sync_version.specs.Computed.{dominates, same_version}
@@ -55,14 +55,15 @@ abbrev pub is_candidate : List Announcement → Announcement → Bool
 is_candidate es e =
     is_valid e.1 && not (list_any (λ f. is_of e.0.name f && is_valid f.1 && dominates f.1.version e.1.version) es)
 
-abbrev pub is_preferred : Announcement → Announcement → Bool
-is_preferred e f = is_gt (preference (e.0.device, e.1) (f.0.device, f.1))
+-- the record with its device
+abbrev pub by_device : Announcement → Identity × FileRecord
+by_device e = (e.0.device, e.1)
 
 -- the candidate that is preferred to every other of its name
 abbrev pub is_best : List Announcement → Announcement → Bool
 is_best es e =
     is_candidate es e
-    && list_all (λ f. is_by e.0.device f || is_preferred e f) (filter (λ f. is_of e.0.name f && is_candidate es f) es)
+    && list_all (λ f. is_by e.0.device f || is_preferred (by_device e) (by_device f)) (filter (λ f. is_of e.0.name f && is_candidate es f) es)
 
 -- the best of each name that has one, in byte order
 abbrev pub bests : List Announcement → List Announcement
@@ -85,7 +86,7 @@ pub record IsCandidate (a : Announced) (n : Name) (d : Identity) (r : FileRecord
 
 pub record IsBest (a : Announced) (n : Name) (d : Identity) (r : FileRecord) : Type 0 where
   pub candidate : IsCandidate a n d r
-  pub preferred : (e : Identity) (q : FileRecord) → IsCandidate a n e q → e ≢ d → IsTrue (is_gt (preference (d, r) (e, q)))
+  pub preferred : (e : Identity) (q : FileRecord) → IsCandidate a n e q → e ≢ d → IsTrue (is_preferred (d, r) (e, q))
 
 -- the list has what is announced and nothing else, in any order
 pub record Lists (a : Announced) (es : List Announcement) : Type 0 where

@@ -1,8 +1,8 @@
 -- A folder that several callers share: the history of its changes.
-use Rattle.std.specs.Prelude.{bytes_eq, false, ◌++◌, count_by, option_map, ◌≡◌, ℕ, ◌+◌, ◌≤◌, Bool, ◌&&◌, ◌==◌, nat_lt, if◌then◌else◌, List, [], ◌∷◌, length, filter, fold, IsTrue, ⊤}
+use Rattle.std.specs.Prelude.{bytes_eq, false, ◌++◌, count_by, Contains, option_map, ◌≡◌, ℕ, ◌+◌, ◌≤◌, Bool, ◌&&◌, ◌==◌, nat_lt, if◌then◌else◌, List, [], ◌∷◌, length, filter, fold, IsTrue, ⊤}
 use Rattle.std.specs.FinMap.{len}
 use Rattle.sync_record.specs.Records.{Name, FileRecord}
-use Rattle.folder_core.specs.States.{FolderState, IsFolder, local_version}
+use Rattle.folder_core.specs.States.{FolderState, IsFolder, local, local_version}
 use Rattle.folder_core.specs.Steps.{Change, Answer, Token, Begun, Entered, Finish, HistoryFull, is_accepted, step, MayChange}
 
 -- an accepted change: whose it was, what was asked, and what was answered
@@ -50,12 +50,6 @@ shared_answer limit opening es change = (shared_step limit (length es) (state_af
 abbrev pub own_entries : ℕ → List Entry → List Entry
 own_entries pass es = filter (λ e. e.pass == pass) es
 
--- behind a history of some length each change gives its answer and its state, one after another
-abbrev pub SharedLeads : ℕ → ℕ → FolderState → List (Change × Answer × FolderState) → Type 0
-SharedLeads limit entries s [] = ⊤
-SharedLeads limit entries s (m ∷ ms) =
-    (shared_step limit entries s m.0 ≡ (m.1, m.2)) × SharedLeads limit (if is_accepted m.1 then entries + 1 else entries) m.2 ms
-
 -- the entry begins a pull of the name, or enters its commit
 abbrev pub is_begin_of : Name → Answer → Bool
 is_begin_of n (Begun t) = bytes_eq t.name n
@@ -65,8 +59,8 @@ abbrev pub is_enter_of : Name → Answer → Bool
 is_enter_of n (Entered t) = bytes_eq t.name n
 is_enter_of n _ = false
 
--- A finish that stands behind some entries ends the pull that was begun and entered there, over the
--- local version of its begin, with its target assembled.
+-- A finish that stands behind some entries ends the pull that was begun there over the local record, and entered: over
+-- the version of that record, which is the local one still, with its target assembled.
 pub record EndsPull (opening : FolderState) (front : List Entry) (commit : Token) (assembled : FileRecord) : Type 0 where
   pub before : List Entry
   pub begun : Entry
@@ -74,7 +68,12 @@ pub record EndsPull (opening : FolderState) (front : List Entry) (commit : Token
   pub ticket : Token
   pub stands : front ≡ before ++ begun ∷ between
   pub began : begun.answer ≡ Begun ticket
+  pub over : ticket.base ≡ local (state_after opening before) ticket.name
   pub same : (ticket.number ≡ commit.number) × (ticket.name ≡ commit.name) × (ticket.target ≡ commit.target)
+  pub entered : Entry
+  pub entrance : Token
+  pub enters : Contains between entered × (entered.answer ≡ Entered entrance)
+  pub same_entrance : (entrance.number ≡ commit.number) × (entrance.name ≡ commit.name) × (entrance.target ≡ commit.target)
   pub no_other_begin : count_by (λ e. is_begin_of commit.name e.answer) between ≡ 0
   pub one_enter : count_by (λ e. is_enter_of commit.name e.answer) between ≡ 1
   pub unmoved : local_version (state_after opening front) commit.name ≡ option_map (λ r. r.version) ticket.base

@@ -1,5 +1,5 @@
 -- Worked rows: small folders, and what the rules make of them.
-use Rattle.std.specs.Prelude.{ℕ, true, false, pos, List, [], ◌∷◌, ◌++◌, Some, None, replicate}
+use Rattle.std.specs.Prelude.{◌≡◌, ℕ, ◌+◌, true, false, if◌then◌else◌, pos, List, [], ◌∷◌, ◌++◌, Some, None, replicate, ⊤}
 use Rattle.std.specs.FinMap.{FinMap, from_sorted}
 use Rattle.sync_blocks.specs.declared.block.Block.{Block}
 use Rattle.sync_record.specs.Devices.{Identity, bytes_cmp}
@@ -11,7 +11,8 @@ use Rattle.folder_core.specs.declared.stage.Stage.{Stage}
 use Rattle.folder_core.specs.declared.stage.Stage.TheVariants.{Pulling, Committing}
 use Rattle.folder_core.specs.Announced.{Announced, Announcement, key}
 use Rattle.folder_core.specs.States.{FolderState, Pull}
-use Rattle.folder_core.specs.Steps.{Change, Answer, Token, Finding, FoundFile, FoundDirectory, ScanFound, ScanGone, IndexFull, BeginPull, EnterCommit, Finish, GiveUp, Abort, Busy, Moved, Unchanged, CounterFull, SequenceFull, HistoryFull, NotNeeded, Stray, LocalMoved, Superseded, Applied, Closed, Recorded, Done, Begun, Entered}
+use Rattle.folder_core.specs.Steps.{step, is_accepted, Change, Answer, Token, Finding, FoundFile, FoundDirectory, ScanFound, ScanGone, IndexFull, BeginPull, EnterCommit, Finish, GiveUp, Abort, Busy, Moved, Unchanged, CounterFull, SequenceFull, HistoryFull, NotNeeded, Stray, LocalMoved, Superseded, Applied, Closed, Recorded, Done, Begun, Entered}
+use Rattle.folder_core.specs.Histories.{shared_step}
 
 -- ---- devices, names, records
 
@@ -95,6 +96,17 @@ folder es last ps = record { me = me; announced = announced es; last = last; pul
 abbrev pub Row : Type 0
 Row = List (Change × Answer × FolderState)
 
+-- from a state each change of the row gives its answer and its state, one after another
+abbrev pub Leads : FolderState → Row → Type 0
+Leads s [] = ⊤
+Leads s (m ∷ ms) = (step s m.0 ≡ (m.1, m.2)) × Leads m.2 ms
+
+-- the same behind a history of some length
+abbrev pub SharedLeads : ℕ → ℕ → FolderState → Row → Type 0
+SharedLeads limit entries s [] = ⊤
+SharedLeads limit entries s (m ∷ ms) =
+    (shared_step limit entries s m.0 ≡ (m.1, m.2)) × SharedLeads limit (if is_accepted m.1 then entries + 1 else entries) m.2 ms
+
 -- ---- which record is the best
 
 -- P1's version dominates P2's, and P3's is concurrent with both
@@ -109,6 +121,18 @@ deleted_alone = by p1 (deletion ((1, 1) ∷ []) 1) ∷ []
 
 abbrev pub modified_by_5_and_7 : List Announcement
 modified_by_5_and_7 = by p1 (modified 5 (file ((1, 1) ∷ []) 1)) ∷ by p2 (modified 7 (file ((2, 1) ∷ []) 1)) ∷ []
+
+-- one second, and another part of it
+abbrev pub nanoseconds_apart : List Announcement
+nanoseconds_apart = by p1 (record (file ((1, 1) ∷ []) 1) { modified_ns = pos 3 }) ∷ by p2 (record (file ((2, 1) ∷ []) 1) { modified_ns = pos 4 }) ∷ []
+
+-- equal times and authors, and two versions in conflict
+abbrev pub counters_apart : List Announcement
+counters_apart = by p1 (file ((1, 1) ∷ (2, 1) ∷ []) 1) ∷ by p2 (file ((1, 2) ∷ []) 1) ∷ []
+
+-- this device's record and P1's with the same version and content
+abbrev pub shared_by_two : List Announcement
+shared_by_two = by me (content 3 abc (file ((1, 1) ∷ []) 1)) ∷ by p1 (content 3 abc (file ((1, 1) ∷ []) 2)) ∷ []
 
 -- the blocks of the file end too early
 abbrev pub cut_short : Announcement
@@ -359,6 +383,25 @@ history_of_3 =
 -- the blocks of the content abd
 abbrev pub places_of_abd : List Place
 places_of_abd = record { name = x; offset = 0; size = 3 } ∷ record { name = y; offset = 0; size = 3 } ∷ []
+
+-- of each kind another number: local files, directories, deletions; and P1's new files, with a pull of one
+abbrev pub local_named : Name → FileRecord → Announcement
+local_named n r = by me (record r { name = n })
+
+abbrev pub offered_named : Name → Announcement
+offered_named n = by p1 (record (file ((1, 1) ∷ []) 1) { name = n })
+
+abbrev pub of_each_kind : FolderState
+of_each_kind = folder
+    (local_named (97 ∷ []) (recorded x 1)
+    ∷ local_named (98 ∷ []) directory ∷ local_named (99 ∷ []) directory
+    ∷ local_named (100 ∷ []) gone ∷ local_named (101 ∷ []) gone ∷ local_named (102 ∷ []) (record gone { type_number = pos 1 })
+    ∷ offered_named (103 ∷ []) ∷ offered_named (104 ∷ []) ∷ offered_named (105 ∷ []) ∷ offered_named (106 ∷ [])
+    ∷ by p2 (record link { name = 106 ∷ [] }) ∷ [])
+    9 ((103 ∷ [], pull Pulling) ∷ [])
+
+abbrev pub counts_of_each_kind : Counts
+counts_of_each_kind = record { files = 1; directories = 2; deletions = 3; needed = 4; others = 5; pulls = 1; last = 9 }
 
 abbrev pub counts_of_two : Counts
 counts_of_two = record { files = 2; directories = 0; deletions = 0; needed = 0; others = 0; pulls = 0; last = 2 }

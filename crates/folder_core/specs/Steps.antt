@@ -236,11 +236,6 @@ MayChange s (ScanFound n expected found moment) = IsTrue (is_found found.content
 MayChange s (Finish c assembled) = assembled ≡ c.target
 MayChange s _ = ⊤
 
--- each change gives its answer and its state, one after another
-abbrev pub Leads : FolderState → List (Change × Answer × FolderState) → Type 0
-Leads s [] = ⊤
-Leads s (m ∷ ms) = (step s m.0 ≡ (m.1, m.2)) × Leads m.2 ms
-
 -- The local file is kept under another name where both are live, the base is a file, neither version
 -- covers the other, and the contents differ.
 abbrev pub is_copy_due : Option FileRecord → FileRecord → Bool

@@ -5,3 +5,4 @@ pub mod Lemmas
 pub mod Placed
 pub mod PreferenceOrder
 pub mod SameContent
+pub mod SameRecords

@@ -1,5 +1,5 @@
 //! What the definitions say, as contracts of functions that do nothing.
-ghost use Rattle.std.specs.Prelude.{◌≡◌, ◌≢◌, ◌⊎◌, ◌<◌, ◌<ℤ◌, ◌++◌, ◌∷◌, ℕ, List, [], ◌&&◌, ◌||◌, IsTrue, false, not, true};
+ghost use Rattle.std.specs.Prelude.{◌≡◌, ◌≢◌, ◌↔◌, ◌⊎◌, ◌<◌, ◌<ℤ◌, ◌++◌, ◌∷◌, ℕ, List, [], ◌&&◌, ◌||◌, IsTrue, false, not, true};
 ghost use Rattle.std.specs.Cmp.{IsTotalOrder};
 ghost use Rattle.bep_messages.specs.declared.file_info.FileInfo.{FileInfo};
 ghost use Rattle.std.specs.declared.cmp.Ordering.TheVariants.{Less};
@@ -8,6 +8,7 @@ ghost use Rattle.sync_record.specs.Records.{FileRecord, is_live, is_live_file};
 ghost use Rattle.sync_record.specs.Contents.{same_content};
 ghost use Rattle.sync_record.specs.Infos.{is_file_info, is_live_file_info, record_of};
 ghost use Rattle.sync_record.specs.Preference.{AreAsOld, is_preferred, preference};
+ghost use Rattle.sync_record.specs.Same.{same_record};
 ghost use Rattle.sync_record.specs.Validity.{IsKept, describes_file, is_valid};
 
 /// Of the records of two devices exactly one is preferred, and preference goes along a chain.
@@ -51,6 +52,11 @@ pub fn same_content_is_an_equivalence()
     ensures symmetric { (a b : FileRecord) → same_content a b ≡ same_content b a }
     ensures transitive { (a b c : FileRecord) →
         IsTrue (same_content a b) → IsTrue (same_content b c) → IsTrue (same_content a c) }
+{}
+
+/// Records are the same as a test where they agree in every field, and nowhere else.
+pub fn same_record_is_equality()
+    ensures { (a b : FileRecord) → IsTrue (same_record a b) ↔ (a ≡ b) }
 {}
 
 /// Of a message that isn't well formed the record is invalid and has no blocks, and what isn't a live file has none. Any

@@ -1,3 +1,4 @@
+use Rattle.folder_core.proofs.PullLaws.{begin-opens}
 use Rattle.std.proofs.Common.{refl, ap}
 use Rattle.folder_core.specs.States.{FolderState}
 use Rattle.folder_core.specs.Steps.{Answer, next_ticket}
@@ -26,3 +27,6 @@ returns-clause-begun c = λ s n e free is listed kind.
       least.1,
       least.2,
     )
+
+pub returns-clause-opened : goal.returns-clause-opened
+returns-clause-opened c = begin-opens

@@ -1,4 +1,4 @@
-use Rattle.folder_core.proofs.Rows.{content-devices, invalid-passed, ring-best, ring-withdrawn, live-first, deletion-best, smaller-first, cut-candidate, cut-best, contents-best}
+use Rattle.folder_core.proofs.Rows.{content-devices, invalid-passed, ring-best, ring-withdrawn, live-first, deletion-best, smaller-first, cut-candidate, cut-best, contents-best, nanoseconds-later, counters-greater, shared-devices}
 use Rattle.folder_core.proofs.laws.best_in_rows.Goals as goal
 
 pub returns-clause-ring : goal.returns-clause-ring
@@ -30,3 +30,12 @@ returns-clause-versions c = content-devices
 
 pub returns-clause-invalid : goal.returns-clause-invalid
 returns-clause-invalid c = invalid-passed
+
+pub returns-clause-nanoseconds : goal.returns-clause-nanoseconds
+returns-clause-nanoseconds c = nanoseconds-later
+
+pub returns-clause-counters : goal.returns-clause-counters
+returns-clause-counters c = counters-greater
+
+pub returns-clause-shared : goal.returns-clause-shared
+returns-clause-shared c = shared-devices

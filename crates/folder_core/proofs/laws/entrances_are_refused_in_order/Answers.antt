@@ -1,3 +1,4 @@
+use Rattle.folder_core.proofs.PullLaws.{enter-commits}
 use Rattle.folder_core.proofs.AnswerLaws.{enter-stray, enter-moved, enter-superseded, enter-sequence, enter-entered}
 use Rattle.folder_core.proofs.laws.entrances_are_refused_in_order.Goals as goal
 
@@ -15,3 +16,6 @@ returns-clause-sequence c = λ s t p e g stage number target same is version con
 
 pub returns-clause-entered : goal.returns-clause-entered
 returns-clause-entered c = λ s t p e g stage number target same is version content. enter-entered s t p (record { open_pull = g; stage = stage; number = number; target = target }) same e is version content
+
+pub returns-clause-committing : goal.returns-clause-committing
+returns-clause-committing c = enter-commits

@@ -1,3 +1,4 @@
+use Rattle.std.proofs.Common.{refl}
 use Rattle.folder_core.proofs.Indexes.{get-index_own, get-index_other}
 use Rattle.folder_core.proofs.laws.index_full_replaces.Goals as goal
 
@@ -6,3 +7,6 @@ returns-clause-own c = λ s d rs n. get-index_own d rs s.announced n
 
 pub returns-clause-others : goal.returns-clause-others
 returns-clause-others c = λ s d e rs n apart. get-index_other d rs s.announced e n apart
+
+pub returns-clause-applied : goal.returns-clause-applied
+returns-clause-applied c = λ s d rs. refl

@@ -1,3 +1,4 @@
+use Rattle.folder_core.proofs.PullLaws.{give_up-closes, abort-closes}
 use Rattle.folder_core.proofs.AnswerLaws.{finish-done, finish-stray, give_up-closed, give_up-stray, abort-closed, abort-stray}
 use Rattle.folder_core.proofs.laws.pulls_end_by_their_tickets.Goals as goal
 
@@ -18,3 +19,9 @@ returns-clause-aborted c = λ s t p g stage number target. abort-closed s t p (r
 
 pub returns-clause-none_to_abort : goal.returns-clause-none_to_abort
 returns-clause-none_to_abort c = λ s t none. abort-stray s t (λ p st. none p st.open_pull st.stage st.number st.target)
+
+pub returns-clause-none_after_giving_up : goal.returns-clause-none_after_giving_up
+returns-clause-none_after_giving_up c = give_up-closes
+
+pub returns-clause-none_after_abort : goal.returns-clause-none_after_abort
+returns-clause-none_after_abort c = abort-closes

@@ -1,4 +1,4 @@
-use Rattle.folder_core.proofs.Rows.{first-page, second-page, places-found, none-placed, two-counted, sequences-known, need-paged}
+use Rattle.folder_core.proofs.Rows.{first-page, second-page, places-found, none-placed, two-counted, kinds-counted, sequences-known, need-paged}
 use Rattle.folder_core.proofs.laws.reads_in_rows.Goals as goal
 
 pub returns-clause-first_page : goal.returns-clause-first_page
@@ -21,3 +21,6 @@ returns-clause-known c = sequences-known
 
 pub returns-clause-need : goal.returns-clause-need
 returns-clause-need c = need-paged
+
+pub returns-clause-counted_by_kind : goal.returns-clause-counted_by_kind
+returns-clause-counted_by_kind c = kinds-counted

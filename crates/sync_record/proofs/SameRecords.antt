@@ -14,15 +14,17 @@ use Rattle.sync_blocks.specs.Tiling.{same_block}
 use Rattle.sync_record.specs.Records.{FileRecord}
 use Rattle.sync_record.specs.Same.{same_record}
 
-ints : (x y : ℤ) → int_eq x y ≡ true → x ≡ y
+pub ints : (x y : ℤ) → int_eq x y ≡ true → x ≡ y
 ints x y e = int_cmp-IsAntisymmetric x y ((Equal-is (int_cmp x y)).0 e)
+
+pub ints-own : (x : ℤ) → int_eq x x ≡ true
+ints-own x = ap is_eq (tied_itself int_cmp_total x)
 
 bytes : (x y : List ℕ) → bytes_eq x y ≡ true → x ≡ y
 bytes x y e = (bytes_eq-Decides x y).0 e
 
 -- blocks that pass the test are one
-block-Decides : (a b : Block) → Decides (same_block a b) (a ≡ b)
--- blocks that pass the test are one
+pub block-Decides : (a b : Block) → Decides (same_block a b) (a ≡ b)
 block-Decides a b = (
   λ e. let t = and_parts _ _ e in let u = and_parts _ _ t.0 in
       λ i. record { offset = eqb-true a.offset b.offset u.0 i; size = eqb-true a.size b.size u.1 i; hash = bytes a.hash b.hash t.1 i },
@@ -70,11 +72,8 @@ same_record-own r =
     and_from _ _ (and_from _ _ (and_from _ _ (and_from _ _ (and_from _ _ (and_from _ _ (and_from _ _ (and_from _ _ (and_from _ _
     (and_from _ _ (and_from _ _ (and_from _ _ (and_from _ _ (and_from _ _
     ((bytes_eq-Decides r.name r.name).1 refl)
-    (int-own r.type_number)) (int-own r.size)) (eq-eqb r.permissions r.permissions refl)) (int-own r.modified_s)) (int-own r.modified_ns))
+    (ints-own r.type_number)) (ints-own r.size)) (eq-eqb r.permissions r.permissions refl)) (ints-own r.modified_s)) (ints-own r.modified_ns))
     (eq-eqb r.modified_by r.modified_by refl)) ((booleans_Decides r.deleted r.deleted).1 refl)) ((booleans_Decides r.invalid r.invalid).1 refl))
     ((booleans_Decides r.no_permissions r.no_permissions).1 refl)) ((same_version_tells r.version r.version).1 refl))
-    (eq-eqb r.sequence r.sequence refl)) (int-own r.block_size)) ((pointwise_decides block-Decides r.blocks r.blocks).1 refl))
+    (eq-eqb r.sequence r.sequence refl)) (ints-own r.block_size)) ((pointwise_decides block-Decides r.blocks r.blocks).1 refl))
     ((bytes_eq-Decides r.symlink_target r.symlink_target).1 refl)
-  where
-    int-own : (x : ℤ) → int_eq x x ≡ true
-    int-own x = ap is_eq (tied_itself int_cmp_total x)
