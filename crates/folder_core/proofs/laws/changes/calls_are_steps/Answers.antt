@@ -1,0 +1,13 @@
+use Rattle.std.proofs.Common.{refl, sym, ap}
+use Rattle.folder_core.specs.States.{FolderState}
+use Rattle.folder_core.specs.Steps.{Answer}
+use Rattle.folder_core.proofs.laws.changes.calls_are_steps.Goals as goal
+
+pub returns-clause-made : goal.returns-clause-made
+returns-clause-made c = λ s t x a told. (sym (ap (λ (d : Answer × FolderState). d.0) told), sym (ap (λ (d : Answer × FolderState). d.1) told))
+
+pub returns-clause-wanting : goal.returns-clause-wanting
+returns-clause-wanting c = λ s t x told. told
+
+pub returns-clause-answered : goal.returns-clause-answered
+returns-clause-answered c = λ done refused. (refl, refl)

@@ -1,5 +1,0 @@
-use Rattle.folder_core.proofs.CopyLaws.{copy-due}
-use Rattle.folder_core.proofs.laws.copies_are_due_in_conflict.Goals as goal
-
-pub returns : goal.returns
-returns c = copy-due

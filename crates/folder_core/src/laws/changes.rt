@@ -1,0 +1,94 @@
+//! What holds of every change.
+ghost use Rattle.std.specs.Prelude.{◌≡◌, ◌≢◌, ◌↔◌, ◌⊎◌, ◌<◌, ◌≤◌, ◌+◌, ◌-◌, ◌^◌, ℕ, pos, Option, List, Ok, Err, Some, None, IsTrue, false};
+ghost use Rattle.std.specs.FinMap.{empty, get};
+ghost use Rattle.sync_version.specs.Versions.{Vector};
+ghost use Rattle.sync_record.specs.Devices.{Identity};
+ghost use Rattle.sync_record.specs.Records.{Name, FileRecord, is_live_file};
+ghost use Rattle.sync_record.specs.Validity.{is_valid};
+ghost use Rattle.folder_core.specs.Announced.{key};
+ghost use Rattle.folder_core.specs.States.{FolderState, IsFolder, IsNumbered, local};
+ghost use Rattle.folder_core.specs.Samples.{me, file};
+ghost use Rattle.folder_core.specs.Histories.{Entry, IsLegal, state_after, ChangesKeepFolders};
+ghost use Rattle.folder_core.specs.Calls.{Changes, index_answer};
+ghost use Rattle.folder_core.specs.Steps.{Change, ScanFound, ScanGone, IndexFull, IndexMore, Forget, BeginPull, EnterCommit, Finish, GiveUp, Abort};
+ghost use Rattle.folder_core.specs.Steps.{Recorded, Applied, Begun};
+ghost use Rattle.folder_core.specs.Steps.{Entered, Done, Closed};
+ghost use Rattle.folder_core.specs.Steps.{Answer, Finding, FoundFile, FoundDirectory, Token, MayChange, step, is_accepted};
+ghost use Rattle.std.specs.declared.alloc.AllocError.{AllocError};
+
+/// An answer that isn't accepted leaves the state; accepted are Applied, Closed, Recorded, Done, Begun and Entered, and no
+/// others.
+pub fn refusal_keeps()
+    ensures kept { (s : FolderState) (c : Change) → is_accepted (step s c).0 ≡ false → (step s c).1 ≡ s }
+    ensures accepted { (a : Answer) → IsTrue (is_accepted a) ↔
+        ((a ≡ Applied) ⊎ ((a ≡ Closed) ⊎ (((k : ℕ) × (a ≡ Recorded k)) ⊎ (((k : ℕ) × (a ≡ Done k))
+        ⊎ (((t : Token) × (a ≡ Begun t)) ⊎ ((t : Token) × (a ≡ Entered t))))))) }
+{}
+
+/// An empty folder is a folder, and each change that keeps its caller's conditions leads from a folder to a
+/// folder; so does a legal history.
+pub fn changes_keep_folders()
+    ensures empty { (me : Identity) →
+        IsFolder (record { me = me; announced = empty; last = 0; pulls = empty }) }
+    ensures change { ChangesKeepFolders }
+    ensures history { (passes : ℕ) (s : FolderState) (es : List Entry) →
+        IsFolder s → IsLegal passes s es → IsFolder (state_after s es) }
+{}
+
+/// What a caller of a change doesn't owe: any index of another device may come, whatever it says; a directory may be found,
+/// and a file with what a valid live file has; and all else may be asked at any state, a finish with the commit's target.
+pub fn callers_owe_no_more()
+    ensures indexes { (s : FolderState) (d : Identity) (records : List FileRecord) → d ≢ s.me →
+        MayChange s (IndexFull d records) × MayChange s (IndexMore d records) × MayChange s (Forget d) }
+    ensures directory { (s : FolderState) (n : Name) (expected : Option Vector) (f : Finding) (moment : ℕ) →
+        f.content ≡ FoundDirectory → MayChange s (ScanFound n expected f moment) }
+    ensures file { (s : FolderState) (n : Name) (expected : Option Vector) (f : Finding) (moment size block_size : ℕ)
+        (r : FileRecord) → IsTrue (is_valid r) → IsTrue (is_live_file r) → r.size ≡ pos size → r.block_size ≡ pos block_size →
+        f.content ≡ FoundFile size block_size r.blocks → MayChange s (ScanFound n expected f moment) }
+    ensures rest { (s : FolderState) (n : Name) (expected : Option Vector) (moment : ℕ) (t : Token) →
+        MayChange s (ScanGone n expected moment) × MayChange s (BeginPull n) × MayChange s (EnterCommit t)
+        × MayChange s (Finish t t.target) × MayChange s (GiveUp t) × MayChange s (Abort t) }
+{}
+
+/// A folder keeps its device. A record of another device changes only by an index of that device or when it is
+/// forgotten, a local record only by a scan of its name or a finish there, and an open pull only by a change of a pull of
+/// its name.
+pub fn changes_leave_the_rest()
+    ensures device { (s : FolderState) (c : Change) → (step s c).1.me ≡ s.me }
+    ensures others { (s : FolderState) (c : Change) (n : Name) (d : Identity) → d ≢ s.me →
+        (get (step s c).1.announced (key n d) ≡ get s.announced (key n d))
+        ⊎ (((records : List FileRecord) × (c ≡ IndexFull d records))
+        ⊎ (((records : List FileRecord) × (c ≡ IndexMore d records)) ⊎ (c ≡ Forget d))) }
+    ensures locals { (s : FolderState) (c : Change) (n : Name) → IsFolder s → MayChange s c →
+        (local (step s c).1 n ≡ local s n)
+        ⊎ (((expected : Option Vector) × (f : Finding) × (moment : ℕ) × (c ≡ ScanFound n expected f moment))
+        ⊎ (((expected : Option Vector) × (moment : ℕ) × (c ≡ ScanGone n expected moment))
+        ⊎ ((t : Token) × (assembled : FileRecord) × (t.name ≡ n) × (c ≡ Finish t assembled)))) }
+    ensures pulls { (s : FolderState) (c : Change) (n : Name) →
+        (get (step s c).1.pulls n ≡ get s.pulls n)
+        ⊎ ((c ≡ BeginPull n) ⊎ ((t : Token) × (t.name ≡ n) × ((c ≡ EnterCommit t)
+        ⊎ (((assembled : FileRecord) × (c ≡ Finish t assembled)) ⊎ ((c ≡ GiveUp t) ⊎ (c ≡ Abort t)))))) }
+{}
+
+/// Local sequences stay distinct and at most the last one given; a local record that is new has a greater sequence than
+/// all before. Each recorded scan and each finish takes the next sequence, which fits, and nothing else takes one.
+pub fn sequences_stay_distinct()
+    ensures numbered { (s : FolderState) (c : Change) → IsNumbered s → MayChange s c → IsNumbered (step s c).1 }
+    ensures taken { (s : FolderState) (c : Change) (k : ℕ) → ((step s c).0 ≡ Recorded k) ⊎ ((step s c).0 ≡ Done k) →
+        (k ≡ s.last + 1) × ((step s c).1.last ≡ k) }
+    ensures kept { (s : FolderState) (c : Change) →
+        ((step s c).1.last ≡ s.last) ⊎ ((k : ℕ) × (((step s c).0 ≡ Recorded k) ⊎ ((step s c).0 ≡ Done k))) }
+    ensures fits { (s : FolderState) (c : Change) (k : ℕ) → IsFolder s → MayChange s c →
+        ((step s c).0 ≡ Recorded k) ⊎ ((step s c).0 ≡ Done k) → k ≤ 2 ^ 63 - 1 }
+    ensures new { (s : FolderState) (c : Change) (n : Name) (r : FileRecord) → MayChange s c →
+        local (step s c).1 n ≡ Some r → (local s n ≡ Some r) ⊎ (s.last < r.sequence) }
+{}
+
+/// A call on a folder by itself leads to the step's state with the step's answer, or wants memory and changes nothing.
+pub fn calls_are_steps()
+    ensures made { (s t : FolderState) (c : Change) (a : Answer) → Changes s c (Some a) t →
+        (a ≡ (step s c).0) × (t ≡ (step s c).1) }
+    ensures wanting { (s t : FolderState) (c : Change) → Changes s c None t → t ≡ s }
+    ensures answered { (done : Unit {0}) (refused : AllocError) →
+        (index_answer (Ok done) ≡ Some Applied) × (index_answer (Err refused) ≡ None) }
+{}

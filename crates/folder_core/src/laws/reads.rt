@@ -1,0 +1,88 @@
+//! What reads answer.
+ghost use Rattle.std.specs.Prelude.{◌≡◌, ◌≢◌, ◌↔◌, ◌⊎◌, ◌<◌, ◌≤◌, ◌+◌, ℕ, length, Option, List, Some, None, IsTrue, false, map, sum_by, Contains};
+ghost use Rattle.std.specs.List.Sorted.{IsStrictlySortedBy};
+ghost use Rattle.std.specs.Ordering.{nat_cmp};
+ghost use Rattle.std.specs.declared.cmp.Ordering.TheVariants.{Less, Greater};
+ghost use Rattle.folder_core.specs.declared.counts.Counts.{Counts};
+ghost use Rattle.folder_core.specs.declared.place.Place.{Place};
+ghost use Rattle.std.specs.FinMap.{get, len};
+ghost use Rattle.sync_blocks.specs.declared.block.Block.{Block};
+ghost use Rattle.sync_record.specs.Devices.{Identity, bytes_cmp};
+ghost use Rattle.sync_record.specs.Records.{Name, FileRecord, is_live_file};
+ghost use Rattle.sync_record.specs.Contents.{same_content};
+ghost use Rattle.sync_record.specs.Validity.{is_valid};
+ghost use Rattle.folder_core.specs.Announced.{key, best, IsBest};
+ghost use Rattle.folder_core.specs.States.{FolderState, IsFolder, local, need};
+ghost use Rattle.folder_core.specs.Reads.{Reads, Local, Best, Need, LocalSince, FindBlock, Known, CountAll, counts, known};
+
+/// Reads of single records and of numbers: the local record of a name, which has that name, is valid and has a sequence
+/// from 1 to the last; the best of a name with the devices that have it, which rise, and none only where no valid record
+/// is announced; of this device the last sequence, and of another device the greatest of its records' sequences, 0
+/// without any; how many names are needed, how many pulls are open.
+pub fn reads_tell_the_state()
+    ensures local { (s : FolderState) (n : Name) (r : Option FileRecord) →
+        Reads s (Local n) r ↔ (r ≡ get s.announced (key n s.me)) }
+    ensures best { (s : FolderState) (n : Name) (r : FileRecord) (devices : List Identity) →
+        Reads s (Best n) (Some (r, devices)) →
+        (d : Identity) × IsBest s.announced n d r × IsStrictlySortedBy bytes_cmp devices
+        × ((e : Identity) → Contains devices e ↔ ((q : FileRecord) × (get s.announced (key n e) ≡ Some q)
+        × IsTrue (is_valid q) × (q.version ≡ r.version) × IsTrue (same_content q r))) }
+    ensures no_best { (s : FolderState) (n : Name) (d : Identity) (r : FileRecord) →
+        Reads s (Best n) None → get s.announced (key n d) ≡ Some r → is_valid r ≡ false }
+    ensures known { (s : FolderState) (k : ℕ) → Reads s (Known s.me) k ↔ (k ≡ s.last) }
+    ensures sound { (s : FolderState) (n : Name) (r : FileRecord) (k : ℕ) → IsFolder s →
+        Reads s (Local n) (Some r) → Reads s (Known s.me) k →
+        (r.name ≡ n) × IsTrue (is_valid r) × (1 ≤ r.sequence) × (r.sequence ≤ k) }
+    ensures known_of_others { (s : FolderState) (d : Identity) (k : ℕ) → d ≢ s.me → Reads s (Known d) k →
+        ((n : Name) (r : FileRecord) → get s.announced (key n d) ≡ Some r → r.sequence ≤ k)
+        × ((k ≡ 0) ⊎ ((n : Name) × (r : FileRecord) × (get s.announced (key n d) ≡ Some r) × (r.sequence ≡ k))) }
+    ensures counts { (s : FolderState) (c : Counts) → Reads s CountAll c →
+        (c.needed ≡ length (need s)) × (c.pulls ≡ len s.pulls) × (c.last ≡ s.last) }
+{}
+
+/// A page of needed names rises and has no more than asked for; all of it is needed and behind the given name, and what is
+/// needed and behind that name is in the page, or behind a full page.
+pub fn needed_names_come_in_pages()
+    ensures rise { (s : FolderState) (after : Option Name) (limit : ℕ) (names : List Name) →
+        Reads s (Need after limit) names → IsStrictlySortedBy bytes_cmp names × (length names ≤ limit) }
+    ensures only { (s : FolderState) (after : Option Name) (limit : ℕ) (names : List Name) (n : Name) →
+        Reads s (Need after limit) names → Contains names n →
+        Contains (need s) n × ((a : Name) → after ≡ Some a → bytes_cmp n a ≡ Greater) }
+    ensures all { (s : FolderState) (after : Option Name) (limit : ℕ) (names : List Name) (n : Name) →
+        Reads s (Need after limit) names → Contains (need s) n →
+        ((a : Name) → after ≡ Some a → bytes_cmp n a ≡ Greater) →
+        Contains names n
+        ⊎ ((length names ≡ limit) × ((m : Name) → Contains names m → bytes_cmp m n ≡ Less)) }
+{}
+
+/// A page of local records rises by sequence, has no more records than asked for, and no more than 1,000,000 blocks or
+/// one record; all of it is local and above the given sequence. A local record above that sequence is in the page, or
+/// the page stops before it, at a record with which it would have too many records or blocks.
+pub fn local_records_come_in_pages()
+    ensures rise { (s : FolderState) (after limit : ℕ) (page : List FileRecord) → IsFolder s →
+        Reads s (LocalSince after limit) page →
+        IsStrictlySortedBy nat_cmp (map (λ r. r.sequence) page) × (length page ≤ limit)
+        × ((sum_by (λ r. length r.blocks) page ≤ 1000000) ⊎ (length page ≤ 1)) }
+    ensures only { (s : FolderState) (after limit : ℕ) (page : List FileRecord) (r : FileRecord) → IsFolder s →
+        Reads s (LocalSince after limit) page → Contains page r →
+        (n : Name) × (local s n ≡ Some r) × (after < r.sequence) }
+    ensures all { (s : FolderState) (after limit : ℕ) (page : List FileRecord) (n : Name) (r : FileRecord) → IsFolder s →
+        Reads s (LocalSince after limit) page → local s n ≡ Some r → after < r.sequence →
+        Contains page r
+        ⊎ ((m : Name) × (q : FileRecord) × (local s m ≡ Some q) × (q.sequence ≤ r.sequence)
+        × ((p : FileRecord) → Contains page p → p.sequence < q.sequence)
+        × ((length page ≡ limit)
+        ⊎ ((1 ≤ length page) × (1000000 < sum_by (λ r. length r.blocks) page + length q.blocks)))) }
+{}
+
+/// A place that is found is one of a block with the digest in a live local file, and none is found only where no live local
+/// file has such a block.
+pub fn blocks_are_found_where_they_stand()
+    ensures place { (s : FolderState) (hash : List ℕ) (p : Place) → Reads s (FindBlock hash) (Some p) ↔
+        ((n : Name) × (r : FileRecord) × (b : Block) × (local s n ≡ Some r) × IsTrue (is_live_file r)
+        × Contains r.blocks b × (b.hash ≡ hash)
+        × (p ≡ record { name = r.name; offset = b.offset; size = b.size })) }
+    ensures no_place { (s : FolderState) (hash : List ℕ) (n : Name) (r : FileRecord) (b : Block) →
+        Reads s (FindBlock hash) None → local s n ≡ Some r → IsTrue (is_live_file r) → Contains r.blocks b →
+        b.hash ≢ hash }
+{}
