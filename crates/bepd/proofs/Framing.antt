@@ -1,5 +1,5 @@
 -- One more frame, and one more piece, of what was heard.
-use Rattle.std.proofs.Common.{◌≡◌, ℕ, ◌+◌, ◌≤◌, ◌<◌, Bool, true, false, List, [], ◌∷◌, ◌++◌, length, Option, Some, None, Ok, Err, sym, ap, subst, ◌∙◌, inl, inr, arith, append_assoc, append-nil}
+use Rattle.std.proofs.Common.{◌≡◌, ℕ, ◌+◌, ◌≤◌, ◌<◌, Bool, true, false, List, [], ◌∷◌, ◌++◌, length, Some, None, Ok, Err, sym, ap, subst, ◌∙◌, inl, inr, arith, append-nil}
 use Rattle.std.specs.Prelude.{bytes_eq, if◌then◌else◌, flat_map, filter, not}
 use Rattle.std.specs.FinMap.{get}
 use Rattle.std.proofs.lemmas.List.{length-append}
@@ -12,8 +12,8 @@ use Rattle.bep_frames.specs.declared.frame.Frame.{Frame}
 use Rattle.bep_frames.specs.declared.frame.Frame.TheVariants.{Hello, Message as MessageFrame, Unknown}
 use Rattle.bep_frames.specs.declared.frame.Message.TheVariants.{ClusterConfig, Index, IndexUpdate, Request, Response, DownloadProgress, Ping, Close}
 use Rattle.bep_frames.specs.Reading.{Whole, frame_at}
-use Rattle.bep_frames.specs.State.{State, TellsFault, fed, grown, Gives, remaining, with_front}
-use Rattle.bep_frames.specs.Stream.{Stream, ended, first_then}
+use Rattle.bep_frames.specs.State.{State, TellsFault, fed, Gives, remaining, with_front}
+use Rattle.bep_frames.specs.Stream.{ended}
 use Rattle.bep_frames.proofs.Lemmas.{front_push, given_fault, given_frame, given_none, given_shorter, index_records_few, update_records_few}
 use Rattle.bep_messages.specs.declared.file_info.FileInfo.{FileInfo}
 use Rattle.folder_core.specs.Announced.{In, Key}
@@ -119,10 +119,6 @@ hears_frame folder bytes old new f s t names more m n gives heard count h =
     }
 
 -- ---- the pieces that a reader is fed
-
-grown_few : (fault : Option FrameFault) (rest piece : List ℕ) → length (grown rest piece fault) ≤ length rest + length piece
-grown_few None rest piece = let sum : length (rest ++ piece) ≡ length rest + length piece = length-append rest piece in omega (arith, sum)
-grown_few (Some e) rest piece = omega arith
 
 -- ---- what ends the reading
 

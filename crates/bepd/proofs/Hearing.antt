@@ -51,9 +51,6 @@ told text OutOfMemory t ne = absurd (ne refl)
 pub kept_first : (info : FileInfo) (files : List FileInfo) → refusal info.name ≡ None → kept_records (info ∷ files) ≡ record_of info ∷ kept_records files
 kept_first info files e = rw e refl
 
-pub kept_not : (info : FileInfo) (files : List FileInfo) (f : NameFault) → refusal info.name ≡ Some f → kept_records (info ∷ files) ≡ kept_records files
-kept_not info files f e = rw e refl
-
 pub skipped_not : (info : FileInfo) (files : List FileInfo) → refusal info.name ≡ None → skipped_records (info ∷ files) ≡ skipped_records files
 skipped_not info files e = rw e refl
 
