@@ -1,6 +1,6 @@
 -- The best of a name, in the words of the rules: a candidate that is preferred to every other.
 use Rattle.folder_core.proofs.Listings.{lists-entries}
-use Rattle.folder_core.proofs.TestLemmas.{inside, none_some, same_bytes as same, alike_bytes as alike, by_or, other, In, all_in, in_all, any_in, in_any, in_filter, of_filter, found_in, only_found, some_free}
+use Rattle.folder_core.proofs.TestLemmas.{inside, none_some, same_bytes as same, alike_bytes as alike, by_or, In, all_in, in_all, any_in, in_any, in_filter, of_filter, found_in, only_found, some_free}
 use Rattle.folder_core.specs.Announced.{Announced, Announcement, key, is_of, is_by, is_candidate, is_best, best, bests, Lists, IsCandidate, IsBest}
 use Rattle.std.proofs.Common.{◌≡◌, Bool, true, false, List, [], ◌∷◌, refl, sym, ap, subst, ◌∙◌, ◌↔◌}
 use Rattle.std.proofs.lemmas.Bool.{true≢false, and_parts, and_from, not-true, false_from_ne_true}
@@ -27,7 +27,7 @@ not_both_greater Equal a b = true≢false (sym a)
 not_both_greater Greater a b = true≢false (sym b)
 
 -- of two no one is preferred to the other both ways
-pub one_way : (a b : Identity × FileRecord) → is_gt (preference a b) ≡ true → is_gt (preference b a) ≡ true → ⊥
+one_way : (a b : Identity × FileRecord) → is_gt (preference a b) ≡ true → is_gt (preference b a) ≡ true → ⊥
 one_way a b p q = not_both_greater (preference a b) p (ap is_gt (sym (preference_total.antisymm b a)) ∙ q)
 
 module _ (m : Announced) (es : List Announcement) (l : Lists m es) where
@@ -64,6 +64,10 @@ module _ (m : Announced) (es : List Announcement) (l : Lists m es) where
 
   abbrev outranks : Announcement → Announcement → Bool
   outranks e f = is_by e.0.device f || is_preferred e f
+
+  other : (a b : Bool) → (a || b) ≡ true → a ≡ false → b ≡ true
+  other true b e f = absurd (true≢false f)
+  other false b e f = e
 
   pub of_is_best : (e : Announcement) → get m e.0 ≡ Some e.1 → is_best es e ≡ true → IsBest m e.0.name e.0.device e.1
   of_is_best e g b = record {
@@ -121,7 +125,7 @@ greater Less e = absurd (true≢false (sym e))
 greater Equal e = absurd (true≢false (sym e))
 greater Greater e = refl
 
-preferred_itself : (e : Announcement) → is_preferred e e ≡ false
+pub preferred_itself : (e : Announcement) → is_preferred e e ≡ false
 preferred_itself e = ap is_gt (tied_itself preference_total (e.0.device, e.1))
 
 preferred_trans : (x y z : Announcement) → is_preferred x y ≡ true → is_preferred y z ≡ true → is_preferred x z ≡ true

@@ -1,23 +1,23 @@
 -- Of the entries of one name the best is the one that is preferred to every other candidate, found in one pass.
 use Rattle.std.proofs.Common.{◌≡◌, Bool, true, false, List, [], ◌∷◌, refl, sym, ap, subst, ◌∙◌, inl, inr}
-use Rattle.std.specs.Prelude.{bytes_eq, ◌&&◌, ◌||◌, not, cond, T, filter, fold, if◌then◌else◌}
+use Rattle.std.specs.Prelude.{◌&&◌, ◌||◌, not, cond, T, Some, filter, fold, if◌then◌else◌}
 use Rattle.std.specs.List.{list_all, list_any, reduce}
 use Rattle.std.specs.declared.cmp.Ordering.TheVariants.{Less, Equal, Greater}
 use Rattle.std.specs.Ordering.{is_gt, ordering_reverse}
 use Rattle.std.specs.Cmp.{alike_right}
-use Rattle.std.specs.FinMap.{is_sorted}
-use Rattle.std.proofs.lemmas.Bool.{and_parts, and_from, false_from_ne_true, true≢false}
+use Rattle.std.specs.FinMap.{entries-from_sorted, from_sorted, is_sorted}
+use Rattle.std.proofs.lemmas.Bool.{and_parts, and_from, true≢false}
 use Rattle.sync_record.proofs.Lemmas.{preference_total, preference_tied}
 use Rattle.sync_record.specs.Devices.{Identity}
 use Rattle.sync_record.specs.Preference.{preference}
 use Rattle.sync_record.specs.Records.{Name, FileRecord}
 use Rattle.sync_record.specs.Validity.{is_valid}
 use Rattle.sync_version.specs.Computed.{dominates}
-use Rattle.folder_core.specs.Announced.{In, Announcement, key_cmp, is_of, is_by, is_candidate, is_best, best, bests}
-use Rattle.folder_core.proofs.BestLaws.{one_way}
-use Rattle.folder_core.proofs.Orders.{keys_total, exact_keys}
+use Rattle.folder_core.specs.Announced.{In, Announcement, Lists, key_cmp, is_of, is_by, is_candidate, is_best, best, bests}
+use Rattle.folder_core.proofs.BestLaws.{is_best_found, of_is_best, preferred_itself}
+use Rattle.folder_core.proofs.Listings.{lists-entries}
 use Rattle.folder_core.proofs.PlainTests.{any_same, none_found}
-use Rattle.folder_core.proofs.TestLemmas.{same_bytes, alike_bytes, by_or, other, in_all, all_in, in_filter, of_filter, only_found, one_entry}
+use Rattle.folder_core.proofs.TestLemmas.{alike_bytes, in_all, in_filter, of_filter}
 use Rattle.folder_core.proofs.Preferred.{is_preferred}
 
 abbrev pub undominated : List Announcement → Announcement → Bool
@@ -41,7 +41,7 @@ rest_at_least e f p less =
     true≢false (ap is_gt (sym (preference_total.antisymm (who f) (who e) ∙ ap ordering_reverse less)) ∙ p)
 
 at_least_itself : (e : Announcement) → IsAtLeast e e
-at_least_itself e = rest_at_least e e (false_from_ne_true (is_preferred e e) (λ t. one_way (who e) (who e) t t))
+at_least_itself e = rest_at_least e e (preferred_itself e)
 
 at_least_chain : (e f g : Announcement) → IsAtLeast e f → IsAtLeast f g → IsAtLeast e g
 at_least_chain e f g p q less =
@@ -105,19 +105,9 @@ module _ (n : Name) (es : List Announcement) (named : (e : Announcement) → In 
   abbrev rival : Announcement → Announcement → Bool
   rival e f = is_of e.0.name f && is_candidate es f
 
-  -- no two are the best
-  one_best : (e f : Announcement) → In e es → In f es → is_best es e ≡ true → is_best es f ≡ true → e ≡ f
-  one_best e f i j p q =
-      let beats : (e f : Announcement) → In e es → In f es → is_best es e ≡ true → is_best es f ≡ true → outranks e f ≡ true =
-      λ e f i j p q. all_in (outranks e) _ (and_parts _ _ p).1 f
-      (in_filter (rival e) es f j (and_from _ _ (alike_bytes f.0.name e.0.name (named f j ∙ sym (named e i))) (and_parts _ _ q).0)) in
-      by_or (bytes_eq f.0.device e.0.device) (e ≡ f)
-      (λ t. one_entry keys_total exact_keys es sorted e f i j (λ k. record {
-        name = (named e i ∙ sym (named f j)) k;
-        device = sym (same_bytes f.0.device e.0.device t) k;
-      }))
-      (λ t. absurd (one_way (who e) (who f) (other _ _ (beats e f i j p q) t)
-      (other _ _ (beats f e j i q p) (false_from_ne_true (bytes_eq e.0.device f.0.device) (λ s. true≢false (sym (alike_bytes f.0.device e.0.device (sym (same_bytes e.0.device f.0.device s))) ∙ t))))))
+  -- the list is that of a map
+  listed : Lists (from_sorted {R = key_cmp} es) es
+  listed = subst (Lists (from_sorted {R = key_cmp} es)) (entries-from_sorted key_cmp es sorted) (lists-entries (from_sorted {R = key_cmp} es))
 
   best_reduced_from : (cs : List Announcement) → cs ≡ filter (undominated es) es → best es n ≡ reduce higher cs
   best_reduced_from [] is =
@@ -133,9 +123,8 @@ module _ (n : Name) (es : List Announcement) (named : (e : Announcement) → In 
       let s = of_filter (rival e) es f i in
       ranked e f (t.highest f (subst (In f) (sym is) (in_filter (undominated es) es f s.0 (sym (candidate_is f s.0) ∙ (and_parts _ _ s.1).1))))) in
       let chosen : is_best es e ≡ true = and_from _ _ (candidate_is e r.0 ∙ r.1) above in
-      only_found (is_of n) (bests es) e (in_filter (is_best es) es e r.0 chosen) (alike_bytes e.0.name n (named e r.0)) (λ f i _.
-      let s = of_filter (is_best es) es f i in
-      one_best f e s.0 r.0 s.1 chosen)
+      let l : Lists (from_sorted {R = key_cmp} es) es = listed in
+      subst (λ m. best es m ≡ Some e) (named e r.0) (is_best_found _ es l e.0.name e.0.device e.1 (of_is_best _ es l e (l.only e r.0) chosen))
 
   pub best_reduced : best es n ≡ reduce higher (filter (undominated es) es)
   best_reduced = best_reduced_from (filter (undominated es) es) refl

@@ -28,11 +28,6 @@ pub by_or : (b : Bool) (P : Type 0) → (b ≡ true → P) → (b ≡ false → 
 by_or true P f g = f refl
 by_or false P f g = g refl
 
--- the other of two of which one holds
-pub other : (a b : Bool) → (a || b) ≡ true → a ≡ false → b ≡ true
-other true b e f = absurd (true≢false f)
-other false b e f = e
-
 module _ {A : Type 0} (p : A → Bool) where
   pub all_in : (xs : List A) → list_all p xs ≡ true → (x : A) → In x xs → p x ≡ true
   all_in [] e x i = absurd i
@@ -167,12 +162,6 @@ module _ {K X : Type 0} {R : K → K → Ordering} (o : IsTotalOrder R) (same : 
   in_find (e ∷ es) h x (inr i) =
       not_equal (R x.0 e.0) (o.antisymm x.0 e.0 ∙ ap ordering_reverse (below_in e.0 es (parts _ _ h).0 x i)) (Some e.1) (find R x.0 es)
       ∙ in_find es (parts _ _ h).1 x i
-
-  -- of one key there is one entry
-  pub one_entry : (es : List (K × X)) → T (is_sorted R es) → (x y : K × X) → In x es → In y es → x.0 ≡ y.0 → x ≡ y
-  one_entry es h x y i j k =
-      let values : x.1 ≡ y.1 = inside x.1 y.1 (sym (in_find es h x i) ∙ ap (λ q. find R q es) k ∙ in_find es h y j) in
-      λ t. (k t, values t)
 
   -- the entries are what the map has
   pub get_in : (m : FinMap R X) (k : K) (v : X) → get m k ≡ Some v → In (k, v) (entries m)

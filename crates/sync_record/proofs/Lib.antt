@@ -5,4 +5,5 @@ pub mod Lemmas
 pub mod Placed
 pub mod PreferenceOrder
 pub mod SameContent
+pub mod ContentLaws
 pub mod SameRecords

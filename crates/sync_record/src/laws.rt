@@ -1,10 +1,10 @@
 //! What the definitions say, as contracts of functions that do nothing.
-ghost use Rattle.std.specs.Prelude.{◌≡◌, ◌≢◌, ◌↔◌, ◌⊎◌, ◌<◌, ◌<ℤ◌, ◌++◌, ◌∷◌, ℕ, List, [], ◌&&◌, ◌||◌, IsTrue, false, not, true};
+ghost use Rattle.std.specs.Prelude.{◌≡◌, ◌≢◌, ◌↔◌, ◌⊎◌, ◌<◌, ◌<ℤ◌, ◌++◌, ◌∷◌, ℕ, List, [], ◌&&◌, ◌||◌, IsTrue, false, not, pos, true};
 ghost use Rattle.std.specs.Cmp.{IsTotalOrder};
 ghost use Rattle.bep_messages.specs.declared.file_info.FileInfo.{FileInfo};
 ghost use Rattle.std.specs.declared.cmp.Ordering.TheVariants.{Less};
 ghost use Rattle.sync_record.specs.Devices.{Identity, bytes_cmp};
-ghost use Rattle.sync_record.specs.Records.{FileRecord, is_live, is_live_file};
+ghost use Rattle.sync_record.specs.Records.{FileRecord, is_directory, is_file, is_live, is_live_file};
 ghost use Rattle.sync_record.specs.Contents.{same_content};
 ghost use Rattle.sync_record.specs.Infos.{is_file_info, is_live_file_info, record_of};
 ghost use Rattle.sync_record.specs.Preference.{AreAsOld, is_preferred, preference};
@@ -52,6 +52,21 @@ pub fn same_content_is_an_equivalence()
     ensures symmetric { (a b : FileRecord) → same_content a b ≡ same_content b a }
     ensures transitive { (a b c : FileRecord) →
         IsTrue (same_content a b) → IsTrue (same_content b c) → IsTrue (same_content a c) }
+{}
+
+/// A deletion has the content of deletions, a live directory that of live directories, a live file that of live files of its
+/// size and, where it isn't empty, of its block size and blocks, and anything else that of the live ones of its type that
+/// lead where it leads.
+pub fn same_content_in_words()
+    ensures deletions { (a b : FileRecord) → a.deleted ≡ true → IsTrue (same_content a b) ↔ (b.deleted ≡ true) }
+    ensures directories { (a b : FileRecord) → a.deleted ≡ false → IsTrue (is_directory a) →
+        IsTrue (same_content a b) ↔ ((b.deleted ≡ false) × IsTrue (is_directory b)) }
+    ensures files { (a b : FileRecord) → a.deleted ≡ false → IsTrue (is_file a) →
+        IsTrue (same_content a b) ↔ ((b.deleted ≡ false) × IsTrue (is_file b) × (a.size ≡ b.size)
+        × ((a.size ≡ pos 0) ⊎ ((a.block_size ≡ b.block_size) × (a.blocks ≡ b.blocks)))) }
+    ensures others { (a b : FileRecord) → a.deleted ≡ false → is_file a ≡ false → is_directory a ≡ false →
+        IsTrue (same_content a b)
+        ↔ ((b.deleted ≡ false) × (a.type_number ≡ b.type_number) × (a.symlink_target ≡ b.symlink_target)) }
 {}
 
 /// Records are the same as a test where they agree in every field, and nowhere else.
