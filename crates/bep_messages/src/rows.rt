@@ -99,15 +99,15 @@ pub fn octets(out: &mut Writer, number: u32, value: &octets::Octets) -> Result<(
 pub fn short_octets(
     out: &mut Writer,
     number: u32,
-    value: &octets::ShortOctets,
+    digest: &octets::ShortOctets,
 ) -> Result<(), AllocError>
     requires low { 0 < number }
     requires high { number ≤ 536870911 }
-    ensures ok { OnOk result (Adds out.old.written (scalar_form number Octets value.now) out.new.written) }
-    ensures fits { ScalarFits Octets value.now }
+    ensures ok { OnOk result (Adds out.old.written (scalar_form number Octets digest.now) out.new.written) }
+    ensures fits { ScalarFits Octets digest.now }
     ensures kept { out.new.kept ≡ out.old.kept }
 {
-    bytes(out, number, value.as_slice())
+    bytes(out, number, digest.as_slice())
 }
 
 pub fn words(out: &mut Writer, number: u32, value: &Text) -> Result<(), AllocError>
