@@ -12,11 +12,11 @@ use Rattle.bep_frames.specs.declared.frame.Frame.TheVariants.{Hello as HelloFram
 use Rattle.bep_frames.specs.declared.frame.Message.{Message}
 use Rattle.bep_frames.specs.declared.frame.Message.TheVariants.{ClusterConfig, Index, IndexUpdate, Request, Response, DownloadProgress, Ping, Close}
 use Rattle.bep_frames.specs.Carried.{IsUnknown, IsMessage, Carries, carried_by, carried}
-use Rattle.bep_frames.proofs.Pieces.{found, failed, found_not}
+use Rattle.bep_frames.proofs.Pieces.{found, failed}
 
 -- ---- what the bytes are is found
 
-unknown_found : (kind : ℤ) (bytes : List ℕ) → IsUnknown kind → carried kind bytes ≡ Ok (Unknown kind)
+pub unknown_found : (kind : ℤ) (bytes : List ℕ) → IsUnknown kind → carried kind bytes ≡ Ok (Unknown kind)
 unfolding carried
 unknown_found (negsuc n) bytes h = refl
 unknown_found (pos zero) bytes h = absurd (omega (arith, h))
@@ -70,7 +70,7 @@ found_carries (pos (suc (suc (suc (suc (suc (suc (suc (suc n))))))))) bytes = (r
 
 -- an error is told only where the bytes are nothing
 pub none_carried : (kind : ℤ) (bytes : List ℕ) (e : FrameFault) → carried kind bytes ≡ Err e → (f : Frame) → Carries kind bytes f → ⊥
-none_carried kind bytes e h f c = found_not f e (sym (carries_found kind bytes f c) ∙ h)
+none_carried kind bytes e h f c = let is = carries_found kind bytes f c in cc
 
 -- where the bytes are nothing, the error is told
 pub bad_carried : (kind : ℤ) (bytes : List ℕ) → ((f : Frame) → Carries kind bytes f → ⊥) → carried kind bytes ≡ Err BadBody

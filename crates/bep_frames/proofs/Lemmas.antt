@@ -15,7 +15,6 @@ use Rattle.bep_frames.specs.State.{State, start, fed, Gives, remaining}
 use Rattle.bep_frames.proofs.Readings as readings
 use Rattle.bep_frames.proofs.Runs as runs
 use Rattle.bep_frames.proofs.Counts as counts
-
 -- one more frame in front
 pub use Rattle.bep_frames.proofs.Runs.{front_push}
 

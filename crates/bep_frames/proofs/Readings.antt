@@ -6,9 +6,8 @@ use Rattle.bep_frames.specs.declared.fault.FrameFault.TheVariants.{BadMagic, Too
 use Rattle.bep_frames.specs.declared.frame.Frame.{Frame}
 use Rattle.bep_frames.specs.declared.frame.Frame.TheVariants.{Hello as HelloFrame, Message as MessageFrame, Unknown}
 use Rattle.bep_frames.specs.Grammar.{magic, HasHeader, IsFrame, Shows, IsPartial}
-use Rattle.bep_frames.specs.Reading.{Step, More, Whole, Broken, hello_front, hello_at, header_behind, later_at, frame_at}
+use Rattle.bep_frames.specs.Reading.{Step, More, Whole, Broken, piece_at, sized16_at, hello_at, later_at, frame_at}
 use Rattle.bep_frames.specs.Stream.{Stream, Splits, first_then, ended, step_then, stream_within, stream}
-use Rattle.bep_frames.proofs.Pieces as pieces
 use Rattle.bep_frames.proofs.Sound.{IsRight, step_right, frame_again, begins_again, fault_again, header_longer}
 use Rattle.bep_frames.proofs.Places.{begins_whole}
 
@@ -33,9 +32,9 @@ step_shorter due bytes f rest e =
 -- ---- the function, step by step
 
 pub empty_more : (due : Bool) → frame_at due [] ≡ More
-unfolding hello_at later_at
-empty_more true = pieces.piece_short 4 [] hello_front (omega arith)
-empty_more false = pieces.piece_short 2 [] header_behind (omega arith)
+unfolding hello_at later_at sized16_at piece_at
+empty_more true = refl
+empty_more false = refl
 
 step_same : (f g : List ℕ → Stream) (bytes : List ℕ) (s : Step) → ((x : Frame) (rest : List ℕ) → s ≡ Whole x rest → f rest ≡ g rest) → step_then f bytes s ≡ step_then g bytes s
 step_same f g bytes More h = refl

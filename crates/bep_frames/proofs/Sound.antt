@@ -1,10 +1,9 @@
 -- The function finds what the grammar says.
-use Rattle.std.proofs.Common.{◌≡◌, ℕ, zero, suc, ◌<◌, ◌≤◌, Bool, true, false, List, [], ◌∷◌, ◌++◌, length, take, drop, ℤ, pos, Result, Ok, Err, refl, sym, ap, subst, ◌∙◌, inl, inr, arith, append_assoc, true≢false}
+use Rattle.std.proofs.Common.{◌≡◌, ℕ, ◌<◌, ◌≤◌, Bool, true, false, List, [], ◌∷◌, ◌++◌, length, take, drop, ℤ, pos, Result, Ok, Err, refl, sym, ap, subst, ◌∙◌, inl, inr, arith, append_assoc, true≢false}
 use Rattle.std.specs.Prelude.{◌≢◌, ◌⊎◌, negsuc, nat_eq, if◌then◌else◌}
 use Rattle.std.specs.List.{starts_with}
-use Rattle.std.proofs.lemmas.List.{length-append, length-take-le, take-append-drop}
+use Rattle.std.proofs.lemmas.List.{length-append, length-take-le, take_at, take-append-drop}
 use Rattle.std.proofs.lemmas.Bool.{cases_lt}
-use Rattle.std.proofs.Math.Seq.{take-append_seam}
 use Rattle.bep_messages.specs.declared.fault.MessageFault.{MessageFault}
 use Rattle.bep_messages.specs.declared.hello.Hello.{Hello}
 use Rattle.bep_messages.specs.declared.header.Header.{Header}
@@ -16,8 +15,8 @@ use Rattle.bep_frames.specs.declared.fault.FrameFault.TheVariants.{BadMagic, Too
 use Rattle.bep_frames.specs.declared.frame.Frame.{Frame}
 use Rattle.bep_frames.specs.declared.frame.Frame.TheVariants.{Hello as HelloFrame, Message as MessageFrame, Unknown}
 use Rattle.bep_frames.specs.Carried.{carried}
-use Rattle.bep_frames.specs.Grammar.{magic, most_bytes, number16, number32, IsSized16, IsSized32, IsHello, HasHeader, IsLater, IsFrame, Begins, HasBadHello, HasBadHeader, IsCompressed, IsTooLong, HasBadBody, Shows}
-use Rattle.bep_frames.specs.Reading.{Step, More, Whole, Broken, hello_found, hello_read, hello_behind, hello_sized, hello_front, hello_at, message_found, message_read, message_behind, message_at, is_zero, header_found, header_read, header_behind, later_at, frame_at}
+use Rattle.bep_frames.specs.Grammar.{magic, most_bytes, number32, IsSized16, IsSized32, IsHello, HasHeader, IsLater, IsFrame, Begins, HasBadHello, HasBadHeader, IsCompressed, IsTooLong, HasBadBody, Shows}
+use Rattle.bep_frames.specs.Reading.{Step, More, Whole, Broken, hello_found, hello_read, hello_sized, hello_front, hello_at, message_found, message_read, message_behind, message_at, is_zero, header_found, header_read, later_at, frame_at}
 use Rattle.bep_frames.proofs.Pieces as pieces
 use Rattle.bep_frames.proofs.Carries.{IsFoundAs, carries_found, found_carries, none_carried, bad_carried}
 
@@ -27,9 +26,9 @@ IsRight due bytes More = Unit {0}
 IsRight due bytes (Whole f rest) = Begins due bytes f rest
 IsRight due bytes (Broken e) = Shows due bytes e
 
-true_or_false : (b : Bool) → (b ≡ true) ⊎ (b ≡ false)
-true_or_false true = inl refl
-true_or_false false = inr refl
+if_holds : (P : Step → Type 0) (b : Bool) (x y : Step) → (b ≡ true → P x) → (b ≡ false → P y) → P (if b then x else y)
+if_holds P true x y met unmet = met refl
+if_holds P false x y met unmet = unmet refl
 
 pub same_front : (front : List ℕ) → length front ≡ 4 → starts_with nat_eq front magic ≡ true → front ≡ magic
 same_front [] w e = absurd (omega (arith, w))
@@ -44,226 +43,115 @@ front_same front e = ap (λ (l : List ℕ). starts_with nat_eq l magic) e
 
 -- ---- a Hello
 
-at_cut : (n : ℕ) (bytes : List ℕ) → bytes ≡ take n bytes ++ drop n bytes
-at_cut n bytes = sym (take-append-drop n bytes)
-
-regroup : (a b c d : List ℕ) → a ++ (b ++ (c ++ d)) ≡ (a ++ (b ++ c)) ++ d
-regroup a b c d = simp append_assoc
-
-hello_whole : (bytes size body rest : List ℕ) → bytes ≡ magic ++ (size ++ (body ++ rest)) → length size ≡ 2 → length body ≡ number16 size → (r : Result Hello MessageFault) → decoded hello_table hello body ≡ r → IsRight true bytes (hello_found rest r)
-hello_whole bytes size body rest e w w' (Ok m) reads =
+hello_whole : (bytes sized body rest : List ℕ) → bytes ≡ magic ++ (sized ++ rest) → IsSized16 sized body → (r : Result Hello MessageFault) → decoded hello_table hello body ≡ r → IsRight true bytes (hello_found rest r)
+hello_whole bytes sized body rest e s (Ok m) reads =
     record {
-      spelling = magic ++ (size ++ body);
-      split = e ∙ regroup magic size body rest;
-      frame = record {
-        sized = size ++ body;
-        body = body;
-        split = refl;
-        sized_is = record { size = size; split = refl; width = w; size_is = w' };
-        reads = reads;
-      };
+      spelling = magic ++ sized;
+      split = e ∙ sym (append_assoc magic sized rest);
+      frame = record { sized = sized; body = body; split = refl; sized_is = s; reads = reads };
     }
-hello_whole bytes size body rest e w w' (Err f) reads =
-    record {
-      sized = size ++ body;
-      body = body;
-      behind = rest;
-      split = e ∙ ap (λ (l : List ℕ). magic ++ l) (sym (append_assoc size body rest));
-      sized_is = record { size = size; split = refl; width = w; size_is = w' };
-      bad = λ m h. not_both f m (sym reads ∙ h);
-    }
-  where
-    is_ok : Result Hello MessageFault → Bool
-    is_ok (Ok m) = true
-    is_ok (Err f) = false
+hello_whole bytes sized body rest e s (Err f) reads =
+    record { sized = sized; body = body; behind = rest; split = e; sized_is = s; bad = λ m h. cc }
 
-    not_both : (f : MessageFault) (m : Hello) → Err f ≡ Ok m → ⊥
-    not_both f m h = true≢false (sym (ap is_ok h))
+hello_front_right : (bytes front behind : List ℕ) → bytes ≡ front ++ behind → length front ≡ 4 → IsRight true bytes (hello_front front behind)
+unfolding hello_front hello_sized hello_read
+hello_front_right bytes front behind e w =
+    if_holds (IsRight true bytes) (starts_with nat_eq front magic) (hello_sized behind) (Broken BadMagic)
+    (λ is. pieces.sized16_holds (IsRight true bytes) behind hello_read tt (λ sized body rest e' s.
+    hello_whole bytes sized body rest (e ∙ ap (λ (l : List ℕ). l ++ behind) (same_front front w is) ∙ ap (λ (l : List ℕ). magic ++ l) e') s (decoded hello_table hello body) refl))
+    (λ is.
+    let front_is : take 4 bytes ≡ front = ap (take 4) e ∙ take_at front behind 4 w in
+    (omega (arith, ap length e, length-append front behind), λ h. true≢false (sym (front_same front (sym front_is ∙ h)) ∙ is)))
 
-hello_body : (bytes size behind : List ℕ) → bytes ≡ magic ++ (size ++ behind) → length size ≡ 2 → (length behind < number16 size) ⊎ (number16 size ≤ length behind) → IsRight true bytes (hello_behind size behind)
-unfolding hello_behind hello_read
-hello_body bytes size behind e w (inl lt) = subst (IsRight true bytes) (sym (pieces.piece_short (number16 size) behind hello_read lt)) tt
-hello_body bytes size behind e w (inr le) =
-    let n = number16 size in
-    subst (IsRight true bytes) (sym (pieces.hello_behind_is size behind (take n behind) (drop n behind) (at_cut n behind) (length-take-le n behind le)))
-    (hello_whole bytes size (take n behind) (drop n behind) (e ∙ ap (λ (l : List ℕ). magic ++ (size ++ l)) (at_cut n behind)) w (length-take-le n behind le) (decoded hello_table hello (take n behind)) refl)
-
-hello_size : (bytes behind : List ℕ) → bytes ≡ magic ++ behind → (length behind < 2) ⊎ (2 ≤ length behind) → IsRight true bytes (hello_sized behind)
-unfolding hello_sized
-hello_size bytes behind e (inl lt) = subst (IsRight true bytes) (sym (pieces.piece_short 2 behind hello_behind lt)) tt
-hello_size bytes behind e (inr le) =
-    subst (IsRight true bytes) (sym (pieces.hello_sized_is behind (take 2 behind) (drop 2 behind) (at_cut 2 behind) (length-take-le 2 behind le)))
-    (hello_body bytes (take 2 behind) (drop 2 behind) (e ∙ ap (λ (l : List ℕ). magic ++ l) (at_cut 2 behind)) (length-take-le 2 behind le) (cases_lt _ _))
-
-hello_magic : (bytes front behind : List ℕ) → bytes ≡ front ++ behind → length front ≡ 4 → (starts_with nat_eq front magic ≡ true) ⊎ (starts_with nat_eq front magic ≡ false) → IsRight true bytes (hello_front front behind)
-unfolding hello_front
-hello_magic bytes front behind e w (inl is) =
-    subst (IsRight true bytes) (sym (ap (λ (b : Bool). if b then hello_sized behind else Broken BadMagic) is))
-    (hello_size bytes behind (e ∙ ap (λ (l : List ℕ). l ++ behind) (same_front front w is)) (cases_lt _ _))
-hello_magic bytes front behind e w (inr is) =
-    let front_is : take 4 bytes ≡ front = ap (take 4) e ∙ subst (λ (n : ℕ). take n (front ++ behind) ≡ front) w (take-append_seam front behind) in
-    subst (IsRight true bytes) (sym (ap (λ (b : Bool). if b then hello_sized behind else Broken BadMagic) is))
-    (omega (arith, ap length e, length-append front behind), λ h. true≢false (sym (front_same front (sym front_is ∙ h)) ∙ is))
-
-hello_right : (bytes : List ℕ) → (length bytes < 4) ⊎ (4 ≤ length bytes) → IsRight true bytes (hello_at bytes)
+hello_right : (bytes : List ℕ) → IsRight true bytes (hello_at bytes)
 unfolding hello_at
-hello_right bytes (inl lt) = subst (IsRight true bytes) (sym (pieces.piece_short 4 bytes hello_front lt)) tt
-hello_right bytes (inr le) =
-    subst (IsRight true bytes) (sym (pieces.hello_at_is bytes (take 4 bytes) (drop 4 bytes) (at_cut 4 bytes) (length-take-le 4 bytes le)))
-    (hello_magic bytes (take 4 bytes) (drop 4 bytes) (at_cut 4 bytes) (length-take-le 4 bytes le) (true_or_false _))
+hello_right bytes = pieces.piece_holds (IsRight true bytes) 4 bytes hello_front tt (hello_front_right bytes)
 
 -- ---- a later frame
 
-sized16 : (size held : List ℕ) → length size ≡ 2 → length held ≡ number16 size → IsSized16 (size ++ held) held
-sized16 size held w n = record { size = size; split = refl; width = w; size_is = n }
-
-sized32 : (size held : List ℕ) → length size ≡ 4 → length held ≡ number32 size → IsSized32 (size ++ held) held
-sized32 size held w n = record { size = size; split = refl; width = w; size_is = n }
-
--- a header moves with what stands behind it
-header_before : (bytes : List ℕ) (h : Header) (behind other : List ℕ) → HasHeader bytes h behind → behind ≡ other → HasHeader bytes h other
-header_before bytes h behind other is e = subst (HasHeader bytes h) e is
-
--- the header alone, before something else
-header_and : (bytes : List ℕ) (h : Header) (front rest : List ℕ) → HasHeader bytes h (front ++ rest) → (spelling : List ℕ) × (bytes ≡ spelling ++ rest) × HasHeader spelling h front
-header_and bytes h front rest is =
-    (is.sized ++ front, is.split ∙ sym (append_assoc is.sized front rest), record { sized = is.sized; text = is.text; split = refl; sized_is = is.sized_is; reads = is.reads })
-
-message_whole : (bytes : List ℕ) (h : Header) (size body rest : List ℕ) → HasHeader bytes h (size ++ (body ++ rest)) → h.compression ≡ pos 0 → length size ≡ 4 → length body ≡ number32 size → number32 size ≤ most_bytes → (r : Result Frame FrameFault) → carried h.kind body ≡ r → IsFoundAs h.kind body r → IsRight false bytes (message_found rest r)
-message_whole bytes h size body rest has plain w w' le (Ok f) is right =
-    let cut = header_and bytes h (size ++ body) rest (header_before bytes h _ _ has (sym (append_assoc size body rest))) in
+message_whole : (bytes : List ℕ) (h : Header) (sized body rest : List ℕ) → HasHeader bytes h (sized ++ rest) → h.compression ≡ pos 0 → IsSized32 sized body → length body ≤ most_bytes → (r : Result Frame FrameFault) → carried h.kind body ≡ r → IsFoundAs h.kind body r → IsRight false bytes (message_found rest r)
+message_whole bytes h sized body rest has plain s le (Ok f) is right =
     record {
-      spelling = cut.0;
-      split = cut.1;
+      spelling = has.sized ++ sized;
+      split = has.split ∙ sym (append_assoc has.sized sized rest);
       frame = record {
         says = h;
-        sized = size ++ body;
+        sized = sized;
         body = body;
-        header = cut.2;
+        header = record { sized = has.sized; text = has.text; split = refl; sized_is = has.sized_is; reads = has.reads };
         plain = plain;
-        sized_is = sized32 size body w w';
-        short = omega arith;
+        sized_is = s;
+        short = le;
         carries = right;
       };
     }
-message_whole bytes h size body rest has plain w w' le (Err e) is right =
+message_whole bytes h sized body rest has plain s le (Err e) is right =
     subst (Shows false bytes) (sym right)
-    (record {
-      says = h;
-      sized = size ++ body;
-      body = body;
-      behind = rest;
-      header = header_before bytes h _ _ has (sym (append_assoc size body rest));
-      plain = plain;
-      sized_is = sized32 size body w w';
-      short = omega arith;
-      bad = none_carried h.kind body e is;
-    })
+    (record { says = h; sized = sized; body = body; behind = rest; header = has; plain = plain; sized_is = s; short = le; bad = none_carried h.kind body e is })
 
-message_body : (bytes : List ℕ) (h : Header) (size behind : List ℕ) → HasHeader bytes h (size ++ behind) → h.compression ≡ pos 0 → length size ≡ 4 → number32 size ≤ most_bytes → (length behind < number32 size) ⊎ (number32 size ≤ length behind) → IsRight false bytes (message_behind h.kind size behind)
+message_front_right : (bytes : List ℕ) (h : Header) (size behind : List ℕ) → HasHeader bytes h (size ++ behind) → h.compression ≡ pos 0 → length size ≡ 4 → (most_bytes < number32 size) ⊎ (number32 size ≤ most_bytes) → IsRight false bytes (message_behind h.kind size behind)
 unfolding message_read
-message_body bytes h size behind has plain w le (inl lt) =
-    subst (IsRight false bytes) (sym (pieces.message_short h.kind size behind le ∙ pieces.piece_short (number32 size) behind (message_read h.kind) lt)) tt
-message_body bytes h size behind has plain w le (inr there) =
-    let n = number32 size in
-    let long = length-take-le n behind there in
-    subst (IsRight false bytes) (sym (pieces.message_behind_is h.kind size behind (take n behind) (drop n behind) (at_cut n behind) long le))
-    (message_whole bytes h size (take n behind) (drop n behind) (header_before bytes h _ _ has (ap (λ (l : List ℕ). size ++ l) (at_cut n behind))) plain w long le (carried h.kind (take n behind)) refl (found_carries h.kind (take n behind)))
-
-message_size : (bytes : List ℕ) (h : Header) (size behind : List ℕ) → HasHeader bytes h (size ++ behind) → h.compression ≡ pos 0 → length size ≡ 4 → (most_bytes < number32 size) ⊎ (number32 size ≤ most_bytes) → IsRight false bytes (message_behind h.kind size behind)
-message_size bytes h size behind has plain w (inl lt) =
+message_front_right bytes h size behind has plain w (inl lt) =
     subst (IsRight false bytes) (sym (pieces.message_long h.kind size behind lt))
     (record { says = h; size = size; behind = behind; header = has; plain = plain; width = w; long = lt })
-message_size bytes h size behind has plain w (inr le) = message_body bytes h size behind has plain w le (cases_lt _ _)
+message_front_right bytes h size behind has plain w (inr le) =
+    subst (IsRight false bytes) (sym (pieces.message_short h.kind size behind le))
+    (pieces.piece_holds (IsRight false bytes) (number32 size) behind (message_read h.kind) tt (λ body rest e w'.
+    message_whole bytes h (size ++ body) body rest (subst (HasHeader bytes h) (ap (λ (l : List ℕ). size ++ l) e ∙ sym (append_assoc size body rest)) has) plain
+    (record { size = size; split = refl; width = w; size_is = w' }) (omega arith) (carried h.kind body) refl (found_carries h.kind body)))
 
-message_right : (bytes : List ℕ) (h : Header) (rest : List ℕ) → HasHeader bytes h rest → h.compression ≡ pos 0 → (length rest < 4) ⊎ (4 ≤ length rest) → IsRight false bytes (message_at h.kind rest)
+message_right : (bytes : List ℕ) (h : Header) (rest : List ℕ) → HasHeader bytes h rest → h.compression ≡ pos 0 → IsRight false bytes (message_at h.kind rest)
 unfolding message_at
-message_right bytes h rest has plain (inl lt) = subst (IsRight false bytes) (sym (pieces.piece_short 4 rest (message_behind h.kind) lt)) tt
-message_right bytes h rest has plain (inr le) =
-    subst (IsRight false bytes) (sym (pieces.message_at_is h.kind rest (take 4 rest) (drop 4 rest) (at_cut 4 rest) (length-take-le 4 rest le)))
-    (message_size bytes h (take 4 rest) (drop 4 rest) (header_before bytes h _ _ has (at_cut 4 rest)) plain (length-take-le 4 rest le) (cases_lt _ _))
+message_right bytes h rest has plain =
+    pieces.piece_holds (IsRight false bytes) 4 rest (message_behind h.kind) tt (λ size behind e w. message_front_right bytes h size behind (subst (HasHeader bytes h) e has) plain w (cases_lt _ _))
 
-zero_or_not : (z : ℤ) → (z ≡ pos 0) ⊎ (z ≡ pos 0 → ⊥)
-zero_or_not (pos zero) = inl refl
-zero_or_not (pos (suc n)) = inr (λ h. true≢false (sym (ap is_zero h) ∙ pieces.is_zero_not (pos (suc n)) (λ g. not_zero n g)))
-  where
-    not_zero : (n : ℕ) → pos (suc n) ≡ pos 0 → ⊥
-    not_zero n g = absurd (omega (arith, ap magnitude g))
-      where
-        magnitude : ℤ → ℕ
-        magnitude (pos k) = k
-        magnitude (negsuc k) = k
-zero_or_not (negsuc n) = inr (λ h. true≢false (sym (ap is_zero h)))
+is_zero_is : (z : ℤ) → is_zero z ≡ true → z ≡ pos 0
+is_zero_is (pos n) e = grind arith
+is_zero_is (negsuc n) e = absurd (true≢false (sym e))
 
-header_right : (bytes text rest : List ℕ) (h : Header) → HasHeader bytes h rest → decoded header_table header text ≡ Ok h → (h.compression ≡ pos 0) ⊎ (h.compression ≡ pos 0 → ⊥) → IsRight false bytes (header_read text rest)
-header_right bytes text rest h has reads (inl plain) =
-    subst (IsRight false bytes) (sym (pieces.header_plain text rest h reads plain)) (message_right bytes h rest has plain (cases_lt _ _))
-header_right bytes text rest h has reads (inr not) =
-    subst (IsRight false bytes) (sym (pieces.header_compressed text rest h reads not)) (record { says = h; behind = rest; header = has; compressed = not })
+header_right : (bytes : List ℕ) (h : Header) (rest : List ℕ) → HasHeader bytes h rest → IsRight false bytes (if is_zero h.compression then message_at h.kind rest else Broken Compressed)
+header_right bytes h rest has =
+    if_holds (IsRight false bytes) (is_zero h.compression) (message_at h.kind rest) (Broken Compressed)
+    (λ e. message_right bytes h rest has (is_zero_is h.compression e))
+    (λ e. record { says = h; behind = rest; header = has; compressed = λ z. true≢false (sym (ap is_zero z) ∙ e) })
 
-header_whole : (bytes size text rest : List ℕ) → bytes ≡ (size ++ text) ++ rest → length size ≡ 2 → length text ≡ number16 size → (r : Result Header MessageFault) → decoded header_table header text ≡ r → IsRight false bytes (header_read text rest)
-unfolding header_read
-header_whole bytes size text rest e w w' (Ok h) reads =
-    header_right bytes text rest h (record { sized = size ++ text; text = text; split = e; sized_is = sized16 size text w w'; reads = reads }) reads (zero_or_not h.compression)
-header_whole bytes size text rest e w w' (Err f) reads =
-    subst (IsRight false bytes) (sym (ap (header_found rest) reads))
-    (record { sized = size ++ text; text = text; behind = rest; split = e; sized_is = sized16 size text w w'; bad = λ h is. not_both f h (sym reads ∙ is) })
-  where
-    is_ok : Result Header MessageFault → Bool
-    is_ok (Ok m) = true
-    is_ok (Err f) = false
+header_whole : (bytes sized text rest : List ℕ) → bytes ≡ sized ++ rest → IsSized16 sized text → (r : Result Header MessageFault) → decoded header_table header text ≡ r → IsRight false bytes (header_found rest r)
+header_whole bytes sized text rest e s (Ok h) reads = header_right bytes h rest (record { sized = sized; text = text; split = e; sized_is = s; reads = reads })
+header_whole bytes sized text rest e s (Err f) reads = record { sized = sized; text = text; behind = rest; split = e; sized_is = s; bad = λ h is. cc }
 
-    not_both : (f : MessageFault) (h : Header) → Err f ≡ Ok h → ⊥
-    not_both f h is = true≢false (sym (ap is_ok is))
-
-header_text : (bytes size behind : List ℕ) → bytes ≡ size ++ behind → length size ≡ 2 → (length behind < number16 size) ⊎ (number16 size ≤ length behind) → IsRight false bytes (header_behind size behind)
-unfolding header_behind
-header_text bytes size behind e w (inl lt) = subst (IsRight false bytes) (sym (pieces.piece_short (number16 size) behind header_read lt)) tt
-header_text bytes size behind e w (inr le) =
-    let n = number16 size in
-    subst (IsRight false bytes) (sym (pieces.header_behind_is size behind (take n behind) (drop n behind) (at_cut n behind) (length-take-le n behind le)))
-    (header_whole bytes size (take n behind) (drop n behind) (e ∙ ap (λ (l : List ℕ). size ++ l) (at_cut n behind) ∙ sym (append_assoc size (take n behind) (drop n behind))) w (length-take-le n behind le) (decoded header_table header (take n behind)) refl)
-
-later_right : (bytes : List ℕ) → (length bytes < 2) ⊎ (2 ≤ length bytes) → IsRight false bytes (later_at bytes)
-unfolding later_at
-later_right bytes (inl lt) = subst (IsRight false bytes) (sym (pieces.piece_short 2 bytes header_behind lt)) tt
-later_right bytes (inr le) =
-    subst (IsRight false bytes) (sym (pieces.later_at_is bytes (take 2 bytes) (drop 2 bytes) (at_cut 2 bytes) (length-take-le 2 bytes le)))
-    (header_text bytes (take 2 bytes) (drop 2 bytes) (at_cut 2 bytes) (length-take-le 2 bytes le) (cases_lt _ _))
+later_right : (bytes : List ℕ) → IsRight false bytes (later_at bytes)
+unfolding later_at header_read
+later_right bytes =
+    pieces.sized16_holds (IsRight false bytes) bytes header_read tt (λ sized text rest e s. header_whole bytes sized text rest e s (decoded header_table header text) refl)
 
 pub step_right : (due : Bool) (bytes : List ℕ) → IsRight due bytes (frame_at due bytes)
-step_right true bytes = hello_right bytes (cases_lt _ _)
-step_right false bytes = later_right bytes (cases_lt _ _)
+step_right true bytes = hello_right bytes
+step_right false bytes = later_right bytes
 
 -- ---- what the grammar says is found
 
+hello_spelled : (bytes sized body behind : List ℕ) → bytes ≡ magic ++ (sized ++ behind) → IsSized16 sized body → hello_at bytes ≡ hello_read body behind
+unfolding hello_sized
+hello_spelled bytes sized body behind e s = pieces.hello_at_is bytes magic (sized ++ behind) true e refl refl ∙ pieces.sized16_is (sized ++ behind) sized body behind hello_read refl s
+
 hello_again : (bytes rest : List ℕ) (m : Hello) → IsHello bytes m → hello_at (bytes ++ rest) ≡ Whole (HelloFrame m) rest
 hello_again bytes rest m is =
-    let s = is.sized_is in
-    let all : bytes ++ rest ≡ magic ++ (s.size ++ (is.body ++ rest)) = ap (λ (l : List ℕ). l ++ rest) (is.split ∙ ap (λ (l : List ℕ). magic ++ l) s.split) ∙ sym (regroup magic s.size is.body rest) in
-    pieces.hello_front_good (bytes ++ rest) magic (s.size ++ (is.body ++ rest)) all refl refl
-    ∙ pieces.hello_sized_is _ s.size (is.body ++ rest) refl s.width
-    ∙ pieces.hello_behind_is s.size (is.body ++ rest) is.body rest refl s.size_is
-    ∙ pieces.hello_good is.body rest m is.reads
+    hello_spelled (bytes ++ rest) is.sized is.body rest (pieces.before_more bytes magic is.sized rest is.split) is.sized_is ∙ pieces.hello_good is.body rest m is.reads
 
-header_again : (bytes behind : List ℕ) (h : Header) → HasHeader bytes h behind → (text : List ℕ) × (later_at bytes ≡ header_read text behind) × (decoded header_table header text ≡ Ok h)
-header_again bytes behind h is =
-    let s = is.sized_is in
-    (is.text, pieces.header_at bytes s.size (is.text ++ behind) is.text behind (is.split ∙ ap (λ (l : List ℕ). l ++ behind) s.split ∙ append_assoc s.size is.text behind) s.width refl s.size_is, is.reads)
+header_spelled : (bytes sized text behind : List ℕ) → bytes ≡ sized ++ behind → IsSized16 sized text → later_at bytes ≡ header_read text behind
+unfolding later_at
+header_spelled bytes sized text behind e s = pieces.sized16_is bytes sized text behind header_read e s
 
 plain_again : (bytes behind : List ℕ) (h : Header) → HasHeader bytes h behind → h.compression ≡ pos 0 → later_at bytes ≡ message_at h.kind behind
-plain_again bytes behind h is plain =
-    let a = header_again bytes behind h is in
-    a.1 ∙ pieces.header_plain a.0 behind h a.2 plain
+plain_again bytes behind h is plain = header_spelled bytes is.sized is.text behind is.split is.sized_is ∙ pieces.header_plain is.text behind h is.reads plain
 
 pub header_longer : (bytes behind rest : List ℕ) (h : Header) → HasHeader bytes h behind → HasHeader (bytes ++ rest) h (behind ++ rest)
 header_longer bytes behind rest h is =
-    record { sized = is.sized; text = is.text; split = ap (λ (l : List ℕ). l ++ rest) is.split ∙ append_assoc is.sized behind rest; sized_is = is.sized_is; reads = is.reads }
+    record { sized = is.sized; text = is.text; split = pieces.before_more bytes is.sized behind rest is.split; sized_is = is.sized_is; reads = is.reads }
 
 message_again : (kind : ℤ) (sized body rest : List ℕ) → IsSized32 sized body → length body ≤ most_bytes → message_at kind (sized ++ rest) ≡ message_read kind body rest
 message_again kind sized body rest s short =
-    pieces.message_at_is kind (sized ++ rest) s.size (body ++ rest) (ap (λ (l : List ℕ). l ++ rest) s.split ∙ append_assoc s.size body rest) s.width
-    ∙ pieces.message_behind_is kind s.size (body ++ rest) body rest refl s.size_is (omega (arith, s.size_is, short))
+    pieces.message_is kind (sized ++ rest) s.size (body ++ rest) body rest (pieces.before_more sized s.size body rest s.split) s.width refl s.size_is (omega (arith, s.size_is, short))
 
 later_again : (bytes rest : List ℕ) (f : Frame) → IsLater bytes f → later_at (bytes ++ rest) ≡ Whole f rest
 unfolding message_read
@@ -290,33 +178,26 @@ read_or (Err f) h = (f, refl)
 bad_hello : (bytes : List ℕ) → HasBadHello bytes → hello_at bytes ≡ Broken BadBody
 unfolding hello_read
 bad_hello bytes is =
-    let s = is.sized_is in
     let bad = read_or (decoded hello_table hello is.body) is.bad in
-    let all : bytes ≡ magic ++ (s.size ++ (is.body ++ is.behind)) = is.split ∙ ap (λ (l : List ℕ). magic ++ (l ++ is.behind)) s.split ∙ ap (λ (l : List ℕ). magic ++ l) (append_assoc s.size is.body is.behind) in
-    pieces.hello_front_good bytes magic (s.size ++ (is.body ++ is.behind)) all refl refl
-    ∙ pieces.hello_sized_is _ s.size (is.body ++ is.behind) refl s.width
-    ∙ pieces.hello_behind_is s.size (is.body ++ is.behind) is.body is.behind refl s.size_is
-    ∙ ap (hello_found is.behind) bad.1
+    hello_spelled bytes is.sized is.body is.behind is.split is.sized_is ∙ ap (hello_found is.behind) bad.1
 
 bad_magic : (bytes : List ℕ) → 4 ≤ length bytes → take 4 bytes ≢ magic → hello_at bytes ≡ Broken BadMagic
-bad_magic bytes le not = go (true_or_false (starts_with nat_eq (take 4 bytes) magic))
+bad_magic bytes le not = go (starts_with nat_eq (take 4 bytes) magic) refl
   where
-    go : (starts_with nat_eq (take 4 bytes) magic ≡ true) ⊎ (starts_with nat_eq (take 4 bytes) magic ≡ false) → hello_at bytes ≡ Broken BadMagic
-    go (inl is) = absurd (not (same_front (take 4 bytes) (length-take-le 4 bytes le) is))
-    go (inr is) = pieces.hello_front_bad bytes (take 4 bytes) (drop 4 bytes) (at_cut 4 bytes) (length-take-le 4 bytes le) is
+    go : (b : Bool) → starts_with nat_eq (take 4 bytes) magic ≡ b → hello_at bytes ≡ Broken BadMagic
+    go true is = absurd (not (same_front (take 4 bytes) (length-take-le 4 bytes le) is))
+    go false is = pieces.hello_at_is bytes (take 4 bytes) (drop 4 bytes) false (sym (take-append-drop 4 bytes)) (length-take-le 4 bytes le) is
 
 bad_header : (bytes : List ℕ) → HasBadHeader bytes → later_at bytes ≡ Broken BadHeader
 unfolding header_read
 bad_header bytes is =
-    let s = is.sized_is in
     let bad = read_or (decoded header_table header is.text) is.bad in
-    pieces.header_at bytes s.size (is.text ++ is.behind) is.text is.behind (is.split ∙ ap (λ (l : List ℕ). l ++ is.behind) s.split ∙ append_assoc s.size is.text is.behind) s.width refl s.size_is
-    ∙ ap (header_found is.behind) bad.1
+    header_spelled bytes is.sized is.text is.behind is.split is.sized_is ∙ ap (header_found is.behind) bad.1
 
 compressed : (bytes : List ℕ) → IsCompressed bytes → later_at bytes ≡ Broken Compressed
 compressed bytes is =
-    let a = header_again bytes is.behind is.says is.header in
-    a.1 ∙ pieces.header_compressed a.0 is.behind is.says a.2 is.compressed
+    let h = is.header in
+    header_spelled bytes h.sized h.text is.behind h.split h.sized_is ∙ pieces.header_compressed h.text is.behind is.says h.reads is.compressed
 
 too_long : (bytes : List ℕ) → IsTooLong bytes → later_at bytes ≡ Broken TooLong
 too_long bytes is =

@@ -25,6 +25,10 @@ pub data Step : Type 0 where
 unfoldable pub piece_at : ℕ → List ℕ → (List ℕ → List ℕ → Step) → Step
 piece_at n bytes next = if nat_lt (length bytes) n then More else next (take n bytes) (drop n bytes)
 
+-- the bytes behind their number of 16 bits, and those behind them, once they are there
+unfoldable pub sized16_at : List ℕ → (List ℕ → List ℕ → Step) → Step
+sized16_at bytes next = piece_at 2 bytes (λ size behind. piece_at (number16 size) behind next)
+
 -- ---- a Hello
 
 abbrev pub hello_found : List ℕ → Result Hello MessageFault → Step
@@ -34,11 +38,8 @@ hello_found rest (Err f) = Broken BadBody
 unfoldable pub hello_read : List ℕ → List ℕ → Step
 hello_read body rest = hello_found rest (decoded hello_table hello body)
 
-unfoldable pub hello_behind : List ℕ → List ℕ → Step
-hello_behind size bytes = piece_at (number16 size) bytes hello_read
-
 unfoldable pub hello_sized : List ℕ → Step
-hello_sized bytes = piece_at 2 bytes hello_behind
+hello_sized bytes = sized16_at bytes hello_read
 
 unfoldable pub hello_front : List ℕ → List ℕ → Step
 hello_front front bytes = if starts_with nat_eq front magic then hello_sized bytes else Broken BadMagic
@@ -73,11 +74,8 @@ header_found rest (Err f) = Broken BadHeader
 unfoldable pub header_read : List ℕ → List ℕ → Step
 header_read text rest = header_found rest (decoded header_table header text)
 
-unfoldable pub header_behind : List ℕ → List ℕ → Step
-header_behind size bytes = piece_at (number16 size) bytes header_read
-
 unfoldable pub later_at : List ℕ → Step
-later_at bytes = piece_at 2 bytes header_behind
+later_at bytes = sized16_at bytes header_read
 
 -- ---- the frame that stands first, where a Hello is due and where none is
 

@@ -1,5 +1,5 @@
 ghost use Rattle.std.specs.Prelude.{◌≡◌, ◌≤◌, true, Err, length, take, MatchResult};
-ghost use Rattle.bep_frames.specs.Found.{Finds, Fails};
+ghost use Rattle.bep_frames.specs.Found.{Finds, Fails, IsCut16, Lacks16};
 ghost use Rattle.bep_frames.specs.Grammar.{magic};
 ghost use Rattle.bep_frames.specs.Reading.{hello_sized, hello_at, message_at, later_at, frame_at};
 
@@ -49,19 +49,29 @@ fn hello_at(alloc: Global, bytes: &[u8]) -> Result<Found, FrameFault>
     hello_sized(alloc, behind)
 }
 
-fn hello_sized(alloc: Global, bytes: &[u8]) -> Result<Found, FrameFault>
-    ensures found { MatchResult result (Finds hello_sized bytes.now) (Fails (hello_sized bytes.now)) }
-    ensures memory { result ≡ Err FrameFault.OutOfMemory → 2 ≤ length bytes.now }
+/// What stands behind its length of 16 bits, and what stands behind that; or how many bytes are missing.
+fn sized16(bytes: &[u8]) -> Result<(&[u8], &[u8]), usize>
+    ensures { MatchResult result (λ cut. IsCut16 bytes.now cut.0.now cut.1.now) (Lacks16 bytes.now) }
 {
     if bytes.len() < 2 {
-        return Ok(Found::Missing(2 - bytes.len()));
+        return Err(2 - bytes.len());
     }
     let (size, behind) = bytes.split_at(2);
     let len = number16(size);
     if behind.len() < len {
-        return Ok(Found::Missing(len - behind.len()));
+        return Err(len - behind.len());
     }
-    let (body, rest) = behind.split_at(len);
+    Ok(behind.split_at(len))
+}
+
+fn hello_sized(alloc: Global, bytes: &[u8]) -> Result<Found, FrameFault>
+    ensures found { MatchResult result (Finds hello_sized bytes.now) (Fails (hello_sized bytes.now)) }
+    ensures memory { result ≡ Err FrameFault.OutOfMemory → 2 ≤ length bytes.now }
+{
+    let (body, rest) = match sized16(bytes) {
+        Ok(cut) => cut,
+        Err(missing) => return Ok(Found::Missing(missing)),
+    };
     let hello = read::<Hello>(alloc, body, FrameFault::BadBody)?;
     Ok(Found::Whole(Frame::Hello(hello), rest.len()))
 }
@@ -70,15 +80,10 @@ fn later_at(alloc: Global, bytes: &[u8]) -> Result<Found, FrameFault>
     ensures found { MatchResult result (Finds later_at bytes.now) (Fails (later_at bytes.now)) }
     ensures memory { result ≡ Err FrameFault.OutOfMemory → 2 ≤ length bytes.now }
 {
-    if bytes.len() < 2 {
-        return Ok(Found::Missing(2 - bytes.len()));
-    }
-    let (size, behind) = bytes.split_at(2);
-    let len = number16(size);
-    if behind.len() < len {
-        return Ok(Found::Missing(len - behind.len()));
-    }
-    let (text, rest) = behind.split_at(len);
+    let (text, rest) = match sized16(bytes) {
+        Ok(cut) => cut,
+        Err(missing) => return Ok(Found::Missing(missing)),
+    };
     let header = read::<Header>(alloc, text, FrameFault::BadHeader)?;
     if header.compression != 0 {
         return Err(FrameFault::Compressed);
