@@ -1,5 +1,5 @@
 -- What the function finds under a type is what the bytes are, and nothing else.
-use Rattle.std.proofs.Common.{◌≡◌, ℕ, zero, suc, List, ℤ, pos, Result, Ok, Err, refl, sym, ap, ◌∙◌, arith}
+use Rattle.std.proofs.Common.{◌≡◌, ℕ, zero, suc, ◌-◌, List, ℤ, pos, Result, Ok, Err, refl, sym, ap, subst, ◌∙◌, arith}
 use Rattle.std.specs.Prelude.{negsuc}
 use Rattle.bep_messages.specs.declared.fault.MessageFault.{MessageFault}
 use Rattle.bep_messages.specs.Protocol.{cluster_config_table, index_table, index_update_table, request_table, response_table, download_progress_table, ping_table, close_table}
@@ -11,7 +11,7 @@ use Rattle.bep_frames.specs.declared.frame.Frame.{Frame}
 use Rattle.bep_frames.specs.declared.frame.Frame.TheVariants.{Hello as HelloFrame, Message as MessageFrame, Unknown}
 use Rattle.bep_frames.specs.declared.frame.Message.{Message}
 use Rattle.bep_frames.specs.declared.frame.Message.TheVariants.{ClusterConfig, Index, IndexUpdate, Request, Response, DownloadProgress, Ping, Close}
-use Rattle.bep_frames.specs.Carried.{IsUnknown, IsMessage, Carries, carried_by, carried}
+use Rattle.bep_frames.specs.Carried.{IsUnknown, IsMessage, Carries, carried_by, carried_of, carried}
 use Rattle.bep_frames.proofs.Pieces.{found, failed}
 
 -- ---- what the bytes are is found
@@ -19,15 +19,9 @@ use Rattle.bep_frames.proofs.Pieces.{found, failed}
 pub unknown_found : (kind : ℤ) (bytes : List ℕ) → IsUnknown kind → carried kind bytes ≡ Ok (Unknown kind)
 unfolding carried
 unknown_found (negsuc n) bytes h = refl
-unknown_found (pos zero) bytes h = absurd (omega (arith, h))
-unknown_found (pos (suc zero)) bytes h = absurd (omega (arith, h))
-unknown_found (pos (suc (suc zero))) bytes h = absurd (omega (arith, h))
-unknown_found (pos (suc (suc (suc zero)))) bytes h = absurd (omega (arith, h))
-unknown_found (pos (suc (suc (suc (suc zero))))) bytes h = absurd (omega (arith, h))
-unknown_found (pos (suc (suc (suc (suc (suc zero)))))) bytes h = absurd (omega (arith, h))
-unknown_found (pos (suc (suc (suc (suc (suc (suc zero))))))) bytes h = absurd (omega (arith, h))
-unknown_found (pos (suc (suc (suc (suc (suc (suc (suc zero)))))))) bytes h = absurd (omega (arith, h))
-unknown_found (pos (suc (suc (suc (suc (suc (suc (suc (suc n))))))))) bytes h = refl
+unknown_found (pos n) bytes h =
+    let e : suc (suc (suc (suc (suc (suc (suc (suc (n - 8)))))))) ≡ n = omega arith in
+    subst (λ (m : ℕ). carried_of m bytes ≡ Ok (Unknown (pos m))) e refl
 
 message_found : (kind : ℤ) (bytes : List ℕ) (m : Message) → IsMessage kind bytes m → carried kind bytes ≡ Ok (MessageFrame m)
 unfolding carried

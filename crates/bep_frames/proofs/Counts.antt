@@ -1,5 +1,5 @@
 -- A message has fewer records than its frame has bytes.
-use Rattle.std.proofs.Common.{◌≡◌, ℕ, ◌+◌, ◌<◌, ◌≤◌, ◌==◌, Bool, true, false, List, [], ◌∷◌, ◌++◌, map, length, Option, None, Some, Ok, ap, subst, if◌then◌else◌, arith}
+use Rattle.std.proofs.Common.{◌≡◌, ℕ, ◌+◌, ◌<◌, ◌≤◌, ◌==◌, Bool, true, false, ℤ, List, [], ◌∷◌, ◌++◌, map, length, Option, None, Some, Ok, ap, subst, if◌then◌else◌, arith}
 use Rattle.std.proofs.lemmas.List.{length-append, length-map}
 use Rattle.bep_wire.specs.declared.fault.WireFault.{WireFault}
 use Rattle.bep_wire.specs.Content.{Content, Number, Eight, Bytes, Four, Item}
@@ -17,6 +17,7 @@ use Rattle.bep_messages.specs.Values.{empty, values, value, decoded}
 use Rattle.bep_frames.specs.declared.frame.Frame.{Frame}
 use Rattle.bep_frames.specs.declared.frame.Frame.TheVariants.{Message as MessageFrame}
 use Rattle.bep_frames.specs.declared.frame.Message.TheVariants.{Index as IndexMessage, IndexUpdate as IndexUpdateMessage}
+use Rattle.bep_frames.specs.Carried.{Carries}
 use Rattle.bep_frames.specs.Grammar.{IsLater}
 use Rattle.bep_frames.specs.Reading.{Whole, frame_at}
 use Rattle.bep_frames.proofs.Places.{begins_whole}
@@ -84,14 +85,14 @@ body_shorter bytes f is =
     let h = is.header in
     omega (arith, ap length h.split, length-append h.sized is.sized, ap length h.sized_is.split, length-append h.sized_is.size h.text, h.sized_is.width, ap length is.sized_is.split, length-append is.sized_is.size is.body)
 
+-- so many in a body are fewer than the bytes of a frame, and its rest
+records_few : (bytes rest : List ℕ) (f : Frame) (n : ℕ) → ((kind : ℤ) (body : List ℕ) → Carries kind body f → n ≤ length body) → frame_at false bytes ≡ Whole f rest → n + length rest < length bytes
+records_few bytes rest f n few e =
+    let b = begins_whole false bytes f rest e in
+    omega (arith, few b.frame.says.kind b.frame.body b.frame.carries, body_shorter b.spelling f b.frame, ap length b.split, length-append b.spelling rest)
+
 pub index_records : (bytes rest : List ℕ) (m : Index) → frame_at false bytes ≡ Whole (MessageFrame (IndexMessage m)) rest → length m.files + length rest < length bytes
-index_records bytes rest m e =
-    let b = begins_whole false bytes (MessageFrame (IndexMessage m)) rest e in
-    let few : length m.files ≤ length b.frame.body = index_few b.frame.body m b.frame.carries.1 in
-    omega (arith, few, body_shorter b.spelling (MessageFrame (IndexMessage m)) b.frame, ap length b.split, length-append b.spelling rest)
+index_records bytes rest m e = records_few bytes rest (MessageFrame (IndexMessage m)) (length m.files) (λ kind body is. index_few body m is.1) e
 
 pub update_records : (bytes rest : List ℕ) (m : IndexUpdate) → frame_at false bytes ≡ Whole (MessageFrame (IndexUpdateMessage m)) rest → length m.files + length rest < length bytes
-update_records bytes rest m e =
-    let b = begins_whole false bytes (MessageFrame (IndexUpdateMessage m)) rest e in
-    let few : length m.files ≤ length b.frame.body = update_few b.frame.body m b.frame.carries.1 in
-    omega (arith, few, body_shorter b.spelling (MessageFrame (IndexUpdateMessage m)) b.frame, ap length b.split, length-append b.spelling rest)
+update_records bytes rest m e = records_few bytes rest (MessageFrame (IndexUpdateMessage m)) (length m.files) (λ kind body is. update_few body m is.1) e

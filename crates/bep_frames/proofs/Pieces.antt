@@ -13,7 +13,7 @@ use Rattle.bep_frames.specs.declared.fault.FrameFault.{FrameFault}
 use Rattle.bep_frames.specs.declared.fault.FrameFault.TheVariants.{BadMagic, TooLong, Compressed, BadHeader, BadBody, OutOfMemory}
 use Rattle.bep_frames.specs.declared.found.Found.{Found}
 use Rattle.bep_frames.specs.declared.found.Found.TheVariants.{Missing, Whole as WholeFound}
-use Rattle.bep_frames.specs.declared.frame.Frame.TheVariants.{Hello as HelloFrame, Message as MessageFrame, Unknown}
+use Rattle.bep_frames.specs.declared.frame.Frame.TheVariants.{Hello as HelloFrame, Message as MessageFrame}
 use Rattle.bep_frames.specs.declared.frame.Frame.{Frame}
 use Rattle.bep_frames.specs.declared.frame.Message.{Message}
 use Rattle.bep_frames.specs.Carried.{carried, carried_by, carried_of}
@@ -124,7 +124,7 @@ found_behind at at' bytes behind (Ok (Missing n)) e h = (h.0, λ more few. e mor
 found_behind at at' bytes behind (Ok (WholeFound f left)) e h = (h.0, h.1, ends at at' bytes behind e ∙ h.2)
 found_behind at at' bytes behind (Err f) e h = λ ne. ends at at' bytes behind e ∙ h ne
 
-pub is_zero_not : (z : ℤ) → z ≢ pos 0 → is_zero z ≡ false
+is_zero_not : (z : ℤ) → z ≢ pos 0 → is_zero z ≡ false
 is_zero_not (pos zero) h = absurd (h refl)
 is_zero_not (pos (suc n)) h = grind arith
 is_zero_not (negsuc n) h = refl
@@ -136,12 +136,6 @@ header_plain text rest h e z = ap (header_found rest) e ∙ ap (λ (c : ℤ). if
 pub header_compressed : (text rest : List ℕ) (h : Header) → decoded header_table header text ≡ Ok h → h.compression ≢ pos 0 → header_read text rest ≡ Broken Compressed
 unfolding header_read
 header_compressed text rest h e z = ap (header_found rest) e ∙ ap (λ (b : Bool). if b then message_at h.kind rest else Broken Compressed) (is_zero_not h.compression z)
-
-abbrev given : Message → Result Frame FrameFault
-given m = Ok (MessageFrame m)
-
-abbrev pub unknown : ℤ → Result Frame FrameFault
-unknown kind = Ok (Unknown kind)
 
 abbrev pub failed : FrameFault → Result Frame FrameFault
 failed e = Err e
@@ -182,4 +176,4 @@ carried_err kind n bytes message r e x is at fails err ne =
     told ∙ sym (carried_at kind n bytes is ∙ at ∙ unread (carried_by message) failed BadBody r e (λ f. refl) fails (λ h. ne (told ∙ ap failed h)))
 
 pub carried_ok : {M : Type 0} (kind : ℤ) (n : ℕ) (bytes : List ℕ) (message : M → Message) (r : Result M MessageFault) (m : M) (x : Message) → kind ≡ pos n → carried_of n bytes ≡ carried_by message r → r ≡ Ok m → x ≡ message m → Ok (MessageFrame x) ≡ carried kind bytes
-carried_ok kind n bytes message r m x is at e was = ap given was ∙ sym (carried_at kind n bytes is ∙ at ∙ ap (carried_by message) e)
+carried_ok kind n bytes message r m x is at e was = ap (λ (y : Message). found (MessageFrame y)) was ∙ sym (carried_at kind n bytes is ∙ at ∙ ap (carried_by message) e)

@@ -1,5 +1,5 @@
 -- Each byte list has one reading as a stream.
-use Rattle.std.proofs.Common.{◌≡◌, ℕ, zero, suc, ◌<◌, ◌≤◌, Bool, true, false, List, [], ◌∷◌, ◌++◌, length, Result, Ok, Err, refl, sym, ap, subst, ◌∙◌, arith, append_assoc, append-nil, true≢false}
+use Rattle.std.proofs.Common.{◌≡◌, ℕ, zero, suc, ◌<◌, ◌≤◌, Bool, true, false, List, [], ◌∷◌, ◌++◌, length, Result, Ok, Err, refl, sym, ap, subst, ◌∙◌, arith, append_assoc, append-nil}
 use Rattle.std.proofs.lemmas.List.{length-append, take-append-le}
 use Rattle.bep_frames.specs.declared.fault.FrameFault.{FrameFault}
 use Rattle.bep_frames.specs.declared.fault.FrameFault.TheVariants.{BadMagic, TooLong, Compressed, BadHeader, BadBody, OutOfMemory}
@@ -8,6 +8,7 @@ use Rattle.bep_frames.specs.declared.frame.Frame.TheVariants.{Hello as HelloFram
 use Rattle.bep_frames.specs.Grammar.{magic, HasHeader, IsFrame, Shows, IsPartial}
 use Rattle.bep_frames.specs.Reading.{Step, More, Whole, Broken, piece_at, sized16_at, hello_at, later_at, frame_at}
 use Rattle.bep_frames.specs.Stream.{Stream, Splits, first_then, ended, step_then, stream_within, stream}
+use Rattle.bep_frames.proofs.Pieces.{before_more}
 use Rattle.bep_frames.proofs.Sound.{IsRight, step_right, frame_again, begins_again, fault_again, header_longer}
 use Rattle.bep_frames.proofs.Places.{begins_whole}
 
@@ -73,16 +74,11 @@ stream_broken due bytes e is = stream_read due bytes ∙ ap (step_then (stream f
 
 -- ---- it is a reading
 
-abbrev is_more : Step → Bool
-is_more More = true
-is_more (Whole f rest) = false
-is_more (Broken e) = false
-
 more_partial : (due : Bool) (bytes : List ℕ) → frame_at due bytes ≡ More → IsPartial due bytes
 more_partial due bytes e =
     record {
-      no_frame = λ f rest b. true≢false (ap is_more (sym e ∙ begins_again due bytes f rest b));
-      no_fault = λ f s. true≢false (ap is_more (sym e ∙ fault_again due bytes f s));
+      no_frame = λ f rest b. let is = begins_again due bytes f rest b in cc;
+      no_fault = λ f s. let is = fault_again due bytes f s in cc;
     }
 
 partial_more : (due : Bool) (bytes : List ℕ) → IsPartial due bytes → frame_at due bytes ≡ More
@@ -127,24 +123,18 @@ only_splits due bytes frames end h =
     let e = sym (one_only due bytes frames end h) in
     (ap (λ (s : Stream). s.frames) e, ap (λ (s : Stream). s.end) e)
 
-abbrev rest_of : Step → List ℕ
-rest_of More = []
-rest_of (Whole f rest) = rest
-rest_of (Broken e) = []
-
 pub no_beginning : (due : Bool) (bytes rest : List ℕ) (f g : Frame) → IsFrame due bytes f → IsFrame due (bytes ++ rest) g → rest ≡ []
 no_beginning due bytes rest f g is all =
-    ap rest_of (sym (frame_again due bytes rest f is) ∙ ap (frame_at due) (sym (append-nil (bytes ++ rest))) ∙ frame_again due (bytes ++ rest) [] g all)
+    let front = frame_again due bytes rest f is in
+    let whole = ap (frame_at due) (sym (append-nil (bytes ++ rest))) ∙ frame_again due (bytes ++ rest) [] g all in
+    cc
 
 -- ---- what stands there stays when more comes
 
 pub whole_longer : (due : Bool) (bytes more : List ℕ) (f : Frame) (rest : List ℕ) → frame_at due bytes ≡ Whole f rest → frame_at due (bytes ++ more) ≡ Whole f (rest ++ more)
 whole_longer due bytes more f rest e =
     let b = begins_whole due bytes f rest e in
-    ap (λ (l : List ℕ). frame_at due (l ++ more)) b.split ∙ ap (frame_at due) (append_assoc b.spelling rest more) ∙ frame_again due b.spelling (rest ++ more) f b.frame
-
-longer : (bytes a b more : List ℕ) → bytes ≡ a ++ b → bytes ++ more ≡ a ++ (b ++ more)
-longer bytes a b more e = ap (λ (l : List ℕ). l ++ more) e ∙ append_assoc a b more
+    ap (frame_at due) (before_more bytes b.spelling rest more b.split) ∙ frame_again due b.spelling (rest ++ more) f b.frame
 
 shows_longer : (due : Bool) (bytes more : List ℕ) (e : FrameFault) → Shows due bytes e → Shows due (bytes ++ more) e
 shows_longer true bytes more BadMagic is = (omega (arith, is.0, length-append bytes more), λ h. is.1 (sym (take-append-le 4 bytes more is.0) ∙ h))
@@ -152,7 +142,7 @@ shows_longer true bytes more TooLong is = is
 shows_longer true bytes more Compressed is = is
 shows_longer true bytes more BadHeader is = is
 shows_longer true bytes more BadBody is =
-    record { sized = is.sized; body = is.body; behind = is.behind ++ more; split = longer bytes magic (is.sized ++ is.behind) more is.split ∙ ap (λ (l : List ℕ). magic ++ l) (append_assoc is.sized is.behind more); sized_is = is.sized_is; bad = is.bad }
+    record { sized = is.sized; body = is.body; behind = is.behind ++ more; split = before_more bytes magic (is.sized ++ is.behind) more is.split ∙ ap (λ (l : List ℕ). magic ++ l) (append_assoc is.sized is.behind more); sized_is = is.sized_is; bad = is.bad }
 shows_longer true bytes more OutOfMemory is = is
 shows_longer false bytes more BadMagic is = is
 shows_longer false bytes more TooLong is =
@@ -160,7 +150,7 @@ shows_longer false bytes more TooLong is =
 shows_longer false bytes more Compressed is =
     record { says = is.says; behind = is.behind ++ more; header = header_longer bytes is.behind more is.says is.header; compressed = is.compressed }
 shows_longer false bytes more BadHeader is =
-    record { sized = is.sized; text = is.text; behind = is.behind ++ more; split = longer bytes is.sized is.behind more is.split; sized_is = is.sized_is; bad = is.bad }
+    record { sized = is.sized; text = is.text; behind = is.behind ++ more; split = before_more bytes is.sized is.behind more is.split; sized_is = is.sized_is; bad = is.bad }
 shows_longer false bytes more BadBody is =
     record { says = is.says; sized = is.sized; body = is.body; behind = is.behind ++ more; header = subst (HasHeader (bytes ++ more) is.says) (append_assoc is.sized is.behind more) (header_longer bytes (is.sized ++ is.behind) more is.says is.header); plain = is.plain; sized_is = is.sized_is; short = is.short; bad = is.bad }
 shows_longer false bytes more OutOfMemory is = is

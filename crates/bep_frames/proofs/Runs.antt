@@ -46,31 +46,32 @@ pub fed_fed : (s : State) (a b : List ℕ) → fed (fed s a) b ≡ fed s (a ++ b
 fed_fed s a b = ap (λ (l : List ℕ). record { hello = s.hello; rest = l; fault = s.fault }) (fed_by s s.fault a b)
 
 -- where nothing more comes
+abbrev end_of : State → Option FrameFault → Result (List ℕ) FrameFault
+end_of s None = Ok s.rest
+end_of s (Some f) = Err f
+
+stops_end : (s : State) (fault : Option FrameFault) → Stops s fault → remaining (fed s []) ≡ ended (end_of s fault)
+stops_end s None h = remaining_none s [] h.0 ∙ ap (stream s.hello) (append-nil s.rest) ∙ stream_more s.hello s.rest h.1
+stops_end s (Some f) h = remaining_fault s [] f h
+
+given_all : (s : State) (fault : Option FrameFault) → Stops s fault → (frames : List Frame) (all : Stream) → with_front frames (remaining (fed s [])) ≡ all → with_front frames (ended (end_of s fault)) ≡ all
+given_all s fault h frames all e = ap (with_front frames) (sym (stops_end s fault h)) ∙ e
+
 pub ends_stream : (s : State) (fault : Option FrameFault) → Stops s fault → (frames : List Frame) (all : Stream) → with_front frames (remaining (fed s [])) ≡ all → frames ≡ all.frames
-ends_stream s None h frames all e =
-    let last : remaining (fed s []) ≡ ended (Ok s.rest) = remaining_none s [] h.0 ∙ ap (stream s.hello) (append-nil s.rest) ∙ stream_more s.hello s.rest h.1 in
-    sym (append-nil frames) ∙ ap (λ (r : Stream). frames ++ r.frames) (sym last) ∙ ap (λ (r : Stream). r.frames) e
-ends_stream s (Some f) h frames all e =
-    let last = remaining_fault s [] f h in
-    sym (append-nil frames) ∙ ap (λ (r : Stream). frames ++ r.frames) (sym last) ∙ ap (λ (r : Stream). r.frames) e
+ends_stream s fault h frames all e = sym (append-nil frames) ∙ ap (λ (r : Stream). r.frames) (given_all s fault h frames all e)
 
 pub ends_rest : (s : State) (frames : List Frame) (all : Stream) → Stops s None → with_front frames (remaining (fed s [])) ≡ all → EndsAs all.end (Ok (length s.rest))
-ends_rest s frames all h e =
-    let last : remaining (fed s []) ≡ ended (Ok s.rest) = remaining_none s [] h.0 ∙ ap (stream s.hello) (append-nil s.rest) ∙ stream_more s.hello s.rest h.1 in
-    let end = ap (λ (r : Stream). r.end) (sym last) ∙ ap (λ (r : Stream). r.end) e in
-    subst (λ (r : Result (List ℕ) FrameFault). EndsAs r (Ok (length s.rest))) end refl
+ends_rest s frames all h e = subst (λ (r : Stream). EndsAs r.end (Ok (length s.rest))) (given_all s None h frames all e) refl
 
 pub ends_fault : (s : State) (f : FrameFault) (frames : List Frame) (all : Stream) → Stops s (Some f) → with_front frames (remaining (fed s [])) ≡ all → EndsAs all.end (Err f)
-ends_fault s f frames all h e =
-    let end = ap (λ (r : Stream). r.end) (sym (remaining_fault s [] f h)) ∙ ap (λ (r : Stream). r.end) e in
-    subst (λ (r : Result (List ℕ) FrameFault). EndsAs r (Err f)) end refl
+ends_fault s f frames all h e = subst (λ (r : Stream). EndsAs r.end (Err f)) (given_all s (Some f) h frames all e) refl
 
 -- after an answer: a fault ends the stream, and with no answer all that is left is less than a frame
 pub fault_ends : (old new : State) (e : FrameFault) (more : List ℕ) → TellsFault old e new → remaining (fed new more) ≡ ended (Err e)
 fault_ends old new e more tells = remaining_fault new more e (fault_stops old new e tells)
 
 pub none_ends : (s new : State) → Gives s None new → remaining (fed s []) ≡ ended (Ok s.rest)
-none_ends s new g = remaining_none s [] g.0 ∙ ap (stream s.hello) (append-nil s.rest) ∙ stream_more s.hello s.rest g.1
+none_ends s new g = stops_end s None (g.0, g.1)
 
 pub starts : (due : Bool) → Stops (start due) None
 starts due = (refl, empty_more due)

@@ -38,9 +38,6 @@ same_front (a ∷ b ∷ c ∷ []) w e = absurd (omega (arith, w))
 same_front (a ∷ b ∷ c ∷ d ∷ []) w e = grind arith
 same_front (a ∷ b ∷ c ∷ d ∷ x ∷ front) w e = absurd (omega (arith, w))
 
-front_same : (front : List ℕ) → front ≡ magic → starts_with nat_eq front magic ≡ true
-front_same front e = ap (λ (l : List ℕ). starts_with nat_eq l magic) e
-
 -- ---- a Hello
 
 hello_whole : (bytes sized body rest : List ℕ) → bytes ≡ magic ++ (sized ++ rest) → IsSized16 sized body → (r : Result Hello MessageFault) → decoded hello_table hello body ≡ r → IsRight true bytes (hello_found rest r)
@@ -61,7 +58,7 @@ hello_front_right bytes front behind e w =
     hello_whole bytes sized body rest (e ∙ ap (λ (l : List ℕ). l ++ behind) (same_front front w is) ∙ ap (λ (l : List ℕ). magic ++ l) e') s (decoded hello_table hello body) refl))
     (λ is.
     let front_is : take 4 bytes ≡ front = ap (take 4) e ∙ take_at front behind 4 w in
-    (omega (arith, ap length e, length-append front behind), λ h. true≢false (sym (front_same front (sym front_is ∙ h)) ∙ is)))
+    (omega (arith, ap length e, length-append front behind), λ h. true≢false (sym (ap (λ (l : List ℕ). starts_with nat_eq l magic) (sym front_is ∙ h)) ∙ is)))
 
 hello_right : (bytes : List ℕ) → IsRight true bytes (hello_at bytes)
 unfolding hello_at

@@ -2,9 +2,10 @@ use Rattle.std.proofs.Common.{◌≡◌, ℤ, pos, to_z, of_z, w32, refl, sym, a
 use Rattle.std.specs.Prelude.{◌≢◌, negsuc}
 use Rattle.std.proofs.lemmas.Int.{ints}
 use Rattle.bep_frames.specs.Carried.{IsUnknown}
+use Rattle.bep_frames.specs.declared.frame.Frame.TheVariants.{Unknown}
 use Rattle.bep_frames.specs.declared.frame.Message.TheVariants.{ClusterConfig, Index, IndexUpdate, Request, Response, DownloadProgress, Ping, Close}
 use Rattle.bep_frames.proofs.Carries.{unknown_found}
-use Rattle.bep_frames.proofs.Pieces.{carried_err, carried_ok, unknown}
+use Rattle.bep_frames.proofs.Pieces.{carried_err, carried_ok, found}
 use Rattle.bep_frames.proofs.carried.carried.Goals as goal
 use Rattle.bep_frames.proofs.carried.carried.Goals.{in-0+in_ok-body-in-0, in-1+in_ok-body-in-1, in-2+in_ok-body-in-2, in-3+in_ok-body-in-3, in-4+in_ok-body-in-4, in-5+in_ok-body-in-5, in-6+in_ok-body-in-6, in-7+in_ok-body-in-7}
 
@@ -40,7 +41,7 @@ other_kind (pos n) h0 h1 h2 h3 h4 h5 h6 h7 = omega (arith, ints)
 pub returns-in_default-clause-carried : goal.returns-in_default-clause-carried
 returns-in_default-clause-carried c ne =
     let back : to_z w32 (of_z w32 c.args.kind) ≡ c.args.kind = search rules in
-    ap unknown back ∙ sym (unknown_found c.args.kind c.args.bytes.now (other_kind c.args.kind (search rules) (search rules) (search rules) (search rules) (search rules) (search rules) (search rules) (search rules)))
+    ap (λ (z : ℤ). found (Unknown z)) back ∙ sym (unknown_found c.args.kind c.args.bytes.now (other_kind c.args.kind (search rules) (search rules) (search rules) (search rules) (search rules) (search rules) (search rules) (search rules)))
 
 pub returns-clause-carried : goal.returns-clause-carried
 returns-clause-carried c ne =
