@@ -7,7 +7,7 @@ ghost use Rattle.sync_record.specs.Records.{Name, FileRecord, is_live_file};
 ghost use Rattle.sync_record.specs.Validity.{is_valid};
 ghost use Rattle.folder_core.specs.Announced.{key};
 ghost use Rattle.folder_core.specs.States.{FolderState, IsFolder, IsNumbered, local};
-ghost use Rattle.folder_core.specs.Samples.{me, file};
+ghost use Rattle.folder_core.specs.Samples.{me};
 ghost use Rattle.folder_core.specs.Histories.{Entry, IsLegal, state_after, ChangesKeepFolders};
 ghost use Rattle.folder_core.specs.Calls.{Changes, index_answer};
 ghost use Rattle.folder_core.specs.Steps.{Change, ScanFound, ScanGone, IndexFull, IndexMore, Forget, BeginPull, EnterCommit, Finish, GiveUp, Abort};

@@ -11,7 +11,6 @@ ghost use Rattle.sync_record.specs.Validity.{is_valid};
 ghost use Rattle.folder_core.specs.Announced.{Announcement, best};
 ghost use Rattle.folder_core.specs.States.{FolderState, Pull, IsFolder, local, local_version, need, open_commits};
 ghost use Rattle.folder_core.specs.declared.stage.Stage.TheVariants.{Pulling, Committing};
-ghost use Rattle.folder_core.specs.Samples.{recorded};
 ghost use Rattle.folder_core.specs.Samples.{target};
 ghost use Rattle.folder_core.specs.Steps.{BeginPull, EnterCommit, Finish, GiveUp, Abort};
 ghost use Rattle.folder_core.specs.Steps.{Busy, SequenceFull, NotNeeded, Unsupported, Begun};

@@ -11,9 +11,9 @@ ghost use Rattle.sync_record.specs.Devices.{Identity, bytes_cmp};
 ghost use Rattle.sync_record.specs.Records.{Name, FileRecord, is_live_file};
 ghost use Rattle.sync_record.specs.Contents.{same_content};
 ghost use Rattle.sync_record.specs.Validity.{is_valid};
-ghost use Rattle.folder_core.specs.Announced.{key, best, IsBest};
+ghost use Rattle.folder_core.specs.Announced.{key, IsBest};
 ghost use Rattle.folder_core.specs.States.{FolderState, IsFolder, local, need};
-ghost use Rattle.folder_core.specs.Reads.{Reads, Local, Best, Need, LocalSince, FindBlock, Known, CountAll, counts, known};
+ghost use Rattle.folder_core.specs.Reads.{Reads, Local, Best, Need, LocalSince, FindBlock, Known, CountAll};
 
 /// Reads of single records and of numbers: the local record of a name, which has that name, is valid and has a sequence
 /// from 1 to the last; the best of a name with the devices that have it, which rise, and none only where no valid record

@@ -1,7 +1,6 @@
 //! Worked rows.
 ghost use Rattle.std.specs.Prelude.{[], ◌∷◌, ◌≡◌, pos, Some, None, false, replicate};
 ghost use Rattle.std.specs.FinMap.{entries};
-ghost use Rattle.sync_version.specs.Versions.{counter};
 ghost use Rattle.folder_core.specs.Announced.{is_candidate, best};
 ghost use Rattle.folder_core.specs.States.{need};
 ghost use Rattle.folder_core.specs.Reads.{best_found, local_since, places, counts, known, need_page};

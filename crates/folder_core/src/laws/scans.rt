@@ -9,7 +9,6 @@ ghost use Rattle.sync_record.specs.Records.{Name, FileRecord, is_file, is_direct
 ghost use Rattle.sync_record.specs.Contents.{same_content};
 ghost use Rattle.folder_core.specs.States.{FolderState, Pull, IsFolder, local, local_version, open_commits};
 ghost use Rattle.folder_core.specs.declared.stage.Stage.TheVariants.{Pulling, Committing};
-ghost use Rattle.folder_core.specs.Samples.{file, recorded, deletion};
 ghost use Rattle.folder_core.specs.Steps.{ScanFound, ScanGone};
 ghost use Rattle.folder_core.specs.Steps.{Busy, Moved, Unchanged, CounterFull, SequenceFull, Recorded};
 ghost use Rattle.folder_core.specs.Steps.{Finding, FoundFile, FoundDirectory, step, found_record, next_version};
