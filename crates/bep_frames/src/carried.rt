@@ -1,4 +1,4 @@
-ghost use Rattle.std.specs.Prelude.{◌≡◌, ◌≢◌, ℤ, Err, Ok, MatchResult};
+ghost use Rattle.std.specs.Prelude.{◌≡◌, ◌≢◌, Err, Ok};
 ghost use Rattle.bep_messages.specs.Values.{decoded};
 ghost use Rattle.bep_frames.specs.Carried.{IsUnknown, carried};
 ghost use Rattle.bep_frames.specs.declared.frame.Frame.TheVariants.{Unknown};

@@ -1,4 +1,4 @@
-ghost use Rattle.std.specs.Prelude.{◌≡◌, ◌≢◌, ◌+◌, ◌≤◌, [], None, length, drop, vec_len, IsOk, OnOk, OnErr, true, false};
+ghost use Rattle.std.specs.Prelude.{◌≡◌, ◌≢◌, ◌+◌, ◌≤◌, [], None, length, drop, IsOk, OnOk, OnErr, true, false};
 ghost use Rattle.bep_frames.specs.State.{start, fed, Gives};
 
 use crate::fault::FrameFault;

@@ -1,5 +1,5 @@
-ghost use Rattle.std.specs.Prelude.{◌≡◌, ◌≢◌, ◌≤◌, ◌∷◌, [], ℕ, List, true, None, Ok, Err, ◌++◌, length, IfOk, OnOk, OnErr, IfErr};
-ghost use Rattle.bep_wire.specs.Content.{Item, content_in, item_in};
+ghost use Rattle.std.specs.Prelude.{◌≡◌, ◌≢◌, ◌≤◌, ◌∷◌, [], true, None, Ok, Err, ◌++◌, length, OnOk, OnErr, IfErr};
+ghost use Rattle.bep_wire.specs.Content.{content_in, item_in};
 ghost use Rattle.bep_wire.specs.Fields.{fields};
 ghost use Rattle.bep_messages.specs.Tables.{Table, Values, rises};
 ghost use Rattle.bep_messages.specs.Faults.{item_fault, message_fault, IsBytes, HoldBytes, Tells};

@@ -1,5 +1,5 @@
 //! What one field makes of a message in a message, and of a list of messages.
-ghost use Rattle.std.specs.Prelude.{◌≡◌, ◌≤◌, ◌∷◌, [], ◌++◌, List, None, length, map, OnOk, IfErr};
+ghost use Rattle.std.specs.Prelude.{◌≡◌, ◌≤◌, ◌∷◌, [], ◌++◌, None, length, map, OnOk, IfErr};
 ghost use Rattle.bep_wire.specs.Content.{content_in};
 ghost use Rattle.bep_wire.specs.Fields.{fields};
 ghost use Rattle.bep_messages.specs.Contents.{byte_lists, merged};

@@ -1,5 +1,5 @@
 //! One row of a message, written by its kind; nothing where it has its default.
-ghost use Rattle.std.specs.Prelude.{◌≡◌, ◌≤◌, ◌<◌, ◌++◌, length, map, OnOk};
+ghost use Rattle.std.specs.Prelude.{◌≡◌, ◌≤◌, ◌<◌, map, OnOk};
 ghost use Rattle.std.specs.List.{AllByRecursion};
 ghost use Rattle.bep_wire.specs.Written.{bytes_field};
 ghost use Rattle.bep_messages.specs.Tables.{Int32, Int64, Uint32, Uint64, Enum, Boolean, Words, Octets};

@@ -1,5 +1,4 @@
 ghost use Rattle.std.specs.Prelude.{◌≡◌, [], IfOk, IsOk, string_bytes};
-ghost use Rattle.std.specs.Str.{IsUtf8};
 
 use crate::items::Copied;
 use std::alloc::{AllocError, Global};

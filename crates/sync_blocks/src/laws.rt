@@ -4,7 +4,7 @@ ghost use Rattle.std.specs.Prelude.{IsTrue, drop, flat_map, length, slice_get, t
 ghost use Rattle.std.specs.List.{range_with_len};
 ghost use Rattle.sha2.specs.Sha256.{sha256};
 ghost use Rattle.sync_blocks.specs.declared.block.Block.{Block};
-ghost use Rattle.sync_blocks.specs.BlockList.{block_at, block_count, block_list, cut};
+ghost use Rattle.sync_blocks.specs.BlockList.{block_count, block_list, cut};
 ghost use Rattle.sync_blocks.specs.Tiling.{Tiles, same_block, tiles};
 
 /// A tiling is tested rightly, and no block of one ends past the size.

@@ -1,4 +1,4 @@
-ghost use Rattle.std.specs.Prelude.{◌≡◌, ◌<◌, ◌++◌, ◌*◌, ◌-◌, ◌/◌, ◌%◌, ◌^◌, OnOk, string_bytes};
+ghost use Rattle.std.specs.Prelude.{◌≡◌, ◌<◌, ◌++◌, ◌*◌, ◌-◌, OnOk, string_bytes};
 ghost use Rattle.sync_names.specs.Base32.{base32_digit, base32_character, short_base32};
 
 use std::alloc::AllocError;

@@ -1,5 +1,4 @@
 ghost use Rattle.std.specs.Prelude.{◌≡◌, ◌↔◌, IsTrue};
-ghost use Rattle.sync_names.specs.Components.{components, first_of, last_of};
 ghost use Rattle.sync_names.specs.Internal.{IsInternal, is_internal, is_reserved, is_temporary};
 
 use crate::text;

@@ -1,7 +1,7 @@
 //! Names are equal and stand in order as their bytes.
-ghost use Rattle.std.specs.Prelude.{◌≡◌, ℕ, Some, refl, bytes_eq};
+ghost use Rattle.std.specs.Prelude.{Some, refl, bytes_eq};
 ghost use Rattle.std.specs.Ordering.{nat_cmp};
-ghost use Rattle.std.specs.Cmp.{on_equiv, on_total, on_po, on_per, partial_equiv_from_equiv};
+ghost use Rattle.std.specs.Cmp.{partial_equiv_from_equiv};
 ghost use Rattle.std.specs.Cmp.Lexicographic.{slice_cmp, nat_list_eq_equiv, nat_list_cmp_total, texts_ties, texts_po};
 
 use crate::SafeName;

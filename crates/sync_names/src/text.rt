@@ -1,6 +1,6 @@
 //! The parts of a text round a slash or a dot.
-ghost use Rattle.std.specs.Prelude.{◌≡◌, ◌++◌};
-ghost use Rattle.sync_names.specs.Components.{components, first_of, last_of, folder_of, last_component};
+ghost use Rattle.std.specs.Prelude.{◌≡◌};
+ghost use Rattle.sync_names.specs.Components.{components, first_of, folder_of, last_component};
 ghost use Rattle.sync_names.specs.Extension.{stem_of, extension_of};
 
 /// What stands before the first slash, or the whole text.

@@ -1,4 +1,4 @@
-ghost use Rattle.std.specs.Prelude.{◌≡◌, All, length, ◌↔◌, IsTrue};
+ghost use Rattle.std.specs.Prelude.{◌≡◌};
 ghost use Rattle.sync_blocks.specs.Sizes.{is_block_size};
 ghost use Rattle.sync_record.specs.Validity.{describes_file};
 

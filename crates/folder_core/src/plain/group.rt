@@ -1,5 +1,5 @@
 //! The entries of one name, and the best of them.
-ghost use Rattle.std.specs.Prelude.{◌≡◌, IfOk, IsTrue, map, filter, bytes_eq, not, ◌&&◌, if◌then◌else◌, option_copied};
+ghost use Rattle.std.specs.Prelude.{◌≡◌, IfOk, map, filter, bytes_eq, not, ◌&&◌, option_copied};
 ghost use Rattle.std.specs.List.{list_any, reduce};
 ghost use Rattle.sync_record.specs.Contents.{same_content};
 ghost use Rattle.sync_record.specs.Preference.{is_preferred};
