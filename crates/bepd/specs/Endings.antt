@@ -49,7 +49,7 @@ IsEndOf (Ok rest) (Rest count) = (0 < count) × (count ≡ length rest)
 IsEndOf (Err e) (Fault fault) = fault ≡ e
 IsEndOf _ _ = ⊥
 
--- bytes of which some, up to a piece of 65,536, end what shows no fault yet
+-- the bytes before a last piece, of 65,536 bytes at most, show no fault
 pub record EndsInPiece (bytes : List ℕ) : Type 0 where
   pub before : List ℕ
   pub piece : List ℕ
