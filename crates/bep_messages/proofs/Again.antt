@@ -9,7 +9,7 @@ use Rattle.bep_wire.specs.Content.{Content, Item}
 use Rattle.bep_wire.specs.Fields.{Fields, fields}
 use Rattle.bep_wire.proofs.Lemmas.{fields_none}
 use Rattle.bep_messages.specs.declared.fault.MessageFault.{MessageFault}
-use Rattle.bep_messages.specs.Tables.{Scalar, Int32, Int64, Uint32, Uint64, Enum, Boolean, Words, Octets, Table, End, One, Message, Texts, Messages, Val, Values, rises}
+use Rattle.bep_messages.specs.Tables.{Scalar, Int32, Int64, Uint32, Uint64, Enum, Boolean, Words, Octets, Digest, Table, End, One, Message, Texts, Messages, Val, Values, rises}
 use Rattle.bep_messages.specs.Contents.{contents, numbers, byte_lists, last, low32, signed32, signed64, nonzero, zero_of, scalar, merged}
 use Rattle.bep_messages.specs.Faults.{outcome}
 use Rattle.bep_messages.specs.Values.{empty, values, value, decoded}
@@ -112,6 +112,7 @@ back_scalar n Enum z fits = back_int32 n z fits
 back_scalar n Boolean b fits = back_boolean n b
 back_scalar n Words bytes fits = back_bytes n bytes
 back_scalar n Octets bytes fits = back_bytes n bytes
+back_scalar n Digest bytes fits = back_bytes n bytes
 
 -- ---- messages and lists back
 

@@ -4,7 +4,7 @@ use Rattle.std.proofs.lemmas.Bool.{cases_eq}
 use Rattle.bep_wire.specs.Content.{Content, Number, Eight, Bytes, Four, Item}
 use Rattle.bep_wire.specs.Fields.{fields}
 use Rattle.bep_messages.specs.declared.fault.MessageFault.{MessageFault}
-use Rattle.bep_messages.specs.Tables.{Scalar, Int32, Int64, Uint32, Uint64, Enum, Boolean, Words, Octets, Table, End, One, Message, Texts, Messages, Val, Values, rises}
+use Rattle.bep_messages.specs.Tables.{Scalar, Int32, Int64, Uint32, Uint64, Enum, Boolean, Words, Octets, Digest, Table, End, One, Message, Texts, Messages, Val, Values, rises}
 use Rattle.bep_messages.specs.Known.{is_number, is_bytes, is_of, is_known, is_single}
 use Rattle.bep_messages.specs.Contents.{contents, number_in, bytes_in, numbers, byte_lists, scalar, merged}
 use Rattle.bep_messages.specs.Faults.{item_fault, bytes_fault, scalar_fault, text_fault, message_fault}
@@ -100,6 +100,7 @@ skip_scalar Enum v xs ys c e = rw (skip_numbers xs ys c e) refl
 skip_scalar Boolean v xs ys c e = rw (skip_numbers xs ys c e) refl
 skip_scalar Words v xs ys c e = rw (skip_bytes xs ys c e) refl
 skip_scalar Octets v xs ys c e = rw (skip_bytes xs ys c e) refl
+skip_scalar Digest v xs ys c e = rw (skip_bytes xs ys c e) refl
 
 skipped_bytes : (n : ℕ) (front rest : List Item) (i : Item) → n ≡ i.number → is_bytes i.content ≡ false → byte_lists (contents n (front ++ i ∷ rest)) ≡ byte_lists (contents n (front ++ rest))
 skipped_bytes n front rest i same e =
@@ -122,6 +123,7 @@ none_of Enum c h = refl
 none_of Boolean c h = refl
 none_of Words c h = no_fault text_fault c h
 none_of Octets c h = refl
+none_of Digest c h = refl
 
 unknown_row : (n : ℕ) (fault : List ℕ → Option MessageFault) (rows : Table) (i : Item) → (is_known rows i ≡ false → item_fault rows i ≡ None)
     → (if n == i.number then is_bytes i.content else is_known rows i) ≡ false → (if n == i.number then bytes_fault fault i.content else item_fault rows i) ≡ None
@@ -201,6 +203,7 @@ fresh Enum v w (Number n) cs e = refl
 fresh Boolean v w (Number n) cs e = refl
 fresh Words v w (Number n) cs e = absurd cc
 fresh Octets v w (Number n) cs e = absurd cc
+fresh Digest v w (Number n) cs e = absurd cc
 fresh Int32 v w (Bytes bytes) cs e = absurd cc
 fresh Int64 v w (Bytes bytes) cs e = absurd cc
 fresh Uint32 v w (Bytes bytes) cs e = absurd cc
@@ -209,6 +212,7 @@ fresh Enum v w (Bytes bytes) cs e = absurd cc
 fresh Boolean v w (Bytes bytes) cs e = absurd cc
 fresh Words v w (Bytes bytes) cs e = refl
 fresh Octets v w (Bytes bytes) cs e = refl
+fresh Digest v w (Bytes bytes) cs e = refl
 fresh Int32 v w (Eight bytes) cs e = absurd cc
 fresh Int64 v w (Eight bytes) cs e = absurd cc
 fresh Uint32 v w (Eight bytes) cs e = absurd cc
@@ -217,6 +221,7 @@ fresh Enum v w (Eight bytes) cs e = absurd cc
 fresh Boolean v w (Eight bytes) cs e = absurd cc
 fresh Words v w (Eight bytes) cs e = absurd cc
 fresh Octets v w (Eight bytes) cs e = absurd cc
+fresh Digest v w (Eight bytes) cs e = absurd cc
 fresh Int32 v w (Four bytes) cs e = absurd cc
 fresh Int64 v w (Four bytes) cs e = absurd cc
 fresh Uint32 v w (Four bytes) cs e = absurd cc
@@ -225,6 +230,7 @@ fresh Enum v w (Four bytes) cs e = absurd cc
 fresh Boolean v w (Four bytes) cs e = absurd cc
 fresh Words v w (Four bytes) cs e = absurd cc
 fresh Octets v w (Four bytes) cs e = absurd cc
+fresh Digest v w (Four bytes) cs e = absurd cc
 
 last_of : (kind : Scalar) (v : Val kind) (xs ys : List Content) (a b : Content) (zs : List Content) → is_of kind b ≡ true
     → scalar kind v (xs ++ (a ∷ (ys ++ b ∷ zs))) ≡ scalar kind v (xs ++ (ys ++ b ∷ zs))

@@ -3,6 +3,7 @@ pub mod Absent
 pub mod Joins
 pub mod Loop
 pub mod Texts
+pub mod Takes
 pub mod Says
 pub mod Again
 pub mod Moves

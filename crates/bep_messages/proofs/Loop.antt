@@ -6,7 +6,8 @@ use Rattle.bep_wire.specs.Fields.{Fields, fields, ended, broken, first_then}
 use Rattle.bep_messages.specs.declared.fault.MessageFault.{MessageFault}
 use Rattle.bep_messages.specs.declared.fault.MessageFault.TheVariants.{Wire, NotUtf8, OutOfMemory}
 use Rattle.bep_messages.specs.Tables.{Table, Values, rises}
-use Rattle.bep_messages.specs.Faults.{first_fault, item_fault, or_else, message_fault, IsBytes, HoldBytes, Tells}
+use Rattle.bep_messages.specs.Faults.{first_fault, item_fault, or_else, message_fault, Tells}
+use Rattle.bep_messages.specs.Memory.{ItemTakes, TakesMemory, SomeTakes}
 use Rattle.bep_messages.specs.Values.{values}
 use Rattle.bep_messages.proofs.Joins.{values-none, values-next}
 
@@ -34,11 +35,15 @@ tells_first fault other total OutOfMemory is h = tt
 pub stops : (table : Table) (bytes rest : List ℕ) (i : Item) (total : Option MessageFault) (e : MessageFault) → fields bytes ≡ first_then i (fields rest) → Tells (item_fault table i) e → message_fault table bytes ≡ total → Tells total e
 stops table bytes rest i total e is h so_far = tells_first (item_fault table i) (message_fault table rest) total e (sym so_far ∙ at_field table bytes rest i is) h
 
-pub wants_here : (bytes rest : List ℕ) (i : Item) → fields bytes ≡ first_then i (fields rest) → IsBytes i.content → HoldBytes (fields bytes).items
-wants_here bytes rest i is holds = subst HoldBytes (sym (ap (λ (fs : Fields). fs.items) is)) (inl holds)
+-- one of these fields takes memory
+abbrev of_table : Table → Fields → Type 0
+of_table table fs = SomeTakes (ItemTakes table) (item_fault table) fs.items
 
-pub wants_later : (bytes rest : List ℕ) (i : Item) → fields bytes ≡ first_then i (fields rest) → HoldBytes (fields rest).items → HoldBytes (fields bytes).items
-wants_later bytes rest i is later = subst HoldBytes (sym (ap (λ (fs : Fields). fs.items) is)) (inr later)
+pub takes_here : (table : Table) (bytes rest : List ℕ) (i : Item) → fields bytes ≡ first_then i (fields rest) → ItemTakes table i → TakesMemory table bytes
+takes_here table bytes rest i is takes = subst (of_table table) (sym is) (inl takes)
+
+pub takes_later : (table : Table) (bytes rest : List ℕ) (i : Item) → fields bytes ≡ first_then i (fields rest) → item_fault table i ≡ None → TakesMemory table rest → TakesMemory table bytes
+takes_later table bytes rest i is fine later = subst (of_table table) (sym is) (inr (fine, later))
 
 pub values_go_on : (table : Table) → rises 0 table ≡ true → (old new : Values table) (bytes rest : List ℕ) (i : Item) (total : Values table)
     → fields bytes ≡ first_then i (fields rest) → item_fault table i ≡ None → new ≡ values table old (i ∷ []) → values table old (fields bytes).items ≡ total → values table new (fields rest).items ≡ total

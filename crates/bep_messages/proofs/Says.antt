@@ -12,7 +12,7 @@ use Rattle.bep_wire.specs.Fields.{Fields, fields}
 use Rattle.bep_wire.specs.Written.{bytes_field}
 use Rattle.bep_wire.proofs.Lemmas.{fields_none, number_again, bytes_again}
 use Rattle.bep_messages.specs.declared.fault.MessageFault.{MessageFault}
-use Rattle.bep_messages.specs.Tables.{Scalar, Int32, Int64, Uint32, Uint64, Enum, Boolean, Words, Octets, Table, End, One, Message, Texts, Messages, Val, Values, rises}
+use Rattle.bep_messages.specs.Tables.{Scalar, Int32, Int64, Uint32, Uint64, Enum, Boolean, Words, Octets, Digest, Table, End, One, Message, Texts, Messages, Val, Values, rises}
 use Rattle.bep_messages.specs.Faults.{first_fault, item_fault, scalar_fault, bytes_fault, text_fault, message_fault}
 use Rattle.bep_messages.specs.Forms.{number_form, bytes_form, list_form, unsigned64, flag, scalar_form, form, IsShort, IsText, ScalarFits, Fits}
 use Rattle.bep_messages.proofs.Absent.{rising, rising_within, top, here, skip, AreFine, no_first, none_then, fine_then}
@@ -47,6 +47,7 @@ scalar_items n Enum z = number_items n (unsigned64 z)
 scalar_items n Boolean b = number_items n (flag b)
 scalar_items n Words bytes = bytes_items n bytes
 scalar_items n Octets bytes = bytes_items n bytes
+scalar_items n Digest bytes = bytes_items n bytes
 
 abbrev pub form_items : (table : Table) → Values table → List Item
 form_items End v = []
@@ -90,6 +91,7 @@ scalar_number n Enum z = number_number n (unsigned64 z)
 scalar_number n Boolean b = number_number n (flag b)
 scalar_number n Words bytes = bytes_number n bytes
 scalar_number n Octets bytes = bytes_number n bytes
+scalar_number n Digest bytes = bytes_number n bytes
 
 above_row : (before n : ℕ) (items : List Item) → before < n → HaveNumber n items → AreAbove before items
 above_row before n [] lt h = tt
@@ -176,6 +178,7 @@ says_scalar n Enum z is fits = says_number n (unsigned64 z) is (bits_fit z (wide
 says_scalar n Boolean b is fits = says_number n (flag b) is (flag_fits b)
 says_scalar n Words bytes is fits = says_bytes n bytes is fits.1
 says_scalar n Octets bytes is fits = says_bytes n bytes is fits
+says_scalar n Digest bytes is fits = says_bytes n bytes is fits
 
 pub all_from : {A : Type 0} (P Q : A → Type 0) → ((x : A) → P x → Q x) → (xs : List A) → AllByRecursion P xs → AllByRecursion Q xs
 all_from P Q h [] all = tt
@@ -248,6 +251,7 @@ fine_scalar n Enum z fits = fine_numbers n (unsigned64 z) (λ i. scalar_fault En
 fine_scalar n Boolean b fits = fine_numbers n (flag b) (λ i. scalar_fault Boolean i.content) (λ m. refl)
 fine_scalar n Words bytes fits = fine_bytes n bytes (λ i. scalar_fault Words i.content) (text_fits bytes fits.0)
 fine_scalar n Octets bytes fits = fine_bytes n bytes (λ i. scalar_fault Octets i.content) refl
+fine_scalar n Digest bytes fits = fine_bytes n bytes (λ i. scalar_fault Digest i.content) refl
 
 -- bytes that are just these fields
 pub alone : {text : List ℕ} {items : List Item} → Says text items → fields text ≡ record { items = items; fault = None }

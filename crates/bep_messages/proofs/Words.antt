@@ -2,7 +2,7 @@
 use Rattle.std.proofs.Common.{◌≡◌, ℕ, Bool, true, false, ◌==◌, List, [], ◌∷◌, ◌++◌, map, refl, sym, ap, ◌∙◌, append_assoc, if◌then◌else◌}
 use Rattle.std.proofs.lemmas.List.{map-append}
 use Rattle.bep_wire.specs.Content.{Content, Item}
-use Rattle.bep_messages.specs.Tables.{Scalar, Int32, Int64, Uint32, Uint64, Enum, Boolean, Words, Octets, Val}
+use Rattle.bep_messages.specs.Tables.{Scalar, Int32, Int64, Uint32, Uint64, Enum, Boolean, Words, Octets, Digest, Val}
 use Rattle.bep_messages.specs.Contents.{contents, number_in, bytes_in, numbers, byte_lists, last, low32, signed32, signed64, nonzero, scalar}
 
 consed : (b : Bool) (c : Content) (xs ys : List Content) → (if b then c ∷ (xs ++ ys) else xs ++ ys) ≡ (if b then c ∷ xs else xs) ++ ys
@@ -45,6 +45,7 @@ scalar-append Enum old xs ys = last_numbers signed32 old xs ys
 scalar-append Boolean old xs ys = last_numbers nonzero old xs ys
 scalar-append Words old xs ys = last_bytes old xs ys
 scalar-append Octets old xs ys = last_bytes old xs ys
+scalar-append Digest old xs ys = last_bytes old xs ys
 
 pub scalar-none : (k : Scalar) (old : Val k) → scalar k old [] ≡ old
 scalar-none Int32 old = refl
@@ -55,3 +56,4 @@ scalar-none Enum old = refl
 scalar-none Boolean old = refl
 scalar-none Words old = refl
 scalar-none Octets old = refl
+scalar-none Digest old = refl

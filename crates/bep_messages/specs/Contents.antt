@@ -4,7 +4,7 @@ use Rattle.std.specs.Prelude.{ℕ, ◌%◌, ◌^◌, ◌==◌, Bool, false, not,
 use Rattle.std.specs.Int.{w32, w64, cast_signed}
 use Rattle.bep_wire.specs.Content.{Content, Number, Eight, Bytes, Four, Item}
 use Rattle.bep_wire.specs.Fields.{fields}
-use Rattle.bep_messages.specs.Tables.{Scalar, Int32, Int64, Uint32, Uint64, Enum, Boolean, Words, Octets, Val}
+use Rattle.bep_messages.specs.Tables.{Scalar, Int32, Int64, Uint32, Uint64, Enum, Boolean, Words, Octets, Digest, Val}
 
 -- the contents of the fields with this number, in order
 abbrev pub contents : ℕ → List Item → List Content
@@ -63,6 +63,7 @@ zero_of Enum = pos 0
 zero_of Boolean = false
 zero_of Words = []
 zero_of Octets = []
+zero_of Digest = []
 
 -- the last of the contents of the kind's wire type, or else what there was before
 abbrev pub scalar : (kind : Scalar) → Val kind → List Content → Val kind
@@ -74,6 +75,7 @@ scalar Enum old cs = last old (map signed32 (numbers cs))
 scalar Boolean old cs = last old (map nonzero (numbers cs))
 scalar Words old cs = last old (byte_lists cs)
 scalar Octets old cs = last old (byte_lists cs)
+scalar Digest old cs = last old (byte_lists cs)
 
 -- ---- one message
 

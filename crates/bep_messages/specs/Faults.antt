@@ -1,12 +1,12 @@
 -- The first fault of a message, from left to right.
-use Rattle.std.specs.Prelude.{◌≡◌, ◌⊎◌, ℕ, ◌==◌, List, [], ◌∷◌, Option, Some, None, Result, Ok, Err, if◌then◌else◌}
+use Rattle.std.specs.Prelude.{◌≡◌, ℕ, ◌==◌, List, [], ◌∷◌, Option, Some, None, Result, Ok, Err, if◌then◌else◌}
 use Rattle.std.specs.Str.{is_utf8}
 use Rattle.bep_wire.specs.declared.fault.WireFault.{WireFault}
 use Rattle.bep_wire.specs.Content.{Content, Number, Eight, Bytes, Four, Item}
 use Rattle.bep_wire.specs.Fields.{fields}
 use Rattle.bep_messages.specs.declared.fault.MessageFault.{MessageFault}
 use Rattle.bep_messages.specs.declared.fault.MessageFault.TheVariants.{Wire, NotUtf8, OutOfMemory}
-use Rattle.bep_messages.specs.Tables.{Scalar, Int32, Int64, Uint32, Uint64, Enum, Boolean, Words, Octets, Table, End, One, Message, Texts, Messages}
+use Rattle.bep_messages.specs.Tables.{Scalar, Int32, Int64, Uint32, Uint64, Enum, Boolean, Words, Octets, Digest, Table, End, One, Message, Texts, Messages}
 
 -- the fault of the bytes that a field holds; what is under another wire type is skipped
 abbrev pub bytes_fault : (List ℕ → Option MessageFault) → Content → Option MessageFault
@@ -28,6 +28,7 @@ scalar_fault Enum c = None
 scalar_fault Boolean c = None
 scalar_fault Words c = bytes_fault text_fault c
 scalar_fault Octets c = None
+scalar_fault Digest c = None
 
 -- the first that is there
 abbrev pub or_else : Option MessageFault → Option MessageFault → Option MessageFault
@@ -61,18 +62,6 @@ message_fault table bytes = first_fault (item_fault table) (fields bytes).items 
 abbrev pub outcome : {A : Type 0} → Option MessageFault → A → Result A MessageFault
 outcome None value = Ok value
 outcome (Some f) value = Err f
-
--- what is kept in memory of its own: a text, bytes or a message
-abbrev pub IsBytes : Content → Type 0
-IsBytes (Number n) = ⊥
-IsBytes (Eight bytes) = ⊥
-IsBytes (Bytes bytes) = Unit {0}
-IsBytes (Four bytes) = ⊥
-
--- one of these fields holds bytes
-abbrev pub HoldBytes : List Item → Type 0
-HoldBytes [] = ⊥
-HoldBytes (i ∷ items) = IsBytes i.content ⊎ HoldBytes items
 
 -- an error tells the fault, unless memory ran out
 abbrev pub Tells : Option MessageFault → MessageFault → Type 0

@@ -5,7 +5,7 @@ use Rattle.std.specs.Int.{w32, w64, cast_unsigned}
 use Rattle.std.specs.List.{flat_map, AllByRecursion}
 use Rattle.std.specs.Str.{IsUtf8}
 use Rattle.bep_wire.specs.Written.{number_field, bytes_field}
-use Rattle.bep_messages.specs.Tables.{Scalar, Int32, Int64, Uint32, Uint64, Enum, Boolean, Words, Octets, Table, End, One, Message, Texts, Messages, Val, Values}
+use Rattle.bep_messages.specs.Tables.{Scalar, Int32, Int64, Uint32, Uint64, Enum, Boolean, Words, Octets, Digest, Table, End, One, Message, Texts, Messages, Val, Values}
 
 -- a field of a varint, unless it is 0
 unfoldable pub number_form : ℕ → ℕ → List ℕ
@@ -36,6 +36,7 @@ scalar_form number Enum z = number_form number (unsigned64 z)
 scalar_form number Boolean b = number_form number (flag b)
 scalar_form number Words bytes = bytes_form number bytes
 scalar_form number Octets bytes = bytes_form number bytes
+scalar_form number Digest bytes = bytes_form number bytes
 
 -- a message in a message is left out where nothing of it is written
 abbrev pub form : (table : Table) → Values table → List ℕ
@@ -63,6 +64,7 @@ ScalarFits Enum z = FitsSigned w32 z
 ScalarFits Boolean b = Unit {0}
 ScalarFits Words bytes = IsText bytes
 ScalarFits Octets bytes = IsShort bytes
+ScalarFits Digest bytes = IsShort bytes
 
 abbrev pub Fits : (table : Table) → Values table → Type 0
 Fits End v = Unit {0}

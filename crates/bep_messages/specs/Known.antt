@@ -2,7 +2,7 @@
 -- type than its kind's is an unknown field).
 use Rattle.std.specs.Prelude.{ℕ, ◌==◌, Bool, true, false, if◌then◌else◌}
 use Rattle.bep_wire.specs.Content.{Content, Number, Eight, Bytes, Four, Item}
-use Rattle.bep_messages.specs.Tables.{Scalar, Int32, Int64, Uint32, Uint64, Enum, Boolean, Words, Octets, Table, End, One, Message, Texts, Messages}
+use Rattle.bep_messages.specs.Tables.{Scalar, Int32, Int64, Uint32, Uint64, Enum, Boolean, Words, Octets, Digest, Table, End, One, Message, Texts, Messages}
 
 abbrev pub is_number : Content → Bool
 is_number (Number n) = true
@@ -26,6 +26,7 @@ is_of Enum c = is_number c
 is_of Boolean c = is_number c
 is_of Words c = is_bytes c
 is_of Octets c = is_bytes c
+is_of Digest c = is_bytes c
 
 -- whether the table has a row for the field's number, of a kind with its wire type
 abbrev pub is_known : Table → Item → Bool

@@ -6,6 +6,7 @@ pub mod Tables
 pub mod Known
 pub mod Contents
 pub mod Faults
+pub mod Memory
 pub mod Values
 pub mod Forms
 pub mod Writing

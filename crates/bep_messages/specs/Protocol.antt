@@ -1,5 +1,5 @@
 -- The messages of the Block Exchange Protocol v1: its own tables.
-use Rattle.bep_messages.specs.Tables.{◌▹◌, ◌is◌, ◌holds◌, ◌lists◌, texts, Table, End, Int32, Int64, Uint32, Uint64, Enum, Boolean, Words, Octets}
+use Rattle.bep_messages.specs.Tables.{◌▹◌, ◌is◌, ◌holds◌, ◌lists◌, texts, Table, End, Int32, Int64, Uint32, Uint64, Enum, Boolean, Words, Octets, Digest}
 
 abbrev pub hello_table : Table
 hello_table =
@@ -59,7 +59,7 @@ abbrev pub block_info_table : Table
 block_info_table =
     (1 is Int64)  -- offset
     ▹ (2 is Int32)  -- size
-    ▹ (3 is Octets)  -- hash
+    ▹ (3 is Digest)  -- hash
     ▹ End
 
 abbrev pub file_info_table : Table
@@ -100,7 +100,7 @@ request_table =
     ▹ (3 is Words)  -- name
     ▹ (4 is Int64)  -- offset
     ▹ (5 is Int32)  -- size
-    ▹ (6 is Octets)  -- hash
+    ▹ (6 is Digest)  -- hash
     ▹ (7 is Boolean)  -- from_temporary
     ▹ End
 

@@ -11,6 +11,7 @@ pub data Scalar : Type 0 where
   Boolean : Scalar
   Words : Scalar
   Octets : Scalar
+  Digest : Scalar
 
 -- rows by rising number: one value, one message, a list of texts or of messages
 pub data Table : Type 0 where
@@ -40,6 +41,7 @@ Val Enum = ℤ
 Val Boolean = Bool
 Val Words = List ℕ
 Val Octets = List ℕ
+Val Digest = List ℕ
 
 abbrev pub Values : Table → Type 0
 Values End = Unit {0}

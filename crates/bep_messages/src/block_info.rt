@@ -28,7 +28,7 @@ macro_rules! fields {
         $do! { $($with)*;
             1 offset int64;
             2 size int32;
-            3 hash short_octets;
+            3 hash digest;
         }
     };
 }

@@ -1,10 +1,12 @@
 //! What one field makes of a value, by its kind. A content under another wire type than the kind's
 //! leaves the value as it was.
 ghost use Rattle.std.specs.Prelude.{◌≡◌, ◌≤◌, ◌∷◌, [], ◌++◌, ℕ, List, None, length, OnOk, IfErr};
+ghost use Rattle.std.specs.Str.{IsUtf8};
 ghost use Rattle.bep_wire.specs.Content.{content_of, content_in};
-ghost use Rattle.bep_messages.specs.Tables.{Int32, Int64, Uint32, Uint64, Enum, Boolean, Words, Octets};
+ghost use Rattle.bep_messages.specs.Tables.{Int32, Int64, Uint32, Uint64, Enum, Boolean, Words, Octets, Digest};
 ghost use Rattle.bep_messages.specs.Contents.{scalar, byte_lists};
-ghost use Rattle.bep_messages.specs.Faults.{bytes_fault, text_fault, IsBytes, Tells};
+ghost use Rattle.bep_messages.specs.Faults.{bytes_fault, text_fault, Tells};
+ghost use Rattle.bep_messages.specs.Memory.{HoldsBytes, ScalarTakes};
 ghost use Rattle.bep_messages.specs.declared.fault.MessageFault.TheVariants.{OutOfMemory};
 
 use crate::fault::MessageFault;
@@ -75,7 +77,7 @@ pub fn octets(
     requires end { field.end ≤ length source.now }
     ensures ok { OnOk result (slot.new ≡ scalar Octets slot.old (content_in source.now field ∷ [])) }
     ensures fault { IfErr result (Tells None) }
-    ensures memory { IfErr result (λ e. e ≡ OutOfMemory → IsBytes (content_in source.now field)) }
+    ensures memory { IfErr result (λ e. e ≡ OutOfMemory → ScalarTakes Octets (content_in source.now field)) }
 {
     if let Value::Bytes = field.value {
         *slot = octets::Octets::from_slice(alloc, &source[field.start..field.end])?;
@@ -83,7 +85,7 @@ pub fn octets(
     Ok(())
 }
 
-pub fn short_octets(
+pub fn digest(
     slot: &mut octets::ShortOctets,
     alloc: Global,
     source: &[u8],
@@ -91,9 +93,9 @@ pub fn short_octets(
 ) -> Result<(), MessageFault>
     requires start { field.start ≤ field.end }
     requires end { field.end ≤ length source.now }
-    ensures ok { OnOk result (slot.new ≡ scalar Octets slot.old (content_in source.now field ∷ [])) }
+    ensures ok { OnOk result (slot.new ≡ scalar Digest slot.old (content_in source.now field ∷ [])) }
     ensures fault { IfErr result (Tells None) }
-    ensures memory { IfErr result (λ e. e ≡ OutOfMemory → IsBytes (content_in source.now field)) }
+    ensures memory { IfErr result (λ e. e ≡ OutOfMemory → ScalarTakes Digest (content_in source.now field)) }
 {
     if let Value::Bytes = field.value {
         *slot = octets::ShortOctets::from_slice(alloc, &source[field.start..field.end])?;
@@ -112,8 +114,7 @@ pub fn words(
     ensures ok { OnOk result ((bytes_fault text_fault (content_in source.now field) ≡ None)
         × (slot.new ≡ scalar Words slot.old (content_in source.now field ∷ []))) }
     ensures fault { IfErr result (Tells (bytes_fault text_fault (content_in source.now field))) }
-    ensures memory { IfErr result (λ e. e ≡ OutOfMemory → IsBytes (content_in source.now field)) }
-    ensures readable { IfErr result (λ e. e ≡ OutOfMemory → bytes_fault text_fault (content_in source.now field) ≡ None) }
+    ensures memory { IfErr result (λ e. e ≡ OutOfMemory → ScalarTakes Words (content_in source.now field)) }
 {
     if let Value::Bytes = field.value {
         match std::str::from_utf8(&source[field.start..field.end]) {
@@ -135,8 +136,7 @@ pub fn texts(
     ensures ok { OnOk result ((bytes_fault text_fault (content_in source.now field) ≡ None)
         × (slot.new ≡ slot.old ++ byte_lists (content_in source.now field ∷ []))) }
     ensures fault { IfErr result (Tells (bytes_fault text_fault (content_in source.now field))) }
-    ensures memory { IfErr result (λ e. e ≡ OutOfMemory → IsBytes (content_in source.now field)) }
-    ensures readable { IfErr result (λ e. e ≡ OutOfMemory → bytes_fault text_fault (content_in source.now field) ≡ None) }
+    ensures memory { IfErr result (λ e. e ≡ OutOfMemory → HoldsBytes IsUtf8 (content_in source.now field)) }
 {
     if let Value::Bytes = field.value {
         let mut text = Text::new(alloc);

@@ -1,8 +1,9 @@
 ghost use Rattle.std.specs.Prelude.{◌≡◌, ◌≢◌, ◌≤◌, ◌∷◌, [], true, None, Ok, Err, ◌++◌, length, OnOk, OnErr, IfErr};
-ghost use Rattle.bep_wire.specs.Content.{content_in, item_in};
+ghost use Rattle.bep_wire.specs.Content.{item_in};
 ghost use Rattle.bep_wire.specs.Fields.{fields};
 ghost use Rattle.bep_messages.specs.Tables.{Table, Values, rises};
-ghost use Rattle.bep_messages.specs.Faults.{item_fault, message_fault, IsBytes, HoldBytes, Tells};
+ghost use Rattle.bep_messages.specs.Faults.{item_fault, message_fault, Tells};
+ghost use Rattle.bep_messages.specs.Memory.{ItemTakes, TakesMemory};
 ghost use Rattle.bep_messages.specs.declared.fault.MessageFault.TheVariants.{OutOfMemory};
 ghost use Rattle.bep_messages.specs.Values.{empty, values, decoded};
 ghost use Rattle.bep_messages.specs.Forms.{form, Fits};
@@ -36,8 +37,7 @@ pub trait ProtoMessage: Drop {
         ensures ok { OnOk result ((item_fault table (item_in source.now field) ≡ None)
             × (parts self.new ≡ values table (parts self.old) (item_in source.now field ∷ []))) }
         ensures fault { IfErr result (Tells (item_fault table (item_in source.now field))) }
-        // Only what bytes hold is kept in memory.
-        ensures memory { IfErr result (λ e. e ≡ OutOfMemory → IsBytes (content_in source.now field)) };
+        ensures memory { IfErr result (λ e. e ≡ OutOfMemory → ItemTakes table (item_in source.now field)) };
 
     /// Writes the fields that aren't their defaults. After a refusal what was written is worth nothing.
     fn write(&self, out: &mut Writer) -> Result<(), AllocError>
@@ -54,7 +54,7 @@ pub trait ProtoMessage: Drop {
         ensures ok { OnOk result ((message_fault table bytes.now ≡ None)
             × (parts self.new ≡ values table (parts self.old) (fields bytes.now).items)) }
         ensures fault { IfErr result (Tells (message_fault table bytes.now)) }
-        ensures memory { IfErr result (λ e. e ≡ OutOfMemory → HoldBytes (fields bytes.now).items) }
+        ensures memory { IfErr result (λ e. e ≡ OutOfMemory → TakesMemory table bytes.now) }
     {
         let mut at = 0;
         while let Some(field) = next_field(bytes, at)? {
@@ -70,8 +70,7 @@ pub trait ProtoMessage: Drop {
     /// where there is one, or by want of memory. O(n); each content is copied once.
     final fn decode(alloc: Global, bytes: &[u8]) -> Result<Self, MessageFault>
         ensures decoded { result ≢ Err MessageFault.OutOfMemory → result ≡ decoded table whole bytes.now }
-        // Memory is wanted for a text, bytes or a message in it alone.
-        ensures memory { result ≡ Err MessageFault.OutOfMemory → HoldBytes (fields bytes.now).items }
+        ensures memory { result ≡ Err MessageFault.OutOfMemory → TakesMemory table bytes.now }
     {
         let mut message = Self::make_empty(alloc);
         message.merge(alloc, bytes)?;

@@ -71,11 +71,14 @@ impl Copied for Octets {
     }
 }
 
-/// Bytes of which up to 32, as a SHA-256 digest has, take no memory of their own. Contracts see the
-/// list alone.
+/// The length of a SHA-256 digest in bytes. `ShortOctets` keeps so many bytes in place.
+pub const DIGEST_LEN: usize = 32;
+
+/// Bytes that are kept without allocating if there are at most `DIGEST_LEN` of them. Contracts see
+/// the list alone.
 #[derive(Debug, Drop)]
 pub struct ShortOctets {
-    bytes: SmallVec<u8, 32>,
+    bytes: SmallVec<u8, DIGEST_LEN>,
 }
 
 impl Model for ShortOctets {
@@ -99,7 +102,7 @@ impl ShortOctets {
     /// A copy of bytes. Refused by want of memory alone, and only where there are more than 32.
     pub fn from_slice(alloc: Global, bytes: &[u8]) -> Result<Self, AllocError>
         ensures ok { IfOk result (λ s. s ≡ bytes.now) }
-        ensures short { length bytes.now ≤ 32 → IsOk result }
+        ensures short { length bytes.now ≤ DIGEST_LEN → IsOk result }
     {
         Ok(ShortOctets {
             bytes: SmallVec::from_slice(alloc, bytes)?,

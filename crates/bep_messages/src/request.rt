@@ -38,7 +38,7 @@ macro_rules! fields {
             3 name words;
             4 offset int64;
             5 size int32;
-            6 hash short_octets;
+            6 hash digest;
             7 from_temporary boolean;
         }
     };

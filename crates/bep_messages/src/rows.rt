@@ -2,7 +2,7 @@
 ghost use Rattle.std.specs.Prelude.{◌≡◌, ◌≤◌, ◌<◌, map, OnOk};
 ghost use Rattle.std.specs.List.{AllByRecursion};
 ghost use Rattle.bep_wire.specs.Written.{bytes_field};
-ghost use Rattle.bep_messages.specs.Tables.{Int32, Int64, Uint32, Uint64, Enum, Boolean, Words, Octets};
+ghost use Rattle.bep_messages.specs.Tables.{Int32, Int64, Uint32, Uint64, Enum, Boolean, Words, Octets, Digest};
 ghost use Rattle.bep_messages.specs.Forms.{number_form, bytes_form, list_form, scalar_form, form, ScalarFits, Fits, IsShort, IsText};
 ghost use Rattle.bep_messages.specs.Writing.{Adds};
 
@@ -96,18 +96,14 @@ pub fn octets(out: &mut Writer, number: u32, value: &octets::Octets) -> Result<(
     bytes(out, number, value.as_slice())
 }
 
-pub fn short_octets(
-    out: &mut Writer,
-    number: u32,
-    digest: &octets::ShortOctets,
-) -> Result<(), AllocError>
+pub fn digest(out: &mut Writer, number: u32, hash: &octets::ShortOctets) -> Result<(), AllocError>
     requires low { 0 < number }
     requires high { number ≤ 536870911 }
-    ensures ok { OnOk result (Adds out.old.written (scalar_form number Octets digest.now) out.new.written) }
-    ensures fits { ScalarFits Octets digest.now }
+    ensures ok { OnOk result (Adds out.old.written (scalar_form number Digest hash.now) out.new.written) }
+    ensures fits { ScalarFits Digest hash.now }
     ensures kept { out.new.kept ≡ out.old.kept }
 {
-    bytes(out, number, digest.as_slice())
+    bytes(out, number, hash.as_slice())
 }
 
 pub fn words(out: &mut Writer, number: u32, value: &Text) -> Result<(), AllocError>

@@ -20,8 +20,8 @@ macro_rules! take_kind {
     (octets $self:ident $name:ident $alloc:ident $source:ident $field:ident) => {
         $crate::kinds::octets(&mut $self.$name, $alloc, $source, $field)
     };
-    (short_octets $self:ident $name:ident $alloc:ident $source:ident $field:ident) => {
-        $crate::kinds::short_octets(&mut $self.$name, $alloc, $source, $field)
+    (digest $self:ident $name:ident $alloc:ident $source:ident $field:ident) => {
+        $crate::kinds::digest(&mut $self.$name, $alloc, $source, $field)
     };
     (texts $self:ident $name:ident $alloc:ident $source:ident $field:ident) => {
         $crate::kinds::texts(&mut $self.$name, $alloc, $source, $field)
@@ -71,7 +71,7 @@ macro_rules! copy_fields {
 macro_rules! copy_field {
     (words $self:ident $name:ident) => { $self.$name.copy()? };
     (octets $self:ident $name:ident) => { $self.$name.copy()? };
-    (short_octets $self:ident $name:ident) => { $self.$name.copy()? };
+    (digest $self:ident $name:ident) => { $self.$name.copy()? };
     (texts $self:ident $name:ident) => { $self.$name.copy()? };
     (message $self:ident $name:ident) => { $self.$name.copy()? };
     (messages $self:ident $name:ident) => { $self.$name.copy()? };
@@ -90,7 +90,7 @@ macro_rules! empty_fields {
 macro_rules! empty_field {
     (words $alloc:ident) => { $crate::Text::new($alloc) };
     (octets $alloc:ident) => { $crate::Octets::new($alloc) };
-    (short_octets $alloc:ident) => { $crate::ShortOctets::new($alloc) };
+    (digest $alloc:ident) => { $crate::ShortOctets::new($alloc) };
     (texts $alloc:ident) => { $crate::Items::new($alloc) };
     (messages $alloc:ident) => { $crate::Items::new($alloc) };
     (message $alloc:ident) => { $crate::ProtoMessage::make_empty($alloc) };

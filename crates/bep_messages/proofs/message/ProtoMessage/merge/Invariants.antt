@@ -1,6 +1,7 @@
 use Rattle.std.proofs.Common.{◌≡◌, ◌-◌, drop, length}
 use Rattle.bep_wire.specs.Fields.{fields}
-use Rattle.bep_messages.specs.Faults.{message_fault, HoldBytes}
+use Rattle.bep_messages.specs.Faults.{message_fault}
+use Rattle.bep_messages.specs.Memory.{TakesMemory}
 use Rattle.bep_messages.specs.Values.{values}
 use Rattle.bep_messages.proofs.message.ProtoMessage.merge.Given as goal
 
@@ -9,7 +10,7 @@ invariant-loop-field g l =
     let table = g.Self.ProtoMessage.table in
     let parts = g.Self.ProtoMessage.parts in
     record {
-      memory : HoldBytes (fields (drop l.at l.bytes)).items → HoldBytes (fields l.bytes).items;
+      memory : TakesMemory table (drop l.at l.bytes) → TakesMemory table l.bytes;
       fault : message_fault table (drop l.at l.bytes) ≡ message_fault table l.bytes;
       value : values table (parts l.self) (fields (drop l.at l.bytes)).items ≡ values table (parts l.fn.self) (fields l.bytes).items;
     }
