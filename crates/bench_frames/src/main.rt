@@ -1,5 +1,5 @@
 //! How long the frames of a stream take to be read, in pieces of so many bytes: `bench_frames FILE PIECE`. No Hello
-//! stands in the file. What was read goes to standard output, the time to standard error.
+//! is in the file. What was read goes to standard output, the time to standard error.
 #![tactic(auto)]
 
 use bep_frames::{FrameFault, FrameReader};
@@ -7,7 +7,7 @@ use std::alloc::AllocError;
 use std::time::Instant;
 use std::{env, fs, io};
 
-/// Takes all frames that stand in the reader.
+/// Takes all frames that the reader has.
 fn take_all(reader: &mut FrameReader, count: &mut u64) -> Result<(), FrameFault> {
     for _ in 0..u64::MAX {
         match reader.next() {
@@ -36,14 +36,14 @@ fn main(rt: HostRuntime) -> io::Result<()> {
     let start = Instant::now(&rt)?;
     for piece in stream.as_slice().chunks(size) {
         reader.feed(piece)?;
-        if let Err(told) = take_all(&mut reader, &mut count) {
-            fault = Some(told);
+        if let Err(first) = take_all(&mut reader, &mut count) {
+            fault = Some(first);
         }
     }
     let took = start.elapsed(&rt)?;
     match fault {
         None => println!(rt; "frames {count} rest {}", reader.rest())?,
-        Some(told) => println!(rt; "frames {count} fault {told}")?,
+        Some(first) => println!(rt; "frames {count} fault {first}")?,
     }
     eprintln!(rt; "read {} us", took.as_micros())
 }

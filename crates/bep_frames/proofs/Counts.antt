@@ -1,5 +1,6 @@
 -- A message has fewer records than its frame has bytes.
-use Rattle.std.proofs.Common.{◌≡◌, ℕ, ◌+◌, ◌<◌, ◌≤◌, ◌==◌, Bool, true, false, ℤ, List, [], ◌∷◌, ◌++◌, map, length, Option, None, Some, Ok, ap, subst, if◌then◌else◌, arith}
+use Rattle.std.proofs.Common.{◌≡◌, ℕ, zero, suc, ◌+◌, ◌<◌, ◌≤◌, ◌==◌, Bool, true, false, ℤ, pos, List, [], ◌∷◌, ◌++◌, map, length, Option, None, Some, Ok, ap, subst, if◌then◌else◌, arith}
+use Rattle.std.specs.Prelude.{negsuc}
 use Rattle.std.proofs.lemmas.List.{length-append, length-map}
 use Rattle.bep_wire.specs.declared.fault.WireFault.{WireFault}
 use Rattle.bep_wire.specs.Content.{Content, Number, Eight, Bytes, Four, Item}
@@ -9,18 +10,18 @@ use Rattle.bep_wire.proofs.Lemmas.{reading_is_read}
 use Rattle.bep_messages.specs.declared.fault.MessageFault.{MessageFault}
 use Rattle.bep_messages.specs.declared.index.Index.{Index}
 use Rattle.bep_messages.specs.declared.index_update.IndexUpdate.{IndexUpdate}
-use Rattle.bep_messages.specs.Protocol.{file_info_table, index_table, index_update_table}
-use Rattle.bep_messages.specs.Structs.{file_info, index, index_update}
+use Rattle.bep_messages.specs.declared.file_info.FileInfo.{FileInfo}
+use Rattle.bep_messages.specs.Protocol.{file_info_table, cluster_config_table, index_table, index_update_table, request_table, response_table, download_progress_table, ping_table, close_table}
+use Rattle.bep_messages.specs.Structs.{file_info, cluster_config, index, index_update, request, response, download_progress, ping, close}
 use Rattle.bep_messages.specs.Contents.{contents, bytes_in, byte_lists}
 use Rattle.bep_messages.specs.Faults.{message_fault, outcome}
 use Rattle.bep_messages.specs.Values.{empty, values, value, decoded}
 use Rattle.bep_frames.specs.declared.frame.Frame.{Frame}
 use Rattle.bep_frames.specs.declared.frame.Frame.TheVariants.{Message as MessageFrame}
-use Rattle.bep_frames.specs.declared.frame.Message.TheVariants.{Index as IndexMessage, IndexUpdate as IndexUpdateMessage}
-use Rattle.bep_frames.specs.Carried.{Carries}
-use Rattle.bep_frames.specs.Grammar.{IsLater}
-use Rattle.bep_frames.specs.Reading.{Whole, frame_at}
-use Rattle.bep_frames.proofs.Places.{begins_whole}
+use Rattle.bep_frames.specs.declared.frame.Message.{Message}
+use Rattle.bep_frames.specs.declared.frame.Message.TheVariants.{ClusterConfig, Index as IndexMessage, IndexUpdate as IndexUpdateMessage, Request, Response, DownloadProgress, Ping, Close}
+use Rattle.bep_frames.specs.Carried.{IsMessage}
+use Rattle.bep_frames.specs.Grammar.{IsLater, Begins}
 
 -- ---- a field has a byte
 
@@ -68,15 +69,34 @@ outcome_value : {A : Type 0} (fault : Option MessageFault) (v m : A) → outcome
 outcome_value None v m e = cc
 outcome_value (Some f) v m e = absurd cc
 
-index_few : (bytes : List ℕ) (m : Index) → decoded index_table index bytes ≡ Ok m → length m.files ≤ length bytes
-index_few bytes m e =
-    subst (λ (n : Index). length n.files ≤ length bytes) (outcome_value (message_fault index_table bytes) (index (value index_table bytes)) m e)
-    (made_few 2 (λ held. values file_info_table (empty file_info_table) (fields held).items) file_info bytes)
+-- the records of a message, if it has any
+abbrev records : Message → List FileInfo
+records (ClusterConfig m) = []
+records (IndexMessage m) = m.files
+records (IndexUpdateMessage m) = m.files
+records (Request m) = []
+records (Response m) = []
+records (DownloadProgress m) = []
+records (Ping m) = []
+records (Close m) = []
 
-update_few : (bytes : List ℕ) (m : IndexUpdate) → decoded index_update_table index_update bytes ≡ Ok m → length m.files ≤ length bytes
-update_few bytes m e =
-    subst (λ (n : IndexUpdate). length n.files ≤ length bytes) (outcome_value (message_fault index_update_table bytes) (index_update (value index_update_table bytes)) m e)
-    (made_few 2 (λ held. values file_info_table (empty file_info_table) (fields held).items) file_info bytes)
+few_of : (bytes : List ℕ) (fault : Option MessageFault) (v m : Message) → outcome fault v ≡ Ok m → length (records v) ≤ length bytes → length (records m) ≤ length bytes
+few_of bytes fault v m e few = subst (λ (x : Message). length (records x) ≤ length bytes) (outcome_value fault v m e) few
+
+records_few : (n : ℕ) (bytes : List ℕ) (m : Message) → IsMessage (pos n) bytes m → length (records m) ≤ length bytes
+records_few zero bytes m e = few_of bytes (message_fault cluster_config_table bytes) (ClusterConfig (cluster_config (value cluster_config_table bytes))) m e (omega arith)
+records_few (suc zero) bytes m e = few_of bytes (message_fault index_table bytes) (IndexMessage (index (value index_table bytes))) m e (made_few 2 (λ held. values file_info_table (empty file_info_table) (fields held).items) file_info bytes)
+records_few (suc (suc zero)) bytes m e = few_of bytes (message_fault index_update_table bytes) (IndexUpdateMessage (index_update (value index_update_table bytes))) m e (made_few 2 (λ held. values file_info_table (empty file_info_table) (fields held).items) file_info bytes)
+records_few (suc (suc (suc zero))) bytes m e = few_of bytes (message_fault request_table bytes) (Request (request (value request_table bytes))) m e (omega arith)
+records_few (suc (suc (suc (suc zero)))) bytes m e = few_of bytes (message_fault response_table bytes) (Response (response (value response_table bytes))) m e (omega arith)
+records_few (suc (suc (suc (suc (suc zero))))) bytes m e = few_of bytes (message_fault download_progress_table bytes) (DownloadProgress (download_progress (value download_progress_table bytes))) m e (omega arith)
+records_few (suc (suc (suc (suc (suc (suc zero)))))) bytes m e = few_of bytes (message_fault ping_table bytes) (Ping (ping (value ping_table bytes))) m e (omega arith)
+records_few (suc (suc (suc (suc (suc (suc (suc zero))))))) bytes m e = few_of bytes (message_fault close_table bytes) (Close (close (value close_table bytes))) m e (omega arith)
+records_few (suc (suc (suc (suc (suc (suc (suc (suc n)))))))) bytes m e = absurd e
+
+message_few : (kind : ℤ) (bytes : List ℕ) (m : Message) → IsMessage kind bytes m → length (records m) ≤ length bytes
+message_few (pos n) bytes m e = records_few n bytes m e
+message_few (negsuc n) bytes m e = absurd e
 
 -- ---- and their frames
 
@@ -86,13 +106,12 @@ body_shorter bytes f is =
     omega (arith, ap length h.split, length-append h.sized is.sized, ap length h.sized_is.split, length-append h.sized_is.size h.text, h.sized_is.width, ap length is.sized_is.split, length-append is.sized_is.size is.body)
 
 -- so many in a body are fewer than the bytes of a frame, and its rest
-records_few : (bytes rest : List ℕ) (f : Frame) (n : ℕ) → ((kind : ℤ) (body : List ℕ) → Carries kind body f → n ≤ length body) → frame_at false bytes ≡ Whole f rest → n + length rest < length bytes
-records_few bytes rest f n few e =
-    let b = begins_whole false bytes f rest e in
-    omega (arith, few b.frame.says.kind b.frame.body b.frame.carries, body_shorter b.spelling f b.frame, ap length b.split, length-append b.spelling rest)
+frame_few : (bytes rest : List ℕ) (m : Message) → Begins false bytes (MessageFrame m) rest → length (records m) + length rest < length bytes
+frame_few bytes rest m b =
+    omega (arith, message_few b.frame.says.kind b.frame.body m b.frame.carries, body_shorter b.spelling (MessageFrame m) b.frame, ap length b.split, length-append b.spelling rest)
 
-pub index_records : (bytes rest : List ℕ) (m : Index) → frame_at false bytes ≡ Whole (MessageFrame (IndexMessage m)) rest → length m.files + length rest < length bytes
-index_records bytes rest m e = records_few bytes rest (MessageFrame (IndexMessage m)) (length m.files) (λ kind body is. index_few body m is.1) e
+pub index_records : (bytes rest : List ℕ) (m : Index) → Begins false bytes (MessageFrame (IndexMessage m)) rest → length m.files + length rest < length bytes
+index_records bytes rest m b = frame_few bytes rest (IndexMessage m) b
 
-pub update_records : (bytes rest : List ℕ) (m : IndexUpdate) → frame_at false bytes ≡ Whole (MessageFrame (IndexUpdateMessage m)) rest → length m.files + length rest < length bytes
-update_records bytes rest m e = records_few bytes rest (MessageFrame (IndexUpdateMessage m)) (length m.files) (λ kind body is. update_few body m is.1) e
+pub update_records : (bytes rest : List ℕ) (m : IndexUpdate) → Begins false bytes (MessageFrame (IndexUpdateMessage m)) rest → length m.files + length rest < length bytes
+update_records bytes rest m b = frame_few bytes rest (IndexUpdateMessage m) b

@@ -8,8 +8,7 @@ use Rattle.bep_frames.specs.declared.fault.FrameFault.TheVariants.{OutOfMemory}
 use Rattle.bep_frames.specs.declared.frame.Frame.{Frame}
 use Rattle.bep_frames.specs.declared.frame.Frame.TheVariants.{Message as MessageFrame}
 use Rattle.bep_frames.specs.declared.frame.Message.TheVariants.{Index as IndexMessage, IndexUpdate as IndexUpdateMessage}
-use Rattle.bep_frames.specs.Grammar.{IsFrame}
-use Rattle.bep_frames.specs.Reading.{Whole, frame_at}
+use Rattle.bep_frames.specs.Grammar.{Begins, IsFrame}
 use Rattle.bep_frames.specs.Stream.{Splits, ended, first_then, stream}
 use Rattle.bep_frames.specs.State.{State, start, fed, Gives, remaining}
 use Rattle.bep_frames.proofs.Readings as readings
@@ -43,8 +42,12 @@ given_frame = runs.after_frame
 
 pub given_fault : (old new : State) (e : FrameFault) (more : List ℕ) → Gives old (Some (Err e)) new → e ≢ OutOfMemory → (remaining (fed new more) ≡ remaining (fed old more)) × (remaining (fed new more) ≡ ended (Err e))
 given_fault old new e more gives not =
-    let tells = runs.gives_tells old new e gives not in
-    (runs.after_fault old new e more tells, runs.fault_ends old new e more tells)
+    let fault = runs.gives_fault old new e gives not in
+    (runs.after_fault old new e more fault, runs.fault_ends old new e more fault)
+
+-- an error leaves the unread bytes
+pub given_error_keeps : (old new : State) (e : FrameFault) → Gives old (Some (Err e)) new → (new.rest ≡ old.rest) × (new.hello ≡ old.hello)
+given_error_keeps = runs.error_keeps
 
 pub given_none : (s new : State) → Gives s None new → remaining (fed s []) ≡ ended (Ok s.rest)
 given_none = runs.none_ends
@@ -55,11 +58,11 @@ given_shorter = runs.shorter
 
 -- ---- a message has fewer records than its frame has bytes
 
-pub index_records_few : (bytes rest : List ℕ) (m : Index) → frame_at false bytes ≡ Whole (MessageFrame (IndexMessage m)) rest → length m.files + length rest < length bytes
+pub index_records_few : (bytes rest : List ℕ) (m : Index) → Begins false bytes (MessageFrame (IndexMessage m)) rest → length m.files + length rest < length bytes
 index_records_few = counts.index_records
 
-pub update_records_few : (bytes rest : List ℕ) (m : IndexUpdate) → frame_at false bytes ≡ Whole (MessageFrame (IndexUpdateMessage m)) rest → length m.files + length rest < length bytes
+pub update_records_few : (bytes rest : List ℕ) (m : IndexUpdate) → Begins false bytes (MessageFrame (IndexUpdateMessage m)) rest → length m.files + length rest < length bytes
 update_records_few = counts.update_records
 
-pub frame_shorter : (due : Bool) (bytes rest : List ℕ) (f : Frame) → frame_at due bytes ≡ Whole f rest → length rest < length bytes
-frame_shorter due bytes rest f = readings.step_shorter due bytes f rest
+pub frame_shorter : (due : Bool) (bytes rest : List ℕ) (f : Frame) → Begins due bytes f rest → length rest < length bytes
+frame_shorter due bytes rest f = readings.begins_shorter due bytes f rest

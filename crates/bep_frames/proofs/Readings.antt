@@ -5,9 +5,10 @@ use Rattle.bep_frames.specs.declared.fault.FrameFault.{FrameFault}
 use Rattle.bep_frames.specs.declared.fault.FrameFault.TheVariants.{BadMagic, TooLong, Compressed, BadHeader, BadBody, OutOfMemory}
 use Rattle.bep_frames.specs.declared.frame.Frame.{Frame}
 use Rattle.bep_frames.specs.declared.frame.Frame.TheVariants.{Hello as HelloFrame, Message as MessageFrame, Unknown}
-use Rattle.bep_frames.specs.Grammar.{magic, HasHeader, IsFrame, Shows, IsPartial}
+use Rattle.bep_frames.specs.Grammar.{magic, HasHeader, IsFrame, Begins, Shows, IsPartial}
 use Rattle.bep_frames.specs.Reading.{Step, More, Whole, Broken, piece_at, sized16_at, hello_at, later_at, frame_at}
 use Rattle.bep_frames.specs.Stream.{Stream, Splits, first_then, ended, step_then, stream_within, stream}
+use Rattle.bep_frames.specs.Found.{LacksMore}
 use Rattle.bep_frames.proofs.Pieces.{before_more}
 use Rattle.bep_frames.proofs.Sound.{IsRight, step_right, frame_again, begins_again, fault_again, header_longer}
 use Rattle.bep_frames.proofs.Places.{begins_whole}
@@ -25,10 +26,11 @@ frame_long false bytes f is =
     let h = is.header in
     omega (arith, ap length h.split, length-append h.sized is.sized, ap length h.sized_is.split, length-append h.sized_is.size h.text, h.sized_is.width)
 
-pub step_shorter : (due : Bool) (bytes : List ℕ) (f : Frame) (rest : List ℕ) → frame_at due bytes ≡ Whole f rest → length rest < length bytes
-step_shorter due bytes f rest e =
-    let b = begins_whole due bytes f rest e in
-    omega (arith, frame_long due b.spelling f b.frame, ap length b.split, length-append b.spelling rest)
+pub begins_shorter : (due : Bool) (bytes : List ℕ) (f : Frame) (rest : List ℕ) → Begins due bytes f rest → length rest < length bytes
+begins_shorter due bytes f rest b = omega (arith, frame_long due b.spelling f b.frame, ap length b.split, length-append b.spelling rest)
+
+step_shorter : (due : Bool) (bytes : List ℕ) (f : Frame) (rest : List ℕ) → frame_at due bytes ≡ Whole f rest → length rest < length bytes
+step_shorter due bytes f rest e = begins_shorter due bytes f rest (begins_whole due bytes f rest e)
 
 -- ---- the function, step by step
 
@@ -74,14 +76,14 @@ stream_broken due bytes e is = stream_read due bytes ∙ ap (step_then (stream f
 
 -- ---- it is a reading
 
-more_partial : (due : Bool) (bytes : List ℕ) → frame_at due bytes ≡ More → IsPartial due bytes
+pub more_partial : (due : Bool) (bytes : List ℕ) → frame_at due bytes ≡ More → IsPartial due bytes
 more_partial due bytes e =
     record {
       no_frame = λ f rest b. let is = begins_again due bytes f rest b in cc;
       no_fault = λ f s. let is = fault_again due bytes f s in cc;
     }
 
-partial_more : (due : Bool) (bytes : List ℕ) → IsPartial due bytes → frame_at due bytes ≡ More
+pub partial_more : (due : Bool) (bytes : List ℕ) → IsPartial due bytes → frame_at due bytes ≡ More
 partial_more due bytes p = go (frame_at due bytes) (step_right due bytes)
   where
     go : (s : Step) → IsRight due bytes s → s ≡ More
@@ -129,11 +131,10 @@ no_beginning due bytes rest f g is all =
     let whole = ap (frame_at due) (sym (append-nil (bytes ++ rest))) ∙ frame_again due (bytes ++ rest) [] g all in
     cc
 
--- ---- what stands there stays when more comes
+-- ---- what is first stays when more comes
 
-pub whole_longer : (due : Bool) (bytes more : List ℕ) (f : Frame) (rest : List ℕ) → frame_at due bytes ≡ Whole f rest → frame_at due (bytes ++ more) ≡ Whole f (rest ++ more)
-whole_longer due bytes more f rest e =
-    let b = begins_whole due bytes f rest e in
+pub whole_longer : (due : Bool) (bytes more : List ℕ) (f : Frame) (rest : List ℕ) → Begins due bytes f rest → frame_at due (bytes ++ more) ≡ Whole f (rest ++ more)
+whole_longer due bytes more f rest b =
     ap (frame_at due) (before_more bytes b.spelling rest more b.split) ∙ frame_again due b.spelling (rest ++ more) f b.frame
 
 shows_longer : (due : Bool) (bytes more : List ℕ) (e : FrameFault) → Shows due bytes e → Shows due (bytes ++ more) e
@@ -142,18 +143,25 @@ shows_longer true bytes more TooLong is = is
 shows_longer true bytes more Compressed is = is
 shows_longer true bytes more BadHeader is = is
 shows_longer true bytes more BadBody is =
-    record { sized = is.sized; body = is.body; behind = is.behind ++ more; split = before_more bytes magic (is.sized ++ is.behind) more is.split ∙ ap (λ (l : List ℕ). magic ++ l) (append_assoc is.sized is.behind more); sized_is = is.sized_is; bad = is.bad }
+    record { sized = is.sized; body = is.body; after = is.after ++ more; split = before_more bytes magic (is.sized ++ is.after) more is.split ∙ ap (λ (l : List ℕ). magic ++ l) (append_assoc is.sized is.after more); sized_is = is.sized_is; bad = is.bad }
 shows_longer true bytes more OutOfMemory is = is
 shows_longer false bytes more BadMagic is = is
 shows_longer false bytes more TooLong is =
-    record { says = is.says; size = is.size; behind = is.behind ++ more; header = subst (HasHeader (bytes ++ more) is.says) (append_assoc is.size is.behind more) (header_longer bytes (is.size ++ is.behind) more is.says is.header); plain = is.plain; width = is.width; long = is.long }
+    record { says = is.says; size = is.size; after = is.after ++ more; header = subst (HasHeader (bytes ++ more) is.says) (append_assoc is.size is.after more) (header_longer bytes (is.size ++ is.after) more is.says is.header); plain = is.plain; width = is.width; long = is.long }
 shows_longer false bytes more Compressed is =
-    record { says = is.says; behind = is.behind ++ more; header = header_longer bytes is.behind more is.says is.header; compressed = is.compressed }
+    record { says = is.says; after = is.after ++ more; header = header_longer bytes is.after more is.says is.header; compressed = is.compressed }
 shows_longer false bytes more BadHeader is =
-    record { sized = is.sized; text = is.text; behind = is.behind ++ more; split = before_more bytes is.sized is.behind more is.split; sized_is = is.sized_is; bad = is.bad }
+    record { sized = is.sized; text = is.text; after = is.after ++ more; split = before_more bytes is.sized is.after more is.split; sized_is = is.sized_is; bad = is.bad }
 shows_longer false bytes more BadBody is =
-    record { says = is.says; sized = is.sized; body = is.body; behind = is.behind ++ more; header = subst (HasHeader (bytes ++ more) is.says) (append_assoc is.sized is.behind more) (header_longer bytes (is.sized ++ is.behind) more is.says is.header); plain = is.plain; sized_is = is.sized_is; short = is.short; bad = is.bad }
+    record { says = is.says; sized = is.sized; body = is.body; after = is.after ++ more; header = subst (HasHeader (bytes ++ more) is.says) (append_assoc is.sized is.after more) (header_longer bytes (is.sized ++ is.after) more is.says is.header); plain = is.plain; sized_is = is.sized_is; short = is.short; bad = is.bad }
 shows_longer false bytes more OutOfMemory is = is
 
-pub broken_longer : (due : Bool) (bytes more : List ℕ) (e : FrameFault) → frame_at due bytes ≡ Broken e → frame_at due (bytes ++ more) ≡ Broken e
-broken_longer due bytes more e is = fault_again due (bytes ++ more) e (shows_longer due bytes more e (subst (IsRight due bytes) is (step_right due bytes)))
+pub broken_longer : (due : Bool) (bytes more : List ℕ) (e : FrameFault) → Shows due bytes e → frame_at due (bytes ++ more) ≡ Broken e
+broken_longer due bytes more e is = fault_again due (bytes ++ more) e (shows_longer due bytes more e is)
+
+pub broken_shows : (due : Bool) (bytes : List ℕ) (e : FrameFault) → frame_at due bytes ≡ Broken e → Shows due bytes e
+broken_shows due bytes e is = subst (IsRight due bytes) is (step_right due bytes)
+
+-- nothing is found, at least where nothing more comes
+pub lacks_partial : (due : Bool) (bytes : List ℕ) (missing : ℕ) → 0 < missing → LacksMore (frame_at due) bytes missing → IsPartial due bytes
+lacks_partial due bytes missing lt lacks = more_partial due bytes (ap (frame_at due) (sym (append-nil bytes)) ∙ lacks [] lt)

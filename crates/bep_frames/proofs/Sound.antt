@@ -15,8 +15,8 @@ use Rattle.bep_frames.specs.declared.fault.FrameFault.TheVariants.{BadMagic, Too
 use Rattle.bep_frames.specs.declared.frame.Frame.{Frame}
 use Rattle.bep_frames.specs.declared.frame.Frame.TheVariants.{Hello as HelloFrame, Message as MessageFrame, Unknown}
 use Rattle.bep_frames.specs.Carried.{carried}
-use Rattle.bep_frames.specs.Grammar.{magic, most_bytes, number32, IsSized16, IsSized32, IsHello, HasHeader, IsLater, IsFrame, Begins, HasBadHello, HasBadHeader, IsCompressed, IsTooLong, HasBadBody, Shows}
-use Rattle.bep_frames.specs.Reading.{Step, More, Whole, Broken, hello_found, hello_read, hello_sized, hello_front, hello_at, message_found, message_read, message_behind, message_at, is_zero, header_found, header_read, later_at, frame_at}
+use Rattle.bep_frames.specs.Grammar.{magic, max_message_bytes, number32, IsSized16, IsSized32, IsHello, HasHeader, IsLater, IsFrame, Begins, HasBadHello, HasBadHeader, IsCompressed, IsTooLong, HasBadBody, Shows}
+use Rattle.bep_frames.specs.Reading.{Step, More, Whole, Broken, hello_found, hello_read, hello_sized, hello_front, hello_at, message_found, message_read, message_sized, message_at, is_zero, header_found, header_read, later_at, frame_at}
 use Rattle.bep_frames.proofs.Pieces as pieces
 use Rattle.bep_frames.proofs.Carries.{IsFoundAs, carries_found, found_carries, none_carried, bad_carried}
 
@@ -48,17 +48,17 @@ hello_whole bytes sized body rest e s (Ok m) reads =
       frame = record { sized = sized; body = body; split = refl; sized_is = s; reads = reads };
     }
 hello_whole bytes sized body rest e s (Err f) reads =
-    record { sized = sized; body = body; behind = rest; split = e; sized_is = s; bad = λ m h. cc }
+    record { sized = sized; body = body; after = rest; split = e; sized_is = s; bad = λ m h. cc }
 
-hello_front_right : (bytes front behind : List ℕ) → bytes ≡ front ++ behind → length front ≡ 4 → IsRight true bytes (hello_front front behind)
+hello_front_right : (bytes front after : List ℕ) → bytes ≡ front ++ after → length front ≡ 4 → IsRight true bytes (hello_front front after)
 unfolding hello_front hello_sized hello_read
-hello_front_right bytes front behind e w =
-    if_holds (IsRight true bytes) (starts_with nat_eq front magic) (hello_sized behind) (Broken BadMagic)
-    (λ is. pieces.sized16_holds (IsRight true bytes) behind hello_read tt (λ sized body rest e' s.
-    hello_whole bytes sized body rest (e ∙ ap (λ (l : List ℕ). l ++ behind) (same_front front w is) ∙ ap (λ (l : List ℕ). magic ++ l) e') s (decoded hello_table hello body) refl))
+hello_front_right bytes front after e w =
+    if_holds (IsRight true bytes) (starts_with nat_eq front magic) (hello_sized after) (Broken BadMagic)
+    (λ is. pieces.sized16_holds (IsRight true bytes) after hello_read tt (λ sized body rest e' s.
+    hello_whole bytes sized body rest (e ∙ ap (λ (l : List ℕ). l ++ after) (same_front front w is) ∙ ap (λ (l : List ℕ). magic ++ l) e') s (decoded hello_table hello body) refl))
     (λ is.
-    let front_is : take 4 bytes ≡ front = ap (take 4) e ∙ take_at front behind 4 w in
-    (omega (arith, ap length e, length-append front behind), λ h. true≢false (sym (ap (λ (l : List ℕ). starts_with nat_eq l magic) (sym front_is ∙ h)) ∙ is)))
+    let front_is : take 4 bytes ≡ front = ap (take 4) e ∙ take_at front after 4 w in
+    (omega (arith, ap length e, length-append front after), λ h. true≢false (sym (ap (λ (l : List ℕ). starts_with nat_eq l magic) (sym front_is ∙ h)) ∙ is)))
 
 hello_right : (bytes : List ℕ) → IsRight true bytes (hello_at bytes)
 unfolding hello_at
@@ -66,7 +66,7 @@ hello_right bytes = pieces.piece_holds (IsRight true bytes) 4 bytes hello_front 
 
 -- ---- a later frame
 
-message_whole : (bytes : List ℕ) (h : Header) (sized body rest : List ℕ) → HasHeader bytes h (sized ++ rest) → h.compression ≡ pos 0 → IsSized32 sized body → length body ≤ most_bytes → (r : Result Frame FrameFault) → carried h.kind body ≡ r → IsFoundAs h.kind body r → IsRight false bytes (message_found rest r)
+message_whole : (bytes : List ℕ) (h : Header) (sized body rest : List ℕ) → HasHeader bytes h (sized ++ rest) → h.compression ≡ pos 0 → IsSized32 sized body → length body ≤ max_message_bytes → (r : Result Frame FrameFault) → carried h.kind body ≡ r → IsFoundAs h.kind body r → IsRight false bytes (message_found rest r)
 message_whole bytes h sized body rest has plain s le (Ok f) is right =
     record {
       spelling = has.sized ++ sized;
@@ -84,23 +84,23 @@ message_whole bytes h sized body rest has plain s le (Ok f) is right =
     }
 message_whole bytes h sized body rest has plain s le (Err e) is right =
     subst (Shows false bytes) (sym right)
-    (record { says = h; sized = sized; body = body; behind = rest; header = has; plain = plain; sized_is = s; short = le; bad = none_carried h.kind body e is })
+    (record { says = h; sized = sized; body = body; after = rest; header = has; plain = plain; sized_is = s; short = le; bad = none_carried h.kind body e is })
 
-message_front_right : (bytes : List ℕ) (h : Header) (size behind : List ℕ) → HasHeader bytes h (size ++ behind) → h.compression ≡ pos 0 → length size ≡ 4 → (most_bytes < number32 size) ⊎ (number32 size ≤ most_bytes) → IsRight false bytes (message_behind h.kind size behind)
+message_front_right : (bytes : List ℕ) (h : Header) (size after : List ℕ) → HasHeader bytes h (size ++ after) → h.compression ≡ pos 0 → length size ≡ 4 → (max_message_bytes < number32 size) ⊎ (number32 size ≤ max_message_bytes) → IsRight false bytes (message_sized h.kind size after)
 unfolding message_read
-message_front_right bytes h size behind has plain w (inl lt) =
-    subst (IsRight false bytes) (sym (pieces.message_long h.kind size behind lt))
-    (record { says = h; size = size; behind = behind; header = has; plain = plain; width = w; long = lt })
-message_front_right bytes h size behind has plain w (inr le) =
-    subst (IsRight false bytes) (sym (pieces.message_short h.kind size behind le))
-    (pieces.piece_holds (IsRight false bytes) (number32 size) behind (message_read h.kind) tt (λ body rest e w'.
+message_front_right bytes h size after has plain w (inl lt) =
+    subst (IsRight false bytes) (sym (pieces.message_long h.kind size after lt))
+    (record { says = h; size = size; after = after; header = has; plain = plain; width = w; long = lt })
+message_front_right bytes h size after has plain w (inr le) =
+    subst (IsRight false bytes) (sym (pieces.message_short h.kind size after le))
+    (pieces.piece_holds (IsRight false bytes) (number32 size) after (message_read h.kind) tt (λ body rest e w'.
     message_whole bytes h (size ++ body) body rest (subst (HasHeader bytes h) (ap (λ (l : List ℕ). size ++ l) e ∙ sym (append_assoc size body rest)) has) plain
     (record { size = size; split = refl; width = w; size_is = w' }) (omega arith) (carried h.kind body) refl (found_carries h.kind body)))
 
 message_right : (bytes : List ℕ) (h : Header) (rest : List ℕ) → HasHeader bytes h rest → h.compression ≡ pos 0 → IsRight false bytes (message_at h.kind rest)
 unfolding message_at
 message_right bytes h rest has plain =
-    pieces.piece_holds (IsRight false bytes) 4 rest (message_behind h.kind) tt (λ size behind e w. message_front_right bytes h size behind (subst (HasHeader bytes h) e has) plain w (cases_lt _ _))
+    pieces.piece_holds (IsRight false bytes) 4 rest (message_sized h.kind) tt (λ size after e w. message_front_right bytes h size after (subst (HasHeader bytes h) e has) plain w (cases_lt _ _))
 
 is_zero_is : (z : ℤ) → is_zero z ≡ true → z ≡ pos 0
 is_zero_is (pos n) e = grind arith
@@ -110,11 +110,11 @@ header_right : (bytes : List ℕ) (h : Header) (rest : List ℕ) → HasHeader b
 header_right bytes h rest has =
     if_holds (IsRight false bytes) (is_zero h.compression) (message_at h.kind rest) (Broken Compressed)
     (λ e. message_right bytes h rest has (is_zero_is h.compression e))
-    (λ e. record { says = h; behind = rest; header = has; compressed = λ z. true≢false (sym (ap is_zero z) ∙ e) })
+    (λ e. record { says = h; after = rest; header = has; compressed = λ z. true≢false (sym (ap is_zero z) ∙ e) })
 
 header_whole : (bytes sized text rest : List ℕ) → bytes ≡ sized ++ rest → IsSized16 sized text → (r : Result Header MessageFault) → decoded header_table header text ≡ r → IsRight false bytes (header_found rest r)
 header_whole bytes sized text rest e s (Ok h) reads = header_right bytes h rest (record { sized = sized; text = text; split = e; sized_is = s; reads = reads })
-header_whole bytes sized text rest e s (Err f) reads = record { sized = sized; text = text; behind = rest; split = e; sized_is = s; bad = λ h is. cc }
+header_whole bytes sized text rest e s (Err f) reads = record { sized = sized; text = text; after = rest; split = e; sized_is = s; bad = λ h is. cc }
 
 later_right : (bytes : List ℕ) → IsRight false bytes (later_at bytes)
 unfolding later_at header_read
@@ -127,26 +127,26 @@ step_right false bytes = later_right bytes
 
 -- ---- what the grammar says is found
 
-hello_spelled : (bytes sized body behind : List ℕ) → bytes ≡ magic ++ (sized ++ behind) → IsSized16 sized body → hello_at bytes ≡ hello_read body behind
+hello_spelled : (bytes sized body after : List ℕ) → bytes ≡ magic ++ (sized ++ after) → IsSized16 sized body → hello_at bytes ≡ hello_read body after
 unfolding hello_sized
-hello_spelled bytes sized body behind e s = pieces.hello_at_is bytes magic (sized ++ behind) true e refl refl ∙ pieces.sized16_is (sized ++ behind) sized body behind hello_read refl s
+hello_spelled bytes sized body after e s = pieces.hello_at_is bytes magic (sized ++ after) true e refl refl ∙ pieces.sized16_is (sized ++ after) sized body after hello_read refl s
 
 hello_again : (bytes rest : List ℕ) (m : Hello) → IsHello bytes m → hello_at (bytes ++ rest) ≡ Whole (HelloFrame m) rest
 hello_again bytes rest m is =
     hello_spelled (bytes ++ rest) is.sized is.body rest (pieces.before_more bytes magic is.sized rest is.split) is.sized_is ∙ pieces.hello_good is.body rest m is.reads
 
-header_spelled : (bytes sized text behind : List ℕ) → bytes ≡ sized ++ behind → IsSized16 sized text → later_at bytes ≡ header_read text behind
+header_spelled : (bytes sized text after : List ℕ) → bytes ≡ sized ++ after → IsSized16 sized text → later_at bytes ≡ header_read text after
 unfolding later_at
-header_spelled bytes sized text behind e s = pieces.sized16_is bytes sized text behind header_read e s
+header_spelled bytes sized text after e s = pieces.sized16_is bytes sized text after header_read e s
 
-plain_again : (bytes behind : List ℕ) (h : Header) → HasHeader bytes h behind → h.compression ≡ pos 0 → later_at bytes ≡ message_at h.kind behind
-plain_again bytes behind h is plain = header_spelled bytes is.sized is.text behind is.split is.sized_is ∙ pieces.header_plain is.text behind h is.reads plain
+plain_again : (bytes after : List ℕ) (h : Header) → HasHeader bytes h after → h.compression ≡ pos 0 → later_at bytes ≡ message_at h.kind after
+plain_again bytes after h is plain = header_spelled bytes is.sized is.text after is.split is.sized_is ∙ pieces.header_plain is.text after h is.reads plain
 
-pub header_longer : (bytes behind rest : List ℕ) (h : Header) → HasHeader bytes h behind → HasHeader (bytes ++ rest) h (behind ++ rest)
-header_longer bytes behind rest h is =
-    record { sized = is.sized; text = is.text; split = pieces.before_more bytes is.sized behind rest is.split; sized_is = is.sized_is; reads = is.reads }
+pub header_longer : (bytes after rest : List ℕ) (h : Header) → HasHeader bytes h after → HasHeader (bytes ++ rest) h (after ++ rest)
+header_longer bytes after rest h is =
+    record { sized = is.sized; text = is.text; split = pieces.before_more bytes is.sized after rest is.split; sized_is = is.sized_is; reads = is.reads }
 
-message_again : (kind : ℤ) (sized body rest : List ℕ) → IsSized32 sized body → length body ≤ most_bytes → message_at kind (sized ++ rest) ≡ message_read kind body rest
+message_again : (kind : ℤ) (sized body rest : List ℕ) → IsSized32 sized body → length body ≤ max_message_bytes → message_at kind (sized ++ rest) ≡ message_read kind body rest
 message_again kind sized body rest s short =
     pieces.message_is kind (sized ++ rest) s.size (body ++ rest) body rest (pieces.before_more sized s.size body rest s.split) s.width refl s.size_is (omega (arith, s.size_is, short))
 
@@ -176,7 +176,7 @@ bad_hello : (bytes : List ℕ) → HasBadHello bytes → hello_at bytes ≡ Brok
 unfolding hello_read
 bad_hello bytes is =
     let bad = read_or (decoded hello_table hello is.body) is.bad in
-    hello_spelled bytes is.sized is.body is.behind is.split is.sized_is ∙ ap (hello_found is.behind) bad.1
+    hello_spelled bytes is.sized is.body is.after is.split is.sized_is ∙ ap (hello_found is.after) bad.1
 
 bad_magic : (bytes : List ℕ) → 4 ≤ length bytes → take 4 bytes ≢ magic → hello_at bytes ≡ Broken BadMagic
 bad_magic bytes le not = go (starts_with nat_eq (take 4 bytes) magic) refl
@@ -189,25 +189,25 @@ bad_header : (bytes : List ℕ) → HasBadHeader bytes → later_at bytes ≡ Br
 unfolding header_read
 bad_header bytes is =
     let bad = read_or (decoded header_table header is.text) is.bad in
-    header_spelled bytes is.sized is.text is.behind is.split is.sized_is ∙ ap (header_found is.behind) bad.1
+    header_spelled bytes is.sized is.text is.after is.split is.sized_is ∙ ap (header_found is.after) bad.1
 
 compressed : (bytes : List ℕ) → IsCompressed bytes → later_at bytes ≡ Broken Compressed
 compressed bytes is =
     let h = is.header in
-    header_spelled bytes h.sized h.text is.behind h.split h.sized_is ∙ pieces.header_compressed h.text is.behind is.says h.reads is.compressed
+    header_spelled bytes h.sized h.text is.after h.split h.sized_is ∙ pieces.header_compressed h.text is.after is.says h.reads is.compressed
 
 too_long : (bytes : List ℕ) → IsTooLong bytes → later_at bytes ≡ Broken TooLong
 too_long bytes is =
-    plain_again bytes (is.size ++ is.behind) is.says is.header is.plain
-    ∙ pieces.message_at_is is.says.kind _ is.size is.behind refl is.width
-    ∙ pieces.message_long is.says.kind is.size is.behind is.long
+    plain_again bytes (is.size ++ is.after) is.says is.header is.plain
+    ∙ pieces.message_at_is is.says.kind _ is.size is.after refl is.width
+    ∙ pieces.message_long is.says.kind is.size is.after is.long
 
 bad_body : (bytes : List ℕ) → HasBadBody bytes → later_at bytes ≡ Broken BadBody
 unfolding message_read
 bad_body bytes is =
-    plain_again bytes (is.sized ++ is.behind) is.says is.header is.plain
-    ∙ message_again is.says.kind is.sized is.body is.behind is.sized_is is.short
-    ∙ ap (message_found is.behind) (bad_carried is.says.kind is.body is.bad)
+    plain_again bytes (is.sized ++ is.after) is.says is.header is.plain
+    ∙ message_again is.says.kind is.sized is.body is.after is.sized_is is.short
+    ∙ ap (message_found is.after) (bad_carried is.says.kind is.body is.bad)
 
 pub fault_again : (due : Bool) (bytes : List ℕ) (e : FrameFault) → Shows due bytes e → frame_at due bytes ≡ Broken e
 fault_again true bytes BadMagic is = bad_magic bytes is.0 is.1

@@ -24,3 +24,7 @@ frame_fault_name OutOfMemory = codes "OutOfMemory"
 abbrev pub write_fault_number : WriteFault → ℕ
 write_fault_number FormTooLong = 11
 write_fault_number NoMemory = 33
+
+abbrev pub write_fault_name : WriteFault → List ℕ
+write_fault_name FormTooLong = codes "TooLong"
+write_fault_name NoMemory = codes "OutOfMemory"

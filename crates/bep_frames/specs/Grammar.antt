@@ -17,9 +17,12 @@ use Rattle.bep_frames.specs.Carried.{Carries}
 abbrev pub magic : List ℕ
 magic = 46 ∷ 167 ∷ 217 ∷ 11 ∷ []
 
--- the most bytes of a message
-abbrev pub most_bytes : ℕ
-most_bytes = 500000000
+-- the most bytes of a Hello, of which the length has 16 bits, and of any other message
+abbrev pub max_hello_bytes : ℕ
+max_hello_bytes = 65535
+
+abbrev pub max_message_bytes : ℕ
+max_message_bytes = 500000000
 
 -- the numbers that two and four bytes are, big-endian
 abbrev pub number16 : List ℕ → ℕ
@@ -28,7 +31,7 @@ number16 bytes = from_be_bytes w16 bytes
 abbrev pub number32 : List ℕ → ℕ
 number32 bytes = from_be_bytes w32 bytes
 
--- some bytes behind their number, which has 16 bits
+-- some bytes after their number, which has 16 bits
 pub record IsSized16 (bytes held : List ℕ) : Type 0 where
   pub size : List ℕ
   pub split : bytes ≡ size ++ held
@@ -42,7 +45,7 @@ pub record IsSized32 (bytes held : List ℕ) : Type 0 where
   pub width : length size ≡ 4
   pub size_is : length held ≡ number32 size
 
--- a Hello: the magic, and the message behind its length
+-- a Hello: the magic, and the message after its length
 pub record IsHello (bytes : List ℕ) (m : Hello) : Type 0 where
   pub sized : List ℕ
   pub body : List ℕ
@@ -50,15 +53,15 @@ pub record IsHello (bytes : List ℕ) (m : Hello) : Type 0 where
   pub sized_is : IsSized16 sized body
   pub reads : decoded hello_table hello body ≡ Ok m
 
--- a header behind its length, and what stands behind it
-pub record HasHeader (bytes : List ℕ) (h : Header) (behind : List ℕ) : Type 0 where
+-- a header after its length, and what follows it
+pub record HasHeader (bytes : List ℕ) (h : Header) (after : List ℕ) : Type 0 where
   pub sized : List ℕ
   pub text : List ℕ
-  pub split : bytes ≡ sized ++ behind
+  pub split : bytes ≡ sized ++ after
   pub sized_is : IsSized16 sized text
   pub reads : decoded header_table header text ≡ Ok h
 
--- any later frame: a header that says no compression, and the message behind its length
+-- any later frame: a header that says no compression, and the message after its length
 pub record IsLater (bytes : List ℕ) (f : Frame) : Type 0 where
   pub says : Header
   pub sized : List ℕ
@@ -66,7 +69,7 @@ pub record IsLater (bytes : List ℕ) (f : Frame) : Type 0 where
   pub header : HasHeader bytes says sized
   pub plain : says.compression ≡ pos 0
   pub sized_is : IsSized32 sized body
-  pub short : length body ≤ most_bytes
+  pub short : length body ≤ max_message_bytes
   pub carries : Carries says.kind body f
 
 -- a frame, where a Hello is due and where none is
@@ -88,8 +91,8 @@ pub record Begins (due : Bool) (bytes : List ℕ) (f : Frame) (rest : List ℕ) 
 pub record HasBadHello (bytes : List ℕ) : Type 0 where
   pub sized : List ℕ
   pub body : List ℕ
-  pub behind : List ℕ
-  pub split : bytes ≡ magic ++ (sized ++ behind)
+  pub after : List ℕ
+  pub split : bytes ≡ magic ++ (sized ++ after)
   pub sized_is : IsSized16 sized body
   pub bad : (m : Hello) → decoded hello_table hello body ≢ Ok m
 
@@ -97,38 +100,38 @@ pub record HasBadHello (bytes : List ℕ) : Type 0 where
 pub record HasBadHeader (bytes : List ℕ) : Type 0 where
   pub sized : List ℕ
   pub text : List ℕ
-  pub behind : List ℕ
-  pub split : bytes ≡ sized ++ behind
+  pub after : List ℕ
+  pub split : bytes ≡ sized ++ after
   pub sized_is : IsSized16 sized text
   pub bad : (h : Header) → decoded header_table header text ≢ Ok h
 
 -- a header that says compression, whatever else
 pub record IsCompressed (bytes : List ℕ) : Type 0 where
   pub says : Header
-  pub behind : List ℕ
-  pub header : HasHeader bytes says behind
+  pub after : List ℕ
+  pub header : HasHeader bytes says after
   pub compressed : says.compression ≢ pos 0
 
 -- the length of a message that is too long
 pub record IsTooLong (bytes : List ℕ) : Type 0 where
   pub says : Header
   pub size : List ℕ
-  pub behind : List ℕ
-  pub header : HasHeader bytes says (size ++ behind)
+  pub after : List ℕ
+  pub header : HasHeader bytes says (size ++ after)
   pub plain : says.compression ≡ pos 0
   pub width : length size ≡ 4
-  pub long : most_bytes < number32 size
+  pub long : max_message_bytes < number32 size
 
 -- a whole message that is nothing under its type
 pub record HasBadBody (bytes : List ℕ) : Type 0 where
   pub says : Header
   pub sized : List ℕ
   pub body : List ℕ
-  pub behind : List ℕ
-  pub header : HasHeader bytes says (sized ++ behind)
+  pub after : List ℕ
+  pub header : HasHeader bytes says (sized ++ after)
   pub plain : says.compression ≡ pos 0
   pub sized_is : IsSized32 sized body
-  pub short : length body ≤ most_bytes
+  pub short : length body ≤ max_message_bytes
   pub bad : (f : Frame) → Carries says.kind body f → ⊥
 
 -- the bytes show this fault, where a Hello is due and where none is

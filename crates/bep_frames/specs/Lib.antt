@@ -2,6 +2,7 @@ pub mod Faults
 pub mod Carried
 pub mod Readable
 pub mod Grammar
+pub mod Memory
 pub mod Reading
 pub mod Stream
 pub mod State

@@ -1,17 +1,10 @@
--- What a call that reads a message answers (own rule).
+-- What a call that reads a message returns (own rule).
 use Rattle.std.specs.Prelude.{◌≡◌, ◌⊎◌, Result, Ok, Err}
 use Rattle.bep_messages.specs.declared.fault.MessageFault.{MessageFault}
-use Rattle.bep_messages.specs.declared.fault.MessageFault.TheVariants.{Wire, NotUtf8, OutOfMemory as NoMemory}
 use Rattle.bep_frames.specs.declared.fault.FrameFault.{FrameFault}
 use Rattle.bep_frames.specs.declared.fault.FrameFault.TheVariants.{OutOfMemory}
 
--- a fault of the bytes says that they aren't a message
-abbrev pub told_as : MessageFault → FrameFault → FrameFault
-told_as (Wire f) unreadable = unreadable
-told_as NotUtf8 unreadable = unreadable
-told_as NoMemory unreadable = OutOfMemory
-
--- The bytes aren't a message, and the error says so; or memory ran out.
+-- The bytes aren't a message, and the error says so; or it is out of memory.
 abbrev pub FailsAs : {M : Type 0} → Result M MessageFault → FrameFault → FrameFault → Type 0
 FailsAs (Ok m) unreadable e = e ≡ OutOfMemory
 FailsAs (Err f) unreadable e = (e ≡ unreadable) ⊎ (e ≡ OutOfMemory)

@@ -1,4 +1,4 @@
--- What stands first in some bytes, as functions that compute. That they find what the grammar says, and nothing
+-- What is first in some bytes, as functions that compute. That they find what the grammar says, and nothing
 -- else, is the law `one_reading`.
 use Rattle.std.specs.Prelude.{ℕ, ◌==◌, Bool, true, false, ℤ, pos, negsuc, List, length, take, drop, nat_eq, nat_lt, nat_le, Result, Ok, Err, if◌then◌else◌}
 use Rattle.std.specs.List.{starts_with}
@@ -13,21 +13,21 @@ use Rattle.bep_frames.specs.declared.fault.FrameFault.TheVariants.{BadMagic, Too
 use Rattle.bep_frames.specs.declared.frame.Frame.{Frame}
 use Rattle.bep_frames.specs.declared.frame.Frame.TheVariants.{Hello as HelloFrame}
 use Rattle.bep_frames.specs.Carried.{carried}
-use Rattle.bep_frames.specs.Grammar.{magic, most_bytes, number16, number32}
+use Rattle.bep_frames.specs.Grammar.{magic, max_message_bytes, number16, number32}
 
--- more bytes are wanted; a whole frame, and the rest; a fault
+-- bytes are missing; a whole frame, and the rest; a fault
 pub data Step : Type 0 where
   More : Step
   Whole : (frame : Frame) (rest : List ℕ) → Step
   Broken : (fault : FrameFault) → Step
 
--- so many bytes, and those behind them, once they are there
+-- so many bytes, and those after them, once they are there
 unfoldable pub piece_at : ℕ → List ℕ → (List ℕ → List ℕ → Step) → Step
 piece_at n bytes next = if nat_lt (length bytes) n then More else next (take n bytes) (drop n bytes)
 
--- the bytes behind their number of 16 bits, and those behind them, once they are there
+-- the bytes after their number of 16 bits, and those after them, once they are there
 unfoldable pub sized16_at : List ℕ → (List ℕ → List ℕ → Step) → Step
-sized16_at bytes next = piece_at 2 bytes (λ size behind. piece_at (number16 size) behind next)
+sized16_at bytes next = piece_at 2 bytes (λ size after. piece_at (number16 size) after next)
 
 -- ---- a Hello
 
@@ -56,12 +56,12 @@ message_found rest (Err e) = Broken e
 unfoldable pub message_read : ℤ → List ℕ → List ℕ → Step
 message_read kind body rest = message_found rest (carried kind body)
 
-unfoldable pub message_behind : ℤ → List ℕ → List ℕ → Step
-message_behind kind size bytes =
-    if nat_le (number32 size) most_bytes then piece_at (number32 size) bytes (message_read kind) else Broken TooLong
+unfoldable pub message_sized : ℤ → List ℕ → List ℕ → Step
+message_sized kind size bytes =
+    if nat_le (number32 size) max_message_bytes then piece_at (number32 size) bytes (message_read kind) else Broken TooLong
 
 unfoldable pub message_at : ℤ → List ℕ → Step
-message_at kind bytes = piece_at 4 bytes (message_behind kind)
+message_at kind bytes = piece_at 4 bytes (message_sized kind)
 
 abbrev pub is_zero : ℤ → Bool
 is_zero (pos n) = n == 0
@@ -77,7 +77,7 @@ header_read text rest = header_found rest (decoded header_table header text)
 unfoldable pub later_at : List ℕ → Step
 later_at bytes = sized16_at bytes header_read
 
--- ---- the frame that stands first, where a Hello is due and where none is
+-- ---- the frame that is first, where a Hello is due and where none is
 
 abbrev pub frame_at : Bool → List ℕ → Step
 frame_at true bytes = hello_at bytes

@@ -1,13 +1,13 @@
 -- What a reader of frames is, and what its calls do to it (own rule).
-use Rattle.std.specs.Prelude.{◌≡◌, ◌⊎◌, ℕ, ◌≤◌, Bool, true, false, List, [], ◌++◌, length, take, Option, Some, None, Result, Ok, Err}
+use Rattle.std.specs.Prelude.{◌≡◌, ◌⊎◌, ℕ, Bool, false, List, [], ◌++◌, length, Option, Some, None, Result, Ok, Err}
 use Rattle.bep_frames.specs.declared.fault.FrameFault.{FrameFault}
 use Rattle.bep_frames.specs.declared.fault.FrameFault.TheVariants.{BadMagic, TooLong, Compressed, BadHeader, BadBody, OutOfMemory}
 use Rattle.bep_frames.specs.declared.frame.Frame.{Frame}
-use Rattle.bep_frames.specs.Grammar.{magic}
-use Rattle.bep_frames.specs.Reading.{More, Whole, Broken, frame_at}
+use Rattle.bep_frames.specs.Grammar.{Begins, Shows, IsPartial}
+use Rattle.bep_frames.specs.Memory.{FrameTakesMemory}
 use Rattle.bep_frames.specs.Stream.{Stream, ended, stream}
 
--- whether a Hello is due, the bytes after the last frame given, and the fault that was told, if any
+-- whether a Hello is due, the bytes after the last frame given, and the fault that was returned, if any
 pub record State : Type 0 where
   pub hello : Bool
   pub rest : List ℕ
@@ -16,7 +16,7 @@ pub record State : Type 0 where
 abbrev pub start : Bool → State
 start hello = record { hello = hello; rest = []; fault = None }
 
--- after a piece came: a reader that told a fault drops it
+-- after a piece came: a reader that returned a fault drops it
 abbrev pub grown : List ℕ → List ℕ → Option FrameFault → List ℕ
 grown rest piece None = rest ++ piece
 grown rest piece (Some e) = rest
@@ -24,23 +24,23 @@ grown rest piece (Some e) = rest
 abbrev pub fed : State → List ℕ → State
 fed s piece = record { hello = s.hello; rest = grown s.rest piece s.fault; fault = s.fault }
 
--- A fault is told again, or for the first time.
-abbrev pub TellsFault : State → FrameFault → State → Type 0
-TellsFault old e new =
+-- A fault was returned before, or the unread bytes show it; from then on the reader has it.
+abbrev pub GivesFault : State → FrameFault → State → Type 0
+GivesFault old e new =
     ((old.fault ≡ Some e) × (new ≡ old))
-    ⊎ ((old.fault ≡ None) × (frame_at old.hello old.rest ≡ Broken e) × (new ≡ record { hello = old.hello; rest = old.rest; fault = Some e }))
+    ⊎ ((old.fault ≡ None) × Shows old.hello old.rest e × (new ≡ record { hello = old.hello; rest = old.rest; fault = Some e }))
 
--- what `next` may answer, and what it leaves; memory is wanted for a header or a message, so behind a length alone, and where a
--- Hello is due behind its magic
+-- What `next` returns, and what it leaves: the frame that the unread bytes begin with; none where they are less than a frame;
+-- or a fault. Out of memory is returned only where a whole Hello or message is first that takes memory, and changes nothing.
 abbrev pub Gives : State → Option (Result Frame FrameFault) → State → Type 0
-Gives old None new = (old.fault ≡ None) × (frame_at old.hello old.rest ≡ More) × (new ≡ old)
-Gives old (Some (Ok f)) new = (old.fault ≡ None) × (frame_at old.hello old.rest ≡ Whole f new.rest) × (new.hello ≡ false) × (new.fault ≡ None)
-Gives old (Some (Err BadMagic)) new = TellsFault old BadMagic new
-Gives old (Some (Err TooLong)) new = TellsFault old TooLong new
-Gives old (Some (Err Compressed)) new = TellsFault old Compressed new
-Gives old (Some (Err BadHeader)) new = TellsFault old BadHeader new
-Gives old (Some (Err BadBody)) new = TellsFault old BadBody new
-Gives old (Some (Err OutOfMemory)) new = (old.fault ≡ None) × (2 ≤ length old.rest) × (old.hello ≡ true → take 4 old.rest ≡ magic) × (new ≡ old)
+Gives old None new = (old.fault ≡ None) × IsPartial old.hello old.rest × (new ≡ old)
+Gives old (Some (Ok f)) new = (old.fault ≡ None) × Begins old.hello old.rest f new.rest × (new.hello ≡ false) × (new.fault ≡ None)
+Gives old (Some (Err BadMagic)) new = GivesFault old BadMagic new
+Gives old (Some (Err TooLong)) new = GivesFault old TooLong new
+Gives old (Some (Err Compressed)) new = GivesFault old Compressed new
+Gives old (Some (Err BadHeader)) new = GivesFault old BadHeader new
+Gives old (Some (Err BadBody)) new = GivesFault old BadBody new
+Gives old (Some (Err OutOfMemory)) new = (old.fault ≡ None) × FrameTakesMemory old.hello old.rest × (new ≡ old)
 
 -- the stream that a reader still has to give
 abbrev pub to_give : Bool → List ℕ → Option FrameFault → Stream
@@ -54,9 +54,9 @@ remaining s = to_give s.hello s.rest s.fault
 abbrev pub with_front : List Frame → Stream → Stream
 with_front frames others = record { frames = frames ++ others.frames; end = others.end }
 
--- all that stands there was given: less than a frame is left, or a fault was told
+-- all frames that are there were given: less than a frame is left, or a fault was returned
 abbrev pub Stops : State → Option FrameFault → Type 0
-Stops s None = (s.fault ≡ None) × (frame_at s.hello s.rest ≡ More)
+Stops s None = (s.fault ≡ None) × IsPartial s.hello s.rest
 Stops s (Some e) = s.fault ≡ Some e
 
 -- how a stream ends: with a rest of so many bytes, or with the fault

@@ -4,12 +4,13 @@ use Rattle.std.specs.Int.{w16, w32, to_be_bytes}
 use Rattle.bep_messages.specs.declared.hello.Hello.{Hello}
 use Rattle.bep_messages.specs.Protocol.{hello_table, header_table, cluster_config_table, index_table, index_update_table, request_table, response_table, download_progress_table, ping_table, close_table}
 use Rattle.bep_messages.specs.Structs.{hello_parts, cluster_config_parts, index_parts, index_update_parts, request_parts, response_parts, download_progress_parts, ping_parts, close_parts}
+use Rattle.bep_messages.specs.Tables.{Table, Values}
 use Rattle.bep_messages.specs.Forms.{form}
 use Rattle.bep_frames.specs.declared.frame.Message.{Message}
 use Rattle.bep_frames.specs.declared.frame.Message.TheVariants.{ClusterConfig, Index, IndexUpdate, Request, Response, DownloadProgress, Ping, Close}
 use Rattle.bep_frames.specs.Grammar.{magic}
 
--- bytes behind their number
+-- bytes after their number
 abbrev pub sized16 : List ℕ → List ℕ
 sized16 bytes = to_be_bytes w16 (length bytes) ++ bytes
 
@@ -23,26 +24,28 @@ hello_body m = form hello_table (hello_parts m)
 abbrev pub hello_frame : Hello → List ℕ
 hello_frame m = magic ++ sized16 (hello_body m)
 
--- the type of a message, its written form, and its frame
+-- a message as it is written: its type, the table of its fields, and their values
+pub record Parts : Type 0 where
+  pub kind : ℕ
+  pub table : Table
+  pub values : Values table
+
+abbrev pub parts_of : Message → Parts
+parts_of (ClusterConfig m) = record { kind = 0; table = cluster_config_table; values = cluster_config_parts m }
+parts_of (Index m) = record { kind = 1; table = index_table; values = index_parts m }
+parts_of (IndexUpdate m) = record { kind = 2; table = index_update_table; values = index_update_parts m }
+parts_of (Request m) = record { kind = 3; table = request_table; values = request_parts m }
+parts_of (Response m) = record { kind = 4; table = response_table; values = response_parts m }
+parts_of (DownloadProgress m) = record { kind = 5; table = download_progress_table; values = download_progress_parts m }
+parts_of (Ping m) = record { kind = 6; table = ping_table; values = ping_parts m }
+parts_of (Close m) = record { kind = 7; table = close_table; values = close_parts m }
+
+-- its type, its written form, and its frame
 abbrev pub kind_of : Message → ℕ
-kind_of (ClusterConfig m) = 0
-kind_of (Index m) = 1
-kind_of (IndexUpdate m) = 2
-kind_of (Request m) = 3
-kind_of (Response m) = 4
-kind_of (DownloadProgress m) = 5
-kind_of (Ping m) = 6
-kind_of (Close m) = 7
+kind_of m = (parts_of m).kind
 
 abbrev pub body_of : Message → List ℕ
-body_of (ClusterConfig m) = form cluster_config_table (cluster_config_parts m)
-body_of (Index m) = form index_table (index_parts m)
-body_of (IndexUpdate m) = form index_update_table (index_update_parts m)
-body_of (Request m) = form request_table (request_parts m)
-body_of (Response m) = form response_table (response_parts m)
-body_of (DownloadProgress m) = form download_progress_table (download_progress_parts m)
-body_of (Ping m) = form ping_table (ping_parts m)
-body_of (Close m) = form close_table (close_parts m)
+body_of m = form (parts_of m).table (parts_of m).values
 
 -- a header of this type that says no compression
 abbrev pub header_form : ℕ → List ℕ

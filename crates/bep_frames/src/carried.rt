@@ -1,56 +1,52 @@
 ghost use Rattle.std.specs.Prelude.{◌≡◌, ◌≢◌, Err, Ok};
 ghost use Rattle.bep_messages.specs.Values.{decoded};
-ghost use Rattle.bep_frames.specs.Carried.{IsUnknown, carried};
-ghost use Rattle.bep_frames.specs.declared.frame.Frame.TheVariants.{Unknown};
-ghost use Rattle.bep_frames.specs.Readable.{ReadsAs, told_as};
+ghost use Rattle.bep_frames.specs.Carried.{carried};
+ghost use Rattle.bep_frames.specs.Memory.{BodyTakesMemory};
+ghost use Rattle.bep_messages.specs.Memory.{TakesMemory};
+ghost use Rattle.bep_frames.specs.Readable.{ReadsAs};
 
 use crate::fault::FrameFault;
-use crate::frame::{Frame, Message};
+use crate::frame::{Frame, Message, each_message};
 use bep_messages::{MessageFault, ProtoMessage};
 use std::alloc::Global;
 
-/// The message that some bytes are; where there is none, the fault that the caller names.
+/// The message that some bytes are; where they are none, fails with the fault that the caller names.
 pub fn read<M: ProtoMessage>(
     alloc: Global,
     bytes: &[u8],
     unreadable: FrameFault,
 ) -> Result<M, FrameFault>
-    ensures { ReadsAs (decoded M.table M.whole bytes.now) unreadable result }
+    requires { unreadable ≢ FrameFault.OutOfMemory }
+    ensures read { ReadsAs (decoded M.table M.whole bytes.now) unreadable result }
+    ensures memory { result ≡ Err FrameFault.OutOfMemory → TakesMemory M.table bytes.now }
 {
-    M::decode(alloc, bytes).map_err(|fault| told(fault, unreadable))
-}
-
-/// What a fault of a message makes of its frame.
-fn told(fault: MessageFault, unreadable: FrameFault) -> FrameFault
-    ensures { result ≡ told_as fault unreadable }
-{
-    match fault {
-        MessageFault::OutOfMemory => FrameFault::OutOfMemory,
-        MessageFault::Wire(_) | MessageFault::NotUtf8 => unreadable,
+    match M::decode(alloc, bytes) {
+        Ok(message) => Ok(message),
+        Err(MessageFault::OutOfMemory) => Err(FrameFault::OutOfMemory),
+        Err(MessageFault::Wire(_) | MessageFault::NotUtf8) => Err(unreadable),
     }
 }
 
 fn body<M: ProtoMessage>(alloc: Global, bytes: &[u8]) -> Result<M, FrameFault>
-    ensures { ReadsAs (decoded M.table M.whole bytes.now) FrameFault.BadBody result }
+    ensures read { ReadsAs (decoded M.table M.whole bytes.now) FrameFault.BadBody result }
+    ensures memory { result ≡ Err FrameFault.OutOfMemory → TakesMemory M.table bytes.now }
 {
     read(alloc, bytes, FrameFault::BadBody)
+}
+
+macro_rules! read_message {
+    (($kind:expr, $alloc:expr, $bytes:expr) $($number:literal $name:ident),*) => {
+        match $kind {
+            $($number => Message::$name(body($alloc, $bytes)?),)*
+            _ => return Ok(Frame::Unknown($kind)),
+        }
+    };
 }
 
 /// What a whole message of this type is.
 pub fn carried(alloc: Global, kind: i32, bytes: &[u8]) -> Result<Frame, FrameFault>
     ensures carried { result ≢ Err FrameFault.OutOfMemory → result ≡ carried kind bytes.now }
-    // An unknown type wants no memory.
-    ensures unknown { IsUnknown kind → result ≡ Ok (Unknown kind) }
+    ensures memory { result ≡ Err FrameFault.OutOfMemory → BodyTakesMemory kind bytes.now }
 {
-    Ok(Frame::Message(match kind {
-        0 => Message::ClusterConfig(body(alloc, bytes)?),
-        1 => Message::Index(body(alloc, bytes)?),
-        2 => Message::IndexUpdate(body(alloc, bytes)?),
-        3 => Message::Request(body(alloc, bytes)?),
-        4 => Message::Response(body(alloc, bytes)?),
-        5 => Message::DownloadProgress(body(alloc, bytes)?),
-        6 => Message::Ping(body(alloc, bytes)?),
-        7 => Message::Close(body(alloc, bytes)?),
-        _ => return Ok(Frame::Unknown(kind)),
-    }))
+    Ok(Frame::Message(each_message!(read_message!(kind, alloc, bytes))))
 }

@@ -1,5 +1,5 @@
 ghost use Rattle.std.specs.Prelude.{◌≡◌, Some};
-ghost use Rattle.bep_frames.specs.Faults.{frame_fault_name, frame_fault_number, write_fault_number};
+ghost use Rattle.bep_frames.specs.Faults.{frame_fault_name, frame_fault_number, write_fault_name, write_fault_number};
 ghost use Rattle.bep_frames.specs.declared.fault.WriteFault.TheVariants.{OutOfMemory};
 
 use std::alloc::AllocError;
@@ -19,12 +19,12 @@ pub enum FrameFault {
     BadHeader,
     /// A whole message of a known type can't be read.
     BadBody,
-    /// Memory ran out.
+    /// Allocation failed.
     OutOfMemory,
 }
 
 impl FrameFault {
-    /// The number under which programs report the fault: 10 to 14, or 33 for want of memory.
+    /// The number under which programs report the fault: 10 to 14, or 33 for out of memory.
     pub fn number(self) -> u8
         ensures { result ≡ frame_fault_number self }
     {
@@ -54,19 +54,17 @@ impl Display for FrameFault {
     }
 }
 
-/// Why no frame is written.
+/// Why no frame is written. Displayed, it is its name.
 #[derive(Clone, Copy, Debug, PartialEq, Eq, Error)]
 pub enum WriteFault {
     /// The written form has more than 65,535 bytes (a Hello) or 500,000,000 (any other message).
-    #[error("TooLong")]
     TooLong,
-    /// Memory ran out.
-    #[error("OutOfMemory")]
+    /// Allocation failed.
     OutOfMemory,
 }
 
 impl WriteFault {
-    /// The number under which programs report the fault: 11, or 33 for want of memory.
+    /// The number under which programs report the fault: 11, or 33 for out of memory.
     pub fn number(self) -> u8
         ensures { result ≡ write_fault_number self }
     {
@@ -77,10 +75,21 @@ impl WriteFault {
     }
 }
 
+impl Display for WriteFault {
+    ghost output = { λ fault. Some (write_fault_name fault) };
+
+    fn fmt<W: fmt::Write>(&self, f: &mut Formatter<W>) -> fmt::Result {
+        f.write_str(match self {
+            WriteFault::TooLong => "TooLong",
+            WriteFault::OutOfMemory => "OutOfMemory",
+        })
+    }
+}
+
 impl From<AllocError> for WriteFault {
     ghost from_gives = { λ _ e. e ≡ OutOfMemory };
 
-    fn from(_refused: AllocError) -> WriteFault {
+    fn from(_error: AllocError) -> WriteFault {
         WriteFault::OutOfMemory
     }
 }

@@ -2,7 +2,25 @@ use bep_messages::{
     Close, ClusterConfig, DownloadProgress, Hello, Index, IndexUpdate, Ping, Request, Response,
 };
 
-/// A message behind a header (Block Exchange Protocol v1, "Post-authentication Messages"), by its type.
+/// Calls a macro with the types of the messages and their names, after what is handed over.
+macro_rules! each_message {
+    ($then:ident!$given:tt) => {
+        $then!(
+            $given 0 ClusterConfig,
+            1 Index,
+            2 IndexUpdate,
+            3 Request,
+            4 Response,
+            5 DownloadProgress,
+            6 Ping,
+            7 Close
+        )
+    };
+}
+
+pub(crate) use each_message;
+
+/// A message after a header (Block Exchange Protocol v1, "Post-authentication Messages"), by its type.
 #[derive(Debug, Drop)]
 pub enum Message {
     /// Type 0.
@@ -30,6 +48,6 @@ pub enum Frame {
     Hello(Hello),
     /// Any later one, of a known type.
     Message(Message),
-    /// Any later one of another type, which is told. What it holds isn't read.
+    /// Any later one of another type, which is this one. Its message isn't read.
     Unknown(i32),
 }

@@ -1,4 +1,4 @@
-//! What the definitions say, as contracts of functions that do nothing.
+//! Laws: functions without parameters that do nothing, of which the contract states what the definitions of frames and streams imply.
 ghost use Rattle.std.specs.Prelude.{◌≡◌, ◌≢◌, ◌++◌, ◌+◌, ◌<◌, ℕ, Bool, true, false, [], List, None, Some, Ok, Err, Result, length};
 ghost use Rattle.bep_messages.specs.declared.index.Index.{Index};
 ghost use Rattle.bep_messages.specs.declared.index_update.IndexUpdate.{IndexUpdate};
@@ -7,10 +7,11 @@ ghost use Rattle.bep_frames.specs.declared.fault.FrameFault.TheVariants.{OutOfMe
 ghost use Rattle.bep_frames.specs.declared.frame.Frame.{Frame};
 ghost use Rattle.bep_frames.specs.declared.frame.Frame.TheVariants.{Message as MessageFrame};
 ghost use Rattle.bep_frames.specs.declared.frame.Message.TheVariants.{Index as IndexMessage, IndexUpdate as IndexUpdateMessage};
-ghost use Rattle.bep_frames.specs.Grammar.{IsFrame};
-ghost use Rattle.bep_frames.specs.Reading.{Whole, frame_at};
+ghost use Rattle.bep_frames.specs.Grammar.{Begins, IsFrame, max_hello_bytes, max_message_bytes};
 ghost use Rattle.bep_frames.specs.State.{Gives, State, fed, remaining, start};
 ghost use Rattle.bep_frames.specs.Stream.{Splits, ended, first_then, stream};
+
+use crate::size::{MAX_HELLO_BYTES, MAX_MESSAGE_BYTES};
 
 /// Each byte list has exactly one reading as a stream: its frames, and the rest or the fault that it shows.
 pub fn one_reading()
@@ -44,9 +45,15 @@ pub fn a_reader_gives_its_stream()
 /// A message has fewer records than its frame has bytes.
 pub fn records_are_fewer_than_bytes()
     ensures index { (bytes rest : List ℕ) (m : Index) →
-        frame_at false bytes ≡ Whole (MessageFrame (IndexMessage m)) rest → length m.files + length rest < length bytes }
+        Begins false bytes (MessageFrame (IndexMessage m)) rest → length m.files + length rest < length bytes }
     ensures update { (bytes rest : List ℕ) (m : IndexUpdate) →
-        frame_at false bytes ≡ Whole (MessageFrame (IndexUpdateMessage m)) rest → length m.files + length rest < length bytes }
+        Begins false bytes (MessageFrame (IndexUpdateMessage m)) rest → length m.files + length rest < length bytes }
     ensures frame_shorter { (due : Bool) (bytes rest : List ℕ) (f : Frame) →
-        frame_at due bytes ≡ Whole f rest → length rest < length bytes }
+        Begins due bytes f rest → length rest < length bytes }
+{}
+
+/// The limits of the code are those of the grammar.
+pub fn limits()
+    ensures hello { MAX_HELLO_BYTES ≡ max_hello_bytes }
+    ensures message { MAX_MESSAGE_BYTES ≡ max_message_bytes }
 {}

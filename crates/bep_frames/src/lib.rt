@@ -8,7 +8,7 @@ mod carried;
 mod fault;
 mod found;
 mod frame;
-mod laws;
+pub mod laws;
 mod reader;
 mod run;
 mod size;
@@ -18,9 +18,7 @@ mod writing;
 
 pub use fault::{FrameFault, WriteFault};
 pub use frame::{Frame, Message};
-pub use laws::{
-    a_reader_gives_its_stream, no_frame_begins_another, one_reading, records_are_fewer_than_bytes,
-};
 pub use reader::FrameReader;
 pub use run::{FrameStream, frames_of};
+pub use size::{MAX_HELLO_BYTES, MAX_MESSAGE_BYTES};
 pub use writing::{write_frame, write_hello};

@@ -12,7 +12,7 @@ const KEPT_CAPACITY: usize = 65_536;
 
 /// Reads frames from a stream that comes in any pieces (Block Exchange Protocol v1, "Pre-authentication
 /// Messages" and "Post-authentication Messages"). Contracts see whether a Hello is due, the bytes
-/// after the last frame given, and the fault that was told, if any.
+/// after the last frame given, and the fault that was returned, if any.
 ///
 /// Memory: a small multiple of the unread bytes, and 64 KiB.
 #[derive(Debug, Drop)]
@@ -38,14 +38,14 @@ impl Model for FrameReader {
 }
 
 impl FrameReader {
-    /// Nothing was fed, and a Hello is due; takes no memory.
+    /// A reader of a stream of which nothing was fed yet, where a Hello is due. Does not allocate.
     pub fn new(alloc: Global) -> FrameReader
         ensures { result ≡ start true }
     {
         FrameReader::due(alloc, true)
     }
 
-    /// Nothing was fed, and no Hello is due; takes no memory.
+    /// A reader of a stream of which nothing was fed yet, where no Hello is due. Does not allocate.
     pub fn after_hello(alloc: Global) -> FrameReader
         ensures { result ≡ start false }
     {
@@ -66,11 +66,11 @@ impl FrameReader {
 
     /// Takes the next bytes of the stream; after a fault, drops them.
     ///
-    /// Refused by want of memory alone, and then nothing has changed. O(n) amortized.
+    /// Returns `Err` if allocation fails, and then nothing has changed. O(n) amortized.
     pub fn feed(&mut self, piece: &[u8]) -> Result<(), AllocError>
         ensures ok { OnOk result (self.new ≡ fed self.old piece.now) }
         ensures err { OnErr result (self.new ≡ self.old) }
-        // A piece that is dropped, or is empty, wants no memory.
+        // For a piece that is dropped, or is empty, nothing is allocated.
         ensures dropped { self.old.fault ≢ None → IsOk result }
         ensures nothing { piece.now ≡ [] → IsOk result }
     {
@@ -82,11 +82,12 @@ impl FrameReader {
         Ok(())
     }
 
-    /// The next frame; `None` where no whole frame stands there and its bytes show no fault.
+    /// The next frame; `None` where there is less than a whole frame and its bytes show no fault.
     ///
-    /// A fault is told as soon as its bytes are there, and then again at each call. After want of memory
-    /// nothing has changed, and the call may be made again. O(n) in the bytes of the frame; a frame of which
-    /// bytes are missing isn't looked at before they are there.
+    /// A fault is returned as soon as its bytes are there, and then again at each call. `OutOfMemory` is
+    /// returned only where a whole Hello, or a whole message of a known type, is first that holds texts, bytes
+    /// or messages to be kept; nothing has changed then, and the call may be made again. O(n) in the bytes of
+    /// the frame; a frame of which bytes are missing isn't looked at before they are there.
     pub fn next(&mut self) -> Option<Result<Frame, FrameFault>>
         ensures { Gives self.old result self.new }
     {
@@ -103,8 +104,8 @@ impl FrameReader {
                 None
             }
             Ok(Found::Whole(frame, left)) => {
-                let behind = self.bytes.len() - left;
-                self.start = cut_front(&mut self.bytes, behind);
+                let after = self.bytes.len() - left;
+                self.start = cut_front(&mut self.bytes, after);
                 self.hello_is_due = false;
                 Some(Ok(frame))
             }
@@ -116,8 +117,7 @@ impl FrameReader {
         }
     }
 
-    /// How many bytes stand after the last frame given; after a fault, how many stood there when it was
-    /// told. O(1).
+    /// How many bytes follow the last frame given; after a fault, how many did when it was returned. O(1).
     pub fn rest(&self) -> usize
         ensures { result ≡ length self.now.rest }
     {
@@ -140,9 +140,9 @@ fn cut_front(bytes: &mut Vec<u8>, from: usize) -> usize
     }
     bytes.copy_within(from.., 0);
     bytes.truncate(left);
-    let wanted = left.max(KEPT_CAPACITY);
-    if bytes.capacity() / 4 > wanted {
-        bytes.shrink_to(wanted);
+    let kept = left.max(KEPT_CAPACITY);
+    if bytes.capacity() / 4 > kept {
+        bytes.shrink_to(kept);
     }
     0
 }

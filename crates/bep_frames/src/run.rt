@@ -1,4 +1,4 @@
-ghost use Rattle.std.specs.Prelude.{◌≡◌, ℕ, List, [], IsOk, IfOk, OnOk};
+ghost use Rattle.std.specs.Prelude.{◌≡◌, ◌≤◌, ℕ, List, [], length, IsOk, IfOk, OnOk};
 ghost use Rattle.std.specs.List.{flat_map};
 ghost use Rattle.bep_frames.specs.Stream.{stream};
 ghost use Rattle.bep_frames.specs.State.{fed, remaining, with_front, Stops, EndsAs};
@@ -17,7 +17,7 @@ pub struct FrameStream {
 
 /// The frames of a stream that comes in these pieces, after which nothing comes.
 ///
-/// Refused by want of memory alone. O(n) in the bytes of the pieces.
+/// Returns `Err` if allocation fails, never where no piece has a byte. O(n) in the bytes of the pieces.
 pub fn frames_of(
     alloc: Global,
     pieces: &[Vec<u8>],
@@ -28,7 +28,8 @@ pub fn frames_of(
         s.frames.items ≡ (stream hello_is_due (flat_map (λ piece. piece.items) pieces.now)).frames) }
     ensures end { IfOk result (λ s.
         EndsAs (stream hello_is_due (flat_map (λ piece. piece.items) pieces.now)).end s.end) }
-    ensures none { pieces.now ≡ [] → IsOk result }
+    // Where no piece has a byte, nothing is allocated.
+    ensures none { flat_map (λ piece. piece.items) pieces.now ≡ [] → IsOk result }
 {
     let mut reader = if hello_is_due {
         FrameReader::new(alloc)
@@ -48,15 +49,17 @@ pub fn frames_of(
     Ok(FrameStream { frames, end })
 }
 
-/// Gives the frames that stand there, until there is none or a fault.
+/// Takes the frames that are there, until there is none or a fault.
 fn take_all(
     reader: &mut FrameReader,
     frames: &mut Vec<Frame>,
 ) -> Result<Option<FrameFault>, AllocError>
-    // Whatever comes then, what was given and what is to give are one stream.
+    // Whatever comes then, what was given and what is yet to be given are one stream.
     ensures given { OnOk result ((more : List ℕ) → with_front frames.new.items (remaining (fed reader.new more))
         ≡ with_front frames.old.items (remaining (fed reader.old more))) }
     ensures stops { IfOk result (Stops reader.new) }
+    ensures shrinks { length reader.new.rest ≤ length reader.old.rest }
+    ensures nothing { reader.old.rest ≡ [] → IsOk result }
 {
     while let Some(answer) = reader.next() {
         match answer {

@@ -1,8 +1,11 @@
 ghost use Rattle.std.specs.Prelude.{◌≡◌, length};
 ghost use Rattle.bep_frames.specs.Grammar.{number16, number32};
 
-/// The most bytes of a message.
-pub const MOST_BYTES: usize = 500_000_000;
+/// The most bytes of a message after a Hello.
+pub const MAX_MESSAGE_BYTES: usize = 500_000_000;
+
+/// The most bytes of a Hello, and of a header.
+pub const MAX_HELLO_BYTES: usize = 65_535;
 
 /// The number that two bytes are, big-endian.
 pub fn number16(size: &[u8]) -> usize

@@ -1,4 +1,4 @@
-//! Frames made by hand from the protocol's rules. Each growth may be refused once: then the same call is
+//! Frames made by hand from the protocol's rules. Each allocation may fail once: then the same call is
 //! made again, and the stream is read to its end.
 use crate::{
     Frame, FrameFault, FrameReader, FrameStream, Message, WriteFault, frames_of, write_frame,
@@ -33,7 +33,7 @@ fn push_piece(pieces: &mut Vec<Vec<u8>>, alloc: Global, piece: &[u8]) -> Result<
     Ok(())
 }
 
-/// The stream's frames, again after want of memory.
+/// The stream's frames, by a second call where the first is out of memory.
 fn frames_again(alloc: Global, pieces: &[Vec<u8>], due: bool) -> Result<FrameStream, AllocError> {
     match frames_of(alloc, pieces, due) {
         Err(_) => frames_of(alloc, pieces, due),
@@ -52,8 +52,8 @@ fn expect_pieces(
     let stream = frames_again(alloc, pieces, due)?;
     assert_eq!(rt; stream.end, end);
     assert_eq!(rt; stream.frames.len(), kinds.len());
-    for (frame, wanted) in stream.frames.iter().zip(kinds) {
-        assert_eq!(rt; kind(frame), *wanted);
+    for (frame, expected) in stream.frames.iter().zip(kinds) {
+        assert_eq!(rt; kind(frame), *expected);
     }
     Ok(())
 }
@@ -73,8 +73,8 @@ fn expect_stream(
         if let Some(front) = bytes.get(..cut) {
             push_piece(&mut pieces, alloc, front)?;
         }
-        if let Some(behind) = bytes.get(cut..) {
-            push_piece(&mut pieces, alloc, behind)?;
+        if let Some(after) = bytes.get(cut..) {
+            push_piece(&mut pieces, alloc, after)?;
         }
         expect_pieces(rt, alloc, pieces.as_slice(), due, kinds, end)?;
     }
@@ -105,8 +105,8 @@ fn streams_in_any_pieces(rt: HostRuntime) -> Result<(), Fail> {
     expect_stream(&rt, alloc, &request, false, &[3], Ok(0))?;
     let response = [0, 2, 8, 4, 0, 0, 0, 7, 8, 1, 0x12, 3, 0x61, 0x62, 0x63];
     expect_stream(&rt, alloc, &response, false, &[4], Ok(0))?;
-    let refusal = [0, 2, 8, 4, 0, 0, 0, 4, 8, 2, 0x18, 3];
-    expect_stream(&rt, alloc, &refusal, false, &[4], Ok(0))?;
+    let error = [0, 2, 8, 4, 0, 0, 0, 4, 8, 2, 0x18, 3];
+    expect_stream(&rt, alloc, &error, false, &[4], Ok(0))?;
     let unknown = [0, 2, 8, 8, 0, 0, 0, 1, 0xFF];
     expect_stream(&rt, alloc, &unknown, false, &[8], Ok(0))?;
     Ok(())
@@ -136,12 +136,12 @@ fn faults_as_soon_as_they_show(rt: HostRuntime) -> Result<(), Fail> {
     expect_stream(&rt, alloc, &close, false, &[], Err(FrameFault::BadBody))?;
     let hello = [0x2E, 0xA7, 0xD9, 0x0B, 0, 3, 0x0A, 1, 0xFF];
     expect_stream(&rt, alloc, &hello, true, &[], Err(FrameFault::BadBody))?;
-    // What stands before a fault comes out first.
-    let behind = [0, 0, 0, 0, 0, 0, 0, 2, 8, 6, 0, 0, 0, 0, 0, 1, 0x0B];
+    // The frames before a fault come first.
+    let after = [0, 0, 0, 0, 0, 0, 0, 2, 8, 6, 0, 0, 0, 0, 0, 1, 0x0B];
     expect_stream(
         &rt,
         alloc,
-        &behind,
+        &after,
         false,
         &[0, 6],
         Err(FrameFault::BadHeader),
@@ -228,8 +228,8 @@ fn hellos_written(rt: HostRuntime) -> Result<(), Fail> {
         assert!(rt; out.is_empty());
         write_hello(&small, &mut out).map_err(|_| AllocError)?;
     }
-    let wanted = [0x2E, 0xA7, 0xD9, 0x0B, 0x00, 0x03, 0x0A, 0x01, 0x61];
-    assert_eq!(rt; out.as_slice(), wanted.as_slice());
+    let expected = [0x2E, 0xA7, 0xD9, 0x0B, 0x00, 0x03, 0x0A, 0x01, 0x61];
+    assert_eq!(rt; out.as_slice(), expected.as_slice());
     out.clear();
     let most = hello_of(alloc, 65_531)?;
     if write_hello(&most, &mut out).is_err() {
@@ -238,11 +238,11 @@ fn hellos_written(rt: HostRuntime) -> Result<(), Fail> {
     assert_eq!(rt; out.len(), 65_541);
     assert_eq!(rt; out.get(4..6), Some([0xFF, 0xFF].as_slice()));
     let over = hello_of(alloc, 65_532)?;
-    let mut refused = write_hello(&over, &mut out);
-    if refused == Err(WriteFault::OutOfMemory) {
-        refused = write_hello(&over, &mut out);
+    let mut written = write_hello(&over, &mut out);
+    if written == Err(WriteFault::OutOfMemory) {
+        written = write_hello(&over, &mut out);
     }
-    assert_eq!(rt; refused, Err(WriteFault::TooLong));
+    assert_eq!(rt; written, Err(WriteFault::TooLong));
     assert_eq!(rt; out.len(), 65_541);
     Ok(())
 }

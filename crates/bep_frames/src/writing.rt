@@ -4,30 +4,26 @@ ghost use Rattle.bep_messages.specs.Protocol.{header_table, hello_table};
 ghost use Rattle.bep_messages.specs.Structs.{header, hello};
 ghost use Rattle.bep_messages.specs.Values.{decoded};
 ghost use Rattle.bep_frames.specs.declared.frame.Frame.TheVariants.{Hello as HelloFrame, Message as MessageFrame};
-ghost use Rattle.bep_frames.specs.Reading.{Whole, frame_at};
+ghost use Rattle.bep_frames.specs.Grammar.{IsFrame, max_hello_bytes, max_message_bytes};
 ghost use Rattle.bep_frames.specs.Written.{sized16, sized32, hello_body, hello_frame, header_form, body_of, later_frame, message_frame};
 
 use crate::fault::WriteFault;
 use crate::found::MAGIC;
-use crate::frame::Message;
-use crate::size::MOST_BYTES;
+use crate::frame::{Message, each_message};
+use crate::size::{MAX_HELLO_BYTES, MAX_MESSAGE_BYTES};
 use bep_messages::{Header, Hello, ProtoMessage};
-
-/// The most bytes of a Hello, and of a header.
-const MOST_HELLO_BYTES: usize = 65_535;
 
 /// Appends the frame of a Hello (Block Exchange Protocol v1, "Pre-authentication Messages").
 ///
-/// Refused as `TooLong` where the written form of the message has more than 65,535 bytes, or by want of
-/// memory; then the vector is as it was. O(n); the form is made in place.
+/// Fails with `TooLong` where the written form of the message has more than [`MAX_HELLO_BYTES`], or with
+/// `OutOfMemory`; then the vector is as it was. O(n); the form is made in place.
 pub fn write_hello(message: &Hello, out: &mut Vec<u8>) -> Result<(), WriteFault>
     ensures ok { OnOk result (out.new.items ≡ out.old.items ++ hello_frame message.now) }
-    ensures short { OnOk result (length (hello_body message.now) ≤ 65535) }
-    ensures long { IsErrOf result WriteFault.TooLong → 65535 < length (hello_body message.now) }
+    ensures short { OnOk result (length (hello_body message.now) ≤ max_hello_bytes) }
+    ensures long { IsErrOf result WriteFault.TooLong → max_hello_bytes < length (hello_body message.now) }
     ensures err { OnErr result (out.new.items ≡ out.old.items) }
-    // What is written is read as what was handed in, whatever follows it.
-    ensures again { OnOk result ((rest : List ℕ) →
-        frame_at true (hello_frame message.now ++ rest) ≡ Whole (HelloFrame message.now) rest) }
+    // What is written is read as what was handed in.
+    ensures again { OnOk result (IsFrame true (hello_frame message.now) (HelloFrame message.now)) }
 {
     let start = out.len();
     let written = put_hello(message, out);
@@ -37,30 +33,28 @@ pub fn write_hello(message: &Hello, out: &mut Vec<u8>) -> Result<(), WriteFault>
     written
 }
 
+macro_rules! write_message {
+    (($message:expr, $out:expr) $($number:literal $name:ident),*) => {
+        match $message {
+            $(Message::$name(message) => write_later($number, message, $out),)*
+        }
+    };
+}
+
 /// Appends the frame of any other message (Block Exchange Protocol v1, "Post-authentication Messages"), not
 /// compressed.
 ///
-/// Refused as `TooLong` where the written form of the message has more than 500,000,000 bytes, or by want of
-/// memory; then the vector is as it was. O(n); the form is made in place.
+/// Fails with `TooLong` where the written form of the message has more than [`MAX_MESSAGE_BYTES`], or with
+/// `OutOfMemory`; then the vector is as it was. O(n); the form is made in place.
 pub fn write_frame(message: &Message, out: &mut Vec<u8>) -> Result<(), WriteFault>
     ensures ok { OnOk result (out.new.items ≡ out.old.items ++ message_frame message.now) }
-    ensures short { OnOk result (length (body_of message.now) ≤ 500000000) }
-    ensures long { IsErrOf result WriteFault.TooLong → 500000000 < length (body_of message.now) }
+    ensures short { OnOk result (length (body_of message.now) ≤ max_message_bytes) }
+    ensures long { IsErrOf result WriteFault.TooLong → max_message_bytes < length (body_of message.now) }
     ensures err { OnErr result (out.new.items ≡ out.old.items) }
-    // What is written is read as what was handed in, whatever follows it.
-    ensures again { OnOk result ((rest : List ℕ) →
-        frame_at false (message_frame message.now ++ rest) ≡ Whole (MessageFrame message.now) rest) }
+    // What is written is read as what was handed in.
+    ensures again { OnOk result (IsFrame false (message_frame message.now) (MessageFrame message.now)) }
 {
-    match message {
-        Message::ClusterConfig(m) => write_later(0, m, out),
-        Message::Index(m) => write_later(1, m, out),
-        Message::IndexUpdate(m) => write_later(2, m, out),
-        Message::Request(m) => write_later(3, m, out),
-        Message::Response(m) => write_later(4, m, out),
-        Message::DownloadProgress(m) => write_later(5, m, out),
-        Message::Ping(m) => write_later(6, m, out),
-        Message::Close(m) => write_later(7, m, out),
-    }
+    each_message!(write_message!(message, out))
 }
 
 /// Appends the frame of a message of this type, or nothing.
@@ -68,8 +62,8 @@ fn write_later<M: ProtoMessage>(kind: u8, message: &M, out: &mut Vec<u8>) -> Res
     requires { kind < 8 }
     ensures ok { OnOk result
         (out.new.items ≡ out.old.items ++ later_frame kind (form M.table (M.parts message.now))) }
-    ensures short { OnOk result (length (form M.table (M.parts message.now)) ≤ 500000000) }
-    ensures long { IsErrOf result WriteFault.TooLong → 500000000 < length (form M.table (M.parts message.now)) }
+    ensures short { OnOk result (length (form M.table (M.parts message.now)) ≤ max_message_bytes) }
+    ensures long { IsErrOf result WriteFault.TooLong → max_message_bytes < length (form M.table (M.parts message.now)) }
     ensures err { OnErr result (out.new.items ≡ out.old.items) }
     ensures again { OnOk result (decoded M.table M.whole (form M.table (M.parts message.now)) ≡ Ok message.now) }
     ensures header { OnOk result (decoded header_table header (header_form kind)
@@ -83,11 +77,11 @@ fn write_later<M: ProtoMessage>(kind: u8, message: &M, out: &mut Vec<u8>) -> Res
     written
 }
 
-/// Appends the frame of a Hello. After a refusal a part of it may stand behind what was there.
+/// Appends the frame of a Hello. After an error a part of it may follow what was there.
 fn put_hello(message: &Hello, out: &mut Vec<u8>) -> Result<(), WriteFault>
     ensures ok { OnOk result (out.new.items ≡ out.old.items ++ hello_frame message.now) }
-    ensures short { OnOk result (length (hello_body message.now) ≤ 65535) }
-    ensures long { IsErrOf result WriteFault.TooLong → 65535 < length (hello_body message.now) }
+    ensures short { OnOk result (length (hello_body message.now) ≤ max_hello_bytes) }
+    ensures long { IsErrOf result WriteFault.TooLong → max_hello_bytes < length (hello_body message.now) }
     ensures err { OnErr result (take (length out.old.items) out.new.items ≡ out.old.items) }
     ensures again { OnOk result (decoded hello_table hello (hello_body message.now) ≡ Ok message.now) }
 {
@@ -95,13 +89,13 @@ fn put_hello(message: &Hello, out: &mut Vec<u8>) -> Result<(), WriteFault>
     put_sized16(message, out)
 }
 
-/// Appends the frame of a message of this type. After a refusal a part of it may stand behind what was there.
+/// Appends the frame of a message of this type. After an error a part of it may follow what was there.
 fn put_later<M: ProtoMessage>(kind: u8, message: &M, out: &mut Vec<u8>) -> Result<(), WriteFault>
     requires { kind < 8 }
     ensures ok { OnOk result
         (out.new.items ≡ out.old.items ++ later_frame kind (form M.table (M.parts message.now))) }
-    ensures short { OnOk result (length (form M.table (M.parts message.now)) ≤ 500000000) }
-    ensures long { IsErrOf result WriteFault.TooLong → 500000000 < length (form M.table (M.parts message.now)) }
+    ensures short { OnOk result (length (form M.table (M.parts message.now)) ≤ max_message_bytes) }
+    ensures long { IsErrOf result WriteFault.TooLong → max_message_bytes < length (form M.table (M.parts message.now)) }
     ensures err { OnErr result (take (length out.old.items) out.new.items ≡ out.old.items) }
     ensures again { OnOk result (decoded M.table M.whole (form M.table (M.parts message.now)) ≡ Ok message.now) }
     ensures header { OnOk result (decoded header_table header (header_form kind)
@@ -115,11 +109,11 @@ fn put_later<M: ProtoMessage>(kind: u8, message: &M, out: &mut Vec<u8>) -> Resul
     put_sized32(message, out)
 }
 
-/// Appends a message behind its length in 16 bits. After a refusal a part of it may stand behind what was there.
+/// Appends a message after its length in 16 bits. After an error a part of it may follow what was there.
 fn put_sized16<M: ProtoMessage>(message: &M, out: &mut Vec<u8>) -> Result<(), WriteFault>
     ensures ok { OnOk result (out.new.items ≡ out.old.items ++ sized16 (form M.table (M.parts message.now))) }
-    ensures short { OnOk result (length (form M.table (M.parts message.now)) ≤ 65535) }
-    ensures long { IsErrOf result WriteFault.TooLong → 65535 < length (form M.table (M.parts message.now)) }
+    ensures short { OnOk result (length (form M.table (M.parts message.now)) ≤ max_hello_bytes) }
+    ensures long { IsErrOf result WriteFault.TooLong → max_hello_bytes < length (form M.table (M.parts message.now)) }
     ensures err { OnErr result (take (length out.old.items) out.new.items ≡ out.old.items) }
     ensures again { OnOk result (decoded M.table M.whole (form M.table (M.parts message.now)) ≡ Ok message.now) }
 {
@@ -127,18 +121,18 @@ fn put_sized16<M: ProtoMessage>(message: &M, out: &mut Vec<u8>) -> Result<(), Wr
     out.extend_from_slice(&[0; 2])?;
     message.encode(out)?;
     let len = out.len() - start - 2;
-    if len > MOST_HELLO_BYTES {
+    if len > MAX_HELLO_BYTES {
         return Err(WriteFault::TooLong);
     }
     out[start..start + 2].copy_from_slice(&(len as u16).to_be_bytes());
     Ok(())
 }
 
-/// Appends a message behind its length in 32 bits. After a refusal a part of it may stand behind what was there.
+/// Appends a message after its length in 32 bits. After an error a part of it may follow what was there.
 fn put_sized32<M: ProtoMessage>(message: &M, out: &mut Vec<u8>) -> Result<(), WriteFault>
     ensures ok { OnOk result (out.new.items ≡ out.old.items ++ sized32 (form M.table (M.parts message.now))) }
-    ensures short { OnOk result (length (form M.table (M.parts message.now)) ≤ 500000000) }
-    ensures long { IsErrOf result WriteFault.TooLong → 500000000 < length (form M.table (M.parts message.now)) }
+    ensures short { OnOk result (length (form M.table (M.parts message.now)) ≤ max_message_bytes) }
+    ensures long { IsErrOf result WriteFault.TooLong → max_message_bytes < length (form M.table (M.parts message.now)) }
     ensures err { OnErr result (take (length out.old.items) out.new.items ≡ out.old.items) }
     ensures again { OnOk result (decoded M.table M.whole (form M.table (M.parts message.now)) ≡ Ok message.now) }
 {
@@ -146,7 +140,7 @@ fn put_sized32<M: ProtoMessage>(message: &M, out: &mut Vec<u8>) -> Result<(), Wr
     out.extend_from_slice(&[0; 4])?;
     message.encode(out)?;
     let len = out.len() - start - 4;
-    if len > MOST_BYTES {
+    if len > MAX_MESSAGE_BYTES {
         return Err(WriteFault::TooLong);
     }
     out[start..start + 4].copy_from_slice(&(len as u32).to_be_bytes());

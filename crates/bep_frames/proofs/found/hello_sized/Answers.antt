@@ -12,8 +12,13 @@ pub returns-in_err-hello-clause-found : goal.returns-in_err-hello-clause-found
 unfolding hello_sized
 returns-in_err-hello-clause-found c =
     let p = err_from_is_err_and c.from_residual.result c.from_residual.ensures.1 in
-    rw (p.1, p.2) (λ ne. pieces.cut_is _ _ _ hello_read c.in-Ok.ensures ∙ pieces.hello_bad _ _ _ c.in_err-hello.ensures ne)
+    rw (p.1, p.2) (λ ne. pieces.cut_is _ _ _ hello_read c.in-Ok.ensures ∙ pieces.hello_bad _ _ _ c.in_err-hello.ensures.read ne)
 
 pub returns-clause-found : goal.returns-clause-found
 unfolding hello_sized
-returns-clause-found c = (c.in-Ok.cut.1.now, refl, pieces.cut_is _ _ _ hello_read c.in-Ok.ensures ∙ pieces.hello_good _ _ _ c.in_ok-hello.ensures)
+returns-clause-found c = (c.in-Ok.cut.1.now, refl, pieces.cut_is _ _ _ hello_read c.in-Ok.ensures ∙ pieces.hello_good _ _ _ c.in_ok-hello.ensures.read)
+
+pub returns-in_err-hello-clause-memory : goal.returns-in_err-hello-clause-memory
+returns-in_err-hello-clause-memory c = λ e.
+    let p = err_from_is_err_and c.from_residual.result c.from_residual.ensures.1 in
+    record { held = c.in-Ok.cut.0.now; rest = c.in-Ok.cut.1.now; cut = c.in-Ok.ensures; takes = c.in_err-hello.ensures.memory (pieces.passed_on _ _ _ p.1 p.2 e) }

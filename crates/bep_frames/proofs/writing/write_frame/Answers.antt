@@ -1,28 +1,46 @@
-use Rattle.std.proofs.Common.{refl, arith}
+use Rattle.std.proofs.Common.{arith}
+use Rattle.bep_messages.specs.Protocol.{cluster_config_table, index_table, index_update_table, request_table, response_table, download_progress_table, ping_table, close_table}
+use Rattle.bep_messages.specs.Structs.{cluster_config, index, index_update, request, response, download_progress, ping, close}
 use Rattle.bep_frames.specs.declared.frame.Message.TheVariants.{ClusterConfig, Index, IndexUpdate, Request, Response, DownloadProgress, Ping, Close}
-use Rattle.bep_frames.proofs.Written.{read_again}
+use Rattle.bep_frames.proofs.Written.{appends, read_by}
 use Rattle.bep_frames.proofs.writing.write_frame.Goals as goal
 
-pub returns-in-ClusterConfig-clause-again : goal.returns-in-ClusterConfig-clause-again
-returns-in-ClusterConfig-clause-again c = read_again _ _ (ClusterConfig c.in-ClusterConfig.m) c.in-ClusterConfig.is (omega arith) c.write_later.ensures.short c.write_later.ensures.header c.write_later.ensures.again (λ e. (refl, e))
+pub returns-in-ClusterConfig : goal.returns-in-ClusterConfig
+returns-in-ClusterConfig c =
+    let e = c.write_later.ensures in
+    appends _ _ _ _ (ClusterConfig c.in-ClusterConfig.message) c.in-ClusterConfig.is (omega arith) e.ok e.short e.long e.err e.header e.again (read_by cluster_config_table cluster_config ClusterConfig _ c.in-ClusterConfig.message)
 
-pub returns-in-Index-clause-again : goal.returns-in-Index-clause-again
-returns-in-Index-clause-again c = read_again _ _ (Index c.in-Index.m) c.in-Index.is (omega arith) c.write_later-in-Index.ensures.short c.write_later-in-Index.ensures.header c.write_later-in-Index.ensures.again (λ e. (refl, e))
+pub returns-in-Index : goal.returns-in-Index
+returns-in-Index c =
+    let e = c.write_later-in-Index.ensures in
+    appends _ _ _ _ (Index c.in-Index.message) c.in-Index.is (omega arith) e.ok e.short e.long e.err e.header e.again (read_by index_table index Index _ c.in-Index.message)
 
-pub returns-in-IndexUpdate-clause-again : goal.returns-in-IndexUpdate-clause-again
-returns-in-IndexUpdate-clause-again c = read_again _ _ (IndexUpdate c.in-IndexUpdate.m) c.in-IndexUpdate.is (omega arith) c.write_later-in-IndexUpdate.ensures.short c.write_later-in-IndexUpdate.ensures.header c.write_later-in-IndexUpdate.ensures.again (λ e. (refl, e))
+pub returns-in-IndexUpdate : goal.returns-in-IndexUpdate
+returns-in-IndexUpdate c =
+    let e = c.write_later-in-IndexUpdate.ensures in
+    appends _ _ _ _ (IndexUpdate c.in-IndexUpdate.message) c.in-IndexUpdate.is (omega arith) e.ok e.short e.long e.err e.header e.again (read_by index_update_table index_update IndexUpdate _ c.in-IndexUpdate.message)
 
-pub returns-in-Request-clause-again : goal.returns-in-Request-clause-again
-returns-in-Request-clause-again c = read_again _ _ (Request c.in-Request.m) c.in-Request.is (omega arith) c.write_later-in-Request.ensures.short c.write_later-in-Request.ensures.header c.write_later-in-Request.ensures.again (λ e. (refl, e))
+pub returns-in-Request : goal.returns-in-Request
+returns-in-Request c =
+    let e = c.write_later-in-Request.ensures in
+    appends _ _ _ _ (Request c.in-Request.message) c.in-Request.is (omega arith) e.ok e.short e.long e.err e.header e.again (read_by request_table request Request _ c.in-Request.message)
 
-pub returns-in-Response-clause-again : goal.returns-in-Response-clause-again
-returns-in-Response-clause-again c = read_again _ _ (Response c.in-Response.m) c.in-Response.is (omega arith) c.write_later-in-Response.ensures.short c.write_later-in-Response.ensures.header c.write_later-in-Response.ensures.again (λ e. (refl, e))
+pub returns-in-Response : goal.returns-in-Response
+returns-in-Response c =
+    let e = c.write_later-in-Response.ensures in
+    appends _ _ _ _ (Response c.in-Response.message) c.in-Response.is (omega arith) e.ok e.short e.long e.err e.header e.again (read_by response_table response Response _ c.in-Response.message)
 
-pub returns-in-DownloadProgress-clause-again : goal.returns-in-DownloadProgress-clause-again
-returns-in-DownloadProgress-clause-again c = read_again _ _ (DownloadProgress c.in-DownloadProgress.m) c.in-DownloadProgress.is (omega arith) c.write_later-in-DownloadProgress.ensures.short c.write_later-in-DownloadProgress.ensures.header c.write_later-in-DownloadProgress.ensures.again (λ e. (refl, e))
+pub returns-in-DownloadProgress : goal.returns-in-DownloadProgress
+returns-in-DownloadProgress c =
+    let e = c.write_later-in-DownloadProgress.ensures in
+    appends _ _ _ _ (DownloadProgress c.in-DownloadProgress.message) c.in-DownloadProgress.is (omega arith) e.ok e.short e.long e.err e.header e.again (read_by download_progress_table download_progress DownloadProgress _ c.in-DownloadProgress.message)
 
-pub returns-in-Ping-clause-again : goal.returns-in-Ping-clause-again
-returns-in-Ping-clause-again c = read_again _ _ (Ping c.in-Ping.m) c.in-Ping.is (omega arith) c.write_later-in-Ping.ensures.short c.write_later-in-Ping.ensures.header c.write_later-in-Ping.ensures.again (λ e. (refl, e))
+pub returns-in-Ping : goal.returns-in-Ping
+returns-in-Ping c =
+    let e = c.write_later-in-Ping.ensures in
+    appends _ _ _ _ (Ping c.in-Ping.message) c.in-Ping.is (omega arith) e.ok e.short e.long e.err e.header e.again (read_by ping_table ping Ping _ c.in-Ping.message)
 
-pub returns-in-Close-clause-again : goal.returns-in-Close-clause-again
-returns-in-Close-clause-again c = read_again _ _ (Close c.in-Close.m) c.in-Close.is (omega arith) c.write_later-in-Close.ensures.short c.write_later-in-Close.ensures.header c.write_later-in-Close.ensures.again (λ e. (refl, e))
+pub returns-in-Close : goal.returns-in-Close
+returns-in-Close c =
+    let e = c.write_later-in-Close.ensures in
+    appends _ _ _ _ (Close c.in-Close.message) c.in-Close.is (omega arith) e.ok e.short e.long e.err e.header e.again (read_by close_table close Close _ c.in-Close.message)
