@@ -36,7 +36,7 @@ kind_of_table table whole message = record { table = table; message = λ values.
 
 -- ---- what the bytes are is found
 
-unknown_at : (n : ℕ) → 8 ≤ n → kind_at n ≡ None
+pub unknown_at : (n : ℕ) → 8 ≤ n → kind_at n ≡ None
 unknown_at n h =
     let e : suc (suc (suc (suc (suc (suc (suc (suc (n - 8)))))))) ≡ n = omega arith in
     subst (λ (m : ℕ). kind_at m ≡ None) e refl

@@ -4,6 +4,7 @@ pub mod Sound
 pub mod Places
 pub mod Readings
 pub mod Runs
+pub mod Takes
 pub mod Counts
 pub mod Written
 pub mod Lemmas

@@ -127,7 +127,7 @@ step_right false bytes = later_right bytes
 
 -- ---- what the grammar says is found
 
-hello_spelled : (bytes sized body after : List ℕ) → bytes ≡ magic ++ (sized ++ after) → IsSized16 sized body → hello_at bytes ≡ hello_read body after
+pub hello_spelled : (bytes sized body after : List ℕ) → bytes ≡ magic ++ (sized ++ after) → IsSized16 sized body → hello_at bytes ≡ hello_read body after
 unfolding hello_sized
 hello_spelled bytes sized body after e s = pieces.hello_at_is bytes magic (sized ++ after) true e refl refl ∙ pieces.sized16_is (sized ++ after) sized body after hello_read refl s
 
@@ -139,14 +139,14 @@ header_spelled : (bytes sized text after : List ℕ) → bytes ≡ sized ++ afte
 unfolding later_at
 header_spelled bytes sized text after e s = pieces.sized16_is bytes sized text after header_read e s
 
-plain_again : (bytes after : List ℕ) (h : Header) → HasHeader bytes h after → h.compression ≡ pos 0 → later_at bytes ≡ message_at h.kind after
+pub plain_again : (bytes after : List ℕ) (h : Header) → HasHeader bytes h after → h.compression ≡ pos 0 → later_at bytes ≡ message_at h.kind after
 plain_again bytes after h is plain = header_spelled bytes is.sized is.text after is.split is.sized_is ∙ pieces.header_plain is.text after h is.reads plain
 
 pub header_longer : (bytes after rest : List ℕ) (h : Header) → HasHeader bytes h after → HasHeader (bytes ++ rest) h (after ++ rest)
 header_longer bytes after rest h is =
     record { sized = is.sized; text = is.text; split = pieces.before_more bytes is.sized after rest is.split; sized_is = is.sized_is; reads = is.reads }
 
-message_again : (kind : ℤ) (sized body rest : List ℕ) → IsSized32 sized body → length body ≤ max_message_bytes → message_at kind (sized ++ rest) ≡ message_read kind body rest
+pub message_again : (kind : ℤ) (sized body rest : List ℕ) → IsSized32 sized body → length body ≤ max_message_bytes → message_at kind (sized ++ rest) ≡ message_read kind body rest
 message_again kind sized body rest s short =
     pieces.message_is kind (sized ++ rest) s.size (body ++ rest) body rest (pieces.before_more sized s.size body rest s.split) s.width refl s.size_is (omega (arith, s.size_is, short))
 

@@ -1,13 +1,16 @@
 //! Laws: functions without parameters that do nothing, of which the contract states what the definitions of frames and streams imply.
-ghost use Rattle.std.specs.Prelude.{◌≡◌, ◌≢◌, ◌++◌, ◌+◌, ◌<◌, ℕ, Bool, true, false, [], List, None, Some, Ok, Err, Result, length};
+ghost use Rattle.std.specs.Prelude.{◌≡◌, ◌≢◌, ◌++◌, ◌+◌, ◌<◌, ℕ, ℤ, Bool, true, false, [], List, None, Some, Ok, Err, Result, length};
 ghost use Rattle.bep_messages.specs.declared.index.Index.{Index};
 ghost use Rattle.bep_messages.specs.declared.index_update.IndexUpdate.{IndexUpdate};
+ghost use Rattle.bep_messages.specs.Memory.{TakesMemory};
+ghost use Rattle.bep_messages.specs.Tables.{Table};
 ghost use Rattle.bep_frames.specs.declared.fault.FrameFault.{FrameFault};
-ghost use Rattle.bep_frames.specs.declared.fault.FrameFault.TheVariants.{OutOfMemory};
+ghost use Rattle.bep_frames.specs.declared.fault.FrameFault.TheVariants.{BadBody, OutOfMemory};
 ghost use Rattle.bep_frames.specs.declared.frame.Frame.{Frame};
-ghost use Rattle.bep_frames.specs.declared.frame.Frame.TheVariants.{Message as MessageFrame};
+ghost use Rattle.bep_frames.specs.declared.frame.Frame.TheVariants.{Message as MessageFrame, Unknown};
 ghost use Rattle.bep_frames.specs.declared.frame.Message.TheVariants.{Index as IndexMessage, IndexUpdate as IndexUpdateMessage};
-ghost use Rattle.bep_frames.specs.Grammar.{Begins, IsFrame, max_hello_bytes, max_message_bytes};
+ghost use Rattle.bep_frames.specs.Grammar.{Begins, IsFrame, IsPartial, Shows, max_hello_bytes, max_message_bytes};
+ghost use Rattle.bep_frames.specs.Memory.{FrameTakesMemory};
 ghost use Rattle.bep_frames.specs.State.{Gives, State, fed, remaining, start};
 ghost use Rattle.bep_frames.specs.Stream.{Splits, ended, first_then, stream};
 
@@ -50,6 +53,17 @@ pub fn records_are_fewer_than_bytes()
         Begins false bytes (MessageFrame (IndexUpdateMessage m)) rest → length m.files + length rest < length bytes }
     ensures frame_shorter { (due : Bool) (bytes rest : List ℕ) (f : Frame) →
         Begins due bytes f rest → length rest < length bytes }
+{}
+
+/// Where `next` may return `OutOfMemory`, a whole frame is first that isn't of an unknown type, or a whole body
+/// that can't be read. So it never does where a byte is missing or any other fault shows, nor for an empty body.
+pub fn which_frames_take_memory()
+    ensures whole { (due : Bool) (bytes : List ℕ) → FrameTakesMemory due bytes → ¬ IsPartial due bytes }
+    ensures faults { (due : Bool) (bytes : List ℕ) (e : FrameFault) →
+        FrameTakesMemory due bytes → Shows due bytes e → e ≡ BadBody }
+    ensures unknown { (due : Bool) (bytes rest : List ℕ) (kind : ℤ) →
+        FrameTakesMemory due bytes → ¬ Begins due bytes (Unknown kind) rest }
+    ensures empty { (table : Table) → ¬ TakesMemory table [] }
 {}
 
 /// The limits of the code are those of the grammar.
