@@ -34,6 +34,7 @@ fn body<M: ProtoMessage>(alloc: Global, bytes: &[u8]) -> Result<M, FrameFault>
     read(alloc, bytes, FrameFault::BadBody)
 }
 
+/// Reads a message of a known type, or returns that the type is unknown.
 macro_rules! read_message {
     (($kind:expr, $alloc:expr, $bytes:expr) $($number:literal $name:ident),*) => {
         match $kind {

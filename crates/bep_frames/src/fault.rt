@@ -11,7 +11,7 @@ use thiserror::Error;
 pub enum FrameFault {
     /// A Hello is due, and the first four bytes aren't `0x2EA7D90B`.
     BadMagic,
-    /// A message has more than 500,000,000 bytes.
+    /// A message has more than [`MAX_MESSAGE_BYTES`](crate::MAX_MESSAGE_BYTES).
     TooLong,
     /// A header says that its message is compressed.
     Compressed,
@@ -57,7 +57,8 @@ impl Display for FrameFault {
 /// Why no frame is written. Displayed, it is its name.
 #[derive(Clone, Copy, Debug, PartialEq, Eq, Error)]
 pub enum WriteFault {
-    /// The written form has more than 65,535 bytes (a Hello) or 500,000,000 (any other message).
+    /// The written form has more than [`MAX_HELLO_BYTES`](crate::MAX_HELLO_BYTES) (a Hello) or
+    /// [`MAX_MESSAGE_BYTES`](crate::MAX_MESSAGE_BYTES) (any other message).
     TooLong,
     /// Allocation failed.
     OutOfMemory,

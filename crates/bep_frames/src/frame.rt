@@ -2,11 +2,12 @@ use bep_messages::{
     Close, ClusterConfig, DownloadProgress, Hello, Index, IndexUpdate, Ping, Request, Response,
 };
 
-/// Calls a macro with the types of the messages and their names, after what is handed over.
+/// Calls a macro with the type and the name of each message, after what the caller hands over.
 macro_rules! each_message {
     ($then:ident!$given:tt) => {
-        $then!(
-            $given 0 ClusterConfig,
+        $then! {
+            $given
+            0 ClusterConfig,
             1 Index,
             2 IndexUpdate,
             3 Request,
@@ -14,7 +15,7 @@ macro_rules! each_message {
             5 DownloadProgress,
             6 Ping,
             7 Close
-        )
+        }
     };
 }
 

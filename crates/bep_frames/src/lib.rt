@@ -2,6 +2,8 @@
 //!
 //! A stream is the spellings of its frames in order, and then a rest that begins with no whole frame
 //! (`specs/Grammar.antt`, `specs/Stream.antt`). A rest may show a fault.
+//!
+//! What the definitions imply is proved in [`laws`].
 #![tactic(auto)]
 
 mod carried;

@@ -33,6 +33,7 @@ pub fn write_hello(message: &Hello, out: &mut Vec<u8>) -> Result<(), WriteFault>
     written
 }
 
+/// Writes a message by its type.
 macro_rules! write_message {
     (($message:expr, $out:expr) $($number:literal $name:ident),*) => {
         match $message {
