@@ -11,6 +11,7 @@ use crate::message::ProtoMessage;
 use crate::octets;
 use crate::text::Text;
 use crate::writer::Writer;
+use bep_wire::MAX_FIELD_NUMBER;
 use std::alloc::AllocError;
 
 #[tactic(auto, unfolding(crate::specs::Forms::number_form))]
@@ -75,7 +76,7 @@ pub fn boolean(out: &mut Writer, number: u32, value: &bool) -> Result<(), AllocE
 #[tactic(auto, unfolding(crate::specs::Forms::bytes_form))]
 fn bytes(out: &mut Writer, number: u32, bytes: &[u8]) -> Result<(), AllocError>
     requires low { 0 < number }
-    requires high { number ≤ 536870911 }
+    requires high { number ≤ MAX_FIELD_NUMBER }
     ensures ok { OnOk result (Adds out.old.written (bytes_form number bytes.now) out.new.written) }
     ensures short { IsShort bytes.now }
     ensures kept { out.new.kept ≡ out.old.kept }
@@ -88,7 +89,7 @@ fn bytes(out: &mut Writer, number: u32, bytes: &[u8]) -> Result<(), AllocError>
 
 pub fn octets(out: &mut Writer, number: u32, value: &octets::Octets) -> Result<(), AllocError>
     requires low { 0 < number }
-    requires high { number ≤ 536870911 }
+    requires high { number ≤ MAX_FIELD_NUMBER }
     ensures ok { OnOk result (Adds out.old.written (scalar_form number Octets value.now) out.new.written) }
     ensures fits { ScalarFits Octets value.now }
     ensures kept { out.new.kept ≡ out.old.kept }
@@ -98,7 +99,7 @@ pub fn octets(out: &mut Writer, number: u32, value: &octets::Octets) -> Result<(
 
 pub fn digest(out: &mut Writer, number: u32, hash: &octets::ShortOctets) -> Result<(), AllocError>
     requires low { 0 < number }
-    requires high { number ≤ 536870911 }
+    requires high { number ≤ MAX_FIELD_NUMBER }
     ensures ok { OnOk result (Adds out.old.written (scalar_form number Digest hash.now) out.new.written) }
     ensures fits { ScalarFits Digest hash.now }
     ensures kept { out.new.kept ≡ out.old.kept }
@@ -108,7 +109,7 @@ pub fn digest(out: &mut Writer, number: u32, hash: &octets::ShortOctets) -> Resu
 
 pub fn words(out: &mut Writer, number: u32, value: &Text) -> Result<(), AllocError>
     requires low { 0 < number }
-    requires high { number ≤ 536870911 }
+    requires high { number ≤ MAX_FIELD_NUMBER }
     ensures ok { OnOk result (Adds out.old.written (scalar_form number Words value.now) out.new.written) }
     ensures fits { ScalarFits Words value.now }
     ensures kept { out.new.kept ≡ out.old.kept }
@@ -118,7 +119,7 @@ pub fn words(out: &mut Writer, number: u32, value: &Text) -> Result<(), AllocErr
 
 pub fn one<M: ProtoMessage>(out: &mut Writer, number: u32, value: &M) -> Result<(), AllocError>
     requires low { 0 < number }
-    requires high { number ≤ 536870911 }
+    requires high { number ≤ MAX_FIELD_NUMBER }
     ensures ok { OnOk result
         (Adds out.old.written (bytes_form number (form M.table (M.parts value.now))) out.new.written) }
     ensures fits { OnOk result
@@ -136,7 +137,7 @@ pub fn one<M: ProtoMessage>(out: &mut Writer, number: u32, value: &M) -> Result<
 /// An element of a list of messages, also an empty one.
 fn element<M: ProtoMessage>(out: &mut Writer, number: u32, value: &M) -> Result<(), AllocError>
     requires low { 0 < number }
-    requires high { number ≤ 536870911 }
+    requires high { number ≤ MAX_FIELD_NUMBER }
     ensures ok { OnOk result
         (Adds out.old.written (bytes_field number (form M.table (M.parts value.now))) out.new.written) }
     ensures fits { OnOk result
@@ -154,7 +155,7 @@ pub fn list<M: ProtoMessage>(
     values: &Items<M>,
 ) -> Result<(), AllocError>
     requires low { 0 < number }
-    requires high { number ≤ 536870911 }
+    requires high { number ≤ MAX_FIELD_NUMBER }
     ensures ok { OnOk result
         (Adds out.old.written (list_form number (form M.table) (map M.parts values.now)) out.new.written) }
     ensures fits { OnOk result
@@ -169,7 +170,7 @@ pub fn list<M: ProtoMessage>(
 
 pub fn texts(out: &mut Writer, number: u32, values: &Items<Text>) -> Result<(), AllocError>
     requires low { 0 < number }
-    requires high { number ≤ 536870911 }
+    requires high { number ≤ MAX_FIELD_NUMBER }
     ensures ok { OnOk result (Adds out.old.written (list_form number (λ t. t) values.now) out.new.written) }
     ensures fits { OnOk result (AllByRecursion IsText values.now) }
     ensures kept { out.new.kept ≡ out.old.kept }
@@ -183,7 +184,7 @@ pub fn texts(out: &mut Writer, number: u32, values: &Items<Text>) -> Result<(), 
 /// An element of a list of texts, also an empty one.
 fn text(out: &mut Writer, number: u32, value: &Text) -> Result<(), AllocError>
     requires low { 0 < number }
-    requires high { number ≤ 536870911 }
+    requires high { number ≤ MAX_FIELD_NUMBER }
     ensures ok { OnOk result (Adds out.old.written (bytes_field number value.now) out.new.written) }
     ensures fits { IsText value.now }
     ensures kept { out.new.kept ≡ out.old.kept }

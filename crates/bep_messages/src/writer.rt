@@ -2,7 +2,7 @@ ghost use Rattle.std.specs.Prelude.{◌≡◌, ◌≤◌, ◌<◌, ◌+◌, ◌-
 ghost use Rattle.bep_wire.specs.Written.{number_field, bytes_field};
 ghost use Rattle.bep_messages.specs.Writing.{Writing};
 
-use bep_wire::{put_bytes, put_varint};
+use bep_wire::{MAX_FIELD_NUMBER, put_bytes, put_varint};
 use std::alloc::AllocError;
 use std::marker::Model;
 
@@ -69,10 +69,10 @@ impl Writer {
         Ok(())
     }
 
-    /// Appends a field of wire type 2: key, length and bytes. The number is from 1 to 536,870,911.
+    /// Appends a field of wire type 2: key, length and bytes. The number is from 1 to `MAX_FIELD_NUMBER`.
     pub fn put_bytes(&mut self, number: u32, bytes: &[u8]) -> Result<(), AllocError>
         requires low { 0 < number }
-        requires high { number ≤ 536870911 }
+        requires high { number ≤ MAX_FIELD_NUMBER }
         ensures ok { OnOk result (self.new.written ≡ self.old.written ++ bytes_field number bytes.now) }
         ensures kept { self.new.kept ≡ self.old.kept }
     {
@@ -80,11 +80,11 @@ impl Writer {
     }
 
     /// Makes what was written from a place on the content of a field of wire type 2: puts key and
-    /// length before it. The number is from 1 to 536,870,911. O(n) in the bytes from the place on,
+    /// length before it. The number is from 1 to `MAX_FIELD_NUMBER`. O(n) in the bytes from the place on,
     /// which are moved once.
     pub fn put_head(&mut self, number: u32, from: usize) -> Result<(), AllocError>
         requires place { from ≤ length self.old.written }
-        requires high { number ≤ 536870911 }
+        requires high { number ≤ MAX_FIELD_NUMBER }
         ensures ok { OnOk result (self.new.written
             ≡ take from self.old.written ++ bytes_field number (drop from self.old.written)) }
         ensures kept { self.new.kept ≡ self.old.kept }
