@@ -1,10 +1,10 @@
 //! One row of a message, written by its kind; nothing where it has its default.
-ghost use Rattle.std.specs.Prelude.{◌≡◌, ◌≤◌, ◌<◌, map, OnOk};
+ghost use Rattle.std.specs.Prelude.{◌≡◌, ◌≤◌, ◌<◌, ◌+◌, length, map, OnOk, OnErr};
 ghost use Rattle.std.specs.List.{AllByRecursion};
 ghost use Rattle.bep_wire.specs.Written.{bytes_field};
 ghost use Rattle.bep_messages.specs.Tables.{Int32, Int64, Uint32, Uint64, Enum, Boolean, Words, Octets, Digest};
 ghost use Rattle.bep_messages.specs.Forms.{number_form, bytes_form, list_form, scalar_form, form, ScalarFits, Fits, IsShort, IsText};
-ghost use Rattle.bep_messages.specs.Writing.{Adds};
+ghost use Rattle.bep_messages.specs.Writing.{Adds, len};
 
 use crate::items::Items;
 use crate::message::ProtoMessage;
@@ -18,6 +18,9 @@ use std::alloc::AllocError;
 fn varint(out: &mut Writer, number: u32, value: u64) -> Result<(), AllocError>
     ensures ok { OnOk result (Adds out.old.written (number_form number value) out.new.written) }
     ensures kept { out.new.kept ≡ out.old.kept }
+    ensures longer { OnOk result (len out.new ≡ len out.old + length (number_form number value)) }
+    ensures full { OnErr result (out.old.capacity < len out.old + length (number_form number value)) }
+    ensures capacity { out.old.capacity ≤ out.new.capacity }
 {
     if value == 0 {
         return Ok(());
@@ -29,6 +32,9 @@ pub fn uint64(out: &mut Writer, number: u32, value: &u64) -> Result<(), AllocErr
     ensures ok { OnOk result (Adds out.old.written (scalar_form number Uint64 value.now) out.new.written) }
     ensures fits { ScalarFits Uint64 value.now }
     ensures kept { out.new.kept ≡ out.old.kept }
+    ensures longer { OnOk result (len out.new ≡ len out.old + length (scalar_form number Uint64 value.now)) }
+    ensures full { OnErr result (out.old.capacity < len out.old + length (scalar_form number Uint64 value.now)) }
+    ensures capacity { out.old.capacity ≤ out.new.capacity }
 {
     varint(out, number, *value)
 }
@@ -37,6 +43,9 @@ pub fn uint32(out: &mut Writer, number: u32, value: &u32) -> Result<(), AllocErr
     ensures ok { OnOk result (Adds out.old.written (scalar_form number Uint32 value.now) out.new.written) }
     ensures fits { ScalarFits Uint32 value.now }
     ensures kept { out.new.kept ≡ out.old.kept }
+    ensures longer { OnOk result (len out.new ≡ len out.old + length (scalar_form number Uint32 value.now)) }
+    ensures full { OnErr result (out.old.capacity < len out.old + length (scalar_form number Uint32 value.now)) }
+    ensures capacity { out.old.capacity ≤ out.new.capacity }
 {
     varint(out, number, *value as u64)
 }
@@ -45,6 +54,9 @@ pub fn int64(out: &mut Writer, number: u32, value: &i64) -> Result<(), AllocErro
     ensures ok { OnOk result (Adds out.old.written (scalar_form number Int64 value.now) out.new.written) }
     ensures fits { ScalarFits Int64 value.now }
     ensures kept { out.new.kept ≡ out.old.kept }
+    ensures longer { OnOk result (len out.new ≡ len out.old + length (scalar_form number Int64 value.now)) }
+    ensures full { OnErr result (out.old.capacity < len out.old + length (scalar_form number Int64 value.now)) }
+    ensures capacity { out.old.capacity ≤ out.new.capacity }
 {
     varint(out, number, value.cast_unsigned())
 }
@@ -53,6 +65,9 @@ pub fn int32(out: &mut Writer, number: u32, value: &i32) -> Result<(), AllocErro
     ensures ok { OnOk result (Adds out.old.written (scalar_form number Int32 value.now) out.new.written) }
     ensures fits { ScalarFits Int32 value.now }
     ensures kept { out.new.kept ≡ out.old.kept }
+    ensures longer { OnOk result (len out.new ≡ len out.old + length (scalar_form number Int32 value.now)) }
+    ensures full { OnErr result (out.old.capacity < len out.old + length (scalar_form number Int32 value.now)) }
+    ensures capacity { out.old.capacity ≤ out.new.capacity }
 {
     let wide = *value as i64;
     varint(out, number, wide.cast_unsigned())
@@ -62,6 +77,9 @@ pub fn enumeration(out: &mut Writer, number: u32, value: &i32) -> Result<(), All
     ensures ok { OnOk result (Adds out.old.written (scalar_form number Enum value.now) out.new.written) }
     ensures fits { ScalarFits Enum value.now }
     ensures kept { out.new.kept ≡ out.old.kept }
+    ensures longer { OnOk result (len out.new ≡ len out.old + length (scalar_form number Enum value.now)) }
+    ensures full { OnErr result (out.old.capacity < len out.old + length (scalar_form number Enum value.now)) }
+    ensures capacity { out.old.capacity ≤ out.new.capacity }
 {
     int32(out, number, value)
 }
@@ -69,6 +87,9 @@ pub fn enumeration(out: &mut Writer, number: u32, value: &i32) -> Result<(), All
 pub fn boolean(out: &mut Writer, number: u32, value: &bool) -> Result<(), AllocError>
     ensures ok { OnOk result (Adds out.old.written (scalar_form number Boolean value.now) out.new.written) }
     ensures kept { out.new.kept ≡ out.old.kept }
+    ensures longer { OnOk result (len out.new ≡ len out.old + length (scalar_form number Boolean value.now)) }
+    ensures full { OnErr result (out.old.capacity < len out.old + length (scalar_form number Boolean value.now)) }
+    ensures capacity { out.old.capacity ≤ out.new.capacity }
 {
     varint(out, number, if *value { 1 } else { 0 })
 }
@@ -80,6 +101,9 @@ fn bytes(out: &mut Writer, number: u32, bytes: &[u8]) -> Result<(), AllocError>
     ensures ok { OnOk result (Adds out.old.written (bytes_form number bytes.now) out.new.written) }
     ensures short { IsShort bytes.now }
     ensures kept { out.new.kept ≡ out.old.kept }
+    ensures longer { OnOk result (len out.new ≡ len out.old + length (bytes_form number bytes.now)) }
+    ensures full { OnErr result (out.old.capacity < len out.old + length (bytes_form number bytes.now)) }
+    ensures capacity { out.old.capacity ≤ out.new.capacity }
 {
     if bytes.is_empty() {
         return Ok(());
@@ -93,6 +117,9 @@ pub fn octets(out: &mut Writer, number: u32, value: &octets::Octets) -> Result<(
     ensures ok { OnOk result (Adds out.old.written (scalar_form number Octets value.now) out.new.written) }
     ensures fits { ScalarFits Octets value.now }
     ensures kept { out.new.kept ≡ out.old.kept }
+    ensures longer { OnOk result (len out.new ≡ len out.old + length (scalar_form number Octets value.now)) }
+    ensures full { OnErr result (out.old.capacity < len out.old + length (scalar_form number Octets value.now)) }
+    ensures capacity { out.old.capacity ≤ out.new.capacity }
 {
     bytes(out, number, value.as_slice())
 }
@@ -103,6 +130,9 @@ pub fn digest(out: &mut Writer, number: u32, hash: &octets::ShortOctets) -> Resu
     ensures ok { OnOk result (Adds out.old.written (scalar_form number Digest hash.now) out.new.written) }
     ensures fits { ScalarFits Digest hash.now }
     ensures kept { out.new.kept ≡ out.old.kept }
+    ensures longer { OnOk result (len out.new ≡ len out.old + length (scalar_form number Digest hash.now)) }
+    ensures full { OnErr result (out.old.capacity < len out.old + length (scalar_form number Digest hash.now)) }
+    ensures capacity { out.old.capacity ≤ out.new.capacity }
 {
     bytes(out, number, hash.as_slice())
 }
@@ -113,6 +143,9 @@ pub fn words(out: &mut Writer, number: u32, value: &Text) -> Result<(), AllocErr
     ensures ok { OnOk result (Adds out.old.written (scalar_form number Words value.now) out.new.written) }
     ensures fits { ScalarFits Words value.now }
     ensures kept { out.new.kept ≡ out.old.kept }
+    ensures longer { OnOk result (len out.new ≡ len out.old + length (scalar_form number Words value.now)) }
+    ensures full { OnErr result (out.old.capacity < len out.old + length (scalar_form number Words value.now)) }
+    ensures capacity { out.old.capacity ≤ out.new.capacity }
 {
     bytes(out, number, value.as_str().as_bytes())
 }
@@ -125,6 +158,9 @@ pub fn one<M: ProtoMessage>(out: &mut Writer, number: u32, value: &M) -> Result<
     ensures fits { OnOk result
         (Fits M.table (M.parts value.now) × IsShort (form M.table (M.parts value.now))) }
     ensures kept { out.new.kept ≡ out.old.kept }
+    ensures longer { OnOk result (len out.new ≡ len out.old + length (bytes_form number (form M.table (M.parts value.now)))) }
+    ensures full { OnErr result (out.old.capacity < len out.old + length (bytes_form number (form M.table (M.parts value.now)))) }
+    ensures capacity { out.old.capacity ≤ out.new.capacity }
 {
     let from = out.len();
     value.write(out)?;
@@ -143,6 +179,9 @@ fn element<M: ProtoMessage>(out: &mut Writer, number: u32, value: &M) -> Result<
     ensures fits { OnOk result
         (Fits M.table (M.parts value.now) × IsShort (form M.table (M.parts value.now))) }
     ensures kept { out.new.kept ≡ out.old.kept }
+    ensures longer { OnOk result (len out.new ≡ len out.old + length (bytes_field number (form M.table (M.parts value.now)))) }
+    ensures full { OnErr result (out.old.capacity < len out.old + length (bytes_field number (form M.table (M.parts value.now)))) }
+    ensures capacity { out.old.capacity ≤ out.new.capacity }
 {
     let from = out.len();
     value.write(out)?;
@@ -161,6 +200,9 @@ pub fn list<M: ProtoMessage>(
     ensures fits { OnOk result
         (AllByRecursion (λ m. Fits M.table m × IsShort (form M.table m)) (map M.parts values.now)) }
     ensures kept { out.new.kept ≡ out.old.kept }
+    ensures longer { OnOk result (len out.new ≡ len out.old + length (list_form number (form M.table) (map M.parts values.now))) }
+    ensures full { OnErr result (out.old.capacity < len out.old + length (list_form number (form M.table) (map M.parts values.now))) }
+    ensures capacity { out.old.capacity ≤ out.new.capacity }
 {
     for value in values.as_slice() {
         element(out, number, value)?;
@@ -174,6 +216,9 @@ pub fn texts(out: &mut Writer, number: u32, values: &Items<Text>) -> Result<(), 
     ensures ok { OnOk result (Adds out.old.written (list_form number (λ t. t) values.now) out.new.written) }
     ensures fits { OnOk result (AllByRecursion IsText values.now) }
     ensures kept { out.new.kept ≡ out.old.kept }
+    ensures longer { OnOk result (len out.new ≡ len out.old + length (list_form number (λ t. t) values.now)) }
+    ensures full { OnErr result (out.old.capacity < len out.old + length (list_form number (λ t. t) values.now)) }
+    ensures capacity { out.old.capacity ≤ out.new.capacity }
 {
     for value in values.as_slice() {
         text(out, number, value)?;
@@ -188,6 +233,9 @@ fn text(out: &mut Writer, number: u32, value: &Text) -> Result<(), AllocError>
     ensures ok { OnOk result (Adds out.old.written (bytes_field number value.now) out.new.written) }
     ensures fits { IsText value.now }
     ensures kept { out.new.kept ≡ out.old.kept }
+    ensures longer { OnOk result (len out.new ≡ len out.old + length (bytes_field number value.now)) }
+    ensures full { OnErr result (out.old.capacity < len out.old + length (bytes_field number value.now)) }
+    ensures capacity { out.old.capacity ≤ out.new.capacity }
 {
     out.put_bytes(number, value.as_str().as_bytes())
 }
