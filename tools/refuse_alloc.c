@@ -1,4 +1,4 @@
-/* Preloaded into a test program by tools/refusals: refuses the REFUSE-th allocation of the process (none where it
+/* Preloaded into a test program by tools/refusals: lets the REFUSE-th allocation of the process fail (none where it
    is 0), and keeps the number of allocations so far in the file COUNT. For programs of one thread. */
 #define _GNU_SOURCE
 #include <dlfcn.h>

@@ -1,6 +1,7 @@
 -- Fields whose number has no row.
 use Rattle.std.proofs.Common.{◌≡◌, ℕ, ◌<◌, ◌≤◌, Bool, true, false, ltb, ◌&&◌, ◌==◌, List, [], ◌∷◌, ◌++◌, Option, None, Some, refl, sym, ap, ◌∙◌, arith, inl, inr, if◌then◌else◌}
 use Rattle.std.proofs.lemmas.Bool.{cases_eq, eq-eqb, ne_eqb, ltb-true, leb-true}
+use Rattle.bep_wire.specs.declared.field.TheConstants.{MAX_FIELD_NUMBER}
 use Rattle.bep_wire.specs.Content.{Item}
 use Rattle.bep_messages.specs.declared.fault.MessageFault.{MessageFault}
 use Rattle.bep_messages.specs.Tables.{Table, End, One, Message, Texts, Messages, rises}
@@ -35,8 +36,8 @@ rising_within before number inner rows e =
     record { above = below before number q.0; inner_rises = q.1; rows_rise = p.1 }
 
 -- no number of a table is above the greatest
-pub top : (before : ℕ) (table : Table) → rises before table ≡ true → before ≤ 536870911
-top before End e = leb-true before 536870911 e
+pub top : (before : ℕ) (table : Table) → rises before table ≡ true → before ≤ MAX_FIELD_NUMBER
+top before End e = leb-true before MAX_FIELD_NUMBER e
 top before (One number kind rows) e = let r = rising before number rows e in let t = top number rows r.rows_rise in omega (arith, r.above, t)
 top before (Message number inner rows) e = let r = rising_within before number inner rows e in let t = top number rows r.rows_rise in omega (arith, r.above, t)
 top before (Texts number rows) e = let r = rising before number rows e in let t = top number rows r.rows_rise in omega (arith, r.above, t)

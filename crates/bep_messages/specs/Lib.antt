@@ -1,7 +1,7 @@
 pub use Rattle.bep_wire.specs.Content
 pub use Rattle.bep_wire.specs.Fields
 pub use Rattle.bep_wire.specs.Written
-pub mod Numbers
+pub mod FaultNames
 pub mod Tables
 pub mod Known
 pub mod Contents

@@ -1,5 +1,6 @@
 -- Messages as tables: for each field number its kind (Protocol Buffers, language guide for proto3, "Scalar Value Types").
 use Rattle.std.specs.Prelude.{ℕ, Bool, ◌&&◌, nat_lt, nat_le, ℤ, List}
+use Rattle.bep_wire.specs.declared.field.TheConstants.{MAX_FIELD_NUMBER}
 
 -- the kinds of one value
 pub data Scalar : Type 0 where
@@ -23,7 +24,7 @@ pub data Table : Type 0 where
 
 -- each number is above the one before, and none above the greatest
 abbrev pub rises : ℕ → Table → Bool
-rises before End = nat_le before 536870911
+rises before End = nat_le before MAX_FIELD_NUMBER
 rises before (One number kind rows) = nat_lt before number && rises number rows
 rises before (Message number inner rows) = nat_lt before number && rises 0 inner && rises number rows
 rises before (Texts number rows) = nat_lt before number && rises number rows

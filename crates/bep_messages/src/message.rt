@@ -1,4 +1,4 @@
-ghost use Rattle.std.specs.Prelude.{◌≡◌, ◌≢◌, ◌≤◌, ◌∷◌, [], true, None, Ok, Err, ◌++◌, length, OnOk, OnErr, IfErr};
+ghost use Rattle.std.specs.Prelude.{◌≡◌, ◌≢◌, ◌≤◌, ◌<◌, ◌+◌, ◌∷◌, [], true, None, Ok, Err, ◌++◌, length, OnOk, OnErr, IfErr, vec_len, vec_capacity};
 ghost use Rattle.bep_wire.specs.Content.{item_in};
 ghost use Rattle.bep_wire.specs.Fields.{fields};
 ghost use Rattle.bep_messages.specs.Tables.{Table, Values, rises};
@@ -7,7 +7,7 @@ ghost use Rattle.bep_messages.specs.Memory.{ItemTakes, TakesMemory};
 ghost use Rattle.bep_messages.specs.declared.fault.MessageFault.TheVariants.{OutOfMemory};
 ghost use Rattle.bep_messages.specs.Values.{empty, values, decoded};
 ghost use Rattle.bep_messages.specs.Forms.{form, Fits};
-ghost use Rattle.bep_messages.specs.Writing.{Adds};
+ghost use Rattle.bep_messages.specs.Writing.{Adds, len};
 
 use crate::fault::MessageFault;
 use crate::writer::Writer;
@@ -43,7 +43,10 @@ pub trait ProtoMessage: Drop {
     fn write(&self, out: &mut Writer) -> Result<(), AllocError>
         ensures ok { OnOk result (Adds out.old.written (form table (parts self.now)) out.new.written) }
         ensures fits { OnOk result (Fits table (parts self.now)) }
-        ensures kept { out.new.kept ≡ out.old.kept };
+        ensures kept { out.new.kept ≡ out.old.kept }
+        ensures longer { OnOk result (len out.new ≡ len out.old + length (form table (parts self.now))) }
+        ensures full { OnErr result (out.old.capacity < len out.old + length (form table (parts self.now))) }
+        ensures capacity { out.old.capacity ≤ out.new.capacity };
 
     ghost table_rises: { rises 0 table ≡ true };
 
@@ -81,10 +84,14 @@ pub trait ProtoMessage: Drop {
     ///
     /// Refused by want of memory alone, and then the vector is as it was. O(n); the form is made in
     /// place.
+    #[tactic(auto, unfolding(crate::specs::Writing::len))]
     final fn encode(&self, out: &mut Vec<u8>) -> Result<(), AllocError>
         ensures ok { OnOk result (out.new.items ≡ out.old.items ++ form table (parts self.now)) }
         ensures again { OnOk result (decoded table whole (form table (parts self.now)) ≡ Ok self.now) }
         ensures err { OnErr result (out.new.items ≡ out.old.items) }
+        // It fails only where room for the written form was missing.
+        ensures full { OnErr result (vec_capacity out.old < vec_len out.old + length (form table (parts self.now))) }
+        ensures capacity { vec_capacity out.old ≤ vec_capacity out.new }
     {
         let alloc = *out.allocator();
         let mut writer = Writer::new(mem::replace(out, Vec::new(alloc)));

@@ -1,22 +1,26 @@
 //! One row of a message, written by its kind; nothing where it has its default.
-ghost use Rattle.std.specs.Prelude.{◌≡◌, ◌≤◌, ◌<◌, map, OnOk};
+ghost use Rattle.std.specs.Prelude.{◌≡◌, ◌≤◌, ◌<◌, ◌+◌, length, map, OnOk, OnErr};
 ghost use Rattle.std.specs.List.{AllByRecursion};
 ghost use Rattle.bep_wire.specs.Written.{bytes_field};
 ghost use Rattle.bep_messages.specs.Tables.{Int32, Int64, Uint32, Uint64, Enum, Boolean, Words, Octets, Digest};
 ghost use Rattle.bep_messages.specs.Forms.{number_form, bytes_form, list_form, scalar_form, form, ScalarFits, Fits, IsShort, IsText};
-ghost use Rattle.bep_messages.specs.Writing.{Adds};
+ghost use Rattle.bep_messages.specs.Writing.{Adds, len};
 
 use crate::items::Items;
 use crate::message::ProtoMessage;
 use crate::octets;
 use crate::text::Text;
 use crate::writer::Writer;
+use bep_wire::MAX_FIELD_NUMBER;
 use std::alloc::AllocError;
 
 #[tactic(auto, unfolding(crate::specs::Forms::number_form))]
 fn varint(out: &mut Writer, number: u32, value: u64) -> Result<(), AllocError>
     ensures ok { OnOk result (Adds out.old.written (number_form number value) out.new.written) }
     ensures kept { out.new.kept ≡ out.old.kept }
+    ensures longer { OnOk result (len out.new ≡ len out.old + length (number_form number value)) }
+    ensures full { OnErr result (out.old.capacity < len out.old + length (number_form number value)) }
+    ensures capacity { out.old.capacity ≤ out.new.capacity }
 {
     if value == 0 {
         return Ok(());
@@ -28,6 +32,9 @@ pub fn uint64(out: &mut Writer, number: u32, value: &u64) -> Result<(), AllocErr
     ensures ok { OnOk result (Adds out.old.written (scalar_form number Uint64 value.now) out.new.written) }
     ensures fits { ScalarFits Uint64 value.now }
     ensures kept { out.new.kept ≡ out.old.kept }
+    ensures longer { OnOk result (len out.new ≡ len out.old + length (scalar_form number Uint64 value.now)) }
+    ensures full { OnErr result (out.old.capacity < len out.old + length (scalar_form number Uint64 value.now)) }
+    ensures capacity { out.old.capacity ≤ out.new.capacity }
 {
     varint(out, number, *value)
 }
@@ -36,6 +43,9 @@ pub fn uint32(out: &mut Writer, number: u32, value: &u32) -> Result<(), AllocErr
     ensures ok { OnOk result (Adds out.old.written (scalar_form number Uint32 value.now) out.new.written) }
     ensures fits { ScalarFits Uint32 value.now }
     ensures kept { out.new.kept ≡ out.old.kept }
+    ensures longer { OnOk result (len out.new ≡ len out.old + length (scalar_form number Uint32 value.now)) }
+    ensures full { OnErr result (out.old.capacity < len out.old + length (scalar_form number Uint32 value.now)) }
+    ensures capacity { out.old.capacity ≤ out.new.capacity }
 {
     varint(out, number, *value as u64)
 }
@@ -44,6 +54,9 @@ pub fn int64(out: &mut Writer, number: u32, value: &i64) -> Result<(), AllocErro
     ensures ok { OnOk result (Adds out.old.written (scalar_form number Int64 value.now) out.new.written) }
     ensures fits { ScalarFits Int64 value.now }
     ensures kept { out.new.kept ≡ out.old.kept }
+    ensures longer { OnOk result (len out.new ≡ len out.old + length (scalar_form number Int64 value.now)) }
+    ensures full { OnErr result (out.old.capacity < len out.old + length (scalar_form number Int64 value.now)) }
+    ensures capacity { out.old.capacity ≤ out.new.capacity }
 {
     varint(out, number, value.cast_unsigned())
 }
@@ -52,6 +65,9 @@ pub fn int32(out: &mut Writer, number: u32, value: &i32) -> Result<(), AllocErro
     ensures ok { OnOk result (Adds out.old.written (scalar_form number Int32 value.now) out.new.written) }
     ensures fits { ScalarFits Int32 value.now }
     ensures kept { out.new.kept ≡ out.old.kept }
+    ensures longer { OnOk result (len out.new ≡ len out.old + length (scalar_form number Int32 value.now)) }
+    ensures full { OnErr result (out.old.capacity < len out.old + length (scalar_form number Int32 value.now)) }
+    ensures capacity { out.old.capacity ≤ out.new.capacity }
 {
     let wide = *value as i64;
     varint(out, number, wide.cast_unsigned())
@@ -61,6 +77,9 @@ pub fn enumeration(out: &mut Writer, number: u32, value: &i32) -> Result<(), All
     ensures ok { OnOk result (Adds out.old.written (scalar_form number Enum value.now) out.new.written) }
     ensures fits { ScalarFits Enum value.now }
     ensures kept { out.new.kept ≡ out.old.kept }
+    ensures longer { OnOk result (len out.new ≡ len out.old + length (scalar_form number Enum value.now)) }
+    ensures full { OnErr result (out.old.capacity < len out.old + length (scalar_form number Enum value.now)) }
+    ensures capacity { out.old.capacity ≤ out.new.capacity }
 {
     int32(out, number, value)
 }
@@ -68,6 +87,9 @@ pub fn enumeration(out: &mut Writer, number: u32, value: &i32) -> Result<(), All
 pub fn boolean(out: &mut Writer, number: u32, value: &bool) -> Result<(), AllocError>
     ensures ok { OnOk result (Adds out.old.written (scalar_form number Boolean value.now) out.new.written) }
     ensures kept { out.new.kept ≡ out.old.kept }
+    ensures longer { OnOk result (len out.new ≡ len out.old + length (scalar_form number Boolean value.now)) }
+    ensures full { OnErr result (out.old.capacity < len out.old + length (scalar_form number Boolean value.now)) }
+    ensures capacity { out.old.capacity ≤ out.new.capacity }
 {
     varint(out, number, if *value { 1 } else { 0 })
 }
@@ -75,10 +97,13 @@ pub fn boolean(out: &mut Writer, number: u32, value: &bool) -> Result<(), AllocE
 #[tactic(auto, unfolding(crate::specs::Forms::bytes_form))]
 fn bytes(out: &mut Writer, number: u32, bytes: &[u8]) -> Result<(), AllocError>
     requires low { 0 < number }
-    requires high { number ≤ 536870911 }
+    requires high { number ≤ MAX_FIELD_NUMBER }
     ensures ok { OnOk result (Adds out.old.written (bytes_form number bytes.now) out.new.written) }
     ensures short { IsShort bytes.now }
     ensures kept { out.new.kept ≡ out.old.kept }
+    ensures longer { OnOk result (len out.new ≡ len out.old + length (bytes_form number bytes.now)) }
+    ensures full { OnErr result (out.old.capacity < len out.old + length (bytes_form number bytes.now)) }
+    ensures capacity { out.old.capacity ≤ out.new.capacity }
 {
     if bytes.is_empty() {
         return Ok(());
@@ -88,42 +113,54 @@ fn bytes(out: &mut Writer, number: u32, bytes: &[u8]) -> Result<(), AllocError>
 
 pub fn octets(out: &mut Writer, number: u32, value: &octets::Octets) -> Result<(), AllocError>
     requires low { 0 < number }
-    requires high { number ≤ 536870911 }
+    requires high { number ≤ MAX_FIELD_NUMBER }
     ensures ok { OnOk result (Adds out.old.written (scalar_form number Octets value.now) out.new.written) }
     ensures fits { ScalarFits Octets value.now }
     ensures kept { out.new.kept ≡ out.old.kept }
+    ensures longer { OnOk result (len out.new ≡ len out.old + length (scalar_form number Octets value.now)) }
+    ensures full { OnErr result (out.old.capacity < len out.old + length (scalar_form number Octets value.now)) }
+    ensures capacity { out.old.capacity ≤ out.new.capacity }
 {
     bytes(out, number, value.as_slice())
 }
 
 pub fn digest(out: &mut Writer, number: u32, hash: &octets::ShortOctets) -> Result<(), AllocError>
     requires low { 0 < number }
-    requires high { number ≤ 536870911 }
+    requires high { number ≤ MAX_FIELD_NUMBER }
     ensures ok { OnOk result (Adds out.old.written (scalar_form number Digest hash.now) out.new.written) }
     ensures fits { ScalarFits Digest hash.now }
     ensures kept { out.new.kept ≡ out.old.kept }
+    ensures longer { OnOk result (len out.new ≡ len out.old + length (scalar_form number Digest hash.now)) }
+    ensures full { OnErr result (out.old.capacity < len out.old + length (scalar_form number Digest hash.now)) }
+    ensures capacity { out.old.capacity ≤ out.new.capacity }
 {
     bytes(out, number, hash.as_slice())
 }
 
 pub fn words(out: &mut Writer, number: u32, value: &Text) -> Result<(), AllocError>
     requires low { 0 < number }
-    requires high { number ≤ 536870911 }
+    requires high { number ≤ MAX_FIELD_NUMBER }
     ensures ok { OnOk result (Adds out.old.written (scalar_form number Words value.now) out.new.written) }
     ensures fits { ScalarFits Words value.now }
     ensures kept { out.new.kept ≡ out.old.kept }
+    ensures longer { OnOk result (len out.new ≡ len out.old + length (scalar_form number Words value.now)) }
+    ensures full { OnErr result (out.old.capacity < len out.old + length (scalar_form number Words value.now)) }
+    ensures capacity { out.old.capacity ≤ out.new.capacity }
 {
     bytes(out, number, value.as_str().as_bytes())
 }
 
 pub fn one<M: ProtoMessage>(out: &mut Writer, number: u32, value: &M) -> Result<(), AllocError>
     requires low { 0 < number }
-    requires high { number ≤ 536870911 }
+    requires high { number ≤ MAX_FIELD_NUMBER }
     ensures ok { OnOk result
         (Adds out.old.written (bytes_form number (form M.table (M.parts value.now))) out.new.written) }
     ensures fits { OnOk result
         (Fits M.table (M.parts value.now) × IsShort (form M.table (M.parts value.now))) }
     ensures kept { out.new.kept ≡ out.old.kept }
+    ensures longer { OnOk result (len out.new ≡ len out.old + length (bytes_form number (form M.table (M.parts value.now)))) }
+    ensures full { OnErr result (out.old.capacity < len out.old + length (bytes_form number (form M.table (M.parts value.now)))) }
+    ensures capacity { out.old.capacity ≤ out.new.capacity }
 {
     let from = out.len();
     value.write(out)?;
@@ -136,12 +173,15 @@ pub fn one<M: ProtoMessage>(out: &mut Writer, number: u32, value: &M) -> Result<
 /// An element of a list of messages, also an empty one.
 fn element<M: ProtoMessage>(out: &mut Writer, number: u32, value: &M) -> Result<(), AllocError>
     requires low { 0 < number }
-    requires high { number ≤ 536870911 }
+    requires high { number ≤ MAX_FIELD_NUMBER }
     ensures ok { OnOk result
         (Adds out.old.written (bytes_field number (form M.table (M.parts value.now))) out.new.written) }
     ensures fits { OnOk result
         (Fits M.table (M.parts value.now) × IsShort (form M.table (M.parts value.now))) }
     ensures kept { out.new.kept ≡ out.old.kept }
+    ensures longer { OnOk result (len out.new ≡ len out.old + length (bytes_field number (form M.table (M.parts value.now)))) }
+    ensures full { OnErr result (out.old.capacity < len out.old + length (bytes_field number (form M.table (M.parts value.now)))) }
+    ensures capacity { out.old.capacity ≤ out.new.capacity }
 {
     let from = out.len();
     value.write(out)?;
@@ -154,12 +194,15 @@ pub fn list<M: ProtoMessage>(
     values: &Items<M>,
 ) -> Result<(), AllocError>
     requires low { 0 < number }
-    requires high { number ≤ 536870911 }
+    requires high { number ≤ MAX_FIELD_NUMBER }
     ensures ok { OnOk result
         (Adds out.old.written (list_form number (form M.table) (map M.parts values.now)) out.new.written) }
     ensures fits { OnOk result
         (AllByRecursion (λ m. Fits M.table m × IsShort (form M.table m)) (map M.parts values.now)) }
     ensures kept { out.new.kept ≡ out.old.kept }
+    ensures longer { OnOk result (len out.new ≡ len out.old + length (list_form number (form M.table) (map M.parts values.now))) }
+    ensures full { OnErr result (out.old.capacity < len out.old + length (list_form number (form M.table) (map M.parts values.now))) }
+    ensures capacity { out.old.capacity ≤ out.new.capacity }
 {
     for value in values.as_slice() {
         element(out, number, value)?;
@@ -169,10 +212,13 @@ pub fn list<M: ProtoMessage>(
 
 pub fn texts(out: &mut Writer, number: u32, values: &Items<Text>) -> Result<(), AllocError>
     requires low { 0 < number }
-    requires high { number ≤ 536870911 }
+    requires high { number ≤ MAX_FIELD_NUMBER }
     ensures ok { OnOk result (Adds out.old.written (list_form number (λ t. t) values.now) out.new.written) }
     ensures fits { OnOk result (AllByRecursion IsText values.now) }
     ensures kept { out.new.kept ≡ out.old.kept }
+    ensures longer { OnOk result (len out.new ≡ len out.old + length (list_form number (λ t. t) values.now)) }
+    ensures full { OnErr result (out.old.capacity < len out.old + length (list_form number (λ t. t) values.now)) }
+    ensures capacity { out.old.capacity ≤ out.new.capacity }
 {
     for value in values.as_slice() {
         text(out, number, value)?;
@@ -183,10 +229,13 @@ pub fn texts(out: &mut Writer, number: u32, values: &Items<Text>) -> Result<(), 
 /// An element of a list of texts, also an empty one.
 fn text(out: &mut Writer, number: u32, value: &Text) -> Result<(), AllocError>
     requires low { 0 < number }
-    requires high { number ≤ 536870911 }
+    requires high { number ≤ MAX_FIELD_NUMBER }
     ensures ok { OnOk result (Adds out.old.written (bytes_field number value.now) out.new.written) }
     ensures fits { IsText value.now }
     ensures kept { out.new.kept ≡ out.old.kept }
+    ensures longer { OnOk result (len out.new ≡ len out.old + length (bytes_field number value.now)) }
+    ensures full { OnErr result (out.old.capacity < len out.old + length (bytes_field number value.now)) }
+    ensures capacity { out.old.capacity ≤ out.new.capacity }
 {
     out.put_bytes(number, value.as_str().as_bytes())
 }

@@ -3,6 +3,7 @@ use Rattle.std.proofs.Common.{◌≡◌, ◌⊎◌, inl, inr, ℕ, zero, suc, �
 use Rattle.std.proofs.lemmas.Bool.{cases_lt, lt-ltb, le-ltb, le-leb, lt-leb}
 use Rattle.std.proofs.lemmas.List.{length-append, take_at, drop_at}
 use Rattle.bep_wire.specs.declared.fault.WireFault.{WireFault}
+use Rattle.bep_wire.specs.declared.field.TheConstants.{MAX_FIELD_NUMBER}
 use Rattle.bep_wire.specs.declared.fault.WireFault.TheVariants.{Truncated, LongVarint, BadKey, Group}
 use Rattle.bep_wire.specs.Content.{Wire, VarintWire, EightWire, BytesWire, FourWire, GroupWire, NoWire, wire_of, Content, Number, Eight, Bytes, Four, Item}
 use Rattle.bep_wire.specs.Reading.{groups_at, varint_at, piece_at, content_at, field_at}
@@ -89,18 +90,18 @@ content_fault NoWire bytes f h = ap Err (sym h)
 
 -- ---- fields
 
-number_test : (n : ℕ) → IsNumber n → (ltb 0 n && leb n 536870911) ≡ true
+number_test : (n : ℕ) → IsNumber n → (ltb 0 n && leb n MAX_FIELD_NUMBER) ≡ true
 number_test n h =
     let t = lt-ltb 0 n h.0 in
-    let u = le-leb n 536870911 h.1 in
+    let u = le-leb n MAX_FIELD_NUMBER h.1 in
     rw (t, u) refl
 
-no_number_test : (n : ℕ) → (IsNumber n → ⊥) → (ltb 0 n && leb n 536870911) ≡ false
+no_number_test : (n : ℕ) → (IsNumber n → ⊥) → (ltb 0 n && leb n MAX_FIELD_NUMBER) ≡ false
 no_number_test n h =
     elim (cases_lt 0 n) [
       | inl low ↦
-          elim (cases_lt 536870911 n) [
-            | inl high ↦ let t = lt-ltb 0 n low in let u = lt-leb n 536870911 high in rw (t, u) refl
+          elim (cases_lt MAX_FIELD_NUMBER n) [
+            | inl high ↦ let t = lt-ltb 0 n low in let u = lt-leb n MAX_FIELD_NUMBER high in rw (t, u) refl
             | inr le ↦ absurd (h (low, le))
           ]
       | inr none ↦ let t = le-ltb 0 n none in rw t refl

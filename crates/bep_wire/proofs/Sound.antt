@@ -3,6 +3,7 @@ use Rattle.std.proofs.Common.{◌≡◌, ◌⊎◌, inl, inr, ℕ, zero, suc, �
 use Rattle.std.proofs.lemmas.Bool.{cases_lt, lt-ltb, le-ltb, le-leb, lt-leb}
 use Rattle.std.proofs.lemmas.List.{take-append-drop, length-take-le}
 use Rattle.bep_wire.specs.declared.fault.WireFault.{WireFault}
+use Rattle.bep_wire.specs.declared.field.TheConstants.{MAX_FIELD_NUMBER}
 use Rattle.bep_wire.specs.declared.fault.WireFault.TheVariants.{Truncated, LongVarint, BadKey, Group}
 use Rattle.bep_wire.specs.Content.{Wire, VarintWire, EightWire, BytesWire, FourWire, GroupWire, NoWire, wire_of, Content, Number, Eight, Bytes, Four, Item}
 use Rattle.bep_wire.specs.Reading.{◌>>=◌, groups_at, varint_at, piece_at, content_at, field_at}
@@ -145,18 +146,18 @@ no_number : (bytes key rest : List ℕ) (k : ℕ) → bytes ≡ key ++ rest → 
 no_number bytes key rest k e is none = record { key = key; behind = rest; word = k; split = e; key_is = is; wrong = inl (none, refl) }
 
 key_field : (bytes : List ℕ) (r : Result (ℕ × List ℕ) WireFault) → VarintSound bytes r
-    → FieldSound bytes (r >>= λ key. cond (ltb 0 (key.0 / 8) && leb (key.0 / 8) 536870911) (content_at (wire_of (key.0 % 8)) key.1 >>= λ x. Ok (record { number = key.0 / 8; content = x.0 }, x.1, x.2)) (Err BadKey))
+    → FieldSound bytes (r >>= λ key. cond (ltb 0 (key.0 / 8) && leb (key.0 / 8) MAX_FIELD_NUMBER) (content_at (wire_of (key.0 % 8)) key.1 >>= λ x. Ok (record { number = key.0 / 8; content = x.0 }, x.1, x.2)) (Err BadKey))
 key_field bytes (Ok x) h =
     elim (cases_lt 0 (x.0 / 8)) [
       | inl low ↦
-          elim (cases_lt 536870911 (x.0 / 8)) [
+          elim (cases_lt MAX_FIELD_NUMBER (x.0 / 8)) [
             | inl high ↦
                 let t = lt-ltb 0 (x.0 / 8) low in
-                let u = lt-leb (x.0 / 8) 536870911 high in
+                let u = lt-leb (x.0 / 8) MAX_FIELD_NUMBER high in
                 rw (t, u) (inr (no_number bytes h.0 x.1 x.0 h.1 h.2 (λ n. omega (arith, n.1))))
             | inr le ↦
                 let t = lt-ltb 0 (x.0 / 8) low in
-                let u = le-leb (x.0 / 8) 536870911 le in
+                let u = le-leb (x.0 / 8) MAX_FIELD_NUMBER le in
                 rw (t, u) (content_field bytes h.0 x.1 x.0 (content_at (wire_of (x.0 % 8)) x.1) h.1 h.2 (low, le) (content_sound (wire_of (x.0 % 8)) x.1))
           ]
       | inr none ↦

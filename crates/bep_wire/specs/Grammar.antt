@@ -3,6 +3,7 @@
 use Rattle.std.specs.Prelude.{◌≡◌, ◌⊎◌, ℕ, ◌+◌, ◌*◌, ◌/◌, ◌%◌, ◌^◌, ◌<◌, ◌≤◌, List, [], ◌∷◌, ◌++◌, length, take, Option, Some, None}
 use Rattle.std.specs.List.{AllByRecursion}
 use Rattle.bep_wire.specs.declared.fault.WireFault.{WireFault}
+use Rattle.bep_wire.specs.declared.field.TheConstants.{MAX_FIELD_NUMBER}
 use Rattle.bep_wire.specs.declared.fault.WireFault.TheVariants.{Truncated, LongVarint, BadKey, Group}
 use Rattle.bep_wire.specs.Content.{Wire, VarintWire, EightWire, BytesWire, FourWire, GroupWire, NoWire, wire_of, Content, Number, Eight, Bytes, Four, Item}
 
@@ -64,7 +65,7 @@ HoldsNothing NoWire bytes f = f ≡ BadKey
 -- ---- fields
 
 abbrev pub IsNumber : ℕ → Type 0
-IsNumber number = (0 < number) × (number ≤ 536870911)
+IsNumber number = (0 < number) × (number ≤ MAX_FIELD_NUMBER)
 
 -- A field: its head is a key, that is a varint of 8 * number + wire type, and the length, if any; then come the bytes that it holds.
 pub record IsField (head held : List ℕ) (i : Item) : Type 0 where

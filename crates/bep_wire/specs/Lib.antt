@@ -1,4 +1,4 @@
-pub mod Numbers
+pub mod FaultNames
 pub mod Content
 pub mod Grammar
 pub mod Reading

@@ -1,8 +1,8 @@
 -- Fields by their places in a source.
 use Rattle.std.specs.Prelude.{◌≡◌, ℕ, ◌<◌, ◌≤◌, List, [], ◌∷◌, length, drop, slice_range, Option, Some, None}
 use Rattle.bep_wire.specs.declared.fault.WireFault.{WireFault}
-use Rattle.bep_wire.specs.declared.fault.ReadFault.{ReadFault}
-use Rattle.bep_wire.specs.declared.fault.ReadFault.TheVariants.{Wire, OutOfMemory}
+use Rattle.bep_wire.specs.declared.fault.FieldsFault.{FieldsFault}
+use Rattle.bep_wire.specs.declared.fault.FieldsFault.TheVariants.{Wire, OutOfMemory}
 use Rattle.bep_wire.specs.declared.field.Field.{Field}
 use Rattle.bep_wire.specs.Content.{item_in, held_in}
 use Rattle.bep_wire.specs.Grammar.{IsField}
@@ -31,6 +31,6 @@ ReadsField source from None = fields (drop from source) ≡ ended
 ReadsField source from (Some f) = fields (drop from source) ≡ first_then (item_in source f) (fields (drop f.end source))
 
 -- a fault of the bytes is the one that ends their reading
-abbrev pub TellsFault : Option WireFault → ReadFault → Type 0
+abbrev pub TellsFault : Option WireFault → FieldsFault → Type 0
 TellsFault fault (Wire f) = fault ≡ Some f
 TellsFault fault OutOfMemory = Unit {0}

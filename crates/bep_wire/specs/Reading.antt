@@ -2,6 +2,7 @@
 -- grammar says, and nothing else, is the law `one_reading`.
 use Rattle.std.specs.Prelude.{Result, Ok, Err, ℕ, zero, suc, ◌+◌, ◌*◌, ◌/◌, ◌%◌, ◌^◌, ◌&&◌, List, [], ◌∷◌, length, take, drop, nat_lt, nat_le, if◌then◌else◌}
 use Rattle.bep_wire.specs.declared.fault.WireFault.{WireFault}
+use Rattle.bep_wire.specs.declared.field.TheConstants.{MAX_FIELD_NUMBER}
 use Rattle.bep_wire.specs.declared.fault.WireFault.TheVariants.{Truncated, LongVarint, BadKey, Group}
 use Rattle.bep_wire.specs.Content.{Wire, VarintWire, EightWire, BytesWire, FourWire, GroupWire, NoWire, wire_of, Content, Number, Eight, Bytes, Four, Item}
 
@@ -34,6 +35,6 @@ content_at NoWire bytes = Err BadKey
 unfoldable pub field_at : List ℕ → Result (Item × List ℕ × List ℕ) WireFault
 field_at bytes = do
   key ← varint_at bytes
-  if nat_lt 0 (key.0 / 8) && nat_le (key.0 / 8) 536870911
+  if nat_lt 0 (key.0 / 8) && nat_le (key.0 / 8) MAX_FIELD_NUMBER
       then (content_at (wire_of (key.0 % 8)) key.1 >>= λ x. Ok (record { number = key.0 / 8; content = x.0 }, x.1, x.2))
       else Err BadKey

@@ -1,3 +1,6 @@
+/// The greatest field number (Protocol Buffers, language guide for proto3, "Assigning Field Numbers").
+pub const MAX_FIELD_NUMBER: u32 = 536_870_911;
+
 /// What a field holds, by the wire type of its key
 /// (Protocol Buffers encoding, "Message Structure").
 #[derive(Clone, Copy, Debug, PartialEq, Eq)]
@@ -12,11 +15,11 @@ pub enum Value {
     Four,
 }
 
-/// A field of a byte list, its source. The bytes that it holds stay there: they are those from
+/// A field of a byte list, its source. The bytes that it holds stay there: those from
 /// `start` to before `end`. Of a varint they are the varint, under wire type 2 what follows the length.
 #[derive(Clone, Copy, Debug, PartialEq, Eq)]
 pub struct Field {
-    /// The field number, from 1 to 536,870,911.
+    /// The field number, from 1 to `MAX_FIELD_NUMBER`.
     pub number: u32,
     pub value: Value,
     /// Where the bytes that the field holds begin, counted from the source's first byte.

@@ -6,13 +6,12 @@
 
 mod fault;
 mod field;
-mod laws;
+pub mod laws;
 mod reading;
 mod writing;
 
-pub use fault::{ReadFault, WireFault};
-pub use field::{Field, Value};
-pub use laws::{joined_fields, one_reading, shortest_varint, written_fields};
+pub use fault::{FieldsFault, WireFault};
+pub use field::{Field, MAX_FIELD_NUMBER, Value};
 pub use reading::{next_field, read_fields};
 pub use writing::{put_bytes, put_varint};
 

@@ -3,11 +3,11 @@ ghost use Rattle.bep_wire.specs.Content.{wire_of, item_in, content_in};
 ghost use Rattle.bep_wire.specs.Grammar.{NoField};
 ghost use Rattle.bep_wire.specs.Reading.{varint_at, piece_at, content_at, field_at};
 ghost use Rattle.bep_wire.specs.Fields.{fields, broken};
-ghost use Rattle.bep_wire.specs.declared.fault.ReadFault.TheVariants.{OutOfMemory};
+ghost use Rattle.bep_wire.specs.declared.fault.FieldsFault.TheVariants.{OutOfMemory};
 ghost use Rattle.bep_wire.specs.Places.{FindsField, ReadsField, AreFields, TellsFault};
 
-use crate::fault::{ReadFault, WireFault};
-use crate::field::{Field, Value};
+use crate::fault::{FieldsFault, WireFault};
+use crate::field::{Field, MAX_FIELD_NUMBER, Value};
 use std::alloc::Global;
 
 /// The varint at a place, and the place behind it. Bits past 64 are shifted out.
@@ -95,7 +95,7 @@ fn field(source: &[u8], from: usize) -> Result<Option<Field>, WireFault>
     }
     let (key, behind) = varint(source, from)?;
     let number = key / 8;
-    if number == 0 || number > 536_870_911 {
+    if number == 0 || number > MAX_FIELD_NUMBER as u64 {
         return Err(WireFault::BadKey);
     }
     let field = field_behind(number as u32, key % 8, source, behind)?;
@@ -121,7 +121,7 @@ pub fn next_field(source: &[u8], from: usize) -> Result<Option<Field>, WireFault
 ///
 /// Refused by the first fault of the bytes, exactly where they have one, or by want of memory for the
 /// list. O(n); no byte of the source is copied.
-pub fn read_fields(alloc: Global, source: &[u8]) -> Result<Vec<Field>, ReadFault>
+pub fn read_fields(alloc: Global, source: &[u8]) -> Result<Vec<Field>, FieldsFault>
     // They stand in the grammar one after the other, from the first byte to the last,
     ensures places { IfOk result (λ found. AreFields source.now 0 found.items) }
     // and are the fields of the one reading of the bytes, which has no fault.

@@ -1,6 +1,9 @@
 //! Values from outside: the published examples of the encoding, and bytes made by hand from its rules.
 //! Each growth may be refused once (`tools/refusals`): then the same call is made again.
-use crate::{Field, ReadFault, Value, WireFault, next_field, put_bytes, put_varint, read_fields};
+use crate::{
+    Field, FieldsFault, MAX_FIELD_NUMBER, Value, WireFault, next_field, put_bytes, put_varint,
+    read_fields,
+};
 use std::alloc::Global;
 use std::process::Abort;
 use std::test::Fail;
@@ -15,9 +18,9 @@ fn field(number: u32, value: Value, start: usize, end: usize) -> Field {
 }
 
 /// Reads all fields, again after a refused growth.
-fn fields_of(alloc: Global, source: &[u8]) -> Result<Vec<Field>, ReadFault> {
+fn fields_of(alloc: Global, source: &[u8]) -> Result<Vec<Field>, FieldsFault> {
     match read_fields(alloc, source) {
-        Err(ReadFault::OutOfMemory) => read_fields(alloc, source),
+        Err(FieldsFault::OutOfMemory) => read_fields(alloc, source),
         answer => answer,
     }
 }
@@ -136,7 +139,7 @@ fn several_fields(rt: HostRuntime) -> Result<(), Fail> {
     assert_eq!(rt; next_field(&source, usize::MAX), Ok(None));
     // The first fault stands behind two fields.
     let fault = fields_of(rt.alloc(), &[0x08, 0x01, 0x12, 0x00, 0x0b, 0x08]).err();
-    assert_eq!(rt; fault, Some(ReadFault::Wire(WireFault::Group)));
+    assert_eq!(rt; fault, Some(FieldsFault::Wire(WireFault::Group)));
     Ok(())
 }
 
@@ -210,7 +213,7 @@ fn fields_of_bytes(rt: HostRuntime) -> Result<(), Fail> {
         let bytes = many.get(..len).ok_or("fewer bytes")?;
         let mut out = Vec::new(rt.alloc());
         put_again(&rt, &mut out, &[], 7)?;
-        if number > 0 && number <= 536_870_911 {
+        if number > 0 && number <= MAX_FIELD_NUMBER {
             if put_bytes(&mut out, number, bytes).is_err() {
                 assert_eq!(rt;
                     out.as_slice(),
@@ -232,11 +235,11 @@ fn fields_of_bytes(rt: HostRuntime) -> Result<(), Fail> {
 #[test]
 fn faults_have_names_and_numbers(rt: HostRuntime) -> Result<(), Fail> {
     let faults = [
-        (ReadFault::Wire(WireFault::Truncated), 1, "Truncated"),
-        (ReadFault::Wire(WireFault::LongVarint), 2, "LongVarint"),
-        (ReadFault::Wire(WireFault::BadKey), 3, "BadKey"),
-        (ReadFault::Wire(WireFault::Group), 4, "Group"),
-        (ReadFault::OutOfMemory, 33, "OutOfMemory"),
+        (FieldsFault::Wire(WireFault::Truncated), 1, "Truncated"),
+        (FieldsFault::Wire(WireFault::LongVarint), 2, "LongVarint"),
+        (FieldsFault::Wire(WireFault::BadKey), 3, "BadKey"),
+        (FieldsFault::Wire(WireFault::Group), 4, "Group"),
+        (FieldsFault::OutOfMemory, 33, "OutOfMemory"),
     ];
     for (fault, number, name) in faults {
         assert_eq!(rt; fault.number(), number);

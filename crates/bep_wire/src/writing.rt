@@ -1,6 +1,7 @@
 ghost use Rattle.std.specs.Prelude.{◌≡◌, ◌+◌, ◌*◌, ◌<◌, ◌≤◌, ◌++◌, length, OnOk, OnErr, vec_len, vec_capacity};
 ghost use Rattle.bep_wire.specs.Written.{shortest, bytes_field};
 
+use crate::field::MAX_FIELD_NUMBER;
 use std::alloc::AllocError;
 use std::marker::Model;
 
@@ -62,13 +63,13 @@ pub fn put_varint(out: &mut Vec<u8>, value: u64) -> Result<(), AllocError>
 }
 
 /// Appends a field of wire type 2: the key of the number, the length of the bytes, both as shortest
-/// varints, and the bytes. The number is from 1 to 536,870,911.
+/// varints, and the bytes. The number is from 1 to `MAX_FIELD_NUMBER`.
 ///
 /// Refused by want of memory alone, and then the vector is as it was. O(n) in the bytes; the vector
 /// grows once at most.
 pub fn put_bytes(out: &mut Vec<u8>, number: u32, bytes: &[u8]) -> Result<(), AllocError>
     requires low { 0 < number }
-    requires high { number ≤ 536870911 }
+    requires high { number ≤ MAX_FIELD_NUMBER }
     ensures ok { OnOk result (out.new.items ≡ out.old.items ++ bytes_field number bytes.now) }
     ensures err { OnErr result (out.new.items ≡ out.old.items) }
     // It fails only where room for the field was missing.
