@@ -1,5 +1,5 @@
 -- What is written is read as what was handed in.
-use Rattle.std.proofs.Common.{◌≡◌, ℕ, zero, suc, ◌<◌, ◌≤◌, true, false, List, ◌++◌, length, ℤ, pos, Result, Ok, Err, refl, sym, ap, subst, ◌∙◌, arith}
+use Rattle.std.proofs.Common.{◌≡◌, ℕ, zero, suc, ◌+◌, ◌<◌, ◌≤◌, true, false, List, ◌++◌, length, ℤ, pos, Result, Ok, Err, refl, sym, ap, subst, ◌∙◌, arith}
 use Rattle.std.specs.Prelude.{OnOk, OnErr, IsErrOf}
 use Rattle.std.specs.Int.{w16, w32, to_be_bytes}
 use Rattle.std.proofs.lemmas.Nat.{from_be_bytes-to_be_bytes_2, from_be_bytes-to_be_bytes_4}
@@ -11,7 +11,7 @@ use Rattle.bep_messages.specs.Forms.{number_form, form}
 use Rattle.bep_messages.specs.Tables.{Table, Values}
 use Rattle.bep_messages.specs.Values.{decoded}
 use Rattle.bep_frames.specs.declared.fault.WriteFault.{WriteFault}
-use Rattle.bep_frames.specs.declared.fault.WriteFault.TheVariants.{TooLong}
+use Rattle.bep_frames.specs.declared.fault.WriteFault.TheVariants.{TooLong, OutOfMemory}
 use Rattle.bep_frames.specs.declared.frame.Frame.TheVariants.{Hello as HelloFrame, Message as MessageFrame}
 use Rattle.bep_frames.specs.declared.frame.Message.{Message}
 use Rattle.bep_frames.specs.Carried.{IsMessage}
@@ -64,18 +64,19 @@ again_ok (Ok u) m lt le head d is = later_written (kind_of m) (body_of m) m lt l
 again_ok (Err e) m lt le head d is = tt
 
 -- what a call that appends the frame of a message does
-abbrev pub Appends : {U : Type 0} → Result U WriteFault → List ℕ → List ℕ → Message → Type 0
-Appends r old new m = record {
+abbrev pub Appends : {U : Type 0} → Result U WriteFault → List ℕ → List ℕ → ℕ → ℕ → Message → Type 0
+Appends r old new room len m = record {
   ok : OnOk r (new ≡ old ++ message_frame m);
   short : OnOk r (length (body_of m) ≤ max_message_bytes);
   long : IsErrOf r TooLong → max_message_bytes < length (body_of m);
   err : OnErr r (new ≡ old);
+  full : IsErrOf r OutOfMemory → room < len + length (message_frame m);
   again : OnOk r (IsFrame false (message_frame m) (MessageFrame m));
 }
 
-pub appends : {U D : Type 0} (r : Result U WriteFault) (old new : List ℕ) (x m : Message) → x ≡ m → kind_of m < 8 → OnOk r (new ≡ old ++ message_frame m) → OnOk r (length (body_of m) ≤ max_message_bytes) → (IsErrOf r TooLong → max_message_bytes < length (body_of m)) → OnErr r (new ≡ old) → OnOk r (decoded header_table header (header_form (kind_of m)) ≡ Ok (record { kind = pos (kind_of m); compression = pos 0 })) → OnOk r D → (D → IsMessage (pos (kind_of m)) (body_of m) m) → Appends r old new x
-appends r old new x m e lt ok short long err head d is =
-    subst (Appends r old new) (sym e) (record { ok = ok; short = short; long = long; err = err; again = again_ok r m lt short head d is })
+pub appends : {U D : Type 0} (r : Result U WriteFault) (old new : List ℕ) (room len : ℕ) (x m : Message) → x ≡ m → kind_of m < 8 → OnOk r (new ≡ old ++ message_frame m) → OnOk r (length (body_of m) ≤ max_message_bytes) → (IsErrOf r TooLong → max_message_bytes < length (body_of m)) → OnErr r (new ≡ old) → (IsErrOf r OutOfMemory → room < len + length (message_frame m)) → OnOk r (decoded header_table header (header_form (kind_of m)) ≡ Ok (record { kind = pos (kind_of m); compression = pos 0 })) → OnOk r D → (D → IsMessage (pos (kind_of m)) (body_of m) m) → Appends r old new room len x
+appends r old new room len x m e lt ok short long err full head d is =
+    subst (Appends r old new room len) (sym e) (record { ok = ok; short = short; long = long; err = err; full = full; again = again_ok r m lt short head d is })
 
 pub read_by : {M : Type 0} (table : Table) (whole : Values table → M) (message : M → Message) (bytes : List ℕ) (m : M) → decoded table whole bytes ≡ Ok m → decoded table (λ values. message (whole values)) bytes ≡ Ok (message m)
 read_by table whole message bytes m e = decoded_with table whole message bytes ∙ ap (mapped message) e

@@ -1,4 +1,4 @@
-ghost use Rattle.std.specs.Prelude.{◌≡◌, ◌<◌, ◌≤◌, ◌++◌, ℕ, pos, true, false, List, Ok, length, take, OnOk, OnErr, IsErrOf};
+ghost use Rattle.std.specs.Prelude.{◌≡◌, ◌+◌, ◌<◌, ◌≤◌, ◌++◌, pos, true, false, Ok, length, take, OnOk, OnErr, IsErrOf, vec_len, vec_capacity};
 ghost use Rattle.bep_messages.specs.Forms.{form};
 ghost use Rattle.bep_messages.specs.Protocol.{header_table, hello_table};
 ghost use Rattle.bep_messages.specs.Structs.{header, hello};
@@ -22,6 +22,8 @@ pub fn write_hello(message: &Hello, out: &mut Vec<u8>) -> Result<(), WriteFault>
     ensures short { OnOk result (length (hello_body message.now) ≤ max_hello_bytes) }
     ensures long { IsErrOf result WriteFault.TooLong → max_hello_bytes < length (hello_body message.now) }
     ensures err { OnErr result (out.new.items ≡ out.old.items) }
+    // Memory is missing only where the room for the frame was.
+    ensures full { IsErrOf result WriteFault.OutOfMemory → vec_capacity out.old < vec_len out.old + length (hello_frame message.now) }
     // What is written is read as what was handed in.
     ensures again { OnOk result (IsFrame true (hello_frame message.now) (HelloFrame message.now)) }
 {
@@ -52,6 +54,8 @@ pub fn write_frame(message: &Message, out: &mut Vec<u8>) -> Result<(), WriteFaul
     ensures short { OnOk result (length (body_of message.now) ≤ max_message_bytes) }
     ensures long { IsErrOf result WriteFault.TooLong → max_message_bytes < length (body_of message.now) }
     ensures err { OnErr result (out.new.items ≡ out.old.items) }
+    // Memory is missing only where the room for the frame was.
+    ensures full { IsErrOf result WriteFault.OutOfMemory → vec_capacity out.old < vec_len out.old + length (message_frame message.now) }
     // What is written is read as what was handed in.
     ensures again { OnOk result (IsFrame false (message_frame message.now) (MessageFrame message.now)) }
 {
@@ -66,6 +70,8 @@ fn write_later<M: ProtoMessage>(kind: u8, message: &M, out: &mut Vec<u8>) -> Res
     ensures short { OnOk result (length (form M.table (M.parts message.now)) ≤ max_message_bytes) }
     ensures long { IsErrOf result WriteFault.TooLong → max_message_bytes < length (form M.table (M.parts message.now)) }
     ensures err { OnErr result (out.new.items ≡ out.old.items) }
+    ensures full { IsErrOf result WriteFault.OutOfMemory →
+        vec_capacity out.old < vec_len out.old + length (later_frame kind (form M.table (M.parts message.now))) }
     ensures again { OnOk result (decoded M.table M.whole (form M.table (M.parts message.now)) ≡ Ok message.now) }
     ensures header { OnOk result (decoded header_table header (header_form kind)
         ≡ Ok (record { kind = pos kind; compression = pos 0 })) }
@@ -84,6 +90,7 @@ fn put_hello(message: &Hello, out: &mut Vec<u8>) -> Result<(), WriteFault>
     ensures short { OnOk result (length (hello_body message.now) ≤ max_hello_bytes) }
     ensures long { IsErrOf result WriteFault.TooLong → max_hello_bytes < length (hello_body message.now) }
     ensures err { OnErr result (take (length out.old.items) out.new.items ≡ out.old.items) }
+    ensures full { IsErrOf result WriteFault.OutOfMemory → vec_capacity out.old < vec_len out.old + length (hello_frame message.now) }
     ensures again { OnOk result (decoded hello_table hello (hello_body message.now) ≡ Ok message.now) }
 {
     out.extend_from_slice(&MAGIC)?;
@@ -98,6 +105,8 @@ fn put_later<M: ProtoMessage>(kind: u8, message: &M, out: &mut Vec<u8>) -> Resul
     ensures short { OnOk result (length (form M.table (M.parts message.now)) ≤ max_message_bytes) }
     ensures long { IsErrOf result WriteFault.TooLong → max_message_bytes < length (form M.table (M.parts message.now)) }
     ensures err { OnErr result (take (length out.old.items) out.new.items ≡ out.old.items) }
+    ensures full { IsErrOf result WriteFault.OutOfMemory →
+        vec_capacity out.old < vec_len out.old + length (later_frame kind (form M.table (M.parts message.now))) }
     ensures again { OnOk result (decoded M.table M.whole (form M.table (M.parts message.now)) ≡ Ok message.now) }
     ensures header { OnOk result (decoded header_table header (header_form kind)
         ≡ Ok (record { kind = pos kind; compression = pos 0 })) }
@@ -116,6 +125,9 @@ fn put_sized16<M: ProtoMessage>(message: &M, out: &mut Vec<u8>) -> Result<(), Wr
     ensures short { OnOk result (length (form M.table (M.parts message.now)) ≤ max_hello_bytes) }
     ensures long { IsErrOf result WriteFault.TooLong → max_hello_bytes < length (form M.table (M.parts message.now)) }
     ensures err { OnErr result (take (length out.old.items) out.new.items ≡ out.old.items) }
+    ensures full { IsErrOf result WriteFault.OutOfMemory →
+        vec_capacity out.old < vec_len out.old + length (sized16 (form M.table (M.parts message.now))) }
+    ensures capacity { vec_capacity out.old ≤ vec_capacity out.new }
     ensures again { OnOk result (decoded M.table M.whole (form M.table (M.parts message.now)) ≡ Ok message.now) }
 {
     let start = out.len();
@@ -135,6 +147,9 @@ fn put_sized32<M: ProtoMessage>(message: &M, out: &mut Vec<u8>) -> Result<(), Wr
     ensures short { OnOk result (length (form M.table (M.parts message.now)) ≤ max_message_bytes) }
     ensures long { IsErrOf result WriteFault.TooLong → max_message_bytes < length (form M.table (M.parts message.now)) }
     ensures err { OnErr result (take (length out.old.items) out.new.items ≡ out.old.items) }
+    ensures full { IsErrOf result WriteFault.OutOfMemory →
+        vec_capacity out.old < vec_len out.old + length (sized32 (form M.table (M.parts message.now))) }
+    ensures capacity { vec_capacity out.old ≤ vec_capacity out.new }
     ensures again { OnOk result (decoded M.table M.whole (form M.table (M.parts message.now)) ≡ Ok message.now) }
 {
     let start = out.len();
