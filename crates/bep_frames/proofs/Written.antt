@@ -64,19 +64,20 @@ again_ok (Ok u) m lt le head d is = later_written (kind_of m) (body_of m) m lt l
 again_ok (Err e) m lt le head d is = tt
 
 -- what a call that appends the frame of a message does
-abbrev pub Appends : {U : Type 0} → Result U WriteFault → List ℕ → List ℕ → ℕ → ℕ → Message → Type 0
-Appends r old new room len m = record {
+abbrev pub Appends : {U : Type 0} → Result U WriteFault → List ℕ → List ℕ → ℕ → ℕ → ℕ → Message → Type 0
+Appends r old new room made len m = record {
   ok : OnOk r (new ≡ old ++ message_frame m);
   short : OnOk r (length (body_of m) ≤ max_message_bytes);
   long : IsErrOf r TooLong → max_message_bytes < length (body_of m);
   err : OnErr r (new ≡ old);
   full : IsErrOf r OutOfMemory → room < len + length (message_frame m);
+  capacity : room ≤ made;
   again : OnOk r (IsFrame false (message_frame m) (MessageFrame m));
 }
 
-pub appends : {U D : Type 0} (r : Result U WriteFault) (old new : List ℕ) (room len : ℕ) (x m : Message) → x ≡ m → kind_of m < 8 → OnOk r (new ≡ old ++ message_frame m) → OnOk r (length (body_of m) ≤ max_message_bytes) → (IsErrOf r TooLong → max_message_bytes < length (body_of m)) → OnErr r (new ≡ old) → (IsErrOf r OutOfMemory → room < len + length (message_frame m)) → OnOk r (decoded header_table header (header_form (kind_of m)) ≡ Ok (record { kind = pos (kind_of m); compression = pos 0 })) → OnOk r D → (D → IsMessage (pos (kind_of m)) (body_of m) m) → Appends r old new room len x
-appends r old new room len x m e lt ok short long err full head d is =
-    subst (Appends r old new room len) (sym e) (record { ok = ok; short = short; long = long; err = err; full = full; again = again_ok r m lt short head d is })
+pub appends : {U D : Type 0} (r : Result U WriteFault) (old new : List ℕ) (room made len : ℕ) (x m : Message) → x ≡ m → kind_of m < 8 → OnOk r (new ≡ old ++ message_frame m) → OnOk r (length (body_of m) ≤ max_message_bytes) → (IsErrOf r TooLong → max_message_bytes < length (body_of m)) → OnErr r (new ≡ old) → (IsErrOf r OutOfMemory → room < len + length (message_frame m)) → room ≤ made → OnOk r (decoded header_table header (header_form (kind_of m)) ≡ Ok (record { kind = pos (kind_of m); compression = pos 0 })) → OnOk r D → (D → IsMessage (pos (kind_of m)) (body_of m) m) → Appends r old new room made len x
+appends r old new room made len x m e lt ok short long err full capacity head d is =
+    subst (Appends r old new room made len) (sym e) (record { ok = ok; short = short; long = long; err = err; full = full; capacity = capacity; again = again_ok r m lt short head d is })
 
 pub read_by : {M : Type 0} (table : Table) (whole : Values table → M) (message : M → Message) (bytes : List ℕ) (m : M) → decoded table whole bytes ≡ Ok m → decoded table (λ values. message (whole values)) bytes ≡ Ok (message m)
 read_by table whole message bytes m e = decoded_with table whole message bytes ∙ ap (mapped message) e

@@ -24,6 +24,7 @@ pub fn write_hello(message: &Hello, out: &mut Vec<u8>) -> Result<(), WriteFault>
     ensures err { OnErr result (out.new.items ≡ out.old.items) }
     // Memory is missing only where the room for the frame was.
     ensures full { IsErrOf result WriteFault.OutOfMemory → vec_capacity out.old < vec_len out.old + length (hello_frame message.now) }
+    ensures capacity { vec_capacity out.old ≤ vec_capacity out.new }
     // What is written is read as what was handed in.
     ensures again { OnOk result (IsFrame true (hello_frame message.now) (HelloFrame message.now)) }
 {
@@ -56,6 +57,7 @@ pub fn write_frame(message: &Message, out: &mut Vec<u8>) -> Result<(), WriteFaul
     ensures err { OnErr result (out.new.items ≡ out.old.items) }
     // Memory is missing only where the room for the frame was.
     ensures full { IsErrOf result WriteFault.OutOfMemory → vec_capacity out.old < vec_len out.old + length (message_frame message.now) }
+    ensures capacity { vec_capacity out.old ≤ vec_capacity out.new }
     // What is written is read as what was handed in.
     ensures again { OnOk result (IsFrame false (message_frame message.now) (MessageFrame message.now)) }
 {
@@ -72,6 +74,7 @@ fn write_later<M: ProtoMessage>(kind: u8, message: &M, out: &mut Vec<u8>) -> Res
     ensures err { OnErr result (out.new.items ≡ out.old.items) }
     ensures full { IsErrOf result WriteFault.OutOfMemory →
         vec_capacity out.old < vec_len out.old + length (later_frame kind (form M.table (M.parts message.now))) }
+    ensures capacity { vec_capacity out.old ≤ vec_capacity out.new }
     ensures again { OnOk result (decoded M.table M.whole (form M.table (M.parts message.now)) ≡ Ok message.now) }
     ensures header { OnOk result (decoded header_table header (header_form kind)
         ≡ Ok (record { kind = pos kind; compression = pos 0 })) }
@@ -91,6 +94,7 @@ fn put_hello(message: &Hello, out: &mut Vec<u8>) -> Result<(), WriteFault>
     ensures long { IsErrOf result WriteFault.TooLong → max_hello_bytes < length (hello_body message.now) }
     ensures err { OnErr result (take (length out.old.items) out.new.items ≡ out.old.items) }
     ensures full { IsErrOf result WriteFault.OutOfMemory → vec_capacity out.old < vec_len out.old + length (hello_frame message.now) }
+    ensures capacity { vec_capacity out.old ≤ vec_capacity out.new }
     ensures again { OnOk result (decoded hello_table hello (hello_body message.now) ≡ Ok message.now) }
 {
     out.extend_from_slice(&MAGIC)?;
@@ -107,6 +111,7 @@ fn put_later<M: ProtoMessage>(kind: u8, message: &M, out: &mut Vec<u8>) -> Resul
     ensures err { OnErr result (take (length out.old.items) out.new.items ≡ out.old.items) }
     ensures full { IsErrOf result WriteFault.OutOfMemory →
         vec_capacity out.old < vec_len out.old + length (later_frame kind (form M.table (M.parts message.now))) }
+    ensures capacity { vec_capacity out.old ≤ vec_capacity out.new }
     ensures again { OnOk result (decoded M.table M.whole (form M.table (M.parts message.now)) ≡ Ok message.now) }
     ensures header { OnOk result (decoded header_table header (header_form kind)
         ≡ Ok (record { kind = pos kind; compression = pos 0 })) }
