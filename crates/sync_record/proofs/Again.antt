@@ -1,8 +1,8 @@
 -- The message of a record gives the record again.
-use Rattle.std.proofs.Common.{None, ◌≡◌, ◌≢◌, Bool, true, false, not, ◌&&◌, ◌||◌, ◌==◌, ℤ, pos, if◌then◌else◌, List, [], ◌∷◌, map, length, All, IsTrue, refl, sym, subst, ap, ◌∙◌, rules}
+use Rattle.std.proofs.Common.{None, ◌≡◌, ◌≢◌, Bool, true, false, not, ◌&&◌, ◌||◌, ◌==◌, ℤ, pos, if◌then◌else◌, List, [], ◌∷◌, map, length, All, refl, sym, ap, ◌∙◌, rules}
 use Rattle.std.specs.List.{list_all}
 use Rattle.std.specs.Ordering.{int_eq}
-use Rattle.std.proofs.lemmas.Bool.{and_from, eq-eqb, true≢false}
+use Rattle.std.proofs.lemmas.Bool.{and_from, eq-eqb}
 use Rattle.std.proofs.lemmas.List.Elements.{All-head, All-tail}
 use Rattle.sync_names.specs.Refusal.{refusal}
 use Rattle.sync_names.proofs.Lemmas.{first_refusal-safe}

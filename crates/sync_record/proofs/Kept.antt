@@ -1,14 +1,12 @@
 -- What is kept of a message is a record that is kept.
-use Rattle.std.proofs.Common.{◌≡◌, ◌≢◌, Bool, true, false, not, ◌&&◌, ◌||◌, ◌==◌, ℕ, ℤ, pos, if◌then◌else◌, List, [], ◌∷◌, map, length, All, IsTrue, refl, sym, subst, ap, ◌∙◌, rules, arith}
+use Rattle.std.proofs.Common.{◌≡◌, ◌≢◌, Bool, true, false, not, ◌&&◌, ◌||◌, ◌==◌, ℤ, pos, if◌then◌else◌, [], map, length, IsTrue, refl, sym, subst, ap, ◌∙◌, rules}
 use Rattle.std.specs.List.{list_all}
 use Rattle.std.specs.Ordering.{int_eq}
 use Rattle.std.proofs.lemmas.Bool.{and_parts}
-use Rattle.sync_blocks.specs.declared.block.Block.{Block}
 use Rattle.bep_messages.specs.declared.file_info.FileInfo.{FileInfo}
-use Rattle.bep_messages.specs.declared.block_info.BlockInfo.{BlockInfo}
-use Rattle.sync_record.specs.Infos.{block_of, block_size_of, is_block, is_file_info, is_live_file_info, record_of, record_with, is_natural}
+use Rattle.sync_record.specs.Infos.{block_of, block_size_of, is_block, is_file_info, is_live_file_info, record_of, record_with}
 use Rattle.sync_record.specs.Records.{FileRecord, is_live_file}
-use Rattle.sync_record.specs.Validity.{IsKept, is_valid, is_well_formed, has_file, has_no_blocks, describes_file}
+use Rattle.sync_record.specs.Validity.{IsKept, is_valid, is_well_formed, describes_file}
 
 sized : (n : ℤ) (is_none : Bool) → int_eq n (pos 0) ≡ is_none → (if is_none then pos 131072 else n) ≢ pos 0
 sized n true e = λ p. search (rules, p)

@@ -1,5 +1,5 @@
 -- The marks of the blocks that were put.
-use Rattle.std.proofs.Common.{◌≡◌, ℕ, zero, suc, ◌<◌, ◌≤◌, Bool, true, false, List, [], ◌∷◌, map, length, All, IsTrue, refl, sym, subst, ap, ◌∙◌, rules, arith, slice_index_or, slice_set}
+use Rattle.std.proofs.Common.{◌≡◌, ℕ, zero, suc, ◌<◌, Bool, true, false, List, [], ◌∷◌, map, length, All, IsTrue, refl, sym, subst, ap, rules, arith, slice_index_or, slice_set}
 use Rattle.std.specs.Prelude.{replicate, IfSome, slice_get, bytes_eq, not, ◌==◌, if◌then◌else◌}
 use Rattle.std.specs.List.{AllZip, list_all}
 use Rattle.std.specs.Cmp.Lexicographic.{same_text}

@@ -185,15 +185,14 @@ impl Record {
             symlink_target,
             ..
         } = info;
-        Ok(Record {
-            fields: Fields {
-                name: SafeName::from_string(name.into_string())?,
-                version,
-                blocks,
-                symlink_target,
-                plain,
-            },
-        })
+        let fields = Fields {
+            name: SafeName::from_string(name.into_string())?,
+            version,
+            blocks,
+            symlink_target,
+            plain,
+        };
+        Ok(Record::from_fields(alloc, fields)?)
     }
 
     /// The message of the record, in memory of its own; its record is this one again. Refused by want of memory alone.

@@ -4,8 +4,9 @@ ghost use Rattle.sync_record.specs.Validity.{IsKept, FitsFileInfo, is_valid};
 
 use crate::Kind;
 use crate::fields::Fields;
-use std::alloc::AllocError;
+use std::alloc::{AllocError, Global};
 use std::marker::Model;
+use std::sync::Arc;
 use sync_blocks::Block;
 use sync_names::SafeName;
 use sync_version::Version;
@@ -13,24 +14,37 @@ use sync_version::Version;
 /// What a device says of one name: a file, a directory, something else, or that it is deleted (Block Exchange Protocol
 /// v1, "Fields of the FileInfo message").
 ///
-/// A record that isn't well formed is invalid, and only a well formed live file has blocks.
+/// A record that isn't well formed is invalid, and only a well formed live file has blocks. It never changes, and its
+/// copies share its memory, in any thread.
 #[derive(Debug, Drop)]
 pub struct Record {
-    pub(crate) fields: Fields,
+    pub(crate) fields: Arc<Fields, Global>,
 }
 
 impl Model for Record {
+    ghost use Rattle.std.specs.Arc.{arc_value};
     ghost use Rattle.sync_record.specs.Records.{FileRecord};
     ghost use Rattle.sync_record.specs.Validity.{IsKept, FitsFileInfo};
 
     ghost Value = { FileRecord };
 
-    ghost view = { λ r. r.fields };
+    ghost view = { λ r. arc_value r.fields };
 
-    ghost invariant = { λ r. IsKept r.fields × FitsFileInfo r.fields };
+    ghost invariant = { λ r. IsKept (arc_value r.fields) × FitsFileInfo (arc_value r.fields) };
 }
 
 impl Record {
+    // The record of these fields, in memory that its copies share.
+    pub(crate) fn from_fields(alloc: Global, fields: Fields) -> Result<Record, AllocError>
+        requires kept { IsKept fields }
+        requires fits { FitsFileInfo fields }
+        ensures { IfOk result (λ r. r ≡ fields) }
+    {
+        Ok(Record {
+            fields: Arc::new(alloc, fields)?,
+        })
+    }
+
     /// Its name.
     pub fn name(&self) -> &SafeName
         ensures { result.now ≡ self.now.name }
@@ -98,12 +112,13 @@ impl Record {
         !self.fields.plain.invalid
     }
 
-    /// The same record once more. Refused by want of memory alone. O(n) for n bytes of names, counters and blocks.
+    /// The same record once more, in the memory of this one. Does not allocate. Returns `Err` only if the record already
+    /// has 2^63 - 1 copies. O(1).
     pub fn copy(&self) -> Result<Record, AllocError>
         ensures { IfOk result (λ r. r ≡ self.now) }
     {
         Ok(Record {
-            fields: self.fields.copy()?,
+            fields: Arc::try_clone(&self.fields)?,
         })
     }
 
