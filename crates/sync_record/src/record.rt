@@ -45,21 +45,21 @@ impl Record {
         })
     }
 
-    /// Its name.
+    /// Its name. O(1).
     pub fn name(&self) -> &SafeName
         ensures { result.now ≡ self.now.name }
     {
         &self.fields.name
     }
 
-    /// Its version.
+    /// Its version. O(1).
     pub fn version(&self) -> &Version
         ensures { result.now ≡ self.now.version }
     {
         &self.fields.version
     }
 
-    /// What it is of: a file, a directory or something else. A deleted record tells what there was.
+    /// What it is of: a file, a directory or something else. A deleted record says what there was. O(1).
     pub fn kind(&self) -> Kind
         ensures { result ≡ kind_of self.now }
     {
@@ -70,42 +70,42 @@ impl Record {
         }
     }
 
-    /// Whether the name was deleted.
+    /// Whether the name was deleted. O(1).
     pub fn is_deleted(&self) -> bool
         ensures { result ≡ self.now.deleted }
     {
         self.fields.plain.deleted
     }
 
-    /// The size in bytes, as it was announced.
+    /// The size in bytes, as it was announced. O(1).
     pub fn size(&self) -> i64
         ensures { result ≡ self.now.size }
     {
         self.fields.plain.size
     }
 
-    /// When it was modified: whole Unix seconds, and the nanoseconds behind them, as they were announced.
+    /// When it was modified: whole Unix seconds, and the nanoseconds after them, as they were announced. O(1).
     pub fn modified(&self) -> (i64, i32)
         ensures { result ≡ (self.now.modified_s, self.now.modified_ns) }
     {
         (self.fields.plain.modified_s, self.fields.plain.modified_ns)
     }
 
-    /// The short id of the device that made the last change.
+    /// The short id of the device that made the last change. O(1).
     pub fn modified_by(&self) -> u64
         ensures { result ≡ self.now.modified_by }
     {
         self.fields.plain.modified_by
     }
 
-    /// Its blocks in the order of the file.
+    /// Its blocks in the order of the file. O(1).
     pub fn blocks(&self) -> &[Block]
         ensures { result.now ≡ self.now.blocks }
     {
         self.fields.blocks.as_slice()
     }
 
-    /// Whether it may take part in a folder: it is well formed, and isn't marked invalid. Takes no memory. O(1).
+    /// Whether it may take part in a folder: it is well formed, and isn't marked invalid. Does not allocate. O(1).
     pub fn is_valid(&self) -> bool
         ensures { result ≡ is_valid self.now }
     {
