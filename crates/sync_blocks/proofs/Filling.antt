@@ -1,6 +1,6 @@
 -- A buffer that is filled by reads in turn, and the bytes that they take.
-use Rattle.std.proofs.Common.{◌≡◌, ℕ, ◌+◌, ◌-◌, ◌≤◌, List, ◌++◌, Option, length, take, drop, arith, sym, ap, subst, ◌∙◌, le_refl, drop_at, length-take-le}
-use Rattle.std.proofs.lemmas.List.{append-nil, take-append-le}
+use Rattle.std.proofs.Common.{◌≡◌, ℕ, ◌+◌, ◌-◌, ◌<◌, ◌≤◌, List, ◌++◌, Option, length, take, drop, arith, sym, ap, subst, ◌∙◌, le_refl, drop_at, length-take-le}
+use Rattle.std.proofs.lemmas.List.{append-nil, length-append, take-append-le}
 use Rattle.std.proofs.lemmas.Slice.{take-put_mid_below}
 use Rattle.std.specs.Io.KnownBytes.{Consumes, Keeps}
 use Rattle.std.proofs.KnownBytes.{Consumes-trans, Consumes-kept}
@@ -42,3 +42,14 @@ read_none a b c bytes buffer n none p q =
     let zero_read : n ≡ 0 = omega arith in
     let nothing : bytes ++ take n buffer ≡ bytes = ap (λ k. bytes ++ take k buffer) zero_read ∙ append-nil bytes in
     subst (Consumes a c) nothing (Consumes-trans a b c bytes (take n buffer) p q)
+
+-- a read of one more byte
+pub one_more : (a b c : Option (List ℕ)) (bytes buffer : List ℕ) (size n : ℕ) → length bytes ≡ size → 0 < n → n ≤ length buffer → length buffer ≡ 1 → Consumes a b bytes → Consumes b c (take n buffer)
+    → (taken : List ℕ) × Consumes a c taken × (length taken ≡ size + 1)
+one_more a b c bytes buffer size n long some within one p q =
+    let count : n ≡ 1 = omega arith in
+    let read : length (take n buffer) ≡ 1 = length-take-le n buffer within ∙ count in (
+      bytes ++ take n buffer,
+      Consumes-trans a b c bytes (take n buffer) p q,
+      length-append bytes (take n buffer) ∙ (λ t. long t + read t),
+    )

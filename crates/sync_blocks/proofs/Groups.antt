@@ -11,6 +11,7 @@ use Rattle.sha2.specs.Sha256.{sha256}
 use Rattle.sync_blocks.specs.declared.block.Block.{Block}
 use Rattle.sync_blocks.specs.BlockList.{cut}
 use Rattle.sync_blocks.specs.Groups.{placed_block, blocks_from, group_bytes}
+use Rattle.sync_blocks.specs.declared.reading.TheConstants.{MAX_GROUP_BYTES}
 
 -- a block that is counted begins within the bytes
 pub begins_within : (size block_size i : ℕ) → 0 < block_size → i < div_ceil size block_size → i * block_size < size
@@ -117,7 +118,7 @@ pub stays_whole : (s done size buffer next : ℕ) → 0 < s → done < size → 
     → (done + next ≡ size) ⊎ ((n : ℕ) × (done + next ≡ n * s))
 stays_whole s done size buffer next some more (inl all) b e = absurd (omega arith)
 stays_whole s done size buffer next some more (inr (n, whole)) b e = ⊎_elim
-    (λ lt. let m = max 1 (67108864 / s) in
+    (λ lt. let m = max 1 (MAX_GROUP_BYTES / s) in
     let full : next ≡ s * m = omega arith in
     let product : (n + m) * s ≡ n * s + s * m = grind arith in
     inr (n + m, omega arith))

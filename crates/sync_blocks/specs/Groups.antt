@@ -4,6 +4,7 @@ use Rattle.std.specs.Int.{div_ceil}
 use Rattle.std.specs.List.{range_with_len}
 use Rattle.sha2.specs.Sha256.{sha256}
 use Rattle.sync_blocks.specs.declared.block.Block.{Block}
+use Rattle.sync_blocks.specs.declared.reading.TheConstants.{MAX_GROUP_BYTES}
 use Rattle.sync_blocks.specs.BlockList.{cut}
 
 -- block i of bytes that begin at an offset in the file
@@ -14,11 +15,11 @@ placed_block first bytes block_size i = record {
   hash = sha256 (cut bytes block_size i);
 }
 
--- the blocks of bytes that begin at an offset in the file: none of no bytes
+-- the blocks of bytes that begin at an offset in the file: no block of no bytes
 abbrev pub blocks_from : ℕ → List ℕ → ℕ → List Block
 blocks_from first bytes block_size =
     map (λ i. placed_block first bytes block_size i) (range_with_len 0 (div_ceil (length bytes) block_size))
 
 -- how many bytes are read at once: as many whole blocks as fit 64 MiB, at least one
 abbrev pub group_bytes : ℕ → ℕ
-group_bytes block_size = block_size * max 1 (67108864 / block_size)
+group_bytes block_size = block_size * max 1 (MAX_GROUP_BYTES / block_size)

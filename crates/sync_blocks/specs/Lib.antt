@@ -1,4 +1,5 @@
 pub mod BlockList
+pub mod Faults
 pub mod Groups
 pub mod Reading
 pub mod Sizes

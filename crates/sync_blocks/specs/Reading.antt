@@ -8,14 +8,14 @@ use Rattle.sync_blocks.specs.declared.fault.ReadFault.TheVariants.{Short, Long, 
 abbrev pub TakesFront : Option (List ℕ) → Option (List ℕ) → Type 0
 TakesFront old new = (front : List ℕ) × Consumes old new front
 
--- what a fault says of the bytes that a reader had, of which so many were told
+-- what a fault says of the bytes that a reader had, of which there should be `size`
 abbrev pub Tells : ReadFault → Option (List ℕ) → ℕ → Type 0
 Tells Short known size = IfSome known (λ bytes. length bytes < size)
 Tells Long known size = IfSome known (λ bytes. size < length bytes)
 Tells Read known size = ⊤
 Tells OutOfMemory known size = ⊤
 
--- the same while no more than the told bytes were read
+-- the same while no more than `size` bytes were read
 abbrev pub TellsEarly : ReadFault → Option (List ℕ) → ℕ → Type 0
 TellsEarly Short known size = IfSome known (λ bytes. length bytes < size)
 TellsEarly Long known size = ⊥

@@ -3,7 +3,7 @@ use Rattle.std.specs.Prelude.{◌≡◌, ◌⊎◌, ℕ, ◌+◌, ◌≤◌, Boo
 use Rattle.std.specs.Cmp.Lexicographic.{pointwise}
 use Rattle.sync_blocks.specs.declared.block.Block.{Block}
 
--- each block begins at the sum of the sizes before it, and the sum of all is the size; all but the last have
+-- each block begins at the sum of the sizes before it, and the sum of all is the size; all except the last have
 -- the block size, and the last has 1 byte to the block size
 pub record IsTiling (blocks : List Block) (size block_size : ℕ) : Type 0 where
   pub begin : (front back : List Block) (b : Block) → blocks ≡ front ++ b ∷ back → b.offset ≡ sum_by (λ c. c.size) front

@@ -1,30 +1,41 @@
-ghost use Rattle.std.specs.Prelude.{◌≡◌};
+ghost use Rattle.std.specs.Prelude.{◌≡◌, Some};
+ghost use Rattle.sync_blocks.specs.Faults.{fault_name};
 ghost use Rattle.sync_blocks.specs.declared.fault.ReadFault.TheVariants.{OutOfMemory};
 
 use std::alloc::AllocError;
+use std::fmt::{self, Display, Formatter};
 use thiserror::Error;
 
-/// Why a file's blocks were not read.
+/// Why a file's blocks were not read. Displayed, it is its name.
 #[derive(Clone, Copy, Debug, PartialEq, Eq, Error)]
 pub enum ReadFault {
-    /// The reader ended with fewer bytes than were told.
-    #[error("Short")]
+    /// The reader has fewer bytes than it should.
     Short,
-    /// The reader has more bytes than were told.
-    #[error("Long")]
+    /// The reader has more bytes than it should.
     Long,
     /// A read failed.
-    #[error("Read")]
     Read,
     /// The buffer or the list could not be allocated.
-    #[error("OutOfMemory")]
     OutOfMemory,
+}
+
+impl Display for ReadFault {
+    ghost output = { λ fault. Some (fault_name fault) };
+
+    fn fmt<W: fmt::Write>(&self, f: &mut Formatter<W>) -> fmt::Result {
+        f.write_str(match self {
+            ReadFault::Short => "Short",
+            ReadFault::Long => "Long",
+            ReadFault::Read => "Read",
+            ReadFault::OutOfMemory => "OutOfMemory",
+        })
+    }
 }
 
 impl From<AllocError> for ReadFault {
     ghost from_gives = { λ _ e. e ≡ OutOfMemory };
 
-    fn from(_refused: AllocError) -> ReadFault {
+    fn from(_failed: AllocError) -> ReadFault {
         ReadFault::OutOfMemory
     }
 }

@@ -7,8 +7,8 @@ use sha2::{Digest, Sha256};
 use std::alloc::{AllocError, Global};
 use std::thread::Threads;
 
-/// Adds the blocks of bytes that begin at `first` in the file, in order. More than one are hashed in parallel. Takes
-/// memory for the blocks, and as much again while it runs.
+/// Adds the blocks of bytes that begin at `first` in the file, in order. More than one are hashed in parallel. Allocates
+/// for the blocks, and as much again while it runs.
 pub(crate) fn push_blocks(
     rt: &(impl Threads + Sync),
     alloc: Global,

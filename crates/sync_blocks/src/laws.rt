@@ -7,7 +7,7 @@ ghost use Rattle.sync_blocks.specs.declared.block.Block.{Block};
 ghost use Rattle.sync_blocks.specs.BlockList.{block_count, block_list, cut};
 ghost use Rattle.sync_blocks.specs.Tiling.{Tiles, same_block, tiles};
 
-/// A tiling is tested rightly, and no block of one ends past the size.
+/// The test of a tiling is exact, and no block of a tiling ends past the size.
 pub fn tiling_is_tested()
     ensures tested { (blocks : List Block) (size block_size : ℕ) →
         IsTrue (tiles blocks size block_size) ↔ Tiles blocks size block_size }
@@ -16,8 +16,8 @@ pub fn tiling_is_tested()
 {}
 
 /// The block list of bytes has a block for each multiple of the block size at which bytes are left, of as many bytes
-/// as the block size or as are left, with their digest; that of no bytes has one block of no bytes. The cuts one
-/// after the other are the bytes.
+/// as the block size or as are left, with their digest; that of no bytes has one block of no bytes. The cuts,
+/// joined, are the bytes.
 pub fn block_list_is_by_cuts()
     ensures each { (bytes : List ℕ) (block_size i : ℕ) → 1 ≤ block_size → i * block_size < length bytes →
         slice_get (block_list bytes block_size) i ≡ Some (record {
@@ -39,7 +39,7 @@ pub fn block_list_tiles()
         IsTrue (tiles (block_list bytes block_size) (length bytes) block_size) }
 {}
 
-/// Blocks are the same where offset, size and digest are, and that is what is tested.
+/// Blocks are equal if their offsets, sizes and digests are, and that is what the test says.
 pub fn same_blocks_are_equal()
     ensures { (a b : Block) → IsTrue (same_block a b) ↔ (a ≡ b) }
 {}

@@ -14,5 +14,5 @@ mod tiling;
 pub use block::Block;
 pub use fault::ReadFault;
 pub use reading::blocks_of;
-pub use size::block_size_for;
+pub use size::{MAX_BLOCK_SIZE, MIN_BLOCK_SIZE, block_size_for, is_block_size};
 pub use tiling::tiles;

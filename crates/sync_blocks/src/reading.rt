@@ -1,5 +1,5 @@
 ghost use Rattle.std.specs.Prelude.{◌≡◌, ◌+◌, ◌*◌, ◌^◌, ◌<◌, ◌≤◌, ◌++◌, ◌∷◌, ℕ, List, [], min, take, length};
-ghost use Rattle.std.specs.Prelude.{IfErr, IfOk, IfSome, OnOk};
+ghost use Rattle.std.specs.Prelude.{Err, IfErr, IfOk, IfSome, OnOk};
 ghost use Rattle.std.specs.Io.KnownBytes.{Consumes, IsAtEnd};
 ghost use Rattle.sync_blocks.specs.BlockList.{block_at, block_list};
 ghost use Rattle.sync_blocks.specs.Groups.{blocks_from, group_bytes};
@@ -12,15 +12,16 @@ use std::alloc::{AllocError, Global};
 use std::io::{ErrorKind, Read};
 use std::thread::Threads;
 
-/// As many whole blocks are read at once as fit so many bytes, and at least one.
-const GROUP_BYTES: u64 = 64 * 1024 * 1024;
+/// As many whole blocks are read at once as fit this many bytes, and at least one.
+const MAX_GROUP_BYTES: u64 = 64 * 1024 * 1024;
 
-/// The block list of the `size` bytes that the reader gives up to its end, each block but the last of `block_size`
+/// The block list of the `size` bytes that the reader gives up to its end, each block except the last of `block_size`
 /// bytes; of an empty file one block of size 0.
 ///
-/// `Short` where the reader ended with fewer bytes, `Long` where it has more, of which it then has given one. `Read`
-/// where a read failed, though not where one was interrupted, which is tried again. `OutOfMemory` where the buffer
-/// or the list could not be allocated. After a refusal the reader has given some of its bytes.
+/// Fails with `Short` if the reader has fewer bytes, which are then all taken; with `Long` if it has more, and then
+/// `size + 1` bytes are taken; with `Read` if a read fails, though an interrupted one is tried again; and with
+/// `OutOfMemory` if the buffer or the list could not be allocated. After the last two the reader has given some of its
+/// bytes.
 ///
 /// As many whole blocks as fit 64 MiB, and at least one, are read at once, and hashed in a few threads for each
 /// processor; one block is hashed in this thread. O(size) time; memory for the list, and one buffer for the bytes
@@ -39,6 +40,9 @@ pub fn blocks_of<R: Read>(
     ensures known { IfOk result (λ v. IfSome (R.remaining reader.old)
         (λ bytes. (length bytes ≡ size) × (v.items ≡ block_list bytes block_size))) }
     ensures refused { IfErr result (λ fault. Tells fault (R.remaining reader.old) size) }
+    ensures short { result ≡ Err ReadFault.Short → IsAtEnd (R.remaining reader.new) }
+    ensures long { result ≡ Err ReadFault.Long →
+        (bytes : List ℕ) × Consumes (R.remaining reader.old) (R.remaining reader.new) bytes × (length bytes ≡ size + 1) }
     ensures taken { TakesFront (R.remaining reader.old) (R.remaining reader.new) }
 {
     let mut list = read_groups(rt, alloc, reader, size, block_size)?;
@@ -63,7 +67,7 @@ fn push_empty_block(blocks: &mut Vec<Block>) -> Result<(), AllocError>
     Ok(())
 }
 
-// The blocks of the next `size` bytes, none of no bytes.
+// The blocks of the next `size` bytes; no block of no bytes.
 fn read_groups<R: Read>(
     rt: &(impl Threads + Sync),
     alloc: Global,
@@ -75,6 +79,7 @@ fn read_groups<R: Read>(
     ensures read { IfOk result (λ v. (bytes : List ℕ) × Consumes (R.remaining reader.old) (R.remaining reader.new) bytes
         × (length bytes ≡ size) × (v.items ≡ blocks_from 0 bytes block_size)) }
     ensures refused { IfErr result (λ fault. TellsEarly fault (R.remaining reader.old) size) }
+    ensures short { result ≡ Err ReadFault.Short → IsAtEnd (R.remaining reader.new) }
     ensures taken { TakesFront (R.remaining reader.old) (R.remaining reader.new) }
 {
     let mut blocks = Vec::new(alloc);
@@ -97,13 +102,13 @@ fn read_groups<R: Read>(
     Ok(blocks)
 }
 
-// How many bytes are read at once, no more than the file has.
+// How many bytes are read at once: no more than the file has.
 fn buffer_len(size: u64, block_size: u32) -> usize
     requires { 1 ≤ block_size }
     ensures { result ≡ min size (group_bytes block_size) }
 {
     let block_size = u64::from(block_size);
-    let group = block_size * (GROUP_BYTES / block_size).max(1);
+    let group = block_size * (MAX_GROUP_BYTES / block_size).max(1);
     group.min(size) as usize
 }
 
@@ -123,6 +128,7 @@ fn read_group<R: Read>(
         × (length bytes ≡ length buffer.old)
         × (blocks.new.items ≡ blocks.old.items ++ blocks_from first bytes block_size)) }
     ensures refused { IfErr result (λ fault. TellsEarly fault (R.remaining reader.old) (length buffer.old)) }
+    ensures short { result ≡ Err ReadFault.Short → IsAtEnd (R.remaining reader.new) }
     ensures taken { TakesFront (R.remaining reader.old) (R.remaining reader.new) }
 {
     if fill(reader, buffer)? < buffer.len() {
@@ -132,7 +138,7 @@ fn read_group<R: Read>(
     Ok(())
 }
 
-// Reads until the buffer is full or the reader at its end, and gives how many bytes that were.
+// Reads until the buffer is full or the reader is at its end, and returns the number of bytes.
 fn fill<R: Read>(reader: &mut R, buffer: &mut [u8]) -> Result<usize, ReadFault>
     ensures bound { IfOk result (λ n. n ≤ length buffer.new) }
     ensures bytes { IfOk result (λ n. Consumes (R.remaining reader.old) (R.remaining reader.new) (take n buffer.new)) }

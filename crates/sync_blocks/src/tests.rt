@@ -1,6 +1,8 @@
 //! Borders of the sizes, worked block lists, readers in small pieces, and reads and allocations that fail. The digests
 //! are those of Python's `hashlib`.
-use super::{Block, ReadFault, block_size_for, blocks_of, tiles};
+use super::{
+    Block, MAX_BLOCK_SIZE, MIN_BLOCK_SIZE, ReadFault, block_size_for, blocks_of, is_block_size, tiles,
+};
 use std::alloc::{AllocError, Global};
 use std::io;
 use std::io::{ErrorKind, Read};
@@ -86,7 +88,7 @@ fn in_steps(bytes: &'static [u8], step: usize) -> Source {
 
 type Listed = Result<Vec<Block>, ReadFault>;
 
-// The block list of the source's bytes; where memory is refused, it is asked for once more.
+// The block list of the source's bytes; a failed allocation is tried once more.
 fn listed(
     rt: &(impl Threads + Sync),
     alloc: Global,
@@ -139,6 +141,16 @@ fn chooses_block_sizes(rt: HostRuntime) {
         (u64::MAX, 16_777_216),
     ] {
         assert_eq!(rt; block_size_for(size), block_size, "of {size}");
+    }
+}
+
+#[test]
+fn knows_block_sizes(rt: HostRuntime) {
+    for size in [MIN_BLOCK_SIZE, 262_144, 8_388_608, MAX_BLOCK_SIZE] {
+        assert!(rt; is_block_size(size), "{size}");
+    }
+    for size in [0, 65_536, 131_073, 393_216, 33_554_432, u32::MAX] {
+        assert!(rt; !is_block_size(size), "{size}");
     }
 }
 
@@ -205,7 +217,7 @@ fn lists_blocks_that_do_not_fill_a_group(rt: HostRuntime) -> Result<(), ReadFaul
 }
 
 #[test]
-fn refuses_other_sizes(rt: HostRuntime) {
+fn fails_at_other_sizes(rt: HostRuntime) {
     for (bytes, size, wanted) in [
         (b"abc".as_slice(), 2, ReadFault::Long),
         (b"abc", 4, ReadFault::Short),
@@ -226,7 +238,7 @@ fn refuses_other_sizes(rt: HostRuntime) {
 }
 
 #[test]
-fn tells_failed_reads(rt: HostRuntime) -> Result<(), ReadFault> {
+fn reports_failed_reads(rt: HostRuntime) -> Result<(), ReadFault> {
     let steady = in_steps(b"abc", 1);
     for call in 0..4 {
         let failing = Source {
@@ -249,7 +261,7 @@ fn tells_failed_reads(rt: HostRuntime) -> Result<(), ReadFault> {
 }
 
 #[test]
-fn tells_tilings(rt: HostRuntime) {
+fn recognizes_tilings(rt: HostRuntime) {
     let at = |offset, size| block(offset, size, NONE);
     let far = u64::MAX - 3;
     let rows: [(&[Block], u64, u32, bool); 22] = [

@@ -3,9 +3,9 @@ ghost use Rattle.sync_blocks.specs.Tiling.{tiles, tiles_from, Tiles};
 
 use crate::Block;
 
-/// Whether the blocks make up a file of `size` bytes: each begins where the one before ends, all but the last have
-/// the block size, and the last has 1 byte to the block size. An empty file has no block, or one of size 0. Takes no
-/// memory. O(n).
+/// Whether the blocks make up a file of `size` bytes: each begins where the one before ends, all except the last have
+/// the block size, and the last has 1 byte to the block size. An empty file has no block, or one of size 0. Does not
+/// allocate. O(n).
 pub fn tiles(blocks: &[Block], size: u64, block_size: u32) -> bool
     ensures value { result ≡ tiles blocks.now size block_size }
     ensures holds { IsTrue result ↔ Tiles blocks.now size block_size }

@@ -11,7 +11,7 @@ use Rattle.sync_names.specs.Components.{components, first_of, last_of, all_but_l
 abbrev pub is_slash : ℕ → Bool
 is_slash b = eqb b 47
 
--- the byte doesn't stand in the text
+-- the byte isn't in the text
 abbrev pub HasNo : ℕ → List ℕ → Type 0
 HasNo c text = (i : ℕ) → i < length text → get_or text i 0 ≢ c
 
@@ -106,7 +106,7 @@ pub none_after : (c : ℕ) (text : List ℕ) (k : ℕ) → ((i : ℕ) → k < i 
 none_after c text k later i h e =
     later (k + 1 + i) (omega arith) (omega (arith, length-drop (k + 1) text)) (sym (get_or-drop (k + 1) text i 0) ∙ e)
 
--- what `rfind` tells of a byte that it found, and of one that it didn't find
+-- what `rfind` says of a byte that it found, and of one that it didn't find
 pub record IsLastPlace (c : ℕ) (text : List ℕ) (k : ℕ) : Type 0 where
   pub within : k < length text
   pub here : get_or text k 0 ≡ c
@@ -127,7 +127,7 @@ cut_without_slash text none = record {
   last = ap last_of (components-no_slash text none);
 }
 
--- a byte stands nowhere in a text, or at a last place
+-- a byte is nowhere in a text, or it has a last place
 pub last_place : (c : ℕ) (text : List ℕ) → HasNo c text ⊎ ((k : ℕ) × IsLastPlace c text k)
 last_place c [] = inl (λ i h. absurd (omega arith))
 last_place c (x ∷ text) =

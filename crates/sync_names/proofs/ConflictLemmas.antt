@@ -1,4 +1,4 @@
--- A conflict copy's name is refused as internal alone, and exactly where its name's last component is `.syncthing.tmp`.
+-- A conflict copy's name is refused only as internal, and exactly if its name's last component is `.syncthing.tmp`.
 use Rattle.std.proofs.Common.{◌≡◌, ◌↔◌, ◌⊎◌, ℕ, zero, suc, ◌+◌, ◌-◌, ◌*◌, ◌/◌, ◌%◌, ◌^◌, ◌<◌, ◌≤◌, Bool, true, false, nat_lt, eqb, cond, List, [], ◌∷◌, ◌++◌, length, get_or, take, drop, map, Some, None, Result, Ok, Err, IsErr, IfErr, pos, refl, sym, ap, ◌∙◌, subst, arith, append_assoc, append-nil, length-append, inl, inr}
 use Rattle.std.specs.Prelude.{bytes_eq, codes, chars, IsUtf8}
 use Rattle.std.specs.List.{All, Any, Contains, list_all, list_any}
@@ -33,6 +33,7 @@ use Rattle.sync_names.proofs.RefusalLemmas.{none-find, Decides-nfc, refusal-inte
 use Rattle.sync_names.proofs.InternalLemmas.{Decides-internal}
 use Rattle.sync_names.proofs.UtcLemmas.{utc_time_shown}
 use Rattle.sync_names.proofs.WalkLemmas.{IsGood, not_absolute}
+use Rattle.sync_version.specs.declared.moment.TheConstants.Moment.{MAX_SECONDS}
 
 -- ---- the mark is ASCII
 
@@ -55,7 +56,7 @@ ascii_characters number [] = refl
 ascii_characters number (i ∷ places) =
     and_from _ _ (lt-ltb (base32_character number i) 128 (digit_small (number / 2 ^ (59 - 5 * i) % 32) (omega arith))) (ascii_characters number places)
 
-ascii_mark : (moment modified_by : ℕ) → moment ≤ 250_000_000_000 → All (λ c. c < 128) (conflict_mark moment modified_by)
+ascii_mark : (moment modified_by : ℕ) → moment ≤ MAX_SECONDS → All (λ c. c < 128) (conflict_mark moment modified_by)
 ascii_mark moment modified_by h =
     let t = utc_time moment in
     let u = utc_time_shown moment h in
@@ -73,7 +74,7 @@ ascii_mark moment modified_by h =
     let all = ascii_both (codes ".sync-conflict-" ++ date_digits t ++ codes "-" ++ time_digits t ++ codes "-") (short_base32 modified_by) d (ascii_characters modified_by (0 ∷ 1 ∷ 2 ∷ 3 ∷ 4 ∷ 5 ∷ 6 ∷ [])) in
     All-weaker (λ c. is_ascii c ≡ true) (λ c. c < 128) (λ c t. ltb-true c 128 t) (conflict_mark moment modified_by) (AllPass-from_list_all is_ascii (conflict_mark moment modified_by) all)
 
--- ---- the front of a name, and what the mark stands before
+-- ---- the front of a name, and what follows the mark
 
 pub record Front (name front extension : List ℕ) : Type 0 where
   pub whole : name ≡ front ++ extension
@@ -100,7 +101,7 @@ front_of name utf8 =
           record { whole = whole; utf8 = subst IsUtf8 (ap (take (length front)) here ∙ take_at front (46 ∷ dot.0) (length front) refl) (IsUtf8-take name (length front) utf8 (before_dot name front dot.0 here)); shape = inr (dot.0, dot.1) }
     ]
 
-conflict_nfc : (name : List ℕ) (moment modified_by : ℕ) → IsSafe name → moment ≤ 250_000_000_000 → IsInForm Nfc (chars (conflict_text name moment modified_by))
+conflict_nfc : (name : List ℕ) (moment modified_by : ℕ) → IsSafe name → moment ≤ MAX_SECONDS → IsInForm Nfc (chars (conflict_text name moment modified_by))
 conflict_nfc name moment modified_by safe h =
     let mark = conflict_mark moment modified_by in
     let last = last_component name in
@@ -294,7 +295,7 @@ internal_where name moment modified_by safe = (
         let T : List ℕ → Type 0 = λ l. IsTemporary (stem_of l ++ conflict_mark moment modified_by ++ extension_of l) in
         subst T (sym e) (drop 1 (conflict_mark moment modified_by), refl)
 
-pub conflict-refusal : (name : List ℕ) (moment modified_by : ℕ) → IsSafe name → moment ≤ 250_000_000_000 → refusal (conflict_text name moment modified_by) ≡ cond (bytes_eq (last_component name) (codes ".syncthing.tmp")) (Some Internal) None
+pub conflict-refusal : (name : List ℕ) (moment modified_by : ℕ) → IsSafe name → moment ≤ MAX_SECONDS → refusal (conflict_text name moment modified_by) ≡ cond (bytes_eq (last_component name) (codes ".syncthing.tmp")) (Some Internal) None
 conflict-refusal name moment modified_by safe h =
     let text = conflict_text name moment modified_by in
     let last = last_component name in
@@ -311,28 +312,30 @@ conflict-refusal name moment modified_by safe h =
           ∙ sym (cond-false (bytes_eq last (codes ".syncthing.tmp")) (Some Internal) None isnt)
     ]
 
--- ---- what `conflict_name` answers
+-- ---- what `conflict_name` returns
 
-pub record ConflictAnswer (name : List ℕ) (result : Result (List ℕ) NameFault) : Type 0 where
-  pub refusals : IfErr result (λ fault. (fault ≡ Internal) ⊎ (fault ≡ OutOfMemory))
-  pub internal : result ≡ Err Internal → last_component name ≡ codes ".syncthing.tmp"
-  pub not_safe : last_component name ≡ codes ".syncthing.tmp" → IsErr result
+pub conflict_internal : (name : List ℕ) (moment modified_by : ℕ) → IsSafe name → moment ≤ MAX_SECONDS → last_component name ≡ codes ".syncthing.tmp" → refusal (conflict_text name moment modified_by) ≡ Some Internal
+conflict_internal name moment modified_by safe h e =
+    conflict-refusal name moment modified_by safe h
+    ∙ cond-true (bytes_eq (last_component name) (codes ".syncthing.tmp")) (Some Internal) None ((bytes_eq-Decides (last_component name) (codes ".syncthing.tmp")).1 e)
 
-conflict-Some : (name : List ℕ) (moment modified_by : ℕ) (fault : NameFault) → IsSafe name → moment ≤ 250_000_000_000 → refusal (conflict_text name moment modified_by) ≡ Some fault → (fault ≡ Internal) × (last_component name ≡ codes ".syncthing.tmp")
-conflict-Some name moment modified_by fault safe h told =
-    let parts = cond_some (bytes_eq (last_component name) (codes ".syncthing.tmp")) Internal fault (sym (conflict-refusal name moment modified_by safe h) ∙ told) in
-    (sym parts.1, (bytes_eq-Decides (last_component name) (codes ".syncthing.tmp")).0 parts.0)
+pub conflict_passed : (name : List ℕ) (moment modified_by : ℕ) → IsSafe name → moment ≤ MAX_SECONDS → ¬ (last_component name ≡ codes ".syncthing.tmp") → refusal (conflict_text name moment modified_by) ≡ None
+conflict_passed name moment modified_by safe h other =
+    conflict-refusal name moment modified_by safe h
+    ∙ cond-false (bytes_eq (last_component name) (codes ".syncthing.tmp")) (Some Internal) None (false_from_ne_true (bytes_eq (last_component name) (codes ".syncthing.tmp")) (λ t. other ((bytes_eq-Decides (last_component name) (codes ".syncthing.tmp")).0 t)))
 
-pub conflict_answer : (name : List ℕ) (moment modified_by : ℕ) (result : Result (List ℕ) NameFault) → IsSafe name → moment ≤ 250_000_000_000 → ParsesTo (conflict_text name moment modified_by) result → ConflictAnswer name result
-conflict_answer name moment modified_by (Ok made) safe h told = record {
-  refusals = tt;
-  internal = λ e. cc;
-  not_safe = λ e. absurd (none-some Internal (sym told.0 ∙ conflict-refusal name moment modified_by safe h ∙ cond-true (bytes_eq (last_component name) (codes ".syncthing.tmp")) (Some Internal) None ((bytes_eq-Decides (last_component name) (codes ".syncthing.tmp")).1 e)));
-}
-conflict_answer name moment modified_by (Err Empty) safe h told = let w = conflict-Some name moment modified_by Empty safe h told in record { refusals = inl w.0; internal = λ _. w.1; not_safe = λ _. refl }
-conflict_answer name moment modified_by (Err Absolute) safe h told = let w = conflict-Some name moment modified_by Absolute safe h told in record { refusals = inl w.0; internal = λ _. w.1; not_safe = λ _. refl }
-conflict_answer name moment modified_by (Err BadComponent) safe h told = let w = conflict-Some name moment modified_by BadComponent safe h told in record { refusals = inl w.0; internal = λ _. w.1; not_safe = λ _. refl }
-conflict_answer name moment modified_by (Err Nul) safe h told = let w = conflict-Some name moment modified_by Nul safe h told in record { refusals = inl w.0; internal = λ _. w.1; not_safe = λ _. refl }
-conflict_answer name moment modified_by (Err NotNfc) safe h told = let w = conflict-Some name moment modified_by NotNfc safe h told in record { refusals = inl w.0; internal = λ _. w.1; not_safe = λ _. refl }
-conflict_answer name moment modified_by (Err Internal) safe h told = let w = conflict-Some name moment modified_by Internal safe h told in record { refusals = inl w.0; internal = λ _. w.1; not_safe = λ _. refl }
-conflict_answer name moment modified_by (Err OutOfMemory) safe h told = record { refusals = inr refl; internal = λ e. cc; not_safe = λ _. refl }
+-- a text that no test refuses is parsed, or out of memory
+pub passed_or_memory : (text : List ℕ) (result : Result (List ℕ) NameFault) → refusal text ≡ None → ParsesTo text result → IfErr result (λ fault. fault ≡ OutOfMemory)
+passed_or_memory text (Ok made) passed told = tt
+passed_or_memory text (Err Empty) passed told = absurd (none-some Empty (sym passed ∙ told))
+passed_or_memory text (Err Absolute) passed told = absurd (none-some Absolute (sym passed ∙ told))
+passed_or_memory text (Err BadComponent) passed told = absurd (none-some BadComponent (sym passed ∙ told))
+passed_or_memory text (Err Nul) passed told = absurd (none-some Nul (sym passed ∙ told))
+passed_or_memory text (Err NotNfc) passed told = absurd (none-some NotNfc (sym passed ∙ told))
+passed_or_memory text (Err Internal) passed told = absurd (none-some Internal (sym passed ∙ told))
+passed_or_memory text (Err OutOfMemory) passed told = refl
+
+-- what is not an error, or out of memory, is no refusal as internal
+pub memory_not_internal : (result : Result (List ℕ) NameFault) → IfErr result (λ fault. fault ≡ OutOfMemory) → ¬ (result ≡ Err Internal)
+memory_not_internal (Ok made) h e = cc
+memory_not_internal (Err fault) h e = cc

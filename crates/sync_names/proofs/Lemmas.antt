@@ -25,6 +25,7 @@ use Rattle.sync_names.proofs.InternalLemmas.{temporary_length}
 use Rattle.sync_names.proofs.RefusalLemmas.{refusal-first, safe_from_none, none_from_safe}
 use Rattle.sync_names.proofs.UtcLemmas.{utc_time_shown, shown_once}
 use Rattle.sync_names.proofs.WalkLemmas.{IsGood, leads_to-good, walk-beginning}
+use Rattle.sync_version.specs.declared.moment.TheConstants.Moment.{MAX_SECONDS}
 
 -- ---- the first refusal
 
@@ -134,12 +135,12 @@ conflict-last name moment modified_by = (conflict_beside name moment modified_by
 pub conflict-other : (name : List ℕ) (moment modified_by : ℕ) → conflict_text name moment modified_by ≢ name
 conflict-other = conflict-differs
 
-pub conflict-refused : (name : List ℕ) (moment modified_by : ℕ) → IsSafe name → moment ≤ 250_000_000_000 → refusal (conflict_text name moment modified_by) ≡ cond (bytes_eq (last_component name) (codes ".syncthing.tmp")) (Some Internal) None
+pub conflict-refused : (name : List ℕ) (moment modified_by : ℕ) → IsSafe name → moment ≤ MAX_SECONDS → refusal (conflict_text name moment modified_by) ≡ cond (bytes_eq (last_component name) (codes ".syncthing.tmp")) (Some Internal) None
 conflict-refused = conflict-refusal
 
 -- ---- the clock in UTC, and base32
 
-pub utc-shown : (moment : ℕ) → moment ≤ 250_000_000_000 → IsUtc moment (utc_time moment)
+pub utc-shown : (moment : ℕ) → moment ≤ MAX_SECONDS → IsUtc moment (utc_time moment)
 utc-shown = utc_time_shown
 
 pub utc-only : (moment : ℕ) (a b : UtcTime) → IsUtc moment a → IsUtc moment b → a ≡ b

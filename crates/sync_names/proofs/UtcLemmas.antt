@@ -17,6 +17,7 @@ use mir.Syntax.{w8, w16, w64}
 use mir.Val.{hbits}
 use Rattle.sync_names.specs.declared.utc.UtcTime.{UtcTime}
 use Rattle.sync_names.specs.Utc.{IsUtc, year_and_rest, month_and_rest, utc_time, two_digits}
+use Rattle.sync_version.specs.declared.moment.TheConstants.Moment.{MAX_SECONDS}
 
 -- ---- counting off
 
@@ -79,7 +80,7 @@ year_bound year h =
       | inr (inr gt) ↦ absurd (omega (arith, day_count-end, day_count-later_year (pos 10000) (pos year) (omega (arith, signed_arith)) (omega (arith, signed_arith))))
     ]
 
-pub utc_time_shown : (moment : ℕ) → moment ≤ 250_000_000_000 → IsUtc moment (utc_time moment)
+pub utc_time_shown : (moment : ℕ) → moment ≤ MAX_SECONDS → IsUtc moment (utc_time moment)
 unfolding utc_time
 utc_time_shown moment h =
     let days = moment / 86400 in
@@ -175,7 +176,7 @@ pub cast_back : (w : Width) (z : ℤ) (n : ℕ) → z ≡ pos n → n < 2 ^ hbit
 cast_back w z n e h = rw e (ap unsigned_abs (back_small w (pos n) h))
 
 -- the seconds of a moment, as the library's signed number
-pub moment_in_nanos : (seconds moment : ℕ) (instant shown : ℤ) → seconds ≡ moment → moment ≤ 250_000_000_000 → instant ≡ to_z w64 seconds *ℤ pos 1_000_000_000 → shown ≡ instant +ℤ pos 0 → shown ≡ pos moment *ℤ pos 1_000_000_000
+pub moment_in_nanos : (seconds moment : ℕ) (instant shown : ℤ) → seconds ≡ moment → moment ≤ MAX_SECONDS → instant ≡ to_z w64 seconds *ℤ pos 1_000_000_000 → shown ≡ instant +ℤ pos 0 → shown ≡ pos moment *ℤ pos 1_000_000_000
 moment_in_nanos seconds moment instant shown same h e k =
     let small = to_z_pos w64 seconds (omega arith) in
     let read = rw small at e in omega (arith, signed_arith, read)

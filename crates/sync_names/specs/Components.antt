@@ -24,7 +24,7 @@ all_but_last (part ∷ next ∷ parts) = part ∷ all_but_last (next ∷ parts)
 abbrev pub last_component : List ℕ → List ℕ
 last_component text = last_of (components text)
 
--- the components of the folder in which the name stands
+-- the components of the name's folder
 abbrev pub folder_components : List ℕ → List (List ℕ)
 folder_components text = all_but_last (components text)
 

@@ -2,7 +2,7 @@
 use Rattle.std.specs.Prelude.{ℕ, ◌==◌, List, [], ◌∷◌, if◌then◌else◌}
 use Rattle.std.specs.List.{list_any, before_last, after_last}
 
--- what stands before the last dot, or the whole component where it has none
+-- the part before the last dot, or the whole component if it has none
 abbrev pub stem_of : List ℕ → List ℕ
 stem_of component =
     if list_any (λ b. b == 46) component then before_last (λ b. b == 46) component else component

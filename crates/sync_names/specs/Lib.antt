@@ -1,4 +1,4 @@
-pub mod Numbers
+pub mod Faults
 pub mod Components
 pub mod Extension
 pub mod Internal

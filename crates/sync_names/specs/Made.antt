@@ -14,7 +14,7 @@ temp_text name = with_last_component name (codes ".syncthing." ++ last_component
 abbrev pub IsTempText : List ℕ → Type 0
 IsTempText text = (name : List ℕ) × IsSafe name × (text ≡ temp_text name)
 
--- what stands between the stem and the extension of a conflict copy's name
+-- the part between the stem and the extension of a conflict copy's name
 abbrev pub conflict_mark : ℕ → ℕ → List ℕ
 conflict_mark moment modified_by =
     codes ".sync-conflict-" ++ date_digits (utc_time moment) ++ codes "-" ++ time_digits (utc_time moment) ++ codes "-" ++ short_base32 modified_by

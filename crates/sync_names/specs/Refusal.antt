@@ -22,7 +22,7 @@ refuses NotNfc text = not (is_nfc (chars text))
 refuses Internal text = is_internal text
 refuses OutOfMemory text = false
 
--- the tests that take no memory
+-- the tests of the shape, which do not allocate
 abbrev pub shape_tests : List NameFault
 shape_tests = Empty ∷ Absolute ∷ Nul ∷ BadComponent ∷ []
 

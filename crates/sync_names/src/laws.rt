@@ -13,10 +13,11 @@ ghost use Rattle.sync_names.specs.Walk.{walk, leads_to};
 ghost use Rattle.sync_names.specs.declared.fault.NameFault.{NameFault};
 ghost use Rattle.sync_names.specs.declared.fault.NameFault.TheVariants.{Internal};
 ghost use Rattle.sync_names.specs.declared.utc.UtcTime.{UtcTime};
+ghost use Rattle.sync_version.specs.declared.moment.TheConstants.Moment.{MAX_SECONDS};
 
-/// A text is refused by the first of the tests whose condition holds, and one that nothing refuses is safe.
+/// A text is refused by the first of the tests whose condition holds, and a text that no test refuses is safe.
 pub fn first_refusal()
-    ensures told { (text : List ℕ) (fault : NameFault) →
+    ensures first { (text : List ℕ) (fault : NameFault) →
         (refusal text ≡ Some fault) ↔ IsFirstRefusal fault text }
     ensures safe { (text : List ℕ) → IsUtf8 text → (refusal text ≡ None) ↔ IsSafe text }
 {}
@@ -34,7 +35,7 @@ pub fn names_stay_below()
         walk folder (take n (components name)) ≡ folder ++ take n (components name) }
 {}
 
-/// A text is its components, joined by slashes; and its folder and its last component.
+/// A text is its components, joined by slashes, and it is its folder followed by its last component.
 pub fn components_joined()
     ensures joined { (text : List ℕ) → join_with_byte 47 (components text) ≡ text }
     ensures folder { (text : List ℕ) → text ≡ folder_of text ++ last_component text }
@@ -53,8 +54,8 @@ pub fn extension_after_last_dot()
         extension_of component ≡ [] }
 {}
 
-/// A temporary name stands in its name's folder, and is internal, so that no safe name is one.
-pub fn temporary_names_stand_apart()
+/// A temporary name is in its name's folder, and is internal, so that no safe name is one.
+pub fn temporary_names_are_apart()
     ensures folder { (name : List ℕ) → folder_components (temp_text name) ≡ folder_components name }
     ensures last { (name : List ℕ) →
         last_component (temp_text name) ≡ codes ".syncthing." ++ last_component name ++ codes ".tmp" }
@@ -63,9 +64,9 @@ pub fn temporary_names_stand_apart()
     ensures one_each { (a b : List ℕ) → temp_text a ≡ temp_text b → a ≡ b }
 {}
 
-/// A conflict copy's name stands in its name's folder and is another name; it is refused exactly where
+/// A conflict copy's name is in its name's folder and is another name; it is refused exactly if
 /// the name's last component is `.syncthing.tmp`, and then as internal.
-pub fn conflict_names_stand_beside()
+pub fn conflict_names_are_beside()
     ensures folder { (name : List ℕ) (moment modified_by : ℕ) →
         folder_components (conflict_text name moment modified_by) ≡ folder_components name }
     ensures last { (name : List ℕ) (moment modified_by : ℕ) →
@@ -73,14 +74,14 @@ pub fn conflict_names_stand_beside()
         ≡ stem_of (last_component name) ++ conflict_mark moment modified_by
         ++ extension_of (last_component name) }
     ensures other { (name : List ℕ) (moment modified_by : ℕ) → conflict_text name moment modified_by ≢ name }
-    ensures refused { (name : List ℕ) (moment modified_by : ℕ) → IsSafe name → moment ≤ 250000000000 →
+    ensures refused { (name : List ℕ) (moment modified_by : ℕ) → IsSafe name → moment ≤ MAX_SECONDS →
         refusal (conflict_text name moment modified_by)
         ≡ (if bytes_eq (last_component name) (codes ".syncthing.tmp") then Some Internal else None) }
 {}
 
-/// What is counted off is what the calendar and a clock in UTC show, and they show nothing else.
+/// The time by counting is what the calendar and a clock in UTC show, and it is the only such time.
 pub fn utc_is_shown()
-    ensures shown { (moment : ℕ) → moment ≤ 250000000000 → IsUtc moment (utc_time moment) }
+    ensures shown { (moment : ℕ) → moment ≤ MAX_SECONDS → IsUtc moment (utc_time moment) }
     ensures only { (moment : ℕ) (a b : UtcTime) → IsUtc moment a → IsUtc moment b → a ≡ b }
 {}
 

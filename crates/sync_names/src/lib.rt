@@ -8,7 +8,7 @@
 mod base32;
 mod fault;
 mod internal;
-mod laws;
+pub mod laws;
 mod made;
 mod name;
 mod order;
@@ -19,9 +19,5 @@ mod utc;
 
 pub use fault::NameFault;
 pub use internal::is_internal;
-pub use laws::{
-    base32_alphabet, components_joined, conflict_names_stand_beside, extension_after_last_dot,
-    first_refusal, names_stay_below, temporary_names_stand_apart, utc_is_shown,
-};
 pub use made::{TempName, conflict_name, temp_name};
 pub use name::SafeName;

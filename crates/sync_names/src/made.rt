@@ -1,15 +1,16 @@
-ghost use Rattle.std.specs.Prelude.{◌≡◌, ◌⊎◌, List, ℕ, IfOk, OnOk, IfErr, IsErr, Err, codes};
+ghost use Rattle.std.specs.Prelude.{◌≡◌, ◌⊎◌, ◌↔◌, List, ℕ, IfOk, OnOk, IfErr, Err, codes};
 ghost use Rattle.sync_names.specs.Components.{last_component};
 ghost use Rattle.sync_names.specs.Made.{temp_text, conflict_text, IsTempText};
 ghost use Rattle.sync_names.specs.Parsing.{ParsesTo};
 ghost use Rattle.sync_names.specs.Safe.{IsSafe};
 
-use crate::{NameFault, SafeName, base32, text, utc};
+use crate::utc::{UtcTime, push_date_and_time};
+use crate::{NameFault, SafeName, base32, text};
 use std::alloc::AllocError;
 use std::marker::Model;
 use sync_version::Moment;
 
-/// The name of the temporary file of a safe name, in whose folder it stands.
+/// The name of a safe name's temporary file, in the same folder.
 #[derive(Drop, Debug)]
 pub struct TempName {
     text: String,
@@ -51,8 +52,8 @@ pub fn temp_name(name: &SafeName) -> Result<TempName, AllocError>
 /// extension, which begins at its last dot. The date and time are the moment in UTC, and `modified_by`
 /// is the first seven characters of the base32 text of its eight bytes (RFC 4648, section 6).
 ///
-/// `Internal` exactly where the last component is `.syncthing.tmp`, whose conflict copy would have an
-/// internal name; nothing else but want of memory refuses. O(n) as [`SafeName::parse`].
+/// Fails with `Internal` exactly if the last component is `.syncthing.tmp`, whose conflict copy would have an
+/// internal name, and then does not allocate; otherwise only with `OutOfMemory`. O(n), as [`SafeName::parse`].
 pub fn conflict_name(
     name: &SafeName,
     moment: Moment,
@@ -62,13 +63,16 @@ pub fn conflict_name(
     ensures safe { OnOk result (IsSafe (conflict_text name.now moment modified_by)) }
     ensures refusals { IfErr result
         (λ fault. (fault ≡ NameFault.Internal) ⊎ (fault ≡ NameFault.OutOfMemory)) }
-    ensures internal { result ≡ Err NameFault.Internal → last_component name.now ≡ codes ".syncthing.tmp" }
-    ensures not_safe { last_component name.now ≡ codes ".syncthing.tmp" → IsErr result }
+    ensures internal { (result ≡ Err NameFault.Internal) ↔ (last_component name.now ≡ codes ".syncthing.tmp") }
 {
+    let shown = UtcTime::at(moment);
     let (folder, last) = text::split_last_component(name.as_str());
+    if last == ".syncthing.tmp" {
+        return Err(NameFault::Internal);
+    }
     let (stem, extension) = text::split_extension(last);
     let mut text = format!(in name.allocator(); "{folder}{stem}.sync-conflict-")?;
-    utc::push_date_and_time(&mut text, moment)?;
+    push_date_and_time(&mut text, shown)?;
     text.push('-')?;
     base32::push_short_base32(&mut text, modified_by)?;
     text.push_str(extension)?;

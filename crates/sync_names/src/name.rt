@@ -1,7 +1,7 @@
-ghost use Rattle.std.specs.Prelude.{◌≡◌, List, ℕ, IfOk, OnOk, MatchResult, IfSome, Err, None, string_bytes};
+ghost use Rattle.std.specs.Prelude.{◌≡◌, ◌≢◌, List, ℕ, IfOk, OnOk, MatchResult, IfSome, Err, None, string_bytes};
 ghost use Rattle.std.specs.List.{list_any};
 ghost use Rattle.sync_names.specs.Components.{components};
-ghost use Rattle.sync_names.specs.Parsing.{IsToldOf, ParsesTo};
+ghost use Rattle.sync_names.specs.Parsing.{IsQuick, IsToldOf, ParsesTo};
 ghost use Rattle.sync_names.specs.Refusal.{is_bad_component, shape_refusal, refusal};
 ghost use Rattle.sync_names.specs.Safe.{IsSafe};
 
@@ -34,24 +34,29 @@ impl Model for SafeName {
 impl SafeName {
     /// The name with this text.
     ///
-    /// The tests are made in this order, and the first that refuses is told: `Empty`, `Absolute`
-    /// (begins with `/`), `Nul`, `BadComponent` (a component is empty, `.` or `..`), `NotNfc`,
-    /// `Internal` ([`is_internal`]). Only the last two tests and the copy can meet want of memory.
+    /// Fails with the first of these that applies: `Empty`, `Absolute` (the text begins with `/`), `Nul`,
+    /// `BadComponent` (a component is empty, `.` or `..`), `NotNfc`, `Internal` ([`is_internal`]). The first four are
+    /// never replaced by `OutOfMemory`, nor are the others if the quick check of the form decides (Unicode Standard
+    /// Annex 15, section 9), as it does of every ASCII text. The copy of a safe text may fail with `OutOfMemory`.
     /// O(n) for n bytes, and O(k log k) for each run of k combining marks.
     pub fn parse(alloc: Global, text: &str) -> Result<SafeName, NameFault>
         ensures answer { ParsesTo text.now result }
         ensures safe { OnOk result (IsSafe text.now) }
-        ensures without_memory { IfSome (shape_refusal text.now) (λ fault. result ≡ Err fault) }
+        ensures shape { IfSome (shape_refusal text.now) (λ fault. result ≡ Err fault) }
+        ensures quick { IsQuick text.now → IfSome (refusal text.now) (λ fault. result ≡ Err fault) }
     {
         refuse(alloc, text)?;
         let text = String::from_str(alloc, text)?;
         Ok(SafeName { text })
     }
 
-    /// The name with this text, as [`SafeName::parse`], in the memory of the text itself: it is not copied.
+    /// The name with this text, as [`SafeName::parse`], in the memory of the text itself: it is not copied. Fails with
+    /// `OutOfMemory` only if the quick check of the form doesn't decide.
     pub fn from_string(text: String) -> Result<SafeName, NameFault>
         ensures answer { ParsesTo (string_bytes text) result }
         ensures safe { OnOk result (IsSafe (string_bytes text)) }
+        ensures shape { IfSome (shape_refusal (string_bytes text)) (λ fault. result ≡ Err fault) }
+        ensures quick { IsQuick (string_bytes text) → result ≢ Err NameFault.OutOfMemory }
     {
         refuse(*text.allocator(), text.as_str())?;
         Ok(SafeName { text })
@@ -83,7 +88,8 @@ impl SafeName {
 fn refuse(alloc: Global, text: &str) -> Result<(), NameFault>
     ensures answer { MatchResult result (λ _. refusal text.now ≡ None) (IsToldOf text.now) }
     ensures safe { OnOk result (IsSafe text.now) }
-    ensures without_memory { IfSome (shape_refusal text.now) (λ fault. result ≡ Err fault) }
+    ensures shape { IfSome (shape_refusal text.now) (λ fault. result ≡ Err fault) }
+    ensures quick { IsQuick text.now → result ≢ Err NameFault.OutOfMemory }
 {
     if let Some(fault) = shape_refusal(text) {
         return Err(fault);
@@ -97,7 +103,7 @@ fn refuse(alloc: Global, text: &str) -> Result<(), NameFault>
     Ok(())
 }
 
-/// The first of the tests that take no memory that refuses the text.
+/// The first of the tests of the shape, which don't allocate, that refuses the text.
 #[tactic(auto, unfolding(crate::specs::Refusal::shape_refusal))]
 fn shape_refusal(text: &str) -> Option<NameFault>
     ensures { result ≡ shape_refusal text.now }

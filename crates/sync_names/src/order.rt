@@ -1,4 +1,4 @@
-//! Names are equal and stand in order as their bytes.
+//! Names are compared by their bytes.
 ghost use Rattle.std.specs.Prelude.{Some, refl, bytes_eq};
 ghost use Rattle.std.specs.Ordering.{nat_cmp};
 ghost use Rattle.std.specs.Cmp.{partial_equiv_from_equiv};

@@ -1,4 +1,4 @@
-//! Names that are accepted, refused and made. The dates are those of Python's `datetime`, the base32
+//! Names that are accepted, rejected and made. The dates are those of Python's `datetime`, the base32
 //! texts those of its `base64`.
 use crate::{NameFault, SafeName, TempName, conflict_name, is_internal, temp_name};
 use std::alloc::Global;
@@ -7,7 +7,7 @@ use std::test::Fail;
 use sync_version::Moment;
 
 #[test]
-fn refuses_names(rt: HostRuntime) -> Result<(), Fail> {
+fn rejects_names(rt: HostRuntime) -> Result<(), Fail> {
     let table = [
         ("", NameFault::Empty, 20, "Empty"),
         ("/", NameFault::Absolute, 21, "Absolute"),
@@ -82,7 +82,7 @@ fn accepts_names(rt: HostRuntime) -> Result<(), Fail> {
 }
 
 #[test]
-fn stands_in_byte_order(rt: HostRuntime) -> Result<(), Fail> {
+fn orders_names_by_bytes(rt: HostRuntime) -> Result<(), Fail> {
     let table = [
         ("a", "b"),
         ("a", "a/b"),
@@ -216,7 +216,7 @@ fn makes_temporary_names(rt: HostRuntime) -> Result<(), Fail> {
     Ok(())
 }
 
-/// What `parse` answers, once more where it was refused memory.
+/// What `parse` returns; a failed allocation is tried once more.
 fn tried(alloc: Global, text: &str) -> Result<(), NameFault> {
     match SafeName::parse(alloc, text) {
         Err(NameFault::OutOfMemory) => SafeName::parse(alloc, text).map(|_| ()),
@@ -224,7 +224,7 @@ fn tried(alloc: Global, text: &str) -> Result<(), NameFault> {
     }
 }
 
-/// The name with this text, made again where it was refused memory.
+/// The name with this text; a failed allocation is tried once more.
 fn parsed(rt: &impl Abort, alloc: Global, text: &str) -> Option<SafeName> {
     match SafeName::parse(alloc, text) {
         Err(NameFault::OutOfMemory) => SafeName::parse(alloc, text).ok(),

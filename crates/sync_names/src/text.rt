@@ -1,9 +1,9 @@
-//! The parts of a text round a slash or a dot.
+//! The parts of a text before and after a slash or a dot.
 ghost use Rattle.std.specs.Prelude.{◌≡◌};
 ghost use Rattle.sync_names.specs.Components.{components, first_of, folder_of, last_component};
 ghost use Rattle.sync_names.specs.Extension.{stem_of, extension_of};
 
-/// What stands before the first slash, or the whole text.
+/// The part before the first slash, or the whole text.
 pub(crate) fn first_component(text: &str) -> &str
     ensures { result.now ≡ first_of (components text.now) }
 {

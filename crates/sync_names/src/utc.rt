@@ -29,7 +29,7 @@ impl UtcTime {
     pub fn at(moment: Moment) -> UtcTime
         ensures value { result ≡ utc_time moment }
         ensures shown { IsUtc moment result }
-        ensures in_range { moment ≤ 250000000000 }
+        ensures in_range { moment ≤ Moment.MAX_SECONDS }
     {
         let instant = Timestamp::from_second(moment.seconds() as i64).unwrap();
         let shown = Offset::UTC.to_datetime(instant);
@@ -44,13 +44,14 @@ impl UtcTime {
     }
 }
 
-/// Appends the moment's date and time in UTC, as YYYYMMDD-HHMMSS (ISO 8601, but for the `T`).
-pub(crate) fn push_date_and_time(text: &mut String, moment: Moment) -> Result<(), AllocError>
-    ensures bytes { let shown = utc_time moment in OnOk result (string_bytes text.new
+/// Appends a date and time as YYYYMMDD-HHMMSS (ISO 8601, with `-` in place of `T`).
+pub(crate) fn push_date_and_time(text: &mut String, shown: UtcTime) -> Result<(), AllocError>
+    requires year { shown.year < 10000 }
+    requires date { (shown.month < 100) × (shown.day < 100) }
+    requires time { (shown.hour < 100) × (shown.minute < 100) × (shown.second < 100) }
+    ensures { OnOk result (string_bytes text.new
         ≡ string_bytes text.old ++ (date_digits shown ++ codes "-" ++ time_digits shown)) }
-    ensures in_range { moment ≤ 250000000000 }
 {
-    let shown = UtcTime::at(moment);
     push_two_digits(text, (shown.year / 100) as u8)?;
     push_two_digits(text, (shown.year % 100) as u8)?;
     push_two_digits(text, shown.month)?;

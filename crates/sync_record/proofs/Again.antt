@@ -1,8 +1,8 @@
 -- The message of a record gives the record again.
-use Rattle.std.proofs.Common.{None, ◌≡◌, ◌≢◌, Bool, true, false, not, ◌&&◌, ◌||◌, ◌==◌, ℤ, pos, if◌then◌else◌, List, [], ◌∷◌, map, length, All, IsTrue, refl, sym, subst, ap, ◌∙◌, rules}
+use Rattle.std.proofs.Common.{None, ◌≡◌, ◌≢◌, Bool, true, false, not, ◌&&◌, ◌||◌, ◌==◌, ℤ, pos, if◌then◌else◌, List, [], ◌∷◌, map, length, All, refl, sym, ap, ◌∙◌, rules}
 use Rattle.std.specs.List.{list_all}
 use Rattle.std.specs.Ordering.{int_eq}
-use Rattle.std.proofs.lemmas.Bool.{and_from, eq-eqb, true≢false}
+use Rattle.std.proofs.lemmas.Bool.{and_from, eq-eqb}
 use Rattle.std.proofs.lemmas.List.Elements.{All-head, All-tail}
 use Rattle.sync_names.specs.Refusal.{refusal}
 use Rattle.sync_names.proofs.Lemmas.{first_refusal-safe}
@@ -10,9 +10,10 @@ use Rattle.sync_version.specs.Versions.{Vector, IsCanonical}
 use Rattle.sync_version.specs.Computed.{from_counters}
 use Rattle.sync_version.proofs.Lemmas.{from_canonical}
 use Rattle.sync_blocks.specs.declared.block.Block.{Block}
+use Rattle.sync_blocks.specs.declared.size.TheConstants.{MIN_BLOCK_SIZE}
 use Rattle.sync_record.specs.Records.{FileRecord, is_live_file}
 use Rattle.sync_record.specs.Validity.{IsKept, FitsBlockInfo, FitsFileInfo, describes_file}
-use Rattle.sync_record.specs.Infos.{block_of, block_info_of, counter_of, info_of, is_block, record_of, record_with, version_of, tells_file}
+use Rattle.sync_record.specs.Infos.{block_of, block_info_of, counter_of, info_of, is_block, record_of, record_with, version_of, agrees}
 
 pairs_again : (v : Vector) → map (λ c. (c.id, c.value)) (map counter_of v) ≡ v
 pairs_again [] = refl
@@ -30,7 +31,7 @@ are_blocks [] h = refl
 are_blocks (b ∷ bs) h =
     and_from _ _ (eq-eqb (length b.hash) 32 (All-head FitsBlockInfo b bs h).hash) (are_blocks bs (All-tail FitsBlockInfo b bs h))
 
-size_again : (n : ℤ) (is_none : Bool) → int_eq n (pos 0) ≡ is_none → n ≢ pos 0 → (if is_none then pos 131072 else n) ≡ n
+size_again : (n : ℤ) (is_none : Bool) → int_eq n (pos 0) ≡ is_none → n ≢ pos 0 → (if is_none then pos MIN_BLOCK_SIZE else n) ≡ n
 size_again n true e h = absurd (h (search (rules, e)))
 size_again n false e h = refl
 
@@ -53,8 +54,8 @@ module _ (r : FileRecord) (kept : IsKept r) (fits : FitsFileInfo r) where
   version : version_of (map counter_of r.version) ≡ r.version
   version = version_again r.version fits.version
 
-  tells : tells_file r.size r.block_size (map block_info_of r.blocks) ≡ describes r
-  tells = λ i. are_blocks r.blocks fits.blocks i && describes_file r.size (size_again r.block_size _ refl kept.block_size i) (blocks_again r.blocks i)
+  agreed : agrees r.size r.block_size (map block_info_of r.blocks) ≡ describes r
+  agreed = λ i. are_blocks r.blocks fits.blocks i && describes_file r.size (size_again r.block_size _ refl kept.block_size i) (blocks_again r.blocks i)
 
   other : is_live_file r ≡ false → record_with (info_of r) r.invalid [] ≡ r
   other l =
@@ -68,7 +69,7 @@ module _ (r : FileRecord) (kept : IsKept r) (fits : FitsFileInfo r) where
   broken l d =
       let no_file : (is_live_file r && describes r) ≡ false = (λ i. l i && d i) in
       let none = no_blocks r.blocks (first_of (length r.blocks == 0) _ no_file kept.blocks) in
-      let invalid = first_of r.invalid _ (λ i. not (l i) || d i) kept.told in
+      let invalid = first_of r.invalid _ (λ i. not (l i) || d i) kept.marked in
       λ i. with_parts r (sym invalid i) (version i) (size_again r.block_size _ refl kept.block_size i) (sym none i)
 
   by_cases : (live d : Bool) → is_live_file r ≡ live → describes r ≡ d
@@ -79,7 +80,7 @@ module _ (r : FileRecord) (kept : IsKept r) (fits : FitsFileInfo r) where
 
   pub again : record_of (info_of r) ≡ r
   again =
-      ap (λ d. if is_live_file r then (if d then record_with (info_of r) r.invalid (map block_of (map block_info_of r.blocks)) else record_with (info_of r) true []) else record_with (info_of r) r.invalid []) tells
+      ap (λ d. if is_live_file r then (if d then record_with (info_of r) r.invalid (map block_of (map block_info_of r.blocks)) else record_with (info_of r) true []) else record_with (info_of r) r.invalid []) agreed
       ∙ by_cases _ _ refl refl
 
   pub unrefused : refusal r.name ≡ None

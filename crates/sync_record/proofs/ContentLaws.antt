@@ -71,7 +71,7 @@ module _ (a b : FileRecord) where
           let t = and_parts (not b.deleted) _ (sym (lives File here) ∙ e) in
           let k = file-kind (int_eq b.type_number (pos 0)) (int_eq b.type_number (pos 1)) t.1 in
           let w = and_parts (int_eq a.size b.size) _ k.1 in
-          (not-true b.deleted t.0, k.0, ints a.size b.size w.0, told (or_cases (int_eq a.size (pos 0)) _ w.1)),
+          (not-true b.deleted t.0, k.0, ints a.size b.size w.0, equal (or_cases (int_eq a.size (pos 0)) _ w.1)),
       λ h.
           lives File here
           ∙ and_from (not b.deleted) _ (not_from_false b.deleted h.0)
@@ -82,9 +82,9 @@ module _ (a b : FileRecord) where
         here : kind_of a ≡ File
         here = ap kind_by (ints a.type_number (pos 0) kind)
 
-        told : (int_eq a.size (pos 0) ≡ true) ⊎ ((int_eq a.block_size b.block_size && pointwise same_block a.blocks b.blocks) ≡ true) → (a.size ≡ pos 0) ⊎ ((a.block_size ≡ b.block_size) × (a.blocks ≡ b.blocks))
-        told (inl z) = inl (ints a.size (pos 0) z)
-        told (inr x) = let p = and_parts (int_eq a.block_size b.block_size) _ x in inr (ints a.block_size b.block_size p.0, (pointwise_decides block-Decides a.blocks b.blocks).0 p.1)
+        equal : (int_eq a.size (pos 0) ≡ true) ⊎ ((int_eq a.block_size b.block_size && pointwise same_block a.blocks b.blocks) ≡ true) → (a.size ≡ pos 0) ⊎ ((a.block_size ≡ b.block_size) × (a.blocks ≡ b.blocks))
+        equal (inl z) = inl (ints a.size (pos 0) z)
+        equal (inr x) = let p = and_parts (int_eq a.block_size b.block_size) _ x in inr (ints a.block_size b.block_size p.0, (pointwise_decides block-Decides a.blocks b.blocks).0 p.1)
 
         back : (a.size ≡ pos 0) ⊎ ((a.block_size ≡ b.block_size) × (a.blocks ≡ b.blocks)) → (int_eq a.size (pos 0) || (int_eq a.block_size b.block_size && pointwise same_block a.blocks b.blocks)) ≡ true
         back (inl z) = or_left _ _ (ap (λ t. int_eq t (pos 0)) z)

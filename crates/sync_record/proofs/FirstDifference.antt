@@ -38,10 +38,10 @@ counters_tied : (v : Vector) → slice_cmp counter_cmp v v ≡ Equal
 counters_tied [] = refl
 counters_tied (c ∷ cs) = next (counter_cmp c c) (slice_cmp counter_cmp cs cs) Equal (counter_tied c) (counters_tied cs)
 
--- a common beginning tells nothing
-behind : (same v w : Vector) → slice_cmp counter_cmp (same ++ v) (same ++ w) ≡ slice_cmp counter_cmp v w
-behind [] v w = refl
-behind (c ∷ cs) v w = ap (λ o. ordering_then o (slice_cmp counter_cmp (cs ++ v) (cs ++ w))) (counter_tied c) ∙ behind cs v w
+-- a common beginning makes no difference
+after_same : (same v w : Vector) → slice_cmp counter_cmp (same ++ v) (same ++ w) ≡ slice_cmp counter_cmp v w
+after_same [] v w = refl
+after_same (c ∷ cs) v w = ap (λ o. ordering_then o (slice_cmp counter_cmp (cs ++ v) (cs ++ w))) (counter_tied c) ∙ after_same cs v w
 
 longer : (v cs : Vector) (c : ℕ × ℕ) → slice_cmp counter_cmp (v ++ c ∷ cs) v ≡ Greater
 longer [] cs c = refl
@@ -80,7 +80,7 @@ from_time a b = ordering_then (ordering_then (by_second a b) (by_nanosecond a b)
 gains : (a b : Side) → preference a b ≡ Greater → IsTrue (is_preferred a b)
 gains a b h = ap is_gt h
 
--- what is alike in life gains by what comes behind
+-- what is alike in life gains by what comes after
 alive : (a b : Side) → a.1.deleted ≡ b.1.deleted → from_time a b ≡ Greater → IsTrue (is_preferred a b)
 alive a b d h = gains a b (next (by_life a b) (from_time a b) Greater (bool_tied a.1.deleted b.1.deleted d) h)
 
@@ -98,12 +98,12 @@ authored a b old by h =
 counted : (a b : Side) → AreAsOld a.1 b.1 → a.1.modified_by ≡ b.1.modified_by → by_counters a b ≡ Greater → IsTrue (is_preferred a b)
 counted a b old by h = authored a b old by (first (by_counters a b) (by_device a b) h)
 
--- the counters as they are told
-told : (v w v2 w2 : Vector) → v ≡ v2 → w ≡ w2 → slice_cmp counter_cmp v2 w2 ≡ Greater → slice_cmp counter_cmp v w ≡ Greater
-told v w v2 w2 p q h = (λ i. slice_cmp counter_cmp (p i) (q i)) ∙ h
+-- equal counters
+of_equal : (v w v2 w2 : Vector) → v ≡ v2 → w ≡ w2 → slice_cmp counter_cmp v2 w2 ≡ Greater → slice_cmp counter_cmp v w ≡ Greater
+of_equal v w v2 w2 p q h = (λ i. slice_cmp counter_cmp (p i) (q i)) ∙ h
 
 differing : (same cs ds : Vector) (c d : ℕ × ℕ) → counter_cmp c d ≡ Greater → slice_cmp counter_cmp (same ++ c ∷ cs) (same ++ d ∷ ds) ≡ Greater
-differing same cs ds c d h = behind same (c ∷ cs) (d ∷ ds) ∙ first (counter_cmp c d) (slice_cmp counter_cmp cs ds) h
+differing same cs ds c d h = after_same same (c ∷ cs) (d ∷ ds) ∙ first (counter_cmp c d) (slice_cmp counter_cmp cs ds) h
 
 pub life : (a b : Side) → IsTrue (is_live a.1) → is_live b.1 ≡ false → IsTrue (is_preferred a b)
 life a b l d = gains a b (first (by_life a b) (from_time a b) (λ i. bool_cmp (l i) (d i)))
@@ -128,19 +128,19 @@ pub id : (a b : Side) → AreAsOld a.1 b.1 → a.1.modified_by ≡ b.1.modified_
     → d.0 < c.0 → IsTrue (is_preferred a b)
 id a b old by same cs ds c d p q h =
     let greater = first (nat_cmp c.0 d.0) (nat_cmp c.1 d.1) (sym (nat_cmp_is c.0 d.0 Greater h)) in
-    counted a b old by (told a.1.version b.1.version (same ++ c ∷ cs) (same ++ d ∷ ds) p q (differing same cs ds c d greater))
+    counted a b old by (of_equal a.1.version b.1.version (same ++ c ∷ cs) (same ++ d ∷ ds) p q (differing same cs ds c d greater))
 
 pub value : (a b : Side) → AreAsOld a.1 b.1 → a.1.modified_by ≡ b.1.modified_by
     → (same cs ds : List (ℕ × ℕ)) (c d : ℕ × ℕ) → a.1.version ≡ same ++ c ∷ cs → b.1.version ≡ same ++ d ∷ ds
     → c.0 ≡ d.0 → d.1 < c.1 → IsTrue (is_preferred a b)
 value a b old by same cs ds c d p q e h =
     let greater = next (nat_cmp c.0 d.0) (nat_cmp c.1 d.1) Greater (nat_tied c.0 d.0 e) (sym (nat_cmp_is c.1 d.1 Greater h)) in
-    counted a b old by (told a.1.version b.1.version (same ++ c ∷ cs) (same ++ d ∷ ds) p q (differing same cs ds c d greater))
+    counted a b old by (of_equal a.1.version b.1.version (same ++ c ∷ cs) (same ++ d ∷ ds) p q (differing same cs ds c d greater))
 
 pub more : (a b : Side) → AreAsOld a.1 b.1 → a.1.modified_by ≡ b.1.modified_by
     → (cs : List (ℕ × ℕ)) (c : ℕ × ℕ) → a.1.version ≡ b.1.version ++ c ∷ cs → IsTrue (is_preferred a b)
 more a b old by cs c p =
-    counted a b old by (told a.1.version b.1.version (b.1.version ++ c ∷ cs) b.1.version p refl (longer b.1.version cs c))
+    counted a b old by (of_equal a.1.version b.1.version (b.1.version ++ c ∷ cs) b.1.version p refl (longer b.1.version cs c))
 
 pub device : (a b : Side) → AreAsOld a.1 b.1 → a.1.modified_by ≡ b.1.modified_by
     → a.1.version ≡ b.1.version → bytes_cmp a.0 b.0 ≡ Less → IsTrue (is_preferred a b)

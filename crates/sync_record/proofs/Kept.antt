@@ -1,16 +1,15 @@
 -- What is kept of a message is a record that is kept.
-use Rattle.std.proofs.Common.{◌≡◌, ◌≢◌, Bool, true, false, not, ◌&&◌, ◌||◌, ◌==◌, ℕ, ℤ, pos, if◌then◌else◌, List, [], ◌∷◌, map, length, All, IsTrue, refl, sym, subst, ap, ◌∙◌, rules, arith}
+use Rattle.std.proofs.Common.{◌≡◌, ◌≢◌, Bool, true, false, not, ◌&&◌, ◌||◌, ◌==◌, ℤ, pos, if◌then◌else◌, [], map, length, IsTrue, refl, sym, subst, ap, ◌∙◌, rules}
 use Rattle.std.specs.List.{list_all}
 use Rattle.std.specs.Ordering.{int_eq}
 use Rattle.std.proofs.lemmas.Bool.{and_parts}
-use Rattle.sync_blocks.specs.declared.block.Block.{Block}
+use Rattle.sync_blocks.specs.declared.size.TheConstants.{MIN_BLOCK_SIZE}
 use Rattle.bep_messages.specs.declared.file_info.FileInfo.{FileInfo}
-use Rattle.bep_messages.specs.declared.block_info.BlockInfo.{BlockInfo}
-use Rattle.sync_record.specs.Infos.{block_of, block_size_of, is_block, is_file_info, is_live_file_info, record_of, record_with, is_natural}
+use Rattle.sync_record.specs.Infos.{block_of, block_size_of, is_block, is_file_info, is_live_file_info, record_of, record_with}
 use Rattle.sync_record.specs.Records.{FileRecord, is_live_file}
-use Rattle.sync_record.specs.Validity.{IsKept, is_valid, is_well_formed, has_file, has_no_blocks, describes_file}
+use Rattle.sync_record.specs.Validity.{IsKept, is_valid, is_well_formed, describes_file}
 
-sized : (n : ℤ) (is_none : Bool) → int_eq n (pos 0) ≡ is_none → (if is_none then pos 131072 else n) ≢ pos 0
+sized : (n : ℤ) (is_none : Bool) → int_eq n (pos 0) ≡ is_none → (if is_none then pos MIN_BLOCK_SIZE else n) ≢ pos 0
 sized n true e = λ p. search (rules, p)
 sized n false e = λ p. search (rules, p, e)
 
@@ -20,13 +19,13 @@ either false = refl
 
 other : (info : FileInfo) → is_live_file_info info ≡ false → IsKept (record_with info info.invalid [])
 other info l = record {
-  told = subst (λ live. IsTrue (info.invalid || (not live || describes_file info.size (block_size_of info.block_size) []))) (sym l) (either info.invalid);
+  marked = subst (λ live. IsTrue (info.invalid || (not live || describes_file info.size (block_size_of info.block_size) []))) (sym l) (either info.invalid);
   blocks = refl;
   block_size = sized info.block_size _ refl;
 }
 
 broken : (info : FileInfo) → IsKept (record_with info true [])
-broken info = record { told = refl; blocks = refl; block_size = sized info.block_size _ refl }
+broken info = record { marked = refl; blocks = refl; block_size = sized info.block_size _ refl }
 
 file : (info : FileInfo) → is_live_file_info info ≡ true → is_file_info info ≡ true
     → IsKept (record_with info info.invalid (map block_of info.blocks))
@@ -34,7 +33,7 @@ file info l f =
     let parts = and_parts (list_all is_block info.blocks) _ f in
     let blocks = map block_of info.blocks in
     record {
-      told = subst (λ live. IsTrue (info.invalid || (not live || describes_file info.size (block_size_of info.block_size) blocks))) (sym l)
+      marked = subst (λ live. IsTrue (info.invalid || (not live || describes_file info.size (block_size_of info.block_size) blocks))) (sym l)
           (subst (λ d. IsTrue (info.invalid || d)) (sym parts.1) (either info.invalid));
       blocks = subst (λ live. IsTrue ((length blocks == 0) || (live && describes_file info.size (block_size_of info.block_size) blocks))) (sym l)
           (subst (λ d. IsTrue ((length blocks == 0) || d)) (sym parts.1) (either (length blocks == 0)));

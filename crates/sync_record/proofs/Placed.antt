@@ -1,5 +1,5 @@
 -- The marks of the blocks that were put.
-use Rattle.std.proofs.Common.{◌≡◌, ℕ, zero, suc, ◌<◌, ◌≤◌, Bool, true, false, List, [], ◌∷◌, map, length, All, IsTrue, refl, sym, subst, ap, ◌∙◌, rules, arith, slice_index_or, slice_set}
+use Rattle.std.proofs.Common.{◌≡◌, ℕ, zero, suc, ◌<◌, Bool, true, false, List, [], ◌∷◌, map, length, All, IsTrue, refl, sym, subst, ap, rules, arith, slice_index_or, slice_set}
 use Rattle.std.specs.Prelude.{replicate, IfSome, slice_get, bytes_eq, not, ◌==◌, if◌then◌else◌}
 use Rattle.std.specs.List.{AllZip, list_all}
 use Rattle.std.specs.Cmp.Lexicographic.{same_text}
@@ -30,7 +30,7 @@ pub placed_at : (ps : List Bool) (bs : List Block) (i : ℕ) (d : Block) → All
 placed_at [] [] i d h lt has = tt
 placed_at [] (b ∷ bs) i d h lt has = absurd h
 placed_at (p ∷ ps) [] i d h lt has = absurd h
-placed_at (p ∷ ps) (b ∷ bs) zero d h lt has = (λ told. has, h.1)
+placed_at (p ∷ ps) (b ∷ bs) zero d h lt has = (λ placed. has, h.1)
 placed_at (p ∷ ps) (b ∷ bs) (suc i) d h lt has = (h.0, placed_at ps bs i d h.1 (omega arith) has)
 
 pub all_placed : (ps : List Bool) (bs : List Block) → AllZip IsPlaced ps bs → list_all (λ p. p) ps ≡ true → All HasBytes bs
@@ -55,7 +55,7 @@ answered b bytes false matched s m e = absurd (search (rules, e))
 pub put_has : (b : Block) (bytes : List ℕ) → put_answer b bytes ≡ Ok → HasBytes b
 put_has b bytes e = answered b bytes _ _ refl refl e
 
--- a block that stands nowhere
+-- a block that is in no place
 abbrev pub nothing : Block
 nothing = record { offset = 0; size = 0; hash = [] }
 

@@ -1,5 +1,5 @@
 -- Preference is a strict total order.
-use Rattle.std.proofs.Common.{ℤ, ◌≡◌, ◌≢◌, ◌⊎◌, Bool, true, false, IsTrue, inl, inr, refl, sym, ap, subst, ◌∙◌, rules}
+use Rattle.std.proofs.Common.{ℤ, ◌≡◌, ◌≢◌, ◌⊎◌, false, IsTrue, inl, inr, refl, sym, ap, subst, ◌∙◌, rules}
 use Rattle.std.specs.declared.cmp.Ordering.{Ordering}
 use Rattle.std.specs.declared.cmp.Ordering.TheVariants.{Less, Equal, Greater}
 use Rattle.std.specs.Ordering.{bool_cmp, nat_cmp, is_gt, ordering_reverse, ordering_then}

@@ -1,5 +1,5 @@
 -- To be of the same content is an equivalence.
-use Rattle.std.proofs.Common.{◌≡◌, Bool, true, false, not, ◌&&◌, ◌||◌, IsTrue, pos, refl, sym, ap, subst, ◌∙◌, rules}
+use Rattle.std.proofs.Common.{◌≡◌, Bool, true, false, not, ◌&&◌, ◌||◌, IsTrue, pos, refl, sym, ap, ◌∙◌, rules}
 use Rattle.std.specs.Ordering.{int_eq}
 use Rattle.std.specs.Cmp.{IsEquivalence, int_eq_equiv, on_equiv, and_equiv, nat_eq_equiv}
 use Rattle.std.specs.Cmp.Lexicographic.{pointwise, lists_equiv, nat_list_eq_equiv}
@@ -7,7 +7,7 @@ use Rattle.std.proofs.lemmas.Bool.{and_parts}
 use Rattle.sync_blocks.specs.Tiling.{same_block}
 use Rattle.sync_record.specs.declared.kind.Kind.{Kind}
 use Rattle.sync_record.specs.declared.kind.Kind.TheVariants.{File, Directory, Other}
-use Rattle.sync_record.specs.Records.{FileRecord, is_live, kind_of}
+use Rattle.sync_record.specs.Records.{FileRecord, kind_of}
 use Rattle.sync_record.specs.Contents.{same_content, same_file, same_of_kinds, same_other}
 
 blocks_equiv : IsEquivalence same_block

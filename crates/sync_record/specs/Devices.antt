@@ -9,7 +9,7 @@ use Rattle.std.specs.declared.cmp.Ordering.{Ordering}
 abbrev pub Identity : Type 0
 Identity = List ℕ
 
--- texts, names and identities stand in order by their bytes
+-- texts, names and identities are ordered by their bytes
 abbrev pub bytes_cmp : List ℕ → List ℕ → Ordering
 bytes_cmp = slice_cmp nat_cmp
 

@@ -6,6 +6,7 @@ use Rattle.std.specs.Ordering.{int_eq}
 use Rattle.sync_version.specs.Versions.{Vector}
 use Rattle.sync_version.specs.Computed.{from_counters}
 use Rattle.sync_blocks.specs.declared.block.Block.{Block}
+use Rattle.sync_blocks.specs.declared.size.TheConstants.{MIN_BLOCK_SIZE}
 use Rattle.bep_messages.specs.declared.file_info.FileInfo.{FileInfo}
 use Rattle.bep_messages.specs.declared.block_info.BlockInfo.{BlockInfo}
 use Rattle.bep_messages.specs.declared.counter.Counter.{Counter}
@@ -32,17 +33,17 @@ block_of b = record { offset = natural b.offset; size = natural b.size; hash = b
 abbrev pub version_of : List Counter → Vector
 version_of counters = from_counters (map (λ c. (c.id, c.value)) counters)
 
--- a block size that isn't told is 128 KiB
+-- a block size of 0 is 128 KiB
 abbrev pub block_size_of : ℤ → ℤ
-block_size_of n = if int_eq n (pos 0) then pos 131072 else n
+block_size_of n = if int_eq n (pos 0) then pos MIN_BLOCK_SIZE else n
 
 -- a message's size, block size and blocks agree
-abbrev pub tells_file : ℤ → ℤ → List BlockInfo → Bool
-tells_file size block_size blocks =
+abbrev pub agrees : ℤ → ℤ → List BlockInfo → Bool
+agrees size block_size blocks =
     list_all is_block blocks && describes_file size (block_size_of block_size) (map block_of blocks)
 
 abbrev pub is_file_info : FileInfo → Bool
-is_file_info info = tells_file info.size info.block_size info.blocks
+is_file_info info = agrees info.size info.block_size info.blocks
 
 abbrev pub is_live_file_info : FileInfo → Bool
 is_live_file_info info = not info.deleted && int_eq info.kind (pos 0)
@@ -67,9 +68,9 @@ record_with info invalid blocks = record {
   symlink_target = info.symlink_target;
 }
 
--- the numbers and flags of that record
-abbrev pub plain_of : FileInfo → Bool → Plain
-plain_of info invalid = record {
+-- the numbers and flags of the record with the message's own mark
+abbrev pub plain_of : FileInfo → Plain
+plain_of info = record {
   size = info.size;
   modified_s = info.modified_s;
   modified_by = info.modified_by;
@@ -79,9 +80,20 @@ plain_of info invalid = record {
   block_size = block_size_of info.block_size;
   permissions = info.permissions;
   deleted = info.deleted;
-  invalid = invalid;
+  invalid = info.invalid;
   no_permissions = info.no_permissions;
 }
+
+-- those numbers and flags with the mark that the blocks leave, and the blocks that are kept
+abbrev pub content_of : Plain → List BlockInfo → Plain × List Block
+content_of plain blocks =
+    if not plain.deleted && int_eq plain.type_number (pos 0)
+    then (
+        if list_all is_block blocks && describes_file plain.size plain.block_size (map block_of blocks)
+        then (plain, map block_of blocks)
+        else (record plain { invalid = true }, [])
+    )
+    else (plain, [])
 
 -- What isn't a live file has no blocks. A live file has those of the message, where they make up a file; else it is
 -- invalid and has none.

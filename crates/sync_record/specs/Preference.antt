@@ -13,7 +13,7 @@ counter_cmp = then_cmp (on (λ c. c.0) nat_cmp) (on (λ c. c.1) nat_cmp)
 abbrev pub time_cmp : ℤ × ℤ → ℤ × ℤ → Ordering
 time_cmp = then_cmp (on (λ t. t.0) int_cmp) (on (λ t. t.1) int_cmp)
 
--- The first of these that tells two apart decides, and the greater is preferred: the live one, the one of the
+-- The first of these in which two differ decides, and the greater is preferred: the live one, the one of the
 -- later time, of the smaller modified_by, of the greater counters pair by pair, of the smaller device.
 abbrev pub preference : Identity × FileRecord → Identity × FileRecord → Ordering
 preference =

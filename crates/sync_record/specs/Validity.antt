@@ -27,10 +27,10 @@ is_valid r = not r.invalid && is_well_formed r
 abbrev pub has_no_blocks : FileRecord → Bool
 has_no_blocks r = length r.blocks == 0
 
--- What holds of every record that is kept: it is invalid where it isn't well formed, it has blocks only where they
+-- What holds of every record that is kept: it is invalid if it isn't well formed, it has blocks only if they
 -- make up a live file, and it has a block size.
 pub record IsKept (r : FileRecord) : Type 0 where
-  pub told : IsTrue (r.invalid || is_well_formed r)
+  pub marked : IsTrue (r.invalid || is_well_formed r)
   pub blocks : IsTrue (has_no_blocks r || has_file r)
   pub block_size : r.block_size ≢ pos 0
 

@@ -27,8 +27,8 @@ impl Model for Assembly {
 }
 
 impl Assembly {
-    /// Begins to put a valid live file together: no block was put. Refused by want of memory alone, and never where the
-    /// file has no blocks. O(n) for n blocks.
+    /// Begins to put a valid live file together: no block was put. Returns `Err` if the marks of the blocks could not be
+    /// allocated, and never if the file has no blocks. O(n) for n blocks.
     pub fn new(alloc: Global, target: Record) -> Result<Assembly, AllocError>
         requires { IsTrue (is_valid target && is_live_file target) }
         ensures value { IfOk result (λ a. a ≡ nothing_placed target) }
@@ -45,9 +45,9 @@ impl Assembly {
         &self.target
     }
 
-    /// Puts bytes as a block, which has to be one of the target's: WrongSize where they are not as many as the block
-    /// has, else WrongHash where their SHA-256 digest is another, and else Ok. Only Ok changes anything. Takes no memory.
-    /// O(n) for n bytes.
+    /// Puts bytes as a block, which must be one of the target's: `WrongSize` if they are not as many as the block has,
+    /// otherwise `WrongHash` if their SHA-256 digest is not the block's, and otherwise `Ok`. Only `Ok` changes anything.
+    /// Does not allocate. O(n) for n bytes.
     pub fn put(&mut self, block: usize, bytes: &[u8]) -> Put
         requires { block < length self.old.target.blocks }
         ensures answer { IfSome (slice_get self.old.target.blocks block) (λ b. result ≡ put_answer b bytes.now) }
@@ -60,7 +60,7 @@ impl Assembly {
         answer
     }
 
-    /// The file, exactly where every block was put; else the assembly as it was. Takes no memory. O(n) for n blocks.
+    /// The file, exactly if every block was put; otherwise the assembly as it was. Does not allocate. O(n) for n blocks.
     pub fn done(self) -> Result<Assembled, Assembly>
         ensures exactly { IsOk result ↔ IsTrue (is_complete self) }
         ensures ok { IfOk result (λ file. file ≡ self.target) }
@@ -75,7 +75,7 @@ impl Assembly {
     }
 }
 
-// The marks of so many blocks, none of which was put. They take memory only where there is a block.
+// The marks of this many blocks, of which none was put. Does not allocate if there is no block.
 fn none_placed(alloc: Global, blocks: usize) -> Result<Vec<bool>, AllocError>
     ensures value { IfOk result (λ placed. placed.items ≡ replicate blocks false) }
     ensures free { blocks ≡ 0 → IsOk result }

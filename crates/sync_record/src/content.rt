@@ -5,8 +5,8 @@ use crate::fields::Fields;
 use crate::{Kind, Record};
 
 /// Whether two records are of the same content: both are deleted, or both are live directories, live files of equal
-/// size and (but for empty ones) equal block size and blocks, or others of equal type and symlink target. Takes no
-/// memory. O(n) for n blocks.
+/// size and (except empty ones) equal block size and blocks, or others of equal type and symlink target. Does not
+/// allocate. O(n) for n blocks.
 pub fn same_content(a: &Record, b: &Record) -> bool
     ensures { result ≡ same_content a.now b.now }
 {

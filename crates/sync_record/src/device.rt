@@ -41,7 +41,7 @@ impl DeviceId {
         &self.bytes
     }
 
-    /// The device of a text of 64 hexadecimal digits in either case; `None` where the text is another. O(1).
+    /// The device of a text of 64 hexadecimal digits in either case; `None` for any other text. O(1).
     pub fn from_hex(text: &str) -> Option<DeviceId>
         ensures value { IfSome result (λ device. decode_of text.now ≡ Ok device) }
         ensures found { IsSome result ↔ ((length text.now ≡ 64) × AllPass is_hex_digit text.now) }
@@ -50,7 +50,7 @@ impl DeviceId {
         Some(DeviceId { bytes })
     }
 
-    /// Its 64 hexadecimal digits in lower case. Refused by want of memory alone. O(1).
+    /// Its 64 hexadecimal digits in lower case. Returns `Err` if they could not be allocated. O(1).
     pub fn to_hex(&self, alloc: Global) -> Result<String, AllocError>
         ensures { IfOk result (λ text. string_bytes text ≡ encode_lower self.now) }
     {

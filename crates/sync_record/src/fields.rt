@@ -1,7 +1,4 @@
-ghost use Rattle.std.specs.Prelude.{◌≡◌, IfOk};
-
-use bep_messages::{Copied, Octets};
-use std::alloc::AllocError;
+use bep_messages::Octets;
 use std::marker::Model;
 use sync_blocks::Block;
 use sync_names::SafeName;
@@ -55,19 +52,4 @@ impl Model for Fields {
       blocks = f.blocks.items;
       symlink_target = f.symlink_target;
     } };
-}
-
-impl Fields {
-    /// The same fields once more. Refused by want of memory alone.
-    pub fn copy(&self) -> Result<Fields, AllocError>
-        ensures { IfOk result (λ f. f ≡ self.now) }
-    {
-        Ok(Fields {
-            name: self.name.copy()?,
-            version: self.version.copy()?,
-            blocks: self.blocks.clone()?,
-            symlink_target: self.symlink_target.copy()?,
-            plain: self.plain,
-        })
-    }
 }

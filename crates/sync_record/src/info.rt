@@ -1,42 +1,37 @@
 //! Records from messages, and messages from records.
-ghost use Rattle.std.specs.Prelude.{◌≡◌, ◌<◌, ◌^◌, [], All, IfOk, IsOk, MatchResult, IfNone, IfSome, None, false, true, map};
+ghost use Rattle.std.specs.Prelude.{◌≡◌, ◌<◌, ◌^◌, ◌&&◌, [], All, Err, IfOk, IsOk, MatchResult, IfNone, IfSome, None, false, map, not, pos, true};
 ghost use Rattle.std.specs.List.{list_all};
-ghost use Rattle.sync_names.specs.Parsing.{IsToldOf};
-ghost use Rattle.sync_names.specs.Refusal.{refusal};
+ghost use Rattle.std.specs.Ordering.{int_eq};
+ghost use Rattle.sync_names.specs.Parsing.{IsQuick, IsToldOf};
+ghost use Rattle.sync_names.specs.Refusal.{refusal, shape_refusal};
 ghost use Rattle.sync_version.specs.Versions.{IsCanonical};
 ghost use Rattle.sync_record.specs.Validity.{FitsBlockInfo, FitsFileInfo};
-ghost use Rattle.sync_record.specs.Infos.{block_of, block_info_of, block_size_of, counter_of, info_of, is_block, is_live_file_info, natural, plain_of, record_of, record_with, tells_file, version_of};
+ghost use Rattle.sync_record.specs.Infos.{block_of, block_info_of, block_size_of, content_of, counter_of, info_of, is_block, natural, plain_of, record_of, version_of};
 
 use crate::Record;
 use crate::fields::{Fields, Plain};
 use crate::file::describes_file;
 use bep_messages::{BlockInfo, Copied, Counter, FileInfo, Items, ShortOctets, Text, Vector};
 use std::alloc::{AllocError, Global};
-use sync_blocks::Block;
+use sync_blocks::{Block, MIN_BLOCK_SIZE};
 use sync_names::{NameFault, SafeName};
 use sync_version::Version;
-
-/// The block size of a message that tells none: 128 KiB.
-const DEFAULT_BLOCK_SIZE: i32 = 131_072;
 
 // The version of a message's counters.
 fn read_version(alloc: Global, counters: &[Counter]) -> Result<Version, AllocError>
     ensures value { IfOk result (λ v. v ≡ version_of counters.now) }
     ensures canonical { IfOk result IsCanonical }
-    // Where there are no counters, no memory is taken.
+    // Does not allocate if there are no counters.
     ensures free { counters.now ≡ [] → IsOk result }
 {
-    if counters.is_empty() {
-        return Ok(Version::new(alloc));
+    let mut pairs = Vec::with_capacity(alloc, counters.len())?;
+    for counter in counters {
+        pairs.push((counter.id, counter.value))?;
     }
-    let pairs = counters
-        .iter()
-        .map(|counter| (counter.id, counter.value))
-        .collect(alloc)?;
     Ok(Version::from_pairs(pairs))
 }
 
-// The block that a message tells, if it can be one.
+// The block of a message, if it can be one.
 fn read_block(info: &BlockInfo) -> Option<Block>
     ensures none { IfNone result (is_block info.now ≡ false) }
     ensures some { IfSome result (λ b. (is_block info.now ≡ true) × (b ≡ block_of info.now)) }
@@ -48,7 +43,7 @@ fn read_block(info: &BlockInfo) -> Option<Block>
     Some(Block { offset, size, hash })
 }
 
-// The blocks that a message tells, if each can be one. Takes memory only where there is one.
+// The blocks of a message, if each can be one. Does not allocate if there is none.
 fn read_blocks(alloc: Global, infos: &[BlockInfo]) -> Result<Option<Vec<Block>>, AllocError>
     ensures none { IfOk result (λ read. IfNone read (list_all is_block infos.now ≡ false)) }
     ensures some { IfOk result (λ read. IfSome read (λ blocks.
@@ -66,60 +61,24 @@ fn read_blocks(alloc: Global, infos: &[BlockInfo]) -> Result<Option<Vec<Block>>,
     Ok(Some(blocks))
 }
 
-// The block size that a message tells.
-fn read_block_size(told: i32) -> i32
-    ensures { result ≡ block_size_of told }
+// The block size of a message.
+fn read_block_size(announced: i32) -> i32
+    ensures { result ≡ block_size_of announced }
 {
-    if told == 0 { DEFAULT_BLOCK_SIZE } else { told }
+    if announced == 0 { MIN_BLOCK_SIZE as i32 } else { announced }
 }
 
 // A natural number of a message.
-fn read_natural(told: i64) -> u64
-    ensures value { result ≡ natural told }
+fn read_natural(announced: i64) -> u64
+    ensures value { result ≡ natural announced }
     ensures fits { result < 2 ^ 63 }
 {
-    u64::try_from(told).unwrap_or(0)
+    u64::try_from(announced).unwrap_or(0)
 }
 
-// The blocks of a live file's message, if they make up the file.
-fn read_file(
-    alloc: Global,
-    size: i64,
-    block_size: i32,
-    infos: &[BlockInfo],
-) -> Result<Option<Vec<Block>>, AllocError>
-    ensures none { IfOk result (λ read. IfNone read (tells_file size block_size infos.now ≡ false)) }
-    ensures some { IfOk result (λ read. IfSome read (λ blocks.
-        (tells_file size block_size infos.now ≡ true) × (blocks.items ≡ map block_of infos.now))) }
-    ensures fit { IfOk result (λ read. IfSome read (λ blocks. All FitsBlockInfo blocks.items)) }
-    ensures free { infos.now ≡ [] → IsOk result }
-{
-    let read = read_blocks(alloc, infos)?;
-    let block_size = read_block_size(block_size);
-    Ok(read.filter(|blocks| describes_file(size, block_size, blocks)))
-}
-
-// The invalid mark and the blocks of a message's record.
-fn read_content(alloc: Global, info: &FileInfo) -> Result<(bool, Vec<Block>), AllocError>
-    ensures value { IfOk result (λ read. record_with info.now read.0 read.1.items ≡ record_of info.now) }
-    ensures fit { IfOk result (λ read. All FitsBlockInfo read.1.items) }
-    // Memory is taken for the blocks of a live file alone.
-    ensures no_file { is_live_file_info info.now ≡ false → IsOk result }
-    ensures no_blocks { info.now.blocks ≡ [] → IsOk result }
-{
-    if info.deleted || info.kind != 0 {
-        return Ok((info.invalid, Vec::new(alloc)));
-    }
-    let read = read_file(alloc, info.size, info.block_size, info.blocks.as_slice())?;
-    Ok(match read {
-        Some(blocks) => (info.invalid, blocks),
-        None => (true, Vec::new(alloc)),
-    })
-}
-
-// The numbers and flags of a message's record.
-fn read_plain(info: &FileInfo, invalid: bool) -> Plain
-    ensures value { result ≡ plain_of info.now invalid }
+// The numbers and flags of a message's record, with the message's own mark.
+fn read_plain(info: &FileInfo) -> Plain
+    ensures value { result ≡ plain_of info.now }
     ensures fits { result.sequence < 2 ^ 63 }
 {
     Plain {
@@ -132,9 +91,39 @@ fn read_plain(info: &FileInfo, invalid: bool) -> Plain
         block_size: read_block_size(info.block_size),
         permissions: info.permissions,
         deleted: info.deleted,
-        invalid,
+        invalid: info.invalid,
         no_permissions: info.no_permissions,
     }
+}
+
+// The numbers and flags, and the blocks of a live file's message if they make up the file; a file that they don't make
+// up is invalid. Allocates only for the blocks of a live file.
+fn read_content(
+    alloc: Global,
+    plain: Plain,
+    infos: &[BlockInfo],
+) -> Result<(Plain, Vec<Block>), AllocError>
+    ensures value { IfOk result (λ read. (read.0, read.1.items) ≡ content_of plain infos.now) }
+    ensures sequence { IfOk result (λ read. read.0.sequence ≡ plain.sequence) }
+    ensures fit { IfOk result (λ read. All FitsBlockInfo read.1.items) }
+    ensures no_file { (not plain.deleted && int_eq plain.type_number (pos 0)) ≡ false → IsOk result }
+    ensures no_blocks { infos.now ≡ [] → IsOk result }
+{
+    if plain.deleted || plain.type_number != 0 {
+        return Ok((plain, Vec::new(alloc)));
+    }
+    let blocks = read_blocks(alloc, infos)?
+        .filter(|blocks| describes_file(plain.size, plain.block_size, blocks));
+    Ok(match blocks {
+        Some(blocks) => (plain, blocks),
+        None => {
+            let broken = Plain {
+                invalid: true,
+                ..plain
+            };
+            (broken, Vec::new(alloc))
+        }
+    })
 }
 
 // The counters of a version's message.
@@ -168,36 +157,40 @@ fn write_blocks(alloc: Global, blocks: &[Block]) -> Result<Items<BlockInfo>, All
 }
 
 impl Record {
-    /// The record of a message, whose name and symlink target it takes over. It is refused exactly as
-    /// [`SafeName::parse`] of the name is, or by want of memory.
+    /// The record of a message, whose name and symlink target it takes over. Fails exactly as [`SafeName::parse`] of the
+    /// name does, or with `OutOfMemory`. The name is tested before anything is allocated.
     ///
     /// A record that isn't well formed becomes invalid and has no blocks, and so has one that isn't a live file. A block
-    /// size of 0 is 128 KiB, a negative sequence 0; counters may stand in any order. O(n) for n bytes of the message,
-    /// but O(m log m) for m counters.
+    /// size of 0 is 128 KiB, a negative sequence 0; counters may be in any order. O(n) for n bytes of the message,
+    /// but O(m log m) for m counters; at most three allocations, for the counters, the blocks and the record.
     pub fn from_info(alloc: Global, info: FileInfo) -> Result<Record, NameFault>
         ensures answer { MatchResult result (λ r. (refusal info.name ≡ None) × (r ≡ record_of info)) (IsToldOf info.name) }
+        ensures shape { IfSome (shape_refusal info.name) (λ fault. result ≡ Err fault) }
+        ensures quick { IsQuick info.name → IfSome (refusal info.name) (λ fault. result ≡ Err fault) }
     {
-        let (invalid, blocks) = read_content(alloc, &info)?;
-        let version = read_version(alloc, info.version.counters.as_slice())?;
-        let plain = read_plain(&info, invalid);
+        let plain = read_plain(&info);
         let FileInfo {
             name,
+            version,
+            blocks,
             symlink_target,
             ..
         } = info;
-        Ok(Record {
-            fields: Fields {
-                name: SafeName::from_string(name.into_string())?,
-                version,
-                blocks,
-                symlink_target,
-                plain,
-            },
-        })
+        let name = SafeName::from_string(name.into_string())?;
+        let version = read_version(alloc, version.counters.as_slice())?;
+        let (plain, blocks) = read_content(alloc, plain, blocks.as_slice())?;
+        let fields = Fields {
+            name,
+            version,
+            blocks,
+            symlink_target,
+            plain,
+        };
+        Ok(Record::from_fields(alloc, fields)?)
     }
 
-    /// The message of the record, in memory of its own; its record is this one again. Refused by want of memory alone.
-    /// O(n) for n bytes of names, counters and blocks.
+    /// The message of the record, in memory of its own; its record is this one again. Returns `Err` if it could not be
+    /// allocated. O(n) for n bytes of names, counters and blocks.
     pub fn to_info(&self) -> Result<FileInfo, AllocError>
         ensures value { IfOk result (λ info. info ≡ info_of self.now) }
         ensures again { IfOk result (λ info. (refusal info.name ≡ None) × (record_of info ≡ self.now)) }

@@ -1,4 +1,4 @@
-/// What stands under a name.
+/// What a name is of.
 #[derive(Clone, Copy, Debug, PartialEq, Eq)]
 pub enum Kind {
     File,

@@ -22,3 +22,5 @@ pub use kind::Kind;
 pub use preference::preferred;
 pub use put::Put;
 pub use record::Record;
+pub use sync_blocks::{Block, tiles};
+pub use sync_names::SafeName;

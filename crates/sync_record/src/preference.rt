@@ -6,7 +6,7 @@ use std::cmp::Ordering;
 
 /// Whether the first of two devices' records of a name is preferred to the second. The first difference decides: live
 /// before deleted; the later time; the smaller `modified_by`; the greater list of counters, compared pair by pair, a
-/// proper beginning being smaller; the smaller device. Takes no memory. O(n) for n counters.
+/// proper beginning being smaller; the smaller device. Does not allocate. O(n) for n counters.
 pub fn preferred(a: (&Record, &DeviceId), b: (&Record, &DeviceId)) -> bool
     ensures { result ≡ is_preferred (a.entry.1.now, a.entry.0.now) (b.entry.1.now, b.entry.0.now) }
 {

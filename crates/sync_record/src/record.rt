@@ -4,8 +4,9 @@ ghost use Rattle.sync_record.specs.Validity.{IsKept, FitsFileInfo, is_valid};
 
 use crate::Kind;
 use crate::fields::Fields;
-use std::alloc::AllocError;
+use std::alloc::{AllocError, Global};
 use std::marker::Model;
+use std::sync::Arc;
 use sync_blocks::Block;
 use sync_names::SafeName;
 use sync_version::Version;
@@ -13,39 +14,52 @@ use sync_version::Version;
 /// What a device says of one name: a file, a directory, something else, or that it is deleted (Block Exchange Protocol
 /// v1, "Fields of the FileInfo message").
 ///
-/// A record that isn't well formed is invalid, and only a well formed live file has blocks.
+/// A record that isn't well formed is invalid, and only a well formed live file has blocks. It never changes, and its
+/// copies share its memory, in any thread.
 #[derive(Debug, Drop)]
 pub struct Record {
-    pub(crate) fields: Fields,
+    pub(crate) fields: Arc<Fields, Global>,
 }
 
 impl Model for Record {
+    ghost use Rattle.std.specs.Arc.{arc_value};
     ghost use Rattle.sync_record.specs.Records.{FileRecord};
     ghost use Rattle.sync_record.specs.Validity.{IsKept, FitsFileInfo};
 
     ghost Value = { FileRecord };
 
-    ghost view = { λ r. r.fields };
+    ghost view = { λ r. arc_value r.fields };
 
-    ghost invariant = { λ r. IsKept r.fields × FitsFileInfo r.fields };
+    ghost invariant = { λ r. IsKept (arc_value r.fields) × FitsFileInfo (arc_value r.fields) };
 }
 
 impl Record {
-    /// Its name.
+    // The record of these fields, in memory that its copies share.
+    pub(crate) fn from_fields(alloc: Global, fields: Fields) -> Result<Record, AllocError>
+        requires kept { IsKept fields }
+        requires fits { FitsFileInfo fields }
+        ensures { IfOk result (λ r. r ≡ fields) }
+    {
+        Ok(Record {
+            fields: Arc::new(alloc, fields)?,
+        })
+    }
+
+    /// Its name. O(1).
     pub fn name(&self) -> &SafeName
         ensures { result.now ≡ self.now.name }
     {
         &self.fields.name
     }
 
-    /// Its version.
+    /// Its version. O(1).
     pub fn version(&self) -> &Version
         ensures { result.now ≡ self.now.version }
     {
         &self.fields.version
     }
 
-    /// What it is of: a file, a directory or something else. A deleted record tells what there was.
+    /// What it is of: a file, a directory or something else. A deleted record says what there was. O(1).
     pub fn kind(&self) -> Kind
         ensures { result ≡ kind_of self.now }
     {
@@ -56,54 +70,55 @@ impl Record {
         }
     }
 
-    /// Whether the name was deleted.
+    /// Whether the name was deleted. O(1).
     pub fn is_deleted(&self) -> bool
         ensures { result ≡ self.now.deleted }
     {
         self.fields.plain.deleted
     }
 
-    /// The size in bytes, as it was announced.
+    /// The size in bytes, as it was announced. O(1).
     pub fn size(&self) -> i64
         ensures { result ≡ self.now.size }
     {
         self.fields.plain.size
     }
 
-    /// When it was modified: whole Unix seconds, and the nanoseconds behind them, as they were announced.
+    /// When it was modified: whole Unix seconds, and the nanoseconds after them, as they were announced. O(1).
     pub fn modified(&self) -> (i64, i32)
         ensures { result ≡ (self.now.modified_s, self.now.modified_ns) }
     {
         (self.fields.plain.modified_s, self.fields.plain.modified_ns)
     }
 
-    /// The short id of the device that made the last change.
+    /// The short id of the device that made the last change. O(1).
     pub fn modified_by(&self) -> u64
         ensures { result ≡ self.now.modified_by }
     {
         self.fields.plain.modified_by
     }
 
-    /// Its blocks in the order of the file.
+    /// Its blocks in the order of the file. O(1).
     pub fn blocks(&self) -> &[Block]
         ensures { result.now ≡ self.now.blocks }
     {
         self.fields.blocks.as_slice()
     }
 
-    /// Whether it may take part in a folder: it is well formed, and isn't marked invalid. Takes no memory. O(1).
+    /// Whether it may take part in a folder: it is well formed, and isn't marked invalid. Does not allocate. O(1).
     pub fn is_valid(&self) -> bool
         ensures { result ≡ is_valid self.now }
     {
         !self.fields.plain.invalid
     }
 
-    /// The same record once more. Refused by want of memory alone. O(n) for n bytes of names, counters and blocks.
+    /// The same record once more, in the memory of this one. Does not allocate. Returns `Err` only if the record already
+    /// has 2^63 - 1 copies. O(1).
     pub fn copy(&self) -> Result<Record, AllocError>
         ensures { IfOk result (λ r. r ≡ self.now) }
     {
         Ok(Record {
-            fields: self.fields.copy()?,
+            fields: Arc::try_clone(&self.fields)?,
         })
     }
 

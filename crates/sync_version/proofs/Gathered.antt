@@ -19,7 +19,7 @@ use Rattle.sync_version.proofs.Vectors.{positive, counter-cons, counter_of, zero
 abbrev pub same_id : ℕ × ℕ → ℕ × ℕ → Bool
 same_id c d = nat_eq c.0 d.0
 
--- d may stand behind c: its id is no smaller, and at the same id its value no greater
+-- d may follow c: its id is no smaller, and at the same id its value no greater
 pub record MayFollow (c d : ℕ × ℕ) : Type 0 where
   pub rises : c.0 ≤ d.0
   pub falls : c.0 ≡ d.0 → d.1 ≤ c.1

@@ -112,11 +112,11 @@ same_vector a b p q each =
     same_entries nat_cmp nat_cmp_total nat_cmp-IsAntisymmetric a b (sorted_of a p) (sorted_of b q)
     (λ id. same_found (find nat_cmp id a) (find nat_cmp id b) (λ k. found_positive a id k p) (λ k. found_positive b id k q) (each id))
 
--- a counter that stands in the vector
+-- a counter that is in the vector
 pub counter_of : (v : Vector) → IsCanonical v → (c : ℕ × ℕ) → In c v → counter v c.0 ≡ c.1
 counter_of v p c i = ap (λ f. unwrap_or f 0) (in_find v (sorted_of v p) c i)
 
--- a counter is 0 or stands in the list
+-- a counter is 0 or is in the list
 pub zero_or_in : (v : Vector) (id : ℕ) → (counter v id ≡ 0) ⊎ In (id, counter v id) v
 zero_or_in v id =
     elim (find nat_cmp id v) as (λ f. find nat_cmp id v ≡ f → (unwrap_or f 0 ≡ 0) ⊎ In (id, unwrap_or f 0) v) [

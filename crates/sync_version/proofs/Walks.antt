@@ -1,4 +1,4 @@
--- The first step of a walk over two vectors, and the walk behind it.
+-- The first step of a walk over two vectors, and the walk after it.
 use Rattle.std.proofs.Common.{◌<◌, ◌≤◌, ◌≡◌, ℕ, Bool, true, false, List, [], ◌∷◌, ◌++◌, append-nil, refl, sym, ap, subst, ◌∙◌, arith, inl, inr}
 use Rattle.std.specs.Prelude.{cond, ◌&&◌, nat_le, min, max, T, Some, None, map, ◌⊎◌, nat_eq, slice_get}
 use Rattle.std.specs.Bool.{passes}
@@ -24,7 +24,7 @@ IsFront id (c ∷ cs) = id ≤ c.0
 abbrev pub IsFirst : ℕ → Vector → Vector → Type 0
 IsFirst id a b = IsFront id a × IsFront id b × (0 < max (first_at id a) (first_at id b))
 
--- the first value is the counter at the id, and the rest has the counters behind it
+-- the first value is the counter at the id, and the rest has the counters after it
 abbrev pub IsSplit : ℕ → Vector → ℕ → Vector → Type 0
 IsSplit id v first rest = IsCanonical rest × T (below_all nat_cmp id rest) × ((q : ℕ) → counter v q ≡ cond (eq_by_cmp nat_cmp q id) first (counter rest q))
 
@@ -98,8 +98,8 @@ merge_first a b more_a more_b id x y p q s t h =
 at_first : (v rest : Vector) (id x : ℕ) → IsSplit id v x rest → counter v id ≡ x
 at_first v rest id x s = s.2 id ∙ ap (λ r. cond (is_eq r) x (counter rest id)) (tied_itself nat_cmp_total id)
 
-behind : (v rest : Vector) (id x q : ℕ) → IsSplit id v x rest → nat_cmp id q ≡ Less → counter v q ≡ counter rest q
-behind v rest id x q s less = s.2 q ∙ ap (λ r. cond (is_eq r) x (counter rest q)) (nat_cmp_total.antisymm q id ∙ ap ordering_reverse less)
+after_first : (v rest : Vector) (id x q : ℕ) → IsSplit id v x rest → nat_cmp id q ≡ Less → counter v q ≡ counter rest q
+after_first v rest id x q s less = s.2 q ∙ ap (λ r. cond (is_eq r) x (counter rest q)) (nat_cmp_total.antisymm q id ∙ ap ordering_reverse less)
 
 abbrev step : Vector → Vector → ℕ × ℕ → Step
 step v w c = record { id = c.0; ours = counter v c.0; theirs = counter w c.0 }
@@ -111,7 +111,7 @@ side_by_side_first a b more_a more_b id x y p q s t h =
     ∙ (λ i. record { id = id; ours = at_first a more_a id x s i; theirs = at_first b more_b id y t i }
     ∷ map_same (step a b) (step more_a more_b) (merge more_a more_b) (λ c j.
     let less = below_in id (merge more_a more_b) (below-merge id more_a more_b s.0 t.0 s.1 t.1) c j in
-    λ k. record { id = c.0; ours = behind a more_a id x c.0 s less k; theirs = behind b more_b id y c.0 t less k }) i)
+    λ k. record { id = c.0; ours = after_first a more_a id x c.0 s less k; theirs = after_first b more_b id y c.0 t less k }) i)
 
 pub step_at : (a b : Vector) (id : ℕ) → IsCanonical a → IsCanonical b → IsFirst id a b
     → side_by_side a b ≡ record { id = id; ours = first_at id a; theirs = first_at id b } ∷ side_by_side (past id a) (past id b)
@@ -164,7 +164,7 @@ same_test : (b c : Bool) → (b ≡ true → c ≡ true) → (c ≡ true → b �
 same_test true c f g = sym (f refl)
 same_test false c f g = sym (false_from_ne_true c (λ e. true≢false (sym (g e))))
 
--- at the ids of a vector that has every id of b it is told whether a covers b
+-- at the ids of a vector that has every id of b the test says whether a covers b
 covers_everywhere : (a b v : Vector) → ((id : ℕ) → counter b id ≤ counter v id)
     → covers a b ≡ list_all (λ c. nat_le (counter b c.0) (counter a c.0)) v
 covers_everywhere a b v each = same_test _ _

@@ -6,14 +6,14 @@ ghost use Rattle.sync_version.specs.Versions.{IsMergeOf, IsRaiseOf, IsGatheredFr
 ghost use Rattle.sync_version.specs.Computed.{same_version, covers, dominates, relation, turned};
 ghost use Rattle.sync_version.specs.Computed.{merge, raised, from_counters};
 
-/// Vectors with the same counters are one vector, and that is what `==` tests.
-pub fn counters_tell_vectors()
+/// Vectors with the same counters are equal, and that is what `==` tests.
+pub fn same_counters_are_equal_vectors()
     ensures equal { (a b : Vector) → IsCanonical a → IsCanonical b →
         ((id : ℕ) → counter a id ≡ counter b id) → a ≡ b }
     ensures tested { (a b : Vector) → IsTrue (same_version a b) ↔ (a ≡ b) }
 {}
 
-/// Covering and domination are tested rightly; none dominates itself, and domination goes along a chain.
+/// The tests of covering and domination are exact; no vector dominates itself, and domination is transitive.
 pub fn domination_is_an_order()
     ensures covers { (a b : Vector) → IsTrue (covers a b) ↔ Covers a b }
     ensures dominates { (a b : Vector) → IsTrue (dominates a b) ↔ Dominates a b }
@@ -22,14 +22,14 @@ pub fn domination_is_an_order()
         IsTrue (dominates a b) → IsTrue (dominates b c) → IsTrue (dominates a c) }
 {}
 
-/// Of any two vectors exactly one of the four relations holds, and turned round it is the turned one.
+/// Of any two vectors exactly one of the four relations holds, and that of the second to the first is the turned one.
 pub fn one_relation_holds()
     ensures holds { (a b : Vector) → IsCanonical a → IsCanonical b → IsRelation (relation a b) a b }
     ensures only { (a b : Vector) (r : Relation) → IsRelation r a b → r ≡ relation a b }
     ensures turned { (a b : Vector) → relation b a ≡ turned (relation a b) }
 {}
 
-/// A merge has the greater of each counter, and no other vector has.
+/// A merge has the greater of each two counters, and it is the only such vector.
 pub fn merge_is_greatest_counters()
     ensures holds { (a b : Vector) → IsCanonical a → IsCanonical b → IsMergeOf a b (merge a b) }
     ensures only { (a b v : Vector) → IsCanonical a → IsCanonical b → IsMergeOf a b v → v ≡ merge a b }
@@ -43,7 +43,7 @@ pub fn merge_is_least_above()
         IsTrue (covers v a) → IsTrue (covers v b) → IsTrue (covers v (merge a b)) }
 {}
 
-/// Merges may be made in any order, and as often as one likes.
+/// The order of merges makes no difference, and repeating one makes none.
 pub fn merge_in_any_order()
     ensures commutative { (a b : Vector) → IsCanonical a → IsCanonical b → merge a b ≡ merge b a }
     ensures associative { (a b c : Vector) → IsCanonical a → IsCanonical b → IsCanonical c →
@@ -60,7 +60,7 @@ pub fn raise_dominates()
     ensures dominates { (v : Vector) (id moment : ℕ) → IsTrue (dominates (raised v id moment) v) }
 {}
 
-/// Pairs in any order give the one vector of the greatest value at each id, and a canonical list itself.
+/// Pairs in any order give the one vector of the greatest value at each id, and a canonical list gives itself.
 pub fn pairs_give_one_vector()
     ensures holds { (pairs : List (ℕ × ℕ)) → IsGatheredFrom pairs (from_counters pairs) }
     ensures only { (pairs : List (ℕ × ℕ)) (v : Vector) → IsGatheredFrom pairs v → v ≡ from_counters pairs }

@@ -10,32 +10,36 @@ pub struct Moment {
 
 impl Model for Moment {
     ghost use Rattle.std.specs.Prelude.{ℕ, ◌≤◌};
+    ghost use Rattle.sync_version.specs.declared.moment.TheConstants.Moment.{MAX_SECONDS};
 
     ghost Value = { ℕ };
 
     ghost view = { λ m. m.seconds };
 
-    ghost invariant = { λ m. m.seconds ≤ 250000000000 };
+    ghost invariant = { λ m. m.seconds ≤ MAX_SECONDS };
 
     ghost inverse = { λ n. record { seconds = n } };
 }
 
 impl Moment {
-    /// The moment of so many seconds; `None` exactly where they are more than 250,000,000,000.
+    /// The seconds of the last moment.
+    pub const MAX_SECONDS: u64 = 250_000_000_000;
+
+    /// The moment of this many seconds; `None` if they are more than [`Moment::MAX_SECONDS`]. O(1).
     pub fn new(seconds: u64) -> Option<Moment>
-        ensures range { IsSome result ↔ (seconds ≤ 250000000000) }
+        ensures range { IsSome result ↔ (seconds ≤ Self.MAX_SECONDS) }
         ensures value { IfSome result (λ m. m ≡ seconds) }
     {
-        if seconds > 250_000_000_000 {
+        if seconds > Self::MAX_SECONDS {
             return None;
         }
         Some(Moment { seconds })
     }
 
-    /// The seconds since 1970.
+    /// The seconds since 1970-01-01T00:00:00Z. O(1).
     pub fn seconds(self) -> u64
         ensures value { result ≡ self }
-        ensures range { result ≤ 250000000000 }
+        ensures range { result ≤ Self.MAX_SECONDS }
     {
         self.seconds
     }

@@ -1,7 +1,7 @@
 ghost use Rattle.std.specs.Prelude.{◌≡◌};
 ghost use Rattle.sync_version.specs.Computed.{relation_by};
 
-/// How one version stands to another (Syncthing, "Understanding Synchronization").
+/// How one version compares to another (Syncthing, "Understanding Synchronization").
 #[derive(Clone, Copy, Debug, PartialEq, Eq)]
 pub enum Relation {
     /// Both have the same counters.
@@ -15,7 +15,7 @@ pub enum Relation {
 }
 
 impl Relation {
-    // By whether the first covers the second, and the second the first.
+    // The relation of two versions of which the first covers the second, or the second the first, or both, or neither.
     pub(crate) fn by_covering(covers: bool, covered: bool) -> Relation
         ensures { result ≡ relation_by covers covered }
     {

@@ -1,10 +1,10 @@
-//! Worked examples from outside, and allocations that are refused.
+//! Worked examples from outside, and allocations that fail.
 use super::{Moment, RaiseFault, Relation, Version};
 use std::alloc::AllocError;
 
 type Pairs<'a> = &'a [(u64, u64)];
 
-// The version with these counters; where memory is refused, it is asked for once more.
+// The version with these counters; a failed allocation is tried once more.
 fn version(rt: &HostRuntime, counters: &[(u64, u64)]) -> Result<Version, AllocError> {
     Version::from_counters(rt.alloc(), counters).or_else(|_| Version::from_counters(
         rt.alloc(),
@@ -31,7 +31,7 @@ fn gathers_counters(rt: HostRuntime) -> Result<(), AllocError> {
 }
 
 #[test]
-fn tells_relations(rt: HostRuntime) -> Result<(), AllocError> {
+fn compares_versions(rt: HostRuntime) -> Result<(), AllocError> {
     let rows: [(Pairs, Pairs, Relation, Relation); 5] = [
         (
             &[(1, 2)],

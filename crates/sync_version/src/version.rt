@@ -31,7 +31,7 @@ impl Model for Version {
 }
 
 impl Version {
-    /// The version of a file that no device has changed: no counter. Takes no memory. O(1).
+    /// The version of a file that no device has changed: no counter. Does not allocate. O(1).
     pub fn new(alloc: Global) -> Version
         ensures { result ≡ [] }
     {
@@ -41,7 +41,7 @@ impl Version {
     }
 
     /// The version with these counters, pairs of id and counter in any order: a 0 is no counter, and of a
-    /// repeated id the greatest counts. Fails where the list could not be allocated, and never for no counter.
+    /// repeated id the greatest counts. Returns `Err` if the list could not be allocated, and never for no counter.
     /// O(n log n) time and O(n) memory.
     pub fn from_counters(alloc: Global, counters: &[(u64, u64)]) -> Result<Version, AllocError>
         ensures value { IfOk result (λ v. v ≡ from_counters counters.now) }
@@ -52,8 +52,8 @@ impl Version {
         Ok(Version::from_pairs(pairs))
     }
 
-    /// The version with these counters, as [`Version::from_counters`], in the memory of the list itself. Takes no
-    /// memory. O(n log n).
+    /// The version with these counters, as [`Version::from_counters`], in the memory of the list itself. Does not
+    /// allocate. O(n log n).
     pub fn from_pairs(pairs: Vec<(u64, u64)>) -> Version
         ensures value { result ≡ from_counters pairs.items }
         ensures gathered { IsGatheredFrom pairs.items result }
@@ -83,7 +83,7 @@ impl Version {
         }
     }
 
-    /// How this version stands to the other. Takes no memory. O(n + m), one walk over both.
+    /// How this version compares to the other. Does not allocate. O(n + m), one walk over both.
     pub fn relation(&self, other: &Version) -> Relation
         ensures value { result ≡ relation self.now other.now }
         ensures holds { IsRelation result self.now other.now }
@@ -97,8 +97,8 @@ impl Version {
         Relation::by_covering(covers, covered)
     }
 
-    /// The version with the greater of each counter of both, which has seen what either has. Fails where
-    /// it could not be allocated, and never where neither has a counter. O(n + m) time, one walk over both, and one
+    /// The version with the greater of each counter of both, which has seen what either has. Returns `Err` if
+    /// it could not be allocated, and never if neither has a counter. O(n + m) time, one walk over both, and one
     /// allocation.
     pub fn merge(&self, other: &Version) -> Result<Version, AllocError>
         ensures value { IfOk result (λ v. v ≡ merge self.now other.now) }
@@ -109,8 +109,8 @@ impl Version {
     }
 
     /// The version after a change by the device of this short id at this moment: its counter becomes one
-    /// more, or the moment where that is greater. `CounterFull` exactly where its counter is 2^64 - 1, and
-    /// else `OutOfMemory` where the version could not be allocated. O(n) time, one allocation.
+    /// more, or the moment if that is greater. Fails with `CounterFull` if its counter is 2^64 - 1, and
+    /// otherwise with `OutOfMemory` if the version could not be allocated. O(n) time, one allocation.
     pub fn raised(&self, id: u64, moment: Moment) -> Result<Version, RaiseFault>
         ensures value { IfOk result (λ v. v ≡ raised self.now id moment) }
         ensures raises { IfOk result (λ v. IsRaiseOf self.now id moment v) }
@@ -128,7 +128,7 @@ impl Version {
         Ok(merged(*self.counters.allocator(), walk)?)
     }
 
-    /// The same version once more. Fails where it could not be allocated, and never where it has no counter. O(n) time
+    /// The same version once more. Returns `Err` if it could not be allocated, and never if it has no counter. O(n) time
     /// and memory.
     pub fn copy(&self) -> Result<Version, AllocError>
         ensures value { IfOk result (λ v. v ≡ self.now) }
@@ -151,7 +151,7 @@ impl Version {
     }
 }
 
-// These pairs in a list of their own, for which memory is taken once, and none where there is no pair.
+// These pairs in a list of their own. Allocates once, and not at all if there is no pair.
 fn copied(alloc: Global, pairs: &[(u64, u64)]) -> Result<Vec<(u64, u64)>, AllocError>
     ensures value { IfOk result (λ v. v.items ≡ pairs.now) }
     ensures free { pairs.now ≡ [] → IsOk result }

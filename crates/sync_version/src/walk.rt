@@ -2,7 +2,7 @@ ghost use Rattle.std.specs.Prelude.{◌≡◌};
 ghost use Rattle.std.specs.Iterator.{YieldsFirst, item_count};
 ghost use Rattle.sync_version.specs.Versions.{IsCanonical};
 
-/// The counters of two versions at one id, 0 where a version has none.
+/// The counters of two versions at one id, 0 if a version has none.
 #[derive(Clone, Copy)]
 pub struct Step {
     pub id: u64,
@@ -46,7 +46,7 @@ impl<'a> Iterator for Walk<'a> {
 impl<'a> Walk<'a> {
     ghost use Rattle.sync_version.specs.Walks.{past, first_at};
 
-    // The first counter's value, where it is at this id, and the counters behind it; else 0 and all counters.
+    // The first counter's value, if it is at this id, and the counters after it; else 0 and all counters.
     fn split_at_id(counters: &'a [(u64, u64)], id: u64) -> (u64, &'a [(u64, u64)])
         ensures value { result.0 ≡ first_at id counters.now }
         ensures rest { result.1.now ≡ past id counters.now }

@@ -1,7 +1,7 @@
 use Rattle.std.proofs.Common.{◌≡◌, ◌<◌, [], Vec, Global, length, arith, refl, ap, ◌∙◌}
 use Rattle.sync_blocks.specs.declared.block.Block.{Block}
 use Rattle.sync_blocks.specs.BlockList.{block_at}
-use Rattle.sync_blocks.proofs.Filling.{taken_more, read_none}
+use Rattle.sync_blocks.proofs.Filling.{one_more, taken_more, read_none}
 use Rattle.sync_blocks.proofs.BlockLists.{blocks_of_none, list_from_start, known_all}
 use Rattle.sync_blocks.proofs.reading.blocks_of.Goals as goal
 use Rattle.sync_blocks.proofs.reading.blocks_of.Goals.{then-size-eq0+in_ok-push_empty_block, else-size-eq0}
@@ -15,6 +15,12 @@ pub returns-then-branch-gt0-clause-taken : goal.returns-then-branch-gt0-clause-t
 returns-then-branch-gt0-clause-taken g c =
     let read = c.in_ok-list.ensures.read in
     taken_more _ _ _ read.0 read.1 c.fill.ensures.taken
+
+pub returns-then-branch-gt0-clause-long : goal.returns-then-branch-gt0-clause-long
+returns-then-branch-gt0-clause-long g c = λ _.
+    let read = c.in_ok-list.ensures.read in
+    let long : length read.0 ≡ c.args.size = read.2 in
+    one_more _ _ _ read.0 c.fill.new.buffer c.args.size c.in_ok-fill.field-0 long c.if-branch-gt0.true c.in_ok-fill.ensures.bound c.fill.auto.buffer read.1 c.in_ok-fill.ensures.bytes
 
 pub returns-clause-blocks : goal.returns-clause-blocks
 returns-clause-blocks g c =

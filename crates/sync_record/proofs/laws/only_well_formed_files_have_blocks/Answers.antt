@@ -1,4 +1,4 @@
-use Rattle.std.proofs.Common.{ap, ◌∙◌}
+use Rattle.std.proofs.Common.{ap}
 use Rattle.sync_record.proofs.Kept.{kept, broken_is, other_is, valid, whole}
 use Rattle.sync_record.proofs.laws.only_well_formed_files_have_blocks.Goals as goal
 

@@ -1,4 +1,4 @@
-use Rattle.std.proofs.Common.{◌≡◌, ◌<◌, ℕ, [], length, ap, sym, subst, ◌∙◌, arith, slice_index_or}
+use Rattle.std.proofs.Common.{◌<◌, ℕ, length, ap, sym, ◌∙◌, arith, slice_index_or}
 use Rattle.sync_record.specs.Assemblies.{put_answer, Assembling}
 use Rattle.sync_record.proofs.Placed.{answered_at, as_long, nothing, placed_at, put_has}
 use Rattle.sync_record.proofs.assembly.Assembly.put.Goals as goal

@@ -1,13 +1,21 @@
-use Rattle.std.proofs.Common.{◌≡◌, ◌∙◌, ℕ, List, ap, sym, subst}
+use Rattle.std.proofs.Common.{◌≡◌, ◌∙◌, ℕ, Bool, true, false, List, [], map, if◌then◌else◌, Option, Some, None, Result, Ok, Err, IfSome, ap, refl, sym, subst}
+use Rattle.sync_names.specs.declared.fault.NameFault.{NameFault}
+use Rattle.sync_names.specs.Refusal.{refusal, shape_refusal}
 use Rattle.sync_names.specs.Safe.{IsSafe}
 use Rattle.sync_version.specs.Versions.{Vector}
 use Rattle.sync_blocks.specs.declared.block.Block.{Block}
+use Rattle.bep_messages.specs.declared.block_info.BlockInfo.{BlockInfo}
+use Rattle.bep_messages.specs.declared.counter.Counter.{Counter}
+use Rattle.bep_messages.specs.declared.file_info.FileInfo.{FileInfo}
 use Rattle.sync_record.specs.declared.fields.Plain.{Plain}
 use Rattle.sync_record.specs.Records.{Name, FileRecord}
 use Rattle.sync_record.specs.Validity.{IsKept}
-use Rattle.sync_record.specs.Infos.{record_of, record_with, plain_of, version_of}
+use Rattle.sync_record.specs.Infos.{block_of, content_of, is_file_info, is_live_file_info, plain_of, record_of, record_with, version_of}
 use Rattle.sync_record.proofs.Kept.{kept}
 use Rattle.sync_record.proofs.record.Record.from_info.Goals as goal
+
+abbrev Failed : {T : Type 0} → Result T NameFault → NameFault → Type 0
+Failed result fault = result ≡ Err fault
 
 -- the record with these parts
 abbrev joined : Name → Vector → List Block → List ℕ → Plain → FileRecord
@@ -29,21 +37,67 @@ joined name version blocks target plain = record {
   symlink_target = target;
 }
 
--- what is made of the parts is the message's record
-made : (c : goal.In_ok-from_string) → joined c.in_ok-from_string.field-0 c.in_ok-version.version c.in_ok-invalid.blocks.items c.args.info.symlink_target c.read_plain-plain.result ≡ record_of c.args.info
-made c =
-    let name = c.in_ok-from_string.ensures.answer.1 ∙ c.into_string.ensures in
-    let version = c.in_ok-version.ensures.value ∙ ap version_of c.as_slice.ensures in
-    (λ i. joined (name i) (version i) c.in_ok-invalid.blocks.items c.args.info.symlink_target (c.read_plain-plain.ensures.value i))
-    ∙ c.in_ok-invalid.ensures.value
+-- the record that keeps this content
+abbrev with_content : (name : Name) (version : Vector) (target : List ℕ) → Plain × List Block → FileRecord
+with_content name version target content = joined name version content.1 target content.0
 
-pub invariant_of-result : goal.invariant_of-result
-invariant_of-result c = (
-  subst IsKept (sym (made c)) (kept c.args.info),
-  record {
-    name = subst IsSafe (sym c.in_ok-from_string.ensures.answer.1) c.in_ok-from_string.ensures.safe;
+-- the cases of the content are those of the record
+by_cases : (info : FileInfo) (live is_file : Bool)
+    → with_content info.name (version_of info.version.counters) info.symlink_target (if live then (if is_file then (plain_of info, map block_of info.blocks) else (record (plain_of info) { invalid = true }, [])) else (plain_of info, []))
+    ≡ (if live then (if is_file then record_with info info.invalid (map block_of info.blocks) else record_with info true []) else record_with info info.invalid [])
+by_cases info true true = refl
+by_cases info true false = refl
+by_cases info false is_file = refl
+
+content_is : (info : FileInfo) → with_content info.name (version_of info.version.counters) info.symlink_target (content_of (plain_of info) info.blocks) ≡ record_of info
+content_is info = by_cases info (is_live_file_info info) (is_file_info info)
+
+-- what the parts of a record come from
+record Parts (info : FileInfo) (name text : List ℕ) (version : Vector) (counters : List Counter) (content : Plain × List Block) (plain : Plain) (infos : List BlockInfo) : Type 0 where
+  name_is : name ≡ text
+  text_is : text ≡ info.name
+  version_is : version ≡ version_of counters
+  counters_are : counters ≡ info.version.counters
+  content_is : content ≡ content_of plain infos
+  plain_is : plain ≡ plain_of info
+  infos_are : infos ≡ info.blocks
+
+-- what is made of the parts is the message's record
+made : (info : FileInfo) (name text : List ℕ) (version : Vector) (counters : List Counter) (content : Plain × List Block) (plain : Plain) (infos : List BlockInfo)
+    → Parts info name text version counters content plain infos → with_content name version info.symlink_target content ≡ record_of info
+made info name text version counters content plain infos p =
+    let named : name ≡ info.name = p.name_is ∙ p.text_is in
+    let counted : version ≡ version_of info.version.counters = p.version_is ∙ ap version_of p.counters_are in
+    let kept : content ≡ content_of (plain_of info) info.blocks = p.content_is ∙ (λ i. content_of (p.plain_is i) (p.infos_are i)) in
+    (λ i. with_content (named i) (counted i) info.symlink_target (kept i)) ∙ content_is info
+
+pub from_fields-requires : goal.from_fields-requires
+from_fields-requires c = record {
+  kept =
+      subst IsKept (sym (made c.args.info _ _ _ _ _ _ _
+      (record { name_is = c.in_ok-name.ensures.answer.1; text_is = c.into_string.ensures; version_is = c.in_ok-version.ensures.value; counters_are = c.as_slice.ensures; content_is = c.in_ok-plain.ensures.value; plain_is = c.read_plain-plain.ensures.value; infos_are = c.as_slice-2.ensures })))
+      (kept c.args.info);
+  fits = record {
+    name = subst IsSafe (sym c.in_ok-name.ensures.answer.1) c.in_ok-name.ensures.safe;
     version = c.in_ok-version.ensures.canonical;
-    sequence = c.read_plain-plain.ensures.fits;
-    blocks = c.in_ok-invalid.ensures.fit;
-  },
-)
+    sequence = rw c.in_ok-plain.ensures.sequence c.read_plain-plain.ensures.fits;
+    blocks = c.in_ok-plain.ensures.fit;
+  };
+}
+
+pub returns-clause-answer : goal.returns-clause-answer
+returns-clause-answer c =
+    (ap refusal (sym c.into_string.ensures) ∙ c.in_ok-name.ensures.answer.0, 
+    c.in_ok-from_fields.ensures
+    ∙ made c.args.info _ _ _ _ _ _ _
+    (record { name_is = c.in_ok-name.ensures.answer.1; text_is = c.into_string.ensures; version_is = c.in_ok-version.ensures.value; counters_are = c.as_slice.ensures; content_is = c.in_ok-plain.ensures.value; plain_is = c.read_plain-plain.ensures.value; infos_are = c.as_slice-2.ensures }))
+
+-- what was made is no refusal
+made_unrefused : (name : Name) (r : FileRecord) (refused : Option NameFault) → IfSome refused (λ fault. Failed (Ok name) fault) → IfSome refused (λ fault. Failed (Ok r) fault)
+made_unrefused name r (Some fault) h = cc
+made_unrefused name r None h = tt
+
+pub returns-clause-shape : goal.returns-clause-shape
+returns-clause-shape c =
+    made_unrefused c.in_ok-name.name c.in_ok-from_fields.field-0 _
+    (subst (λ text. IfSome (shape_refusal text) (λ fault. Failed (Ok c.in_ok-name.name) fault)) c.into_string.ensures c.in_ok-name.ensures.shape)

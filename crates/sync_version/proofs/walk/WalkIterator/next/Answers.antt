@@ -3,7 +3,7 @@ use Rattle.sync_version.proofs.Walks.{step_at, first_is_ours, first_is_theirs, f
 use Rattle.sync_version.proofs.walk.WalkIterator.next.Goals as goal
 use Rattle.sync_version.proofs.walk.WalkIterator.next.Goals.{in-None-Some, in-Some-None, in-Some-Some}
 
--- the id is the first of both lists, so what is left after it is the walk over what stands behind it
+-- the id is the first of both lists, so what is left after it is the walk over what follows it
 pub returns-clause-steps : goal.returns-clause-steps
 returns-clause-steps c =
     let self = c.args.self.now in

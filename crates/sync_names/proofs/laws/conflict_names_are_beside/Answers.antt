@@ -1,5 +1,5 @@
 use Rattle.sync_names.proofs.Lemmas.{conflict-folder, conflict-last, conflict-other, conflict-refused}
-use Rattle.sync_names.proofs.laws.conflict_names_stand_beside.Goals as goal
+use Rattle.sync_names.proofs.laws.conflict_names_are_beside.Goals as goal
 
 pub returns-clause-folder : goal.returns-clause-folder
 returns-clause-folder c = conflict-folder

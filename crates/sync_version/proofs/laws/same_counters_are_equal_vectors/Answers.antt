@@ -1,5 +1,5 @@
 use Rattle.sync_version.proofs.Lemmas.{same_counters, same_version_tells}
-use Rattle.sync_version.proofs.laws.counters_tell_vectors.Goals as goal
+use Rattle.sync_version.proofs.laws.same_counters_are_equal_vectors.Goals as goal
 
 pub returns-clause-equal : goal.returns-clause-equal
 returns-clause-equal c = same_counters

@@ -1,5 +1,5 @@
 use Rattle.sync_names.proofs.Lemmas.{temporary-folder, temporary-last, temporary-internal, temporary-apart, temporary-one_each}
-use Rattle.sync_names.proofs.laws.temporary_names_stand_apart.Goals as goal
+use Rattle.sync_names.proofs.laws.temporary_names_are_apart.Goals as goal
 
 pub returns-clause-folder : goal.returns-clause-folder
 returns-clause-folder c = temporary-folder
