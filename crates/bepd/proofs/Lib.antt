@@ -4,3 +4,5 @@ pub mod Framing
 pub mod Reading
 pub mod Reports
 pub mod Answering
+pub mod Matching
+pub mod Running

@@ -3,4 +3,5 @@ pub mod Heard
 pub mod Endings
 pub mod Listing
 pub mod Progress
-pub mod Refusals
+pub mod CommandLine
+pub mod Runs
