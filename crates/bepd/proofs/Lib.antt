@@ -1,5 +1,5 @@
 mod LineSteps
-pub mod Hearing
+pub mod Keeping
 pub mod Framing
 pub mod Reading
 pub mod Reports

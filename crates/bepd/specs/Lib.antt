@@ -1,5 +1,5 @@
 pub mod Lines
-pub mod Heard
+pub mod Received
 pub mod Endings
 pub mod Listing
 pub mod Progress

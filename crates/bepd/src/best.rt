@@ -4,12 +4,12 @@ ghost use Rattle.std.specs.Io.KnownBytes.{Appends, Consumes};
 ghost use Rattle.bep_frames.specs.Stream.{stream};
 ghost use Rattle.folder_core.specs.Kept.{empty_folder};
 ghost use Rattle.bepd.specs.Endings.{IsEndOf, IsListed};
-ghost use Rattle.bepd.specs.Heard.{own_device};
+ghost use Rattle.bepd.specs.Received.{own_device};
 ghost use Rattle.bepd.specs.Listing.{listing, Answers};
 
 use crate::ending::Ending;
-use crate::heard::Heard;
-use crate::input::hear_all;
+use crate::received::Received;
+use crate::input::read_stream;
 use crate::listing::write_listing;
 use folder_core::FolderCore;
 use std::alloc::Global;
@@ -43,12 +43,12 @@ pub fn best<F: FolderCore + Drop, R: Read, W: Write>(
         IsEndOf (stream false input).end result
         × Appends (W.contents writer.old) (W.contents writer.new) (listing folder.now input)) }
 {
-    let mut heard = Heard::new(alloc, empty);
-    let ending = match hear_all(alloc, folder, &mut heard, reader) {
+    let mut received = Received::new(empty);
+    let ending = match read_stream(alloc, folder, &mut received, reader) {
         Ok(ending) => ending,
         Err(failure) => return Ending::Failed(failure),
     };
-    match write_listing(alloc, &heard, writer) {
+    match write_listing(alloc, &received, writer) {
         Ok(()) => ending,
         Err(failure) => Ending::Failed(failure),
     }

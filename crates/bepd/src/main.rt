@@ -4,7 +4,7 @@
 mod best;
 mod command;
 mod ending;
-mod heard;
+mod received;
 mod input;
 mod line;
 mod listing;

@@ -9,7 +9,7 @@ ghost use Rattle.bepd.specs.declared.ending.Ending.TheVariants.{Done};
 use crate::best::best;
 use crate::command::{Request, request_of};
 use crate::ending::{Ending, Failure};
-use crate::heard::own_device;
+use crate::received::own_device;
 use folder_core::PlainFolder;
 use std::alloc::Global;
 use std::io::{self, Read, Write};

@@ -7,7 +7,7 @@ mod runs;
 
 use crate::best::best;
 use crate::ending::{Ending, Failure};
-use crate::heard::own_device;
+use crate::received::own_device;
 use folder_core::PlainFolder;
 use std::alloc::{AllocError, Global};
 use std::io::{self, ErrorKind, Read, Write};

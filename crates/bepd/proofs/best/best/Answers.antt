@@ -1,12 +1,15 @@
 use Rattle.std.proofs.Common.{ap, ◌∙◌}
-use Rattle.bepd.proofs.Answering.{heard_nothing, untouched}
+use Rattle.bepd.proofs.Answering.{received_nothing, untouched}
 use Rattle.bepd.proofs.best.best.Goals as goal
 
-pub hear_all-requires : goal.hear_all-requires
-hear_all-requires g c =
-    let heard = c.new-heard.result in
+pub read_stream-requires : goal.read_stream-requires
+read_stream-requires g c =
+    let received = c.new-received.result in
     let state = g.F.FolderCore.state in
-    heard_nothing c.args.folder.now (state heard.folder) heard.names.keys heard.skipped (ap state c.new-heard.ensures.folder ∙ c.requires) c.new-heard.ensures.skipped
+    received_nothing c.args.folder.now (state received.folder) received.skipped (ap state c.new-received.ensures.folder ∙ c.requires) c.new-received.ensures.skipped
+
+pub write_listing-requires : goal.write_listing-requires
+write_listing-requires g c = record { named = c.in-Ok.ensures.read.received.named }
 
 pub returns-in-Err-clause-listing : goal.returns-in-Err-clause-listing
 returns-in-Err-clause-listing g c =
