@@ -16,30 +16,30 @@ use Rattle.bepd.specs.declared.ending.Ending.{Ending}
 use Rattle.bepd.specs.declared.ending.Ending.TheVariants.{Done, Rest, Fault, Failed}
 use Rattle.bepd.specs.declared.ending.Failure.{Failure}
 use Rattle.bepd.specs.declared.ending.Failure.TheVariants.{OutOfMemory, Read, Write}
-use Rattle.bepd.specs.Endings.{IsEndOf, StopsAtFault, WritesFront, most_bytes}
-use Rattle.bepd.specs.Heard.{own_device, heard_folder}
+use Rattle.bepd.specs.Endings.{IsEndOf, StopsAtFault, WritesFront, max_input_bytes}
+use Rattle.bepd.specs.Received.{own_device, folder_after}
 use Rattle.bepd.specs.Lines.{skipped_line}
 use Rattle.bepd.specs.Listing.{Answers, best_lines, listing, listing_of}
-use Rattle.bepd.specs.Progress.{IsHeard, IsRead}
+use Rattle.bepd.specs.Progress.{IsReceived, IsRead}
 
 -- the empty folder announces nothing
 none_found : (k : Key) (r : FileRecord) → get (empty_folder own_device).announced k ≡ Some r → ⊥
 none_found k r e = true≢false (ap is_some (sym e ∙ get-empty key_cmp k))
 
--- nothing was heard of the empty folder
-pub heard_nothing : (folder : List ℕ) (s : FolderState) (names : List Name) (n : ℕ) → s ≡ empty_folder own_device → n ≡ 0 → IsHeard folder [] s names n
-heard_nothing folder s names n e none = record {
+-- nothing was received of the empty folder
+pub received_nothing : (folder : List ℕ) (s : FolderState) (n : ℕ) → s ≡ empty_folder own_device → n ≡ 0 → IsReceived folder [] s n
+received_nothing folder s n e none = record {
   state = e;
   named = λ k r i. absurd (none_found k r (ap (λ (t : FolderState). get t.announced k) (sym e) ∙ i));
   counted = none;
 }
 
--- the listing of what was heard
-listing_heard : (folder bytes : List ℕ) (s : FolderState) (names : List Name) (n : ℕ) → IsHeard folder (stream false bytes).frames s names n → best_lines s ++ skipped_line n ≡ listing folder bytes
-listing_heard folder bytes s names n h =
-    ap (λ t. best_lines t ++ skipped_line n) h.state ∙ ap (λ m. best_lines (heard_folder folder (stream false bytes).frames) ++ skipped_line m) h.counted
+-- the listing of what was received
+listing_received : (folder bytes : List ℕ) (s : FolderState) (n : ℕ) → IsReceived folder (stream false bytes).frames s n → best_lines s ++ skipped_line n ≡ listing folder bytes
+listing_received folder bytes s n h =
+    ap (λ t. best_lines t ++ skipped_line n) h.state ∙ ap (λ m. best_lines (folder_after folder (stream false bytes).frames) ++ skipped_line m) h.counted
 
-answered : (folder bytes : List ℕ) (ending : Ending) (old new : Option (List ℕ)) → length bytes ≤ most_bytes → IsEndOf (stream false bytes).end ending → StopsAtFault bytes ending → Appends old new (listing folder bytes) → Answers folder bytes ending old new
+answered : (folder bytes : List ℕ) (ending : Ending) (old new : Option (List ℕ)) → length bytes ≤ max_input_bytes → IsEndOf (stream false bytes).end ending → StopsAtFault bytes ending → Appends old new (listing folder bytes) → Answers folder bytes ending old new
 answered folder bytes Done old new within end stops written = (within, end, stops, written)
 answered folder bytes (Rest n) old new within end stops written = (within, end, stops, written)
 answered folder bytes (Fault e) old new within end stops written = (within, end, stops, written)
@@ -49,17 +49,17 @@ answered folder bytes (Failed f) old new within end stops written = absurd (not_
     not_failed (Ok rest) f e = e
     not_failed (Err e') f e = e
 
-module _ (folder : List ℕ) (a b : Option (List ℕ)) (ending : Ending) (s : FolderState) (names : List Name) (n : ℕ) (h : IsRead folder a b ending s names n) where
+module _ (folder : List ℕ) (a b : Option (List ℕ)) (ending : Ending) (s : FolderState) (n : ℕ) (h : IsRead folder a b ending s n) where
   pub listed : (old new : Option (List ℕ)) → Appends old new (best_lines s ++ skipped_line n) → (bytes : List ℕ) × Consumes a b bytes × Answers folder bytes ending old new
   listed old new written =
-      (h.bytes, h.taken, answered folder h.bytes ending old new h.within h.end h.stops (subst (Appends old new) (listing_heard folder h.bytes s names n h.heard) written))
+      (h.bytes, h.taken, answered folder h.bytes ending old new h.within h.end h.stops (subst (Appends old new) (listing_received folder h.bytes s n h.received) written))
 
   abbrev IsKnown : Option (List ℕ) → Option (List ℕ) → List ℕ → Type 0
   IsKnown old new input = IsEndOf (stream false input).end ending × Appends old new (listing folder input)
 
   pub known : (old new : Option (List ℕ)) → Appends old new (best_lines s ++ skipped_line n) → IfSome a (λ input. IsEndOf (stream false input).end ending × Appends old new (listing folder input))
   known old new written =
-      by a b h.taken h.whole (h.end, subst (Appends old new) (listing_heard folder h.bytes s names n h.heard) written)
+      by a b h.taken h.whole (h.end, subst (Appends old new) (listing_received folder h.bytes s n h.received) written)
     where
       by : (a b : Option (List ℕ)) → Consumes a b h.bytes → IfSome b (λ rest. stream false (h.bytes ++ rest) ≡ stream false h.bytes) → IsKnown old new h.bytes → IfSome a (IsKnown old new)
       by None b taken whole p = tt
@@ -69,15 +69,10 @@ module _ (folder : List ℕ) (a b : Option (List ℕ)) (ending : Ending) (s : Fo
           (subst (λ (t : Stream). IsEndOf t.end ending) same p.0, subst (λ (t : Stream). Appends old new (listing_of folder t.frames)) same p.1)
 
   pub failed_writing : (failure : Failure) (old new : Option (List ℕ)) → WritesFront failure (best_lines s ++ skipped_line n) old new → (bytes : List ℕ) × Consumes a b bytes × WritesFront failure (listing folder bytes) old new
-  failed_writing failure old new front = (h.bytes, h.taken, subst (λ l. WritesFront failure l old new) (listing_heard folder h.bytes s names n h.heard) front)
+  failed_writing failure old new front = (h.bytes, h.taken, subst (λ l. WritesFront failure l old new) (listing_received folder h.bytes s n h.received) front)
 
 -- nothing was written
 pub untouched : (failure : Failure) (bytes : List ℕ) (old : Option (List ℕ)) → (failure ≡ Write → ⊥) → WritesFront failure bytes old old
 untouched OutOfMemory bytes old ne = ([], bytes, refl, Appends-nil old)
 untouched Read bytes old ne = Keeps-refl old
 untouched Write bytes old ne = absurd (ne refl)
-
--- what holds of an error that is passed on
-pub at_error : {A : Type 0} (P : Failure → Type 0) (r : Result A Failure) (failure : Failure) → IsErrAnd r (λ e. e ≡ failure) → P failure → IfErr r P
-at_error P (Ok x) failure e p = tt
-at_error P (Err f) failure e p = subst P (sym e) p

@@ -1,4 +1,4 @@
--- One more frame, and one more piece, of what was heard.
+-- One more frame, and one more piece, of what was received.
 use Rattle.std.proofs.Common.{◌≡◌, ℕ, ◌+◌, ◌≤◌, ◌<◌, Bool, true, false, List, [], ◌∷◌, ◌++◌, length, Some, None, Ok, Err, sym, ap, subst, ◌∙◌, inl, inr, arith, append-nil}
 use Rattle.std.specs.Prelude.{bytes_eq, if◌then◌else◌, flat_map, filter, not}
 use Rattle.std.specs.FinMap.{get}
@@ -16,14 +16,14 @@ use Rattle.bep_frames.specs.State.{State, TellsFault, fed, Gives, remaining, wit
 use Rattle.bep_frames.specs.Stream.{ended}
 use Rattle.bep_frames.proofs.Lemmas.{front_push, given_fault, given_frame, given_none, given_shorter, index_records_few, update_records_few}
 use Rattle.bep_messages.specs.declared.file_info.FileInfo.{FileInfo}
-use Rattle.folder_core.specs.Announced.{In, Key}
+use Rattle.folder_core.specs.Announced.{IsNamed, Key}
 use Rattle.folder_core.specs.Kept.{empty_folder}
 use Rattle.folder_core.specs.States.{FolderState}
 use Rattle.folder_core.specs.Steps.{Answer, Change, IndexFull, IndexMore, step}
 use Rattle.folder_core.proofs.Lemmas.{IsOneOrWas, full-names, more-names}
 use Rattle.sync_record.specs.Records.{Name, FileRecord}
-use Rattle.bepd.specs.Heard.{own_device, peer, is_kept, kept_records, skipped_records, frame_changes, frame_files, changed, heard_folder, skipped_count}
-use Rattle.bepd.specs.Progress.{IsHeard, IsHeardOf, Leaves}
+use Rattle.bepd.specs.Received.{own_device, peer, is_kept, kept_records, skipped_records, frame_changes, frame_files, changed, folder_after, skipped_count}
+use Rattle.bepd.specs.Progress.{IsReceived, IsReceivedOf, Leaves}
 
 -- ---- a frame
 
@@ -31,7 +31,7 @@ abbrev after : FolderState → Change → FolderState
 after s change = (step s change).1
 
 -- the folder after one more frame
-folder_more : (folder : List ℕ) (frames : List Frame) (f : Frame) → heard_folder folder (frames ++ f ∷ []) ≡ changed (heard_folder folder frames) (frame_changes folder f)
+folder_more : (folder : List ℕ) (frames : List Frame) (f : Frame) → folder_after folder (frames ++ f ∷ []) ≡ changed (folder_after folder frames) (frame_changes folder f)
 folder_more folder frames f =
     let start = empty_folder own_device in
     let one : flat_map (frame_changes folder) (f ∷ []) ≡ frame_changes folder f = append-nil (frame_changes folder f) in
@@ -48,39 +48,37 @@ count_more folder frames f =
     ∙ ap length (filter-append skips before (frame_files folder f))
     ∙ length-append (filter skips before) (filter skips (frame_files folder f))
 
-module _ (folder : List ℕ) (frames : List Frame) (f : Frame) (s new : FolderState) (old names : List Name) (skipped count : ℕ) (files : List FileInfo) where
-  frame_heard : new ≡ changed s (frame_changes folder f) → frame_files folder f ≡ files → count ≡ skipped + length (skipped_records files)
-      → ((k : Key) (r : FileRecord) → get new.announced k ≡ Some r → In k.name names)
-      → IsHeard folder frames s old skipped → IsHeard folder (frames ++ f ∷ []) new names count
-  frame_heard changes told counts named h = record {
+module _ (folder : List ℕ) (frames : List Frame) (f : Frame) (s new : FolderState) (skipped count : ℕ) (files : List FileInfo) where
+  frame_received : new ≡ changed s (frame_changes folder f) → frame_files folder f ≡ files → count ≡ skipped + length (skipped_records files)
+      → IsNamed new.announced → IsReceived folder frames s skipped → IsReceived folder (frames ++ f ∷ []) new count
+  frame_received changes announced counts named h = record {
     state = changes ∙ ap (λ t. changed t (frame_changes folder f)) h.state ∙ sym (folder_more folder frames f);
     named = named;
     counted = counts ∙ ap (λ n. n + length (skipped_records files)) h.counted
-        ∙ ap (λ l. skipped_count folder frames + length (skipped_records l)) (sym told) ∙ sym (count_more folder frames f);
+        ∙ ap (λ l. skipped_count folder frames + length (skipped_records l)) (sym announced) ∙ sym (count_more folder frames f);
   }
 
-  name_of : (k : Key) (r : FileRecord) → IsOneOrWas s.announced (kept_records files) k r → ((n : Name) → In n old → In n names)
-      → ((q : FileRecord) → In q (kept_records files) → In q.name names) → IsHeard folder frames s old skipped → In k.name names
-  name_of k r (inl one) stays noted h = subst (λ n. In n names) one.1 (noted r one.0)
-  name_of k r (inr was) stays noted h = stays k.name (h.named k r was)
+  name_of : (k : Key) (r : FileRecord) → IsOneOrWas s.announced (kept_records files) k r → IsNamed s.announced → r.name ≡ k.name
+  name_of k r (inl one) named = one.1
+  name_of k r (inr was) named = named k r was
 
-  pub full_heard : (records : List FileRecord) (answer : Answer) → frame_changes folder f ≡ IndexFull peer (kept_records files) ∷ [] → frame_files folder f ≡ files → records ≡ kept_records files
-      → step s (IndexFull peer records) ≡ (answer, new) → count ≡ skipped + length (skipped_records files) → ((n : Name) → In n old → In n names)
-      → ((q : FileRecord) → In q (kept_records files) → In q.name names) → IsHeard folder frames s old skipped → IsHeard folder (frames ++ f ∷ []) new names count
-  full_heard records answer changes told kept stepped counts stays noted h =
+  pub full_received : (records : List FileRecord) (answer : Answer) → frame_changes folder f ≡ IndexFull peer (kept_records files) ∷ [] → frame_files folder f ≡ files → records ≡ kept_records files
+      → step s (IndexFull peer records) ≡ (answer, new) → count ≡ skipped + length (skipped_records files)
+      → IsReceived folder frames s skipped → IsReceived folder (frames ++ f ∷ []) new count
+  full_received records answer changes announced kept stepped counts h =
       let made : new ≡ after s (IndexFull peer (kept_records files)) =
       ap (λ (p : Answer × FolderState). p.1) (sym stepped) ∙ ap (λ rs. after s (IndexFull peer rs)) kept in
-      frame_heard (made ∙ ap (changed s) (sym changes)) told counts
-      (λ k r e. name_of k r (full-names s peer (kept_records files) k r (ap (λ (t : FolderState). get t.announced k) (sym made) ∙ e)) stays noted h) h
+      frame_received (made ∙ ap (changed s) (sym changes)) announced counts
+      (λ k r e. name_of k r (full-names s peer (kept_records files) k r (ap (λ (t : FolderState). get t.announced k) (sym made) ∙ e)) h.named) h
 
-  pub more_heard : (records : List FileRecord) (answer : Answer) → frame_changes folder f ≡ IndexMore peer (kept_records files) ∷ [] → frame_files folder f ≡ files → records ≡ kept_records files
-      → step s (IndexMore peer records) ≡ (answer, new) → count ≡ skipped + length (skipped_records files) → ((n : Name) → In n old → In n names)
-      → ((q : FileRecord) → In q (kept_records files) → In q.name names) → IsHeard folder frames s old skipped → IsHeard folder (frames ++ f ∷ []) new names count
-  more_heard records answer changes told kept stepped counts stays noted h =
+  pub more_received : (records : List FileRecord) (answer : Answer) → frame_changes folder f ≡ IndexMore peer (kept_records files) ∷ [] → frame_files folder f ≡ files → records ≡ kept_records files
+      → step s (IndexMore peer records) ≡ (answer, new) → count ≡ skipped + length (skipped_records files)
+      → IsReceived folder frames s skipped → IsReceived folder (frames ++ f ∷ []) new count
+  more_received records answer changes announced kept stepped counts h =
       let made : new ≡ after s (IndexMore peer (kept_records files)) =
       ap (λ (p : Answer × FolderState). p.1) (sym stepped) ∙ ap (λ rs. after s (IndexMore peer rs)) kept in
-      frame_heard (made ∙ ap (changed s) (sym changes)) told counts
-      (λ k r e. name_of k r (more-names s peer (kept_records files) k r (ap (λ (t : FolderState). get t.announced k) (sym made) ∙ e)) stays noted h) h
+      frame_received (made ∙ ap (changed s) (sym changes)) announced counts
+      (λ k r e. name_of k r (more-names s peer (kept_records files) k r (ap (λ (t : FolderState). get t.announced k) (sym made) ∙ e)) h.named) h
 
 -- ---- the frames that a reader gives
 
@@ -105,14 +103,14 @@ pub given_few : (folder : List ℕ) (old new : State) (f : Frame) → old.hello 
 given_few folder old new f later gives =
     files_few folder old.rest new.rest f (ap (λ due. frame_at due old.rest) (sym later) ∙ gives.1) (given_shorter old new f gives)
 
-pub hears_frame : (folder bytes : List ℕ) (old new : State) (f : Frame) (s t : FolderState) (names more : List Name) (m n : ℕ) → Gives old (Some (Ok f)) new
-    → ((frames : List Frame) → IsHeard folder frames s names m → IsHeard folder (frames ++ f ∷ []) t more n) → n ≤ m + length (frame_files folder f)
-    → IsHeardOf folder bytes old s names m → IsHeardOf folder bytes new t more n
-hears_frame folder bytes old new f s t names more m n gives heard count h =
+pub receives_frame : (folder bytes : List ℕ) (old new : State) (f : Frame) (s t : FolderState) (m n : ℕ) → Gives old (Some (Ok f)) new
+    → ((frames : List Frame) → IsReceived folder frames s m → IsReceived folder (frames ++ f ∷ []) t n) → n ≤ m + length (frame_files folder f)
+    → IsReceivedOf folder bytes old s m → IsReceivedOf folder bytes new t n
+receives_frame folder bytes old new f s t m n gives received count h =
     let few = given_few folder old new f h.later gives in
     record {
       frames = h.frames ++ f ∷ [];
-      heard = heard h.frames h.heard;
+      received = received h.frames h.received;
       remains = λ rest. front_push h.frames f (remaining (fed new rest)) ∙ ap (with_front h.frames) (sym (given_frame old new f rest gives)) ∙ h.remains rest;
       fits = omega (arith, few, count, h.fits);
       later = gives.2;
@@ -135,14 +133,14 @@ kept_at_fault old new BadHeader g = kept_by old new BadHeader g
 kept_at_fault old new BadBody g = kept_by old new BadBody g
 kept_at_fault old new OutOfMemory g = (ap (λ (t : State). t.rest) g.3, ap (λ (t : State). t.hello) g.3)
 
-pub hears_fault : (folder bytes : List ℕ) (old new : State) (e : FrameFault) (s : FolderState) (names : List Name) (n : ℕ) → Gives old (Some (Err e)) new → (e ≡ OutOfMemory → ⊥)
-    → IsHeardOf folder bytes old s names n → IsHeardOf folder bytes new s names n
-hears_fault folder bytes old new e s names n gives not h =
+pub receives_fault : (folder bytes : List ℕ) (old new : State) (e : FrameFault) (s : FolderState) (n : ℕ) → Gives old (Some (Err e)) new → (e ≡ OutOfMemory → ⊥)
+    → IsReceivedOf folder bytes old s n → IsReceivedOf folder bytes new s n
+receives_fault folder bytes old new e s n gives not h =
     let kept = kept_at_fault old new e gives in
     let same : length new.rest ≡ length old.rest = ap length kept.0 in
     record {
       frames = h.frames;
-      heard = h.heard;
+      received = h.received;
       remains = λ more. ap (with_front h.frames) (given_fault old new e more gives not).0 ∙ h.remains more;
       fits = omega (arith, same, h.fits);
       later = kept.1 ∙ h.later;

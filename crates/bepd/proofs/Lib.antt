@@ -1,6 +1,8 @@
 mod LineSteps
-pub mod Hearing
+pub mod Keeping
 pub mod Framing
 pub mod Reading
 pub mod Reports
 pub mod Answering
+pub mod Matching
+pub mod Running

@@ -11,17 +11,17 @@ use Rattle.folder_core.specs.States.{FolderState}
 use Rattle.sync_record.specs.Records.{Name}
 use Rattle.bepd.specs.declared.ending.Ending.{Ending}
 use Rattle.bepd.specs.declared.ending.Ending.TheVariants.{Done, Rest, Fault, Failed}
-use Rattle.bepd.specs.Endings.{IsEndOf, StopsAtFault, most_bytes}
-use Rattle.bepd.specs.Heard.{own_device}
-use Rattle.bepd.specs.Progress.{IsHeard, IsHeardOf, IsRead, Leaves}
+use Rattle.bepd.specs.Endings.{IsEndOf, StopsAtFault, max_input_bytes}
+use Rattle.bepd.specs.Received.{own_device}
+use Rattle.bepd.specs.Progress.{IsReceived, IsReceivedOf, IsRead, Leaves}
 
 -- before the first piece
-pub hears_nothing : (folder : List ℕ) (reader : State) (s : FolderState) (names : List Name) (n : ℕ) → reader ≡ start false → IsHeard folder [] s names n → IsHeardOf folder [] reader s names n
-hears_nothing folder reader s names n e h =
+pub receives_nothing : (folder : List ℕ) (reader : State) (s : FolderState) (n : ℕ) → reader ≡ start false → IsReceived folder [] s n → IsReceivedOf folder [] reader s n
+receives_nothing folder reader s n e h =
     let none : length reader.rest ≡ 0 = ap (λ (t : State). length t.rest) e in
     record {
       frames = [];
-      heard = h;
+      received = h;
       remains = λ more. ap (λ (t : State). with_front [] (remaining (fed t more))) e;
       fits = omega (arith, none, h.counted);
       later = ap (λ (t : State). t.hello) e;
@@ -32,8 +32,8 @@ unfolding stream streams.stream_within
 leaves_start reader e = subst (λ (t : State). remaining (fed t []) ≡ ended (Ok t.rest)) (sym e) refl
 
 -- the device that keeps the folder
-pub own_folder : (folder : List ℕ) (s : FolderState) (names : List Name) (n : ℕ) → IsHeard folder [] s names n → s.me ≡ own_device
-own_folder folder s names n h = ap (λ (t : FolderState). t.me) h.state
+pub own_folder : (folder : List ℕ) (s : FolderState) (n : ℕ) → IsReceived folder [] s n → s.me ≡ own_device
+own_folder folder s n h = ap (λ (t : FolderState). t.me) h.state
 
 -- a read that gave nothing
 pub read_over : (a b c : Option (List ℕ)) (bytes buffer : List ℕ) (n : ℕ) → n ≡ 0 → Consumes a b bytes → Consumes b c (take n buffer) → Consumes a c bytes
@@ -45,23 +45,23 @@ take_short zero buffer = omega arith
 take_short (suc n) [] = omega arith
 take_short (suc n) (b ∷ buffer) = omega (arith, take_short n buffer)
 
--- what was read and heard, after so many bytes
-abbrev pub IsReadSoFar : List ℕ → Option (List ℕ) → Option (List ℕ) → ℕ → State → FolderState → List Name → ℕ → Type 0
-IsReadSoFar folder old new total reader s names n = (bytes : List ℕ) × Consumes old new bytes × (length bytes ≡ total) × IsHeardOf folder bytes reader s names n
+-- what was read and received, after so many bytes
+abbrev pub IsReadSoFar : List ℕ → Option (List ℕ) → Option (List ℕ) → ℕ → State → FolderState → ℕ → Type 0
+IsReadSoFar folder old new total reader s n = (bytes : List ℕ) × Consumes old new bytes × (length bytes ≡ total) × IsReceivedOf folder bytes reader s n
 
-pub read_piece : (folder : List ℕ) (a b c : Option (List ℕ)) (total count : ℕ) (buffer : List ℕ) (old new : State) (s t : FolderState) (names more : List Name) (m n : ℕ) → count ≤ length buffer
+pub read_piece : (folder : List ℕ) (a b c : Option (List ℕ)) (total count : ℕ) (buffer : List ℕ) (old new : State) (s t : FolderState) (m n : ℕ) → count ≤ length buffer
     → Consumes b c (take count buffer)
-    → ((bytes : List ℕ) → IsHeardOf folder bytes old s names m → IsHeardOf folder (bytes ++ take count buffer) new t more n)
-    → IsReadSoFar folder a b total old s names m → IsReadSoFar folder a c (total + count) new t more n
-read_piece folder a b c total count buffer old new s t names more m n fits taken heard h =
+    → ((bytes : List ℕ) → IsReceivedOf folder bytes old s m → IsReceivedOf folder (bytes ++ take count buffer) new t n)
+    → IsReadSoFar folder a b total old s m → IsReadSoFar folder a c (total + count) new t n
+read_piece folder a b c total count buffer old new s t m n fits taken received h =
     let piece = take count buffer in
     let size : length piece ≡ count = length-take-le count buffer fits in
     let sum : length (h.0 ++ piece) ≡ length h.0 + length piece = length-append h.0 piece in
-    (h.0 ++ piece, Consumes-trans a b c h.0 piece h.1 taken, omega (arith, size, sum, h.2), heard h.0 h.3)
+    (h.0 ++ piece, Consumes-trans a b c h.0 piece h.1 taken, omega (arith, size, sum, h.2), received h.0 h.3)
 
-pub read_kept : (folder : List ℕ) (a b c : Option (List ℕ)) (total : ℕ) (reader : State) (s : FolderState) (names : List Name) (n : ℕ) → Keeps b c
-    → IsReadSoFar folder a b total reader s names n → IsReadSoFar folder a c total reader s names n
-read_kept folder a b c total reader s names n kept h = (h.0, Consumes-kept a b c h.0 h.1 kept, h.2, h.3)
+pub read_kept : (folder : List ℕ) (a b c : Option (List ℕ)) (total : ℕ) (reader : State) (s : FolderState) (n : ℕ) → Keeps b c
+    → IsReadSoFar folder a b total reader s n → IsReadSoFar folder a c total reader s n
+read_kept folder a b c total reader s n kept h = (h.0, Consumes-kept a b c h.0 h.1 kept, h.2, h.3)
 
 -- ---- the whole stream
 
@@ -73,22 +73,22 @@ none_known : (known : Option (List ℕ)) (bytes : List ℕ) → IsAtEnd known �
 none_known None bytes over = tt
 none_known (Some rest) bytes over = ap (λ l. stream false (bytes ++ l)) over ∙ ap (stream false) (append-nil bytes)
 
--- of bytes that were heard, and that show no fault, the rest is the reader's
-heard_all : (folder bytes : List ℕ) (reader : State) (s : FolderState) (names : List Name) (n : ℕ) (h : IsHeardOf folder bytes reader s names n) → Leaves reader None → record { frames = h.frames; end = Ok reader.rest } ≡ stream false bytes
-heard_all folder bytes reader s names n h leaves =
+-- of bytes that were received, and that show no fault, the rest is the reader's
+received_all : (folder bytes : List ℕ) (reader : State) (s : FolderState) (n : ℕ) (h : IsReceivedOf folder bytes reader s n) → Leaves reader None → record { frames = h.frames; end = Ok reader.rest } ≡ stream false bytes
+received_all folder bytes reader s n h leaves =
     ap (λ l. record { frames = l; end = Ok reader.rest }) (sym (append-nil h.frames)) ∙ ap (with_front h.frames) (sym leaves) ∙ h.remains [] ∙ ap (stream false) (append-nil bytes)
 
 -- a fault ends the stream, whatever follows
-pub read_fault : (folder : List ℕ) (a b c : Option (List ℕ)) (total count : ℕ) (buffer : List ℕ) (old new : State) (s t : FolderState) (names more : List Name) (m n : ℕ) (e : FrameFault) → count ≤ length buffer
-    → length buffer ≡ 65536 → total + count ≤ most_bytes → Consumes b c (take count buffer)
-    → ((bytes : List ℕ) → IsHeardOf folder bytes old s names m → IsHeardOf folder (bytes ++ take count buffer) new t more n)
-    → Leaves old None → Leaves new (Some e) → IsReadSoFar folder a b total old s names m → IsRead folder a c (Fault e) t more n
-read_fault folder a b c total count buffer old new s t names more m n e fits room within taken heard left leaves r =
+pub read_fault : (folder : List ℕ) (a b c : Option (List ℕ)) (total count : ℕ) (buffer : List ℕ) (old new : State) (s t : FolderState) (m n : ℕ) (e : FrameFault) → count ≤ length buffer
+    → length buffer ≡ 65536 → total + count ≤ max_input_bytes → Consumes b c (take count buffer)
+    → ((bytes : List ℕ) → IsReceivedOf folder bytes old s m → IsReceivedOf folder (bytes ++ take count buffer) new t n)
+    → Leaves old None → Leaves new (Some e) → IsReadSoFar folder a b total old s m → IsRead folder a c (Fault e) t n
+read_fault folder a b c total count buffer old new s t m n e fits room within taken received left leaves r =
     let piece = take count buffer in
     let bytes = r.0 ++ piece in
     let size : length piece ≡ count = length-take-le count buffer fits in
     let sum : length bytes ≡ length r.0 + length piece = length-append r.0 piece in
-    let h = heard r.0 r.3 in
+    let h = received r.0 r.3 in
     let all : (more : List ℕ) → record { frames = h.frames; end = Err e } ≡ stream false (bytes ++ more) =
     λ more. ap (λ l. record { frames = l; end = Err e }) (sym (append-nil h.frames)) ∙ ap (with_front h.frames) (sym (leaves more)) ∙ h.remains more in
     let here : record { frames = h.frames; end = Err e } ≡ stream false bytes = all [] ∙ ap (stream false) (append-nil bytes) in
@@ -96,7 +96,7 @@ read_fault folder a b c total count buffer old new s t names more m n e fits roo
       bytes = bytes;
       taken = Consumes-trans a b c r.0 piece r.1 taken;
       within = omega (arith, size, sum, r.2);
-      heard = subst (λ (u : Stream). IsHeard folder u.frames t more n) here h.heard;
+      received = subst (λ (u : Stream). IsReceived folder u.frames t n) here h.received;
       end = subst (λ (u : Stream). IsEndOf u.end (Fault e)) here refl;
       stops = record {
         before = r.0;
@@ -104,7 +104,7 @@ read_fault folder a b c total count buffer old new s t names more m n e fits roo
         split = refl;
         size = omega (arith, size, fits, room);
         rest = old.rest;
-        sound = ap (λ (u : Stream). u.end) (sym (heard_all folder r.0 old s names m r.3 left));
+        sound = ap (λ (u : Stream). u.end) (sym (received_all folder r.0 old s m r.3 left));
       };
       whole = each_known c (λ more. sym (all more) ∙ here);
     }
@@ -116,15 +116,15 @@ stops_at_rest bytes rest (Fault e) end = absurd end
 stops_at_rest bytes rest (Failed f) end = absurd end
 
 -- the input ended
-pub read_all : (folder bytes : List ℕ) (old new : Option (List ℕ)) (reader : State) (ending : Ending) (s : FolderState) (names : List Name) (n : ℕ) → Consumes old new bytes → IsAtEnd new → length bytes ≤ most_bytes
-    → IsHeardOf folder bytes reader s names n → Leaves reader None → IsEndOf (Ok reader.rest) ending → IsRead folder old new ending s names n
-read_all folder bytes old new reader ending s names n taken over within h leaves end =
-    let here = heard_all folder bytes reader s names n h leaves in
+pub read_all : (folder bytes : List ℕ) (old new : Option (List ℕ)) (reader : State) (ending : Ending) (s : FolderState) (n : ℕ) → Consumes old new bytes → IsAtEnd new → length bytes ≤ max_input_bytes
+    → IsReceivedOf folder bytes reader s n → Leaves reader None → IsEndOf (Ok reader.rest) ending → IsRead folder old new ending s n
+read_all folder bytes old new reader ending s n taken over within h leaves end =
+    let here = received_all folder bytes reader s n h leaves in
     record {
       bytes = bytes;
       taken = taken;
       within = within;
-      heard = subst (λ (t : Stream). IsHeard folder t.frames s names n) here h.heard;
+      received = subst (λ (t : Stream). IsReceived folder t.frames s n) here h.received;
       end = subst (λ (t : Stream). IsEndOf t.end ending) here end;
       stops = stops_at_rest bytes reader.rest ending end;
       whole = none_known new bytes over;

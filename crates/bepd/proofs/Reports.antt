@@ -1,103 +1,159 @@
--- The lines of a listing, name by name.
-use Rattle.std.proofs.Common.{◌≡◌, ℕ, List, [], ◌∷◌, ◌++◌, Option, Some, None, refl, sym, ap, subst, ◌∙◌, append_assoc, append-nil}
+-- The lines of a listing, page by page.
+use Rattle.std.proofs.Common.{◌≡◌, ℕ, zero, suc, ◌<◌, ◌≤◌, ◌+◌, ◌-◌, List, [], ◌∷◌, ◌++◌, length, take, map, Option, Some, None, refl, sym, ap, subst, ◌∙◌, append_assoc, append-nil, arith}
 use Rattle.std.proofs.KnownBytes.{Appends-kept, Appends-nil, Appends-trans}
-use Rattle.std.specs.FinMap.{get, entries}
+use Rattle.std.proofs.lemmas.List.{length-append}
+use Rattle.std.proofs.lemmas.List.Concat.{flat_map-append}
+use Rattle.std.proofs.lemmas.List.Folds.{flat_map-map}
 use Rattle.std.specs.Io.KnownBytes.{Appends, Keeps}
-use Rattle.std.specs.List.Sorted.{IsStrictlySortedBy}
 use Rattle.std.specs.Option.{option_map_or}
 use Rattle.std.proofs.lemmas.Bool.{true≢false}
-use Rattle.std.specs.Prelude.{flat_map, is_some, option_map, Result, Ok, Err, IfErr}
+use Rattle.std.specs.Prelude.{flat_map, slice_get, is_some, option_map, Result, Ok, Err, IfErr}
 use Rattle.std.specs.Result.{IsErrAnd}
 use Rattle.bepd.specs.declared.ending.Failure.{Failure}
 use Rattle.bepd.specs.declared.ending.Failure.TheVariants.{OutOfMemory}
-use Rattle.folder_core.specs.Announced.{In, Key, Announcement, best, bests, devices_of}
-use Rattle.folder_core.specs.Reads.{best_found}
+use Rattle.folder_core.specs.Announced.{IsNamed}
+use Rattle.folder_core.specs.Reads.{Found, bests_after, bests_page}
 use Rattle.folder_core.specs.States.{FolderState}
-use Rattle.folder_core.proofs.Lemmas.{bests-announced, bests-lines, in_contains, contains_in}
-use Rattle.sync_record.specs.Devices.{Identity, bytes_cmp}
-use Rattle.sync_record.specs.Records.{Name, FileRecord}
+use Rattle.folder_core.specs.declared.best.Best.{Best}
+use Rattle.folder_core.proofs.Lemmas.{bests_after-lines, bests_after-page}
+use Rattle.sync_record.specs.Records.{Name}
 use Rattle.bepd.specs.Lines.{best_line}
 use Rattle.bepd.specs.Listing.{best_lines}
 
--- the line of a name, where it has a best
-abbrev pub line_of : FolderState → Name → List ℕ
-line_of s n = option_map_or (λ b. best_line b.1) (best (entries s.announced) n) []
+-- a page as the folder's definitions see it
+abbrev pub founds : List Best → List Found
+founds page = map (λ b. (b.record, b.devices)) page
 
-abbrev lines_of : FolderState → List Name → List ℕ
-lines_of s names = flat_map (line_of s) names
+abbrev found_lines : List Found → List ℕ
+found_lines found = flat_map (λ b. best_line b.0) found
 
--- the lines of the names but these were written
-abbrev pub IsWritten : FolderState → List Name → List Name → Option (List ℕ) → Option (List ℕ) → Type 0
-IsWritten s names left old new = (front : List ℕ) × Appends old new front × (front ++ lines_of s left ≡ lines_of s names)
+-- the bests after the last one of a page
+abbrev pub left_after : FolderState → List Best → List Found
+left_after s page = option_map_or (λ (b : Best). bests_after s (Some b.record.name)) (slice_get page (length page - 1)) []
 
-pub written_none : (s : FolderState) (names left : List Name) (old : Option (List ℕ)) → left ≡ names → IsWritten s names left old old
-written_none s names left old e = ([], Appends-nil old, ap (lines_of s) e)
+-- the lines of the bests up to a name were written
+pub record IsWrittenTo (s : FolderState) (after : Option Name) (old new : Option (List ℕ)) : Type 0 where
+  pub front : List ℕ
+  pub put : Appends old new front
+  pub whole : front ++ found_lines (bests_after s after) ≡ best_lines s
 
--- ---- one more name
+-- and the page is read after that name
+pub record IsWritten (s : FolderState) (page : List Best) (old new : Option (List ℕ)) : Type 0 where
+  pub after : Option Name
+  pub read : founds page ≡ bests_page s after 1000
+  pub written : IsWrittenTo s after old new
 
-some_none : {A : Type 0} (x : A) → Some x ≡ None → ⊥
-some_none x e = true≢false (ap is_some e)
+pub written_none : (s : FolderState) (page : List Best) (old : Option (List ℕ)) → founds page ≡ bests_page s None 1000 → IsWritten s page old old
+written_none s page old read = record {
+  after = None;
+  read = read;
+  written = record { front = []; put = Appends-nil old; whole = bests_after-lines s best_line };
+}
 
--- the best of a name with the devices that have it, as a read tells it
-abbrev told : List Announcement → Announcement → FileRecord × List Identity
-told a b = (b.1, devices_of a b)
+-- ---- one more page
 
-abbrev Told : Type 0
-Told = FileRecord × List Identity
+none_some : {A : Type 0} (x : A) → None ≡ Some x → ⊥
+none_some x e = true≢false (ap is_some (sym e))
 
-by_found : (a : List Announcement) (b : Option Announcement) (t : Told) → Some t ≡ option_map (told a) b → option_map_or (λ b. best_line b.1) b [] ≡ best_line t.0
-by_found a None t e = absurd (some_none t e)
-by_found a (Some b) t e = ap (λ o. option_map_or (λ (p : Told). best_line p.0) o []) (sym e)
+length-founds : (page : List Best) → length (founds page) ≡ length page
+length-founds [] = refl
+length-founds (b ∷ page) = ap suc (length-founds page)
 
-found_line : (s : FolderState) (n : Name) (t : Told) → Some t ≡ best_found s n → line_of s n ≡ best_line t.0
-found_line s n t e = by_found (entries s.announced) (best (entries s.announced) n) t e
+get_map : (page : List Best) (i : ℕ) → slice_get (founds page) i ≡ option_map (λ (b : Best). (b.record, b.devices)) (slice_get page i)
+get_map [] i = refl
+get_map (b ∷ page) zero = refl
+get_map (b ∷ page) (suc i) = get_map page i
 
-by_none : (a : List Announcement) (b : Option Announcement) → None ≡ option_map (told a) b → option_map_or (λ b. best_line b.1) b [] ≡ []
-by_none a None e = refl
-by_none a (Some b) e = absurd (some_none (told a b) (sym e))
+nonempty : (page : List Best) (b : Best) (i : ℕ) → slice_get page i ≡ Some b → 0 < length page
+nonempty [] b i e = absurd (none_some b e)
+nonempty (x ∷ page) b i e = omega arith
 
-pub written_line : (s : FolderState) (names left rest : List Name) (n : Name) (t : Told) (old mid new : Option (List ℕ)) → left ≡ n ∷ rest → Some t ≡ best_found s n
-    → Appends mid new (best_line t.0) → IsWritten s names left old mid → IsWritten s names rest old new
-written_line s names left rest n t old mid new first found put w = (
-  w.0 ++ best_line t.0,
-  Appends-trans old mid new w.0 (best_line t.0) w.1 put,
-  append_assoc w.0 (best_line t.0) (lines_of s rest)
-      ∙ ap (λ l. w.0 ++ (l ++ lines_of s rest)) (sym (found_line s n t found))
-      ∙ ap (λ l. w.0 ++ lines_of s l) (sym first) ∙ w.2,
-)
+last_found : (page : List Best) (b : Best) (i : ℕ) → slice_get page i ≡ Some b → slice_get (founds page) i ≡ Some (b.record, b.devices)
+last_found page b i e = get_map page i ∙ ap (λ o. option_map (λ (b : Best). (b.record, b.devices)) o) e
 
-pub written_nothing : (s : FolderState) (names left rest : List Name) (n : Name) (old new : Option (List ℕ)) → left ≡ n ∷ rest → None ≡ best_found s n
-    → IsWritten s names left old new → IsWritten s names rest old new
-written_nothing s names left rest n old new first none w = (
-  w.0,
-  w.1,
-  ap (λ l. w.0 ++ (l ++ lines_of s rest)) (sym (by_none (entries s.announced) (best (entries s.announced) n) none))
-      ∙ ap (λ l. w.0 ++ lines_of s l) (sym first) ∙ w.2,
-)
+split_page : (s : FolderState) → IsNamed s.announced → (after : Option Name) (page : List Best) (b : Best) → founds page ≡ bests_page s after 1000 → slice_get page (length page - 1) ≡ Some b
+    → bests_after s after ≡ founds page ++ bests_after s (Some b.record.name)
+split_page s named after page b read last =
+    bests_after-page s named after 1000 (founds page) (b.record, b.devices) read
+    (ap (λ n. slice_get (founds page) (n - 1)) (length-founds page) ∙ last_found page b (length page - 1) last)
 
--- ---- all names
+pub written_page : (s : FolderState) (page : List Best) (b : Best) (lines : List ℕ) (old mid new : Option (List ℕ)) → IsNamed s.announced → slice_get page (length page - 1) ≡ Some b
+    → lines ≡ flat_map (λ b. best_line b.record) page → Appends mid new lines → IsWritten s page old mid → IsWrittenTo s (Some b.record.name) old new
+written_page s page b lines old mid new named last made put w =
+    let rest = found_lines (bests_after s (Some b.record.name)) in
+    let front = w.written.front in
+    let lines_are : lines ≡ found_lines (founds page) = made ∙ sym (flat_map-map (λ (f : Found). best_line f.0) (λ (b : Best). (b.record, b.devices)) page) in
+    let split : found_lines (bests_after s w.after) ≡ lines ++ rest =
+    ap found_lines (split_page s named w.after page b w.read last)
+    ∙ flat_map-append (λ (f : Found). best_line f.0) (founds page) (bests_after s (Some b.record.name)) ∙ ap (λ l. l ++ rest) (sym lines_are) in
+    record {
+      front = front ++ lines;
+      put = Appends-trans old mid new front lines w.written.put put;
+      whole = append_assoc front lines rest ∙ ap (λ l. front ++ l) (sym split) ∙ w.written.whole;
+    }
 
--- rising names, among which are all that the folder announces, have the lines of the listing
-pub all_lines : (s : FolderState) (names : List Name) → IsStrictlySortedBy bytes_cmp names → ((k : Key) (r : FileRecord) → get s.announced k ≡ Some r → In k.name names) → lines_of s names ≡ best_lines s
-all_lines s names rise named =
-    bests-lines s.announced (λ b. best_line b.1) names rise
-    (λ e i. in_contains names e.0.name (named e.0 e.1 (bests-announced s.announced e (contains_in (bests (entries s.announced)) e i))))
+pub written_next : (s : FolderState) (next : List Best) (after : Name) (old new : Option (List ℕ)) → founds next ≡ bests_page s (Some after) 1000 → IsWrittenTo s (Some after) old new → IsWritten s next old new
+written_next s next after old new read w = record { after = Some after; read = read; written = w }
+
+-- how many bests are in the page and after it
+abbrev pub left_from : FolderState → List Best → ℕ
+left_from s page = length page + length (left_after s page)
+
+take_fewer : {A : Type 0} (n : ℕ) (xs : List A) → length (take n xs) ≤ length xs
+take_fewer zero xs = omega arith
+take_fewer (suc n) [] = omega arith
+take_fewer (suc n) (x ∷ xs) = omega (arith, take_fewer n xs)
+
+left_fits : (s : FolderState) → IsNamed s.announced → (after : Option Name) (page : List Best) → founds page ≡ bests_page s after 1000 → left_from s page ≤ length (bests_after s after)
+left_fits s named after page read = go (slice_get page (length page - 1)) refl
+  where
+    go : (last : Option Best) → slice_get page (length page - 1) ≡ last → left_from s page ≤ length (bests_after s after)
+    go None e =
+        let few = take_fewer 1000 (bests_after s after) in
+        let same = sym (length-founds page) ∙ ap length read in
+        rw e (omega (arith, few, same))
+    go (Some b) e =
+        let split = split_page s named after page b read e in
+        let sum = ap length split ∙ length-append (founds page) (bests_after s (Some b.record.name)) in
+        let same = length-founds page in
+        rw e (omega (arith, sum, same))
+
+-- the next page has fewer to come
+pub fewer_left : (s : FolderState) → IsNamed s.announced → (page next : List Best) (b : Best) → slice_get page (length page - 1) ≡ Some b
+    → founds next ≡ bests_page s (Some b.record.name) 1000 → left_from s next < left_from s page
+fewer_left s named page next b last read =
+    let fits = left_fits s named (Some b.record.name) next read in
+    let some = nonempty page b (length page - 1) last in
+    let left : left_after s page ≡ bests_after s (Some b.record.name) = ap (λ o. option_map_or (λ (b : Best). bests_after s (Some b.record.name)) o []) last in
+    let same = ap length left in
+    omega (arith, fits, some, same)
+
+-- ---- the end
+
+take_none : {A : Type 0} (n : ℕ) (xs : List A) → [] ≡ take (suc n) xs → xs ≡ []
+take_none n [] e = refl
+take_none n (x ∷ xs) e = cc
+
+no_founds : (page : List Best) → page ≡ [] → [] ≡ founds page
+no_founds page e = sym (ap founds e)
 
 -- what was written is a front of the listing
-pub written_front : (s : FolderState) (names left : List Name) (last : List ℕ) (old new : Option (List ℕ)) → lines_of s names ≡ best_lines s → IsWritten s names left old new
+pub written_front : (s : FolderState) (after : Option Name) (last : List ℕ) (old new : Option (List ℕ)) → IsWrittenTo s after old new
     → (front : List ℕ) × (rest : List ℕ) × (best_lines s ++ last ≡ front ++ rest) × Appends old new front
-written_front s names left last old new all w =
-    (w.0, lines_of s left ++ last, ap (λ l. l ++ last) (sym (w.2 ∙ all)) ∙ append_assoc w.0 (lines_of s left) last, w.1)
+written_front s after last old new w =
+    let rest = found_lines (bests_after s after) in
+    (w.front, rest ++ last, ap (λ l. l ++ last) (sym w.whole) ∙ append_assoc w.front rest last, w.put)
 
--- and with the last line the whole
-pub written_all : (s : FolderState) (names left : List Name) (last : List ℕ) (old mid put_to new : Option (List ℕ)) → lines_of s names ≡ best_lines s → left ≡ [] → Appends mid put_to last → Keeps put_to new
-    → IsWritten s names left old mid → Appends old new (best_lines s ++ last)
-written_all s names left last old mid put_to new all none appended kept w =
-    let put = Appends-kept mid put_to new last appended kept in
-    let front : w.0 ≡ best_lines s = sym (append-nil w.0) ∙ ap (λ l. w.0 ++ lines_of s l) (sym none) ∙ w.2 ∙ all in
-    subst (λ l. Appends old new (l ++ last)) front (Appends-trans old mid new w.0 last w.1 put)
+-- and with the last line the whole, where no best is left
+pub written_all : (s : FolderState) (page : List Best) (last : List ℕ) (old mid put_to new : Option (List ℕ)) → page ≡ [] → Appends mid put_to last → Keeps put_to new
+    → IsWritten s page old mid → Appends old new (best_lines s ++ last)
+written_all s page last old mid put_to new none appended kept w =
+    let start = w.written.front in
+    let over : bests_after s w.after ≡ [] = take_none 999 (bests_after s w.after) (no_founds page none ∙ w.read) in
+    let front : start ≡ best_lines s = sym (append-nil start) ∙ ap (λ l. start ++ found_lines l) (sym over) ∙ w.written.whole in
+    subst (λ l. Appends old new (l ++ last)) front (Appends-trans old mid new start last w.written.put (Appends-kept mid put_to new last appended kept))
 
--- what holds at want of memory holds of an error that is one
-pub at_want : {A : Type 0} (P : Failure → Type 0) (r : Result A Failure) → IsErrAnd r (λ failure. failure ≡ OutOfMemory) → P OutOfMemory → IfErr r P
-at_want P (Ok x) e p = tt
-at_want P (Err f) e p = subst P (sym e) p
+-- what holds of out of memory holds of an error that is that
+pub at_memory : {A : Type 0} (P : Failure → Type 0) (r : Result A Failure) → IsErrAnd r (λ failure. failure ≡ OutOfMemory) → P OutOfMemory → IfErr r P
+at_memory P (Ok x) e p = tt
+at_memory P (Err f) e p = subst P (sym e) p

@@ -10,8 +10,8 @@ use Rattle.bepd.specs.declared.ending.Failure.{Failure}
 use Rattle.bepd.specs.declared.ending.Failure.TheVariants.{OutOfMemory, Read, Write}
 
 -- the most bytes of an input
-abbrev pub most_bytes : ℕ
-most_bytes = 2 ^ 40
+abbrev pub max_input_bytes : ℕ
+max_input_bytes = 2 ^ 40
 
 abbrev pub failure_status : Failure → ℕ
 failure_status OutOfMemory = 4

@@ -1,6 +1,7 @@
 pub mod Lines
-pub mod Heard
+pub mod Received
 pub mod Endings
 pub mod Listing
 pub mod Progress
-pub mod Refusals
+pub mod CommandLine
+pub mod Runs

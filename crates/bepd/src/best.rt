@@ -1,17 +1,17 @@
 //! `bepd best FOLDER`.
-ghost use Rattle.std.specs.Prelude.{◌≡◌, ℕ, List, IfErr, IfOk, IfSome, false};
+ghost use Rattle.std.specs.Prelude.{◌≡◌, ℕ, List, IfSome, false};
 ghost use Rattle.std.specs.Io.KnownBytes.{Appends, Consumes};
 ghost use Rattle.bep_frames.specs.Stream.{stream};
 ghost use Rattle.folder_core.specs.Kept.{empty_folder};
-ghost use Rattle.bepd.specs.Endings.{IsEndOf, IsListed, WritesFront};
-ghost use Rattle.bepd.specs.Heard.{own_device};
+ghost use Rattle.bepd.specs.Endings.{IsEndOf, IsListed};
+ghost use Rattle.bepd.specs.Received.{own_device};
 ghost use Rattle.bepd.specs.Listing.{listing, Answers};
 
-use crate::ending::{Ending, Failure};
-use crate::heard::{Heard, own_device};
-use crate::input::hear_all;
+use crate::ending::Ending;
+use crate::received::Received;
+use crate::input::read_stream;
 use crate::listing::write_listing;
-use folder_core::{FolderCore, PlainFolder};
+use folder_core::FolderCore;
 use std::alloc::Global;
 use std::io::{Read, Write};
 
@@ -26,12 +26,14 @@ use std::io::{Read, Write};
 /// The stream is read in pieces of 64 KiB. For each message the plain folder moves what it keeps behind the message's
 /// first name, so m messages over n names take up to O(m n), and O(n log n) where they come in order of the names. Memory
 /// for the records and their names, and a small multiple of the greatest message.
-pub fn best<R: Read, W: Write>(
+pub fn best<F: FolderCore + Drop, R: Read, W: Write>(
     alloc: Global,
     folder: &str,
+    empty: F,
     reader: &mut R,
     writer: &mut W,
 ) -> Ending
+    requires { F.state empty ≡ empty_folder own_device }
     // Exactly the listing of the bytes that the reader gave is written, unless something failed, and no more are read than
     // up to the piece that shows a fault.
     ensures listing { (bytes : List ℕ) × Consumes (R.remaining reader.old) (R.remaining reader.new) bytes
@@ -41,54 +43,13 @@ pub fn best<R: Read, W: Write>(
         IsEndOf (stream false input).end result
         × Appends (W.contents writer.old) (W.contents writer.new) (listing folder.now input)) }
 {
-    best_in(
-        alloc,
-        folder,
-        PlainFolder::new(alloc, own_device()),
-        reader,
-        writer,
-    )
-}
-
-/// The same with any keeping of the folder, which has to be empty.
-pub fn best_in<F: FolderCore + Drop, R: Read, W: Write>(
-    alloc: Global,
-    folder: &str,
-    empty: F,
-    reader: &mut R,
-    writer: &mut W,
-) -> Ending
-    requires { F.state empty ≡ empty_folder own_device }
-    ensures listing { (bytes : List ℕ) × Consumes (R.remaining reader.old) (R.remaining reader.new) bytes
-        × Answers folder.now bytes result (W.contents writer.old) (W.contents writer.new) }
-    ensures known { IfSome (R.remaining reader.old) (λ input. IsListed result →
-        IsEndOf (stream false input).end result
-        × Appends (W.contents writer.old) (W.contents writer.new) (listing folder.now input)) }
-{
-    match list(alloc, folder, empty, reader, writer) {
+    let mut received = Received::new(empty);
+    let ending = match read_stream(alloc, folder, &mut received, reader) {
         Ok(ending) => ending,
+        Err(failure) => return Ending::Failed(failure),
+    };
+    match write_listing(alloc, &received, writer) {
+        Ok(()) => ending,
         Err(failure) => Ending::Failed(failure),
     }
-}
-
-fn list<F: FolderCore + Drop, R: Read, W: Write>(
-    alloc: Global,
-    folder: &str,
-    empty: F,
-    reader: &mut R,
-    writer: &mut W,
-) -> Result<Ending, Failure>
-    requires { F.state empty ≡ empty_folder own_device }
-    ensures listed { IfOk result (λ ending. (bytes : List ℕ) × Consumes (R.remaining reader.old) (R.remaining reader.new) bytes
-        × Answers folder.now bytes ending (W.contents writer.old) (W.contents writer.new)) }
-    ensures known { IfOk result (λ ending. IfSome (R.remaining reader.old) (λ input.
-        IsEndOf (stream false input).end ending
-        × Appends (W.contents writer.old) (W.contents writer.new) (listing folder.now input))) }
-    ensures failed { IfErr result (λ failure. (bytes : List ℕ) × Consumes (R.remaining reader.old) (R.remaining reader.new) bytes
-        × WritesFront failure (listing folder.now bytes) (W.contents writer.old) (W.contents writer.new)) }
-{
-    let mut heard = Heard::new(alloc, empty);
-    let ending = hear_all(alloc, folder, &mut heard, reader)?;
-    write_listing(alloc, &heard, writer)?;
-    Ok(ending)
 }

@@ -1,16 +1,20 @@
 //! The command line.
-ghost use Rattle.std.specs.Prelude.{◌≡◌, ◌⊎◌};
-ghost use Rattle.bepd.specs.Refusals.{status_of_refusal};
-ghost use Rattle.clap.specs.Values.{kind_of};
+ghost use Rattle.std.specs.Prelude.{◌≡◌, ◌⊎◌, Some, IfErr, IfOk, map, option_map};
+ghost use Rattle.std.specs.String.{string_bytes};
+ghost use Rattle.bepd.specs.CommandLine.{IsAnswered, IsGiven, IsRequested, IsErrorAt, bepd_app, folder_at};
+ghost use Rattle.clap.specs.Words.{app_of, kind_of, subcommand_rows_of};
 
 #[cfg(test)]
 mod tests;
 
 use clap::error::ErrorKind;
-use clap::{Arg, Command, Error};
+use clap::{Arg, ArgMatches, Command, Error};
 use std::alloc::{AllocError, Global};
+use std::io;
 
-const PROGRAM_ABOUT: &str = "Keeps folders alike between peers, by the Block Exchange Protocol v1.";
+const PROGRAM_ABOUT: &str = "\
+Lists the best version of each name of a folder, from the bytes that a Syncthing
+device sent, as a proxy recorded them. It does not sync folders yet.";
 
 const PROGRAM_STATUSES: &str = "\
 Exit status: 0 for this help and the version, 1 for a command line that is refused;
@@ -18,16 +22,22 @@ the help of a command has the others.
 
 Example: bepd best docs < docs.frames";
 
-const BEST_ABOUT: &str = "List the best version of each name of a folder, from what one peer sends";
+const BEST_ABOUT: &str = "List the best version of each name of a folder, from what one peer sent";
 
 const BEST_LONG_ABOUT: &str = "\
-List the best version of each name of a folder, from what one peer sends.
+List the best version of each name of a folder, from what one peer sent.
+
+The best is a valid version that no other valid version of the name dominates; of
+several such, a live one before a deleted one, then the one modified last, and
+then the one modified by the device with the smaller ID. Syncthing calls it the
+global version.
 
 Input: on standard input the bytes that one peer sent on one connection of the
-Block Exchange Protocol v1, behind its Hello: frames of a header and a message.
+Block Exchange Protocol v1, after its Hello: frames of a header and a message.
 They are the plain bytes within TLS, as a proxy records them that has the
-certificates of both devices. Index and IndexUpdate messages of FOLDER count; all
-others are read and passed over.
+certificates of both devices. Compression must be set to `never` on the device
+that sends. Index and IndexUpdate messages of FOLDER count; all others are read
+and passed over.
 
 Output: for each name of which the peer announced a valid version a line
 
@@ -37,7 +47,8 @@ in byte order of the names, and as the last line `skipped N`. There
     KIND     is file, dir, other, or gone for a name that was deleted,
     SIZE     is in bytes,
     VERSION  is ID:COUNTER for each device that changed it, with commas between,
-             or - for none; ID has 16 hexadecimal digits,
+             or - for none; ID has the first 8 bytes of the device's identity in
+             hexadecimal, which Syncthing's short id has in base32,
     NAME     has control characters and the backslash as \\xHH,
     N        is how many records were left out, since their names must not reach
              a disk.";
@@ -48,20 +59,63 @@ const BEST_STATUSES: &str = "\
 Exit status; from 2 on a line on standard error says why:
   0  the input was read to its end
   1  the command line was refused
-  2  `fault NUMBER NAME`: the stream breaks the protocol; what stands before is listed
+  2  `fault NUMBER NAME`: the stream breaks the protocol; what came before is listed
   3  `rest N`: the input ends within a frame, of which it has N bytes
   4  `fault 33 OutOfMemory`: memory ran out
   5  `fault read or write`: that failed, or the input has more than 2^40 bytes";
 
-/// The folder's id in the words `PROGRAM best FOLDER`. Any other words are refused, and so are those that ask for help
-/// or the version: the refusal's `Display` has it.
-pub(crate) fn folder_of<'a>(alloc: Global, words: &'a [String]) -> Result<&'a str, Error> {
+/// What a command line asks for.
+#[derive(Debug, Drop)]
+pub(crate) enum Request<'a> {
+    /// The listing of this folder.
+    Best(&'a str),
+    /// This text: the help or the version.
+    Text(String),
+    /// Nothing that the program does. The text says why.
+    Refused(String),
+    /// Memory ran out before this was clear.
+    OutOfMemory,
+}
+
+/// What the words of a command line ask for, of which the first is the program's name. Words that could not be read are
+/// refused.
+pub(crate) fn request_of<'a>(alloc: Global, words: &'a io::Result<Vec<String>>) -> Request<'a>
+    ensures { IsRequested words.now result }
+{
+    match words {
+        Ok(words) => match folder_of(alloc, words.as_slice()) {
+            Ok(folder) => Request::Best(folder),
+            Err(error) => request_at(alloc, &error),
+        },
+        Err(error) if error.kind() == io::ErrorKind::OutOfMemory => Request::OutOfMemory,
+        Err(_) => request_at(alloc, &not_text(alloc)),
+    }
+}
+
+/// What an error of the parse asks for: help and the version are errors there.
+fn request_at<'a>(alloc: Global, error: &Error) -> Request<'a>
+    ensures { IsAnswered (kind_of error.now) result }
+{
+    if error.kind() == ErrorKind::OutOfMemory {
+        return Request::OutOfMemory;
+    }
+    match format!(in alloc; "{error}") {
+        Ok(text) if error.use_stderr() => Request::Refused(text),
+        Ok(text) => Request::Text(text),
+        Err(_) => Request::OutOfMemory,
+    }
+}
+
+/// The folder's id in the words `PROGRAM best FOLDER`.
+fn folder_of<'a>(alloc: Global, words: &'a [String]) -> Result<&'a str, Error>
+    ensures given { IfOk result (λ folder. IsGiven (map string_bytes words.now) folder.now) }
+    ensures error { IfErr result (λ e. IsErrorAt (map string_bytes words.now) (kind_of e)) }
+{
     let mut command = program(alloc)?;
     let matches = command.try_get_matches_from_mut(words)?;
-    let best = matches.subcommand_matches("best");
-    match best.and_then(|best| best.get_str("FOLDER")) {
+    match folder_in(&matches) {
         Some(folder) => Ok(folder),
-        None => Err(refusal_in(
+        None => Err(error_in(
             &mut command,
             ErrorKind::MissingSubcommand,
             "a command is required",
@@ -69,56 +123,52 @@ pub(crate) fn folder_of<'a>(alloc: Global, words: &'a [String]) -> Result<&'a st
     }
 }
 
-/// A refusal of words that aren't text.
-pub(crate) fn no_text(alloc: Global) -> Error
+/// The value of FOLDER, where the command is `best`.
+fn folder_in<'a>(matches: &ArgMatches<'a>) -> Option<&'a str>
+    ensures { option_map (λ s. s.now) result ≡ folder_at (subcommand_rows_of matches.now) }
+{
+    matches.subcommand_matches("best")?.get_str("FOLDER")
+}
+
+/// The error for words that are not UTF-8.
+fn not_text(alloc: Global) -> Error
     ensures { (kind_of result ≡ ErrorKind.InvalidValue) ⊎ (kind_of result ≡ ErrorKind.OutOfMemory) }
 {
     match program(alloc) {
-        Ok(mut command) => refusal_in(
+        Ok(mut command) => error_in(
             &mut command,
             ErrorKind::InvalidValue,
             "an argument is not UTF-8",
         ),
-        Err(refused) => Error::from(refused),
+        Err(error) => Error::from(error),
     }
 }
 
-/// The exit status for a refusal: 0 where help or the version was asked for, 4 for want of memory, 1 for any other.
-pub(crate) fn refusal_status(refusal: &Error) -> u8
-    ensures { result ≡ status_of_refusal (kind_of refusal.now) }
-{
-    match refusal.kind() {
-        ErrorKind::DisplayHelp | ErrorKind::DisplayVersion => 0,
-        ErrorKind::OutOfMemory => 4,
-        _ => 1,
-    }
-}
-
-/// A refusal with the usage; want of memory for its text comes in its place.
-fn refusal_in(command: &mut Command<'_>, kind: ErrorKind, message: &str) -> Error
+/// An error with the usage; out of memory for its text comes in its place.
+fn error_in(command: &mut Command<'_>, kind: ErrorKind, message: &str) -> Error
     ensures { (kind_of result ≡ kind) ⊎ (kind_of result ≡ ErrorKind.OutOfMemory) }
 {
     match command.error(kind, message) {
-        Ok(refusal) => refusal,
-        Err(refused) => Error::from(refused),
+        Ok(error) => error,
+        Err(error) => Error::from(error),
     }
 }
 
-fn program<'a>(alloc: Global) -> Result<Command<'a>, AllocError> {
+/// The commands and what they take.
+fn program<'a>(alloc: Global) -> Result<Command<'a>, AllocError>
+    ensures { IfOk result (λ command. app_of command ≡ bepd_app) }
+{
+    let folder = Arg::new(alloc, "FOLDER").required(true).help(BEST_FOLDER);
+    let best = Command::new(alloc, "best")
+        .about(BEST_ABOUT)
+        .long_about(BEST_LONG_ABOUT)
+        .after_help(BEST_STATUSES)
+        .arg(folder)?;
     Command::new(alloc, "bepd")
         .bin_name("bepd")?
         .version("0.1.0")
         .override_usage("bepd <COMMAND>")
         .about(PROGRAM_ABOUT)
         .after_help(PROGRAM_STATUSES)
-        .subcommand(best(alloc)?)
-}
-
-fn best<'a>(alloc: Global) -> Result<Command<'a>, AllocError> {
-    let folder = Arg::new(alloc, "FOLDER").required(true).help(BEST_FOLDER);
-    Command::new(alloc, "best")
-        .about(BEST_ABOUT)
-        .long_about(BEST_LONG_ABOUT)
-        .after_help(BEST_STATUSES)
-        .arg(folder)
+        .subcommand(best)
 }

@@ -2,11 +2,11 @@
 ghost use Rattle.std.specs.Prelude.{◌≡◌, ◌≢◌, ◌++◌, ◌+◌, ◌<◌, ◌^◌, ℕ, List, IfErr, IfOk, OnOk, Ok, [], false, length};
 ghost use Rattle.std.specs.Io.KnownBytes.{Consumes};
 ghost use Rattle.bepd.specs.Endings.{IsEndOf};
-ghost use Rattle.bepd.specs.Heard.{own_device};
-ghost use Rattle.bepd.specs.Progress.{IsHeard, IsHeardOf, IsRead, Leaves};
+ghost use Rattle.bepd.specs.Received.{own_device};
+ghost use Rattle.bepd.specs.Progress.{IsReceived, IsReceivedOf, IsRead, Leaves};
 
 use crate::ending::{Ending, Failure};
-use crate::heard::Heard;
+use crate::received::Received;
 use bep_frames::{FrameFault, FrameReader};
 use folder_core::FolderCore;
 use std::alloc::{AllocError, Global};
@@ -16,21 +16,21 @@ use std::io::{ErrorKind, Read};
 const PIECE_BYTES: usize = 65_536;
 
 /// The most bytes of an input.
-const MOST_BYTES: u64 = 0x100_0000_0000;
+const MAX_INPUT_BYTES: u64 = 0x100_0000_0000;
 
 /// Reads a stream without Hello up to its end or its first fault, and takes its frames.
 ///
 /// `Read` where a read failed, though not where one was interrupted, which is tried again, or where the input has more
 /// than 2^40 bytes.
-pub(crate) fn hear_all<F: FolderCore, R: Read>(
+pub(crate) fn read_stream<F: FolderCore, R: Read>(
     alloc: Global,
     folder: &str,
-    heard: &mut Heard<F>,
+    received: &mut Received<F>,
     reader: &mut R,
 ) -> Result<Ending, Failure>
-    requires { IsHeard folder.now [] (F.state heard.old.folder) heard.old.names.keys heard.old.skipped }
+    requires { IsReceived folder.now [] (F.state received.old.folder) received.old.skipped }
     ensures read { IfOk result (λ ending. IsRead folder.now (R.remaining reader.old) (R.remaining reader.new)
-        ending (F.state heard.new.folder) heard.new.names.keys heard.new.skipped) }
+        ending (F.state received.new.folder) received.new.skipped) }
     ensures taken { (bytes : List ℕ) × Consumes (R.remaining reader.old) (R.remaining reader.new) bytes }
     ensures refused { IfErr result (λ failure. failure ≢ Failure.Write) }
 {
@@ -43,11 +43,11 @@ pub(crate) fn hear_all<F: FolderCore, R: Read>(
             Ok(0) => return Ok(end_of(&frames)),
             Ok(count) => {
                 total += count as u64;
-                if total > MOST_BYTES {
+                if total > MAX_INPUT_BYTES {
                     return Err(Failure::Read);
                 }
                 let piece = &buffer[..count];
-                if let Some(fault) = hear_piece(alloc, folder, heard, &mut frames, piece)? {
+                if let Some(fault) = take_piece(alloc, folder, received, &mut frames, piece)? {
                     return Ok(Ending::Fault(fault));
                 }
             }
@@ -79,45 +79,45 @@ fn end_of(frames: &FrameReader) -> Ending
 }
 
 /// Feeds the next bytes of the stream to the reader, and takes the frames that stand there then.
-fn hear_piece<F: FolderCore>(
+fn take_piece<F: FolderCore>(
     alloc: Global,
     folder: &str,
-    heard: &mut Heard<F>,
+    received: &mut Received<F>,
     frames: &mut FrameReader,
     piece: &[u8],
 ) -> Result<Option<FrameFault>, AllocError>
-    requires me { (F.state heard.old.folder).me ≡ own_device }
+    requires me { (F.state received.old.folder).me ≡ own_device }
     requires later { frames.old.hello ≡ false }
-    requires few { heard.old.skipped + length frames.old.rest + length piece.now < 2 ^ 64 }
-    ensures heard { OnOk result ((bytes : List ℕ) →
-        IsHeardOf folder.now bytes frames.old (F.state heard.old.folder) heard.old.names.keys heard.old.skipped →
-        IsHeardOf folder.now (bytes ++ piece.now) frames.new (F.state heard.new.folder) heard.new.names.keys heard.new.skipped) }
-    ensures me { OnOk result ((F.state heard.new.folder).me ≡ own_device) }
+    requires few { received.old.skipped + length frames.old.rest + length piece.now < 2 ^ 64 }
+    ensures received { OnOk result ((bytes : List ℕ) →
+        IsReceivedOf folder.now bytes frames.old (F.state received.old.folder) received.old.skipped →
+        IsReceivedOf folder.now (bytes ++ piece.now) frames.new (F.state received.new.folder) received.new.skipped) }
+    ensures me { OnOk result ((F.state received.new.folder).me ≡ own_device) }
     ensures leaves { IfOk result (Leaves frames.new) }
 {
     frames.feed(piece)?;
-    hear(alloc, folder, heard, frames)
+    take_frames(alloc, folder, received, frames)
 }
 
 /// Takes the frames that stand in the reader, until there is none or a fault.
-fn hear<F: FolderCore>(
+fn take_frames<F: FolderCore>(
     alloc: Global,
     folder: &str,
-    heard: &mut Heard<F>,
+    received: &mut Received<F>,
     frames: &mut FrameReader,
 ) -> Result<Option<FrameFault>, AllocError>
-    requires me { (F.state heard.old.folder).me ≡ own_device }
+    requires me { (F.state received.old.folder).me ≡ own_device }
     requires later { frames.old.hello ≡ false }
-    requires few { heard.old.skipped + length frames.old.rest < 2 ^ 64 }
-    ensures heard { OnOk result ((bytes : List ℕ) →
-        IsHeardOf folder.now bytes frames.old (F.state heard.old.folder) heard.old.names.keys heard.old.skipped →
-        IsHeardOf folder.now bytes frames.new (F.state heard.new.folder) heard.new.names.keys heard.new.skipped) }
-    ensures me { OnOk result ((F.state heard.new.folder).me ≡ own_device) }
+    requires few { received.old.skipped + length frames.old.rest < 2 ^ 64 }
+    ensures received { OnOk result ((bytes : List ℕ) →
+        IsReceivedOf folder.now bytes frames.old (F.state received.old.folder) received.old.skipped →
+        IsReceivedOf folder.now bytes frames.new (F.state received.new.folder) received.new.skipped) }
+    ensures me { OnOk result ((F.state received.new.folder).me ≡ own_device) }
     ensures leaves { IfOk result (Leaves frames.new) }
 {
     while let Some(answer) = frames.next() {
         match answer {
-            Ok(frame) => heard.take_frame(alloc, folder, frame)?,
+            Ok(frame) => received.take_frame(alloc, folder, frame)?,
             Err(FrameFault::OutOfMemory) => return Err(AllocError),
             Err(fault) => return Ok(Some(fault)),
         }

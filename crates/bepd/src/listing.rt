@@ -1,60 +1,71 @@
-//! The listing of what was heard.
-ghost use Rattle.std.specs.Prelude.{◌≡◌, ◌++◌, IfErr, OnOk, Some};
-ghost use Rattle.std.specs.FinMap.{get};
+//! The listing of what was received.
+ghost use Rattle.std.specs.Prelude.{◌≡◌, ◌++◌, IfErr, OnOk, flat_map};
 ghost use Rattle.std.specs.Io.KnownBytes.{Appends, Keeps};
-ghost use Rattle.folder_core.specs.Announced.{In, Key};
-ghost use Rattle.sync_record.specs.Records.{FileRecord};
+ghost use Rattle.folder_core.specs.Announced.{IsNamed};
 ghost use Rattle.bepd.specs.Endings.{WritesFront};
-ghost use Rattle.bepd.specs.Lines.{skipped_line};
+ghost use Rattle.bepd.specs.Lines.{best_line, skipped_line};
 ghost use Rattle.bepd.specs.Listing.{best_lines};
 
 use crate::ending::Failure;
-use crate::heard::Heard;
 use crate::line::{push_best, push_skipped};
-use folder_core::FolderCore;
-use std::alloc::Global;
+use crate::received::Received;
+use folder_core::{Best, FolderCore};
+use std::alloc::{AllocError, Global};
 use std::io::Write;
+
+/// How many bests are read of the folder and written at once.
+const PAGE: usize = 1_000;
 
 /// Writes a line for each name that has a best, in byte order, and then how many records were skipped; and flushes the
 /// writer. After a failure the lines so far may be written.
 ///
-/// O(n log n) for n names, and what their lines have; memory for a line and a record.
+/// O(n) for n names, and what their lines have, and for each page a search of the folder. Memory for a page of records
+/// and lines.
 pub(crate) fn write_listing<F: FolderCore, W: Write>(
     alloc: Global,
-    heard: &Heard<F>,
+    received: &Received<F>,
     writer: &mut W,
 ) -> Result<(), Failure>
-    requires named { (k : Key) (r : FileRecord) →
-        get (F.state heard.now.folder).announced k ≡ Some r → In k.name heard.now.names.keys }
+    requires named { IsNamed (F.state received.now.folder).announced }
     ensures listed { OnOk result (Appends (W.contents writer.old) (W.contents writer.new)
-        (best_lines (F.state heard.now.folder) ++ skipped_line heard.now.skipped)) }
-    ensures failed { IfErr result (λ failure. WritesFront failure (best_lines (F.state heard.now.folder) ++ skipped_line heard.now.skipped)
+        (best_lines (F.state received.now.folder) ++ skipped_line received.now.skipped)) }
+    ensures failed { IfErr result (λ failure. WritesFront failure (best_lines (F.state received.now.folder) ++ skipped_line received.now.skipped)
         (W.contents writer.old) (W.contents writer.new)) }
 {
-    let mut line = Vec::new(alloc);
-    for name in &heard.names {
-        if let Some(best) = heard.folder.best(name)? {
-            line.clear();
-            push_best(&mut line, &best.record)?;
-            put(writer, line.as_slice())?;
-        }
+    let mut lines = Vec::new(alloc);
+    let mut page = received.folder.bests(None, PAGE)?;
+    while let Some(last) = page.as_slice().last() {
+        lines.clear();
+        push_bests(&mut lines, page.as_slice())?;
+        put(writer, lines.as_slice())?;
+        page = received.folder.bests(Some(last.record.name()), PAGE)?;
     }
-    line.clear();
-    push_skipped(&mut line, heard.skipped)?;
-    put(writer, line.as_slice())?;
+    lines.clear();
+    push_skipped(&mut lines, received.skipped)?;
+    put(writer, lines.as_slice())?;
     flush(writer)
+}
+
+/// Appends the lines of these bests. Returns `Err` only if out of memory.
+fn push_bests(lines: &mut Vec<u8>, bests: &[Best]) -> Result<(), AllocError>
+    ensures { OnOk result (lines.new.items ≡ lines.old.items ++ flat_map (λ b. best_line b.record) bests.now) }
+{
+    for best in bests {
+        push_best(lines, &best.record)?;
+    }
+    Ok(())
 }
 
 fn put<W: Write>(writer: &mut W, bytes: &[u8]) -> Result<(), Failure>
     ensures put { OnOk result (Appends (W.contents writer.old) (W.contents writer.new) bytes.now) }
-    ensures refused { IfErr result (λ failure. failure ≡ Failure.Write) }
+    ensures failed { IfErr result (λ failure. failure ≡ Failure.Write) }
 {
     writer.write_all(bytes).map_err(|_| Failure::Write)
 }
 
 fn flush<W: Write>(writer: &mut W) -> Result<(), Failure>
     ensures kept { Keeps (W.contents writer.old) (W.contents writer.new) }
-    ensures refused { IfErr result (λ failure. failure ≡ Failure.Write) }
+    ensures failed { IfErr result (λ failure. failure ≡ Failure.Write) }
 {
     writer.flush().map_err(|_| Failure::Write)
 }

@@ -3,9 +3,12 @@
 mod captured;
 mod failing;
 mod rows;
+mod runs;
 
 use crate::best::best;
 use crate::ending::{Ending, Failure};
+use crate::received::own_device;
+use folder_core::PlainFolder;
 use std::alloc::{AllocError, Global};
 use std::io::{self, ErrorKind, Read, Write};
 use std::process::Abort;
@@ -120,6 +123,17 @@ impl Write for Sink {
     }
 }
 
+/// Lists over the plain folder.
+fn list<R: Read, W: Write>(
+    alloc: Global,
+    folder: &str,
+    reader: &mut R,
+    writer: &mut W,
+) -> Ending {
+    let empty = PlainFolder::new(alloc, own_device());
+    best(alloc, folder, empty, reader, writer)
+}
+
 /// Reads the source to its end. The sink, which took nothing before, has a front of the listing then; returned are the
 /// ending and how many bytes were written.
 fn run(
@@ -134,7 +148,7 @@ fn run(
     for _ in 0..2 {
         if ending == Ending::Failed(Failure::OutOfMemory) {
             let mut sink = Sink::new(rt.alloc(), step, fails_at)?;
-            ending = best(rt.alloc(), "f", &mut { source }, &mut sink);
+            ending = list(rt.alloc(), "f", &mut { source }, &mut sink);
             count = sink.written.len();
             assert!(rt; listing.as_bytes().starts_with(sink.written.as_slice()));
         }
@@ -151,11 +165,11 @@ fn lists(
     ending: Ending,
 ) -> Result<(), AllocError> {
     let mut written = Vec::with_capacity(rt.alloc(), MOST)?;
-    let mut answer = best(rt.alloc(), folder, &mut { stream }, &mut written);
+    let mut answer = list(rt.alloc(), folder, &mut { stream }, &mut written);
     if answer == Ending::Failed(Failure::OutOfMemory) {
         assert!(rt; listing.as_bytes().starts_with(written.as_slice()));
         written.clear();
-        answer = best(rt.alloc(), folder, &mut { stream }, &mut written);
+        answer = list(rt.alloc(), folder, &mut { stream }, &mut written);
     }
     assert_eq!(rt; answer, ending, "{listing}");
     assert_eq!(rt; written.as_slice(), listing.as_bytes(), "{listing}");

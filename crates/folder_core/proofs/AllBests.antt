@@ -47,7 +47,7 @@ all_at P [] all n i = absurd i
 all_at P (m ∷ names) all n (inl s) = subst P (sym s) all.0
 all_at P (m ∷ names) all n (inr i) = all_at P names all.1 n i
 
-apart : (m n : Name) → bytes_cmp m n ≡ Less → m ≢ n
+pub apart : (m n : Name) → bytes_cmp m n ≡ Less → m ≢ n
 apart m n less same = true≢false (ap is_lt (sym less ∙ ap (bytes_cmp m) (sym same) ∙ tied_itself bytes_total m))
 
 named_other : (n : Name) (e : Announcement) → e.0.name ≢ n → is_of n e ≡ false

@@ -21,6 +21,7 @@ pub use Rattle.folder_core.proofs.CommitLaws.{commits-legal, legal-begin}
 pub use Rattle.folder_core.proofs.HistoryLaws.{legal-front, legal-push, state-push, own-push, own-skip, shared-full, shared-same, shared-room, finish-fits, give_up-fits, abort-fits}
 pub use Rattle.folder_core.proofs.SharedLaws.{OfOneCaller, tells-longer, tells-entered, tells-refused, shared-legal}
 pub use Rattle.folder_core.proofs.ReadLaws.{BestTold, best-read, no_best-read, need-page_rises, need-page_fits, need-page_of, need-page_has, StandsIn, place-read, no_place-read, known-own, known-greatest, known-reached}
+pub use Rattle.folder_core.proofs.BestPages.{bests_after-none, bests_after-lines, bests_after-short, bests_after-next, bests_after-page, bests-page_rises, bests-page_of, bests-page_has, bests-page_end, pages-together}
 pub use Rattle.folder_core.proofs.PageLaws.{page-rises, page-fits, page-of, page-has}
 pub use Rattle.folder_core.proofs.SameLaws.{HasFound, unchanged-has, has-unchanged}
 pub use Rattle.folder_core.proofs.CopyLaws.{InConflict, copy-due}

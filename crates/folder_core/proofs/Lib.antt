@@ -28,6 +28,7 @@ pub mod CopyLaws
 pub mod SameLaws
 pub mod ReadLaws
 pub mod PageLaws
+pub mod BestPages
 pub mod Listed
 pub mod Rows
 pub mod Lemmas

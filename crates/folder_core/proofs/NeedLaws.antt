@@ -26,7 +26,7 @@ abbrev pub Rising : List Announcement → Type 0
 Rising [] = ⊤
 Rising (e ∷ es) = ((f : Announcement) → In f es → bytes_cmp e.0.name f.0.name ≡ Less) × Rising es
 
-rising-filter : (p : Announcement → Bool) (es : List Announcement) → Rising es → Rising (filter p es)
+pub rising-filter : (p : Announcement → Bool) (es : List Announcement) → Rising es → Rising (filter p es)
 rising-filter p [] r = tt
 rising-filter p (e ∷ es) r =
     let rest = rising-filter p es r.1 in

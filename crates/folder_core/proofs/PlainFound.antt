@@ -1,27 +1,38 @@
 -- What the plain folder finds as the best of a name is the best.
-use Rattle.std.proofs.Common.{◌≡◌, ℕ, Bool, true, false, List, [], ◌∷◌, ◌++◌, ◌+◌, ◌<◌, length, take, get_or, append-nil, refl, sym, ap, subst, ◌∙◌, inl, inr}
-use Rattle.std.specs.Prelude.{bytes_eq, ◌&&◌, not, cond, T, Some, None, filter, fold, map, option_map}
+use Rattle.std.proofs.Common.{◌≡◌, ℕ, suc, Bool, true, false, List, [], ◌∷◌, ◌++◌, ◌+◌, ◌-◌, ◌<◌, ◌≤◌, length, take, drop, get_or, append-nil, refl, sym, ap, subst, ◌∙◌, inl, inr, arith}
+use Rattle.std.specs.Prelude.{bytes_eq, ◌&&◌, not, cond, T, Option, Some, None, filter, fold, map, option_map, slice_get}
 use Rattle.std.specs.Bool.{passes}
-use Rattle.std.specs.List.{reduce}
-use Rattle.std.specs.FinMap.{entries-from_sorted, is_sorted}
+use Rattle.std.specs.Cmp.{tied_itself}
+use Rattle.std.specs.Cmp.Lexicographic.{nat_list_cmp_total}
+use Rattle.std.specs.List.{find, prefix_len, reduce}
+use Rattle.std.specs.List.Sorted.{IsPartitionedBy}
+use Rattle.std.specs.Option.{option_to_list}
+use Rattle.std.specs.Ordering.{is_lt, ordering_reverse, ordering_then}
+use Rattle.std.specs.declared.cmp.Ordering.{Ordering}
+use Rattle.std.specs.declared.cmp.Ordering.TheVariants.{Less, Equal, Greater}
+use Rattle.std.specs.FinMap.{entries-from_sorted, from_sorted, is_sorted}
 use Rattle.std.specs.FinMap.Entries.{is_sorted-where_key}
-use Rattle.std.proofs.lemmas.List.{take_more}
+use Rattle.std.proofs.lemmas.Bool.{false_from_ne_true, true≢false}
+use Rattle.std.proofs.lemmas.List.{append_assoc, length-drop, map-append, take-append-drop, take_more}
 use Rattle.std.proofs.lemmas.List.Elements.{filter-append}
 use Rattle.sync_record.specs.Contents.{same_content}
-use Rattle.sync_record.specs.Devices.{Identity}
+use Rattle.sync_record.specs.Devices.{Identity, bytes_cmp}
 use Rattle.sync_record.specs.Records.{Name, FileRecord}
 use Rattle.sync_record.specs.Validity.{is_valid}
 use Rattle.sync_version.specs.Computed.{dominates, same_version}
 use Rattle.folder_core.specs.declared.plain.entry.Entry.{Entry}
-use Rattle.folder_core.specs.Announced.{In, Announcement, key_cmp, is_of, best, devices_of}
+use Rattle.folder_core.specs.Announced.{In, Announcement, key_cmp, is_best, is_of, best, bests, devices_of}
+use Rattle.folder_core.proofs.AllBests.{apart}
+use Rattle.folder_core.proofs.NeedLaws.{Rising, bests-rising}
+use Rattle.folder_core.proofs.Orders.{exact_keys, is_true, keys_total}
 use Rattle.folder_core.proofs.Preferred.{is_preferred}
 use Rattle.folder_core.specs.Codes.{Pulls}
-use Rattle.folder_core.specs.Reads.{best_found}
-use Rattle.folder_core.specs.Kept.{Rises, better, better_of, filed, folder_of, is_undominated}
-use Rattle.folder_core.proofs.PlainTests.{filter_in, filter_map, any_map}
-use Rattle.folder_core.proofs.TestLemmas.{none_some, same_bytes, alike_bytes, of_filter}
+use Rattle.folder_core.specs.Reads.{best_found, bests_after, is_after, with_devices}
+use Rattle.folder_core.specs.Kept.{Rises, better, better_of, devices_with, filed, folder_of, group_best, is_undominated, listed_bests}
+use Rattle.folder_core.proofs.PlainTests.{filter_in, filter_map, filter_swap, any_map, none_found}
+use Rattle.folder_core.proofs.TestLemmas.{same_bytes, alike_bytes, below_in, in_map, inside, none_some, of_filter, parts}
 use Rattle.folder_core.proofs.PlainBest.{undominated, higher, best_reduced, top}
-use Rattle.folder_core.proofs.PlainGroup.{best_in_group, devices_in_group, is_named}
+use Rattle.folder_core.proofs.PlainGroup.{behind_prefix, best_in_group, bests_in_part, devices_in_group, drop_rises, found_in_part, group, is_before, is_named, named_down, partitioned, prefix_passes}
 
 undominated-filed : (es : List Entry) (e : Entry) → undominated (map filed es) (filed e) ≡ is_undominated es e
 undominated-filed es e = ap (λ b. is_valid e.record && not b) (any_map filed (λ f. is_valid f.1 && dominates f.1.version e.record.version) es)
@@ -64,9 +75,6 @@ module _ (n : Name) (es : List Entry) (rises : Rises es) where
   abbrev pub named_entries : List Entry
   named_entries = filter (is_named n) es
 
-  abbrev pub devices_beside : FileRecord → List Identity
-  devices_beside r = map (λ e. e.device) (filter (λ e. is_valid e.record && same_version e.record.version r.version && same_content e.record r) named_entries)
-
   group_is : filter (is_of n) (map filed es) ≡ map filed named_entries
   group_is = filter_map filed (is_of n) es
 
@@ -89,7 +97,7 @@ module _ (n : Name) (es : List Entry) (rises : Rises es) where
   map_map [] = refl
   map_map (x ∷ xs) = ap (λ ys. x.device ∷ ys) (map_map xs)
 
-  devices_is : (b : Entry) → b.record.name ≡ n → devices_of (map filed es) (filed b) ≡ devices_beside b.record
+  devices_is : (b : Entry) → b.record.name ≡ n → devices_of (map filed es) (filed b) ≡ devices_with named_entries b.record
   devices_is b here =
       devices_in_group n (map filed es) (filed b) here
       ∙ ap (λ g. devices_of g (filed b)) group_is
@@ -112,6 +120,11 @@ module _ (n : Name) (es : List Entry) (rises : Rises es) where
   unfiled (x ∷ xs) b (inl s) = inl (λ i. record { device = (s i).0.device; «record» = (s i).1 })
   unfiled (x ∷ xs) b (inr i) = inr (unfiled xs b i)
 
+  pub named_best : (b : Entry) → Some b ≡ reduce better (filter (is_undominated named_entries) named_entries) → b.record.name ≡ n
+  named_best b some =
+      let among = of_filter (is_undominated named_entries) named_entries b (unfiled _ b (reduced_in _ b (sym some))) in
+      same_bytes b.record.name n (of_filter (is_named n) es b among.0).1
+
 module _ (me : Identity) (n : Name) (es : List Entry) (last : ℕ) (pulls : Pulls) (rises : Rises es) where
   found_is : best_found (folder_of me es last pulls) n ≡ option_map (λ b. (b.1, devices_of (map filed es) b)) (best (map filed es) n)
   found_is = ap (λ xs. option_map (λ b. (b.1, devices_of xs b)) (best xs n)) (entries-from_sorted key_cmp (map filed es) (passes _ rises))
@@ -119,12 +132,148 @@ module _ (me : Identity) (n : Name) (es : List Entry) (last : ℕ) (pulls : Pull
   pub none_is_found : None ≡ reduce better (filter (is_undominated (filter (is_named n) es)) (filter (is_named n) es)) → None ≡ best_found (folder_of me es last pulls) n
   none_is_found none = sym (found_is ∙ ap (option_map (λ b. (b.1, devices_of (map filed es) b))) (best_is n es rises ∙ ap (option_map filed) (sym none)))
 
-  pub one_is_found : (b : Entry) → Some b ≡ reduce better (filter (is_undominated (filter (is_named n) es)) (filter (is_named n) es)) → Some (b.record, devices_beside n es rises b.record) ≡ best_found (folder_of me es last pulls) n
+  pub one_is_found : (b : Entry) → Some b ≡ reduce better (filter (is_undominated (filter (is_named n) es)) (filter (is_named n) es)) → Some (b.record, devices_with (filter (is_named n) es) b.record) ≡ best_found (folder_of me es last pulls) n
   one_is_found b some =
-      let among = of_filter (is_undominated (filter (is_named n) es)) _ b (unfiled n es rises _ b (reduced_in n es rises _ b (sym some))) in
-      let here : b.record.name ≡ n = same_bytes b.record.name n (of_filter (is_named n) es b among.0).1 in
+      let here : b.record.name ≡ n = named_best n es rises b some in
       sym (found_is ∙ ap (option_map (λ b. (b.1, devices_of (map filed es) b))) (best_is n es rises ∙ ap (option_map filed) (sym some))
       ∙ ap (λ ds. Some (b.record, ds)) (devices_is n es rises b here))
 
-  pub none_is_missing : (b : Entry) → Some b ≡ reduce better (filter (is_undominated (filter (is_named n) es)) (filter (is_named n) es)) → best_found (folder_of me es last pulls) n ≡ None → ⊥
-  none_is_missing b some none = none_some _ (sym (one_is_found b some ∙ none))
+  -- the best of the entries of a name is the folder's best of the name
+  pub group_found : (o : Option Entry) → o ≡ reduce better (filter (is_undominated (filter (is_named n) es)) (filter (is_named n) es)) → option_map (λ b. (b.record, devices_with (filter (is_named n) es) b.record)) o ≡ best_found (folder_of me es last pulls) n
+  group_found None is = none_is_found is
+  group_found (Some b) is = one_is_found b is
+
+  pub best_is_found : group_best (filter (is_named n) es) ≡ best_found (folder_of me es last pulls) n
+  best_is_found = group_found _ refl
+
+-- ---- the bests of a list, name by name
+
+-- of rising names one at most is this one
+only_of : (n : Name) (bs : List Announcement) → Rising bs → filter (is_of n) bs ≡ option_to_list (find (is_of n) bs)
+only_of n [] rise = refl
+only_of n (b ∷ bs) rise =
+    elim (is_of n b) as (λ t. is_of n b ≡ t → cond t (b ∷ filter (is_of n) bs) (filter (is_of n) bs) ≡ option_to_list (cond t (Some b) (find (is_of n) bs))) [
+      | true ↦ λ t. ap (λ l. b ∷ l) (only_of n bs rise.1 ∙ ap option_to_list (none_found (is_of n) bs (λ f i.
+      false_from_ne_true (is_of n f) (λ u. apart b.0.name f.0.name (rise.0 f i) (same_bytes b.0.name n t ∙ sym (same_bytes f.0.name n u))))))
+      | false ↦ λ t. only_of n bs rise.1
+    ] refl
+
+module _ (es : List Entry) (rises : Rises es) where
+  rising : Rising (bests (map filed es))
+  rising = subst (λ xs. Rising (bests xs)) (entries-from_sorted key_cmp (map filed es) (passes _ rises)) (bests-rising (from_sorted (map filed es)))
+
+  pub listed_group : (n : Name) → listed_bests (filter (is_named n) es) ≡ option_to_list (group_best (filter (is_named n) es))
+  listed_group n =
+      ap (λ xs. map (with_devices xs) (bests xs)) (sym (group_is n es rises))
+      ∙ ap (map (with_devices (group n (map filed es)))) (bests_in_part (λ m. bytes_eq m n) (map filed es) ∙ only_of n (bests (map filed es)) rising ∙ ap option_to_list (best_is n es rises))
+      ∙ told _ refl
+    where
+      told : (o : Option Entry) → o ≡ reduce better (filter (is_undominated (filter (is_named n) es)) (filter (is_named n) es)) →
+          map (with_devices (group n (map filed es))) (option_to_list (option_map filed o)) ≡ option_to_list (option_map (λ b. (b.record, devices_with (filter (is_named n) es) b.record)) o)
+      told None is = refl
+      told (Some b) is =
+          let here : b.record.name ≡ n = named_best n es rises b is in
+          λ i. (b.record, (sym (devices_in_group n (map filed es) (filed b) here) ∙ devices_is n es rises b here) i) ∷ []
+
+  -- the bests of the names that pass
+  pub listed_part : (p : Name → Bool) → listed_bests (filter (λ e. p e.record.name) es) ≡ map (with_devices (map filed es)) (filter (λ b. p b.0.name) (bests (map filed es)))
+  listed_part p =
+      ap (λ xs. map (with_devices xs) (bests xs)) (sym (filter_map filed (λ e. p e.0.name) es))
+      ∙ found_in_part p (map filed es)
+
+  -- where all that pass are before the others
+  pub listed_split : (p : Name → Bool) → es ≡ filter (λ e. p e.record.name) es ++ filter (λ e. not (p e.record.name)) es →
+      listed_bests es ≡ listed_bests (filter (λ e. p e.record.name) es) ++ listed_bests (filter (λ e. not (p e.record.name)) es)
+  listed_split p split =
+      let xs : List Announcement = map filed es in
+      let parts : xs ≡ filter (λ e. p e.0.name) xs ++ filter (λ e. not (p e.0.name)) xs =
+      ap (map filed) split ∙ map-append filed (filter (λ e. p e.record.name) es) (filter (λ e. not (p e.record.name)) es)
+      ∙ (λ i. sym (filter_map filed (λ e. p e.0.name) es) i ++ sym (filter_map filed (λ e. not (p e.0.name)) es) i) in
+      let chosen : bests xs ≡ filter (λ e. p e.0.name) (bests xs) ++ filter (λ e. not (p e.0.name)) (bests xs) =
+      ap (filter (is_best xs)) parts ∙ filter-append (is_best xs) (filter (λ e. p e.0.name) xs) (filter (λ e. not (p e.0.name)) xs)
+      ∙ (λ i. filter_swap (is_best xs) (λ e. p e.0.name) xs i ++ filter_swap (is_best xs) (λ e. not (p e.0.name)) xs i) in
+      ap (map (with_devices xs)) chosen ∙ map-append (with_devices xs) (filter (λ e. p e.0.name) (bests xs)) (filter (λ e. not (p e.0.name)) (bests xs))
+      ∙ (λ i. sym (listed_part p) i ++ sym (listed_part (λ m. not (p m))) i)
+
+-- the bests after a name are those of the entries after it
+pub listed_after : (me : Identity) (after : Option Name) (es : List Entry) (last : ℕ) (pulls : Pulls) → Rises es → listed_bests (filter (λ e. is_after after e.record.name) es) ≡ bests_after (folder_of me es last pulls) after
+listed_after me after es last pulls rises =
+    listed_part es rises (is_after after)
+    ∙ ap (λ xs. map (with_devices xs) (filter (λ b. is_after after b.0.name) (bests xs))) (sym (entries-from_sorted key_cmp (map filed es) (passes _ rises)))
+
+pub after_rises : (after : Option Name) (es : List Entry) → Rises es → Rises (filter (λ e. is_after after e.record.name) es)
+after_rises after es rises =
+    ap (is_sorted key_cmp) (sym (filter_map filed (λ e. is_after after e.0.name) es))
+    ∙ is_true _ (is_sorted-where_key key_cmp (λ k. is_after after k.name) (map filed es) (passes _ rises))
+
+-- ---- the first name of a list
+
+module _ (e : Entry) (es : List Entry) (rises : Rises (e ∷ es)) where
+  abbrev pub count : ℕ
+  count = prefix_len (is_named e.record.name) (e ∷ es)
+
+  not_before : (x : Entry) → In x (e ∷ es) → is_before e.record.name x ≡ false
+  not_before x (inl s) = ap (λ (y : Entry). is_lt (bytes_cmp y.record.name e.record.name)) s ∙ ap is_lt (tied_itself nat_list_cmp_total e.record.name)
+  not_before x (inr i) =
+      late (bytes_cmp e.record.name x.record.name) refl (below_in keys_total exact_keys (filed e).0 (map filed es) (parts _ _ (passes _ rises)).0 (filed x) (in_map filed es x i))
+    where
+      late : (r : Ordering) → bytes_cmp e.record.name x.record.name ≡ r → ordering_then r (bytes_cmp e.device x.device) ≡ Less → is_lt (bytes_cmp x.record.name e.record.name) ≡ false
+      late Less is l = ap is_lt (nat_list_cmp_total.antisymm x.record.name e.record.name ∙ ap ordering_reverse is)
+      late Equal is l = ap is_lt (nat_list_cmp_total.antisymm x.record.name e.record.name ∙ ap ordering_reverse is)
+      late Greater is l = absurd (true≢false (sym (ap is_lt l)))
+
+  parted : IsPartitionedBy (is_named e.record.name) (e ∷ es)
+  parted = partitioned (λ x. is_before e.record.name x ≡ false) (is_named e.record.name) (λ x y. named_down e.record.name x y) (e ∷ es) rises not_before
+
+  pub group_front : take count (e ∷ es) ≡ filter (is_named e.record.name) (e ∷ es)
+  group_front = prefix_passes (is_named e.record.name) (e ∷ es) parted
+
+  others_behind : drop count (e ∷ es) ≡ filter (λ x. not (is_named e.record.name x)) (e ∷ es)
+  others_behind = behind_prefix (is_named e.record.name) (e ∷ es) parted
+
+  pub first_listed : listed_bests (e ∷ es) ≡ option_to_list (group_best (take count (e ∷ es))) ++ listed_bests (drop count (e ∷ es))
+  first_listed =
+      listed_split (e ∷ es) rises (λ m. bytes_eq m e.record.name)
+      (sym (take-append-drop count (e ∷ es)) ∙ (λ i. group_front i ++ others_behind i))
+      ∙ (λ i. (listed_group (e ∷ es) rises e.record.name ∙ ap (λ g. option_to_list (group_best g)) (sym group_front)) i ++ listed_bests (sym others_behind i))
+
+  pub count_positive : 1 ≤ count
+  count_positive = subst (λ b. 1 ≤ cond b (1 + prefix_len (is_named e.record.name) es) 0) (sym (alike_bytes e.record.name e.record.name refl)) (omega arith)
+
+-- what the first name of a list has, and the list behind it
+pub record IsFirstStep (rest : List Entry) (e : Entry) (k : ℕ) : Type 0 where
+  pub listed : listed_bests rest ≡ option_to_list (group_best (take k rest)) ++ listed_bests (drop k rest)
+  pub rises : Rises (drop k rest)
+  pub shorter : length (drop k rest) < length rest
+
+pub first_step : (rest : List Entry) (e : Entry) → Rises rest → slice_get rest 0 ≡ Some e → IsFirstStep rest e (prefix_len (is_named e.record.name) rest)
+first_step [] e rises is = absurd (none_some e is)
+first_step (x ∷ xs) e rises is =
+    subst (λ (y : Entry). IsFirstStep (x ∷ xs) y (prefix_len (is_named y.record.name) (x ∷ xs))) (inside x e is) (record {
+      listed = first_listed x xs rises;
+      rises = drop_rises (count x xs rises) (x ∷ xs) rises;
+      shorter = let p = count_positive x xs rises in omega (arith, length-drop (count x xs rises) (x ∷ xs));
+    })
+
+-- ---- a page
+
+module _ {A : Type 0} (front ys zs : List A) (n limit : ℕ) where
+  -- nothing more of the first name
+  pub page_same : ys ≡ zs → front ++ take (limit - n) ys ≡ front ++ take (limit - n) zs
+  page_same e = ap (λ l. front ++ take (limit - n) l) e
+
+  -- one more
+  pub page_more : (y : A) → ys ≡ y ∷ zs → n < limit → front ++ take (limit - n) ys ≡ (front ++ y ∷ []) ++ take (limit - (n + 1)) zs
+  page_more y e short =
+      let one : limit - n ≡ suc (limit - (n + 1)) = omega arith in
+      (λ i. front ++ take (one i) (e i))
+      ∙ sym (append_assoc front (y ∷ []) (take (limit - (n + 1)) zs))
+
+not_empty : {A : Type 0} (front : List A) (y : A) (more : List A) → (front ++ y ∷ []) ++ more ≡ [] → ⊥
+not_empty [] y more e = cc
+not_empty (x ∷ xs) y more e = cc
+
+-- where the first name has a best, a page with room isn't empty
+pub page_not_empty : {A : Type 0} (front ys zs : List A) (n limit : ℕ) (o : Option A) → ys ≡ option_to_list o ++ zs → n < limit → front ++ take (limit - n) ys ≡ [] → o ≡ None
+page_not_empty front ys zs n limit None is short e = refl
+page_not_empty front ys zs n limit (Some y) is short e = absurd (not_empty front y _ (sym (page_more front ys zs n limit y is short) ∙ e))

@@ -40,6 +40,17 @@ module _ {A : Type 0} where
         | false ↦ λ e. rest ∙ ap (λ b. cond b (x ∷ filter r xs) (filter r xs)) (sym e)
       ] (same x)
 
+  pub filter_swap : (p q : A → Bool) (xs : List A) → filter p (filter q xs) ≡ filter q (filter p xs)
+  filter_swap p q xs =
+      filter_filter q p (λ x. q x && p x) xs (λ x. refl)
+      ∙ sym (filter_filter p q (λ x. q x && p x) xs (λ x. swapped (q x) (p x)))
+    where
+      swapped : (a b : Bool) → (a && b) ≡ (b && a)
+      swapped true true = refl
+      swapped true false = refl
+      swapped false true = refl
+      swapped false false = refl
+
   pub any_filter : (p q : A → Bool) (xs : List A) → ((x : A) → q x ≡ true → p x ≡ true) → list_any q (filter p xs) ≡ list_any q xs
   any_filter p q [] only = refl
   any_filter p q (x ∷ xs) only =
@@ -75,3 +86,7 @@ module _ {A B : Type 0} (f : A → B) where
   pub any_map : (p : B → Bool) (xs : List A) → list_any p (map f xs) ≡ list_any (λ x. p (f x)) xs
   any_map p [] = refl
   any_map p (x ∷ xs) = ap (λ b. p (f x) || b) (any_map p xs)
+
+  pub map_in : (g : A → B) (xs : List A) → ((x : A) → In x xs → f x ≡ g x) → map f xs ≡ map g xs
+  map_in g [] same = refl
+  map_in g (x ∷ xs) same = λ i. same x (inl refl) i ∷ map_in g xs (λ y j. same y (inr j)) i

@@ -21,7 +21,7 @@ use Rattle.sync_record.specs.Records.{Name, FileRecord, is_live_file}
 use Rattle.sync_record.specs.Validity.{is_valid}
 use Rattle.folder_core.specs.Announced.{Announced, Announcement, key, is_by, best, devices_of, IsBest}
 use Rattle.folder_core.specs.States.{FolderState, local, need}
-use Rattle.folder_core.specs.Reads.{locals, best_found, need_page, places, known, IsPlaceFound}
+use Rattle.folder_core.specs.Reads.{is_after, locals, best_found, need_page, places, known, IsPlaceFound}
 use Rattle.folder_core.proofs.Orders.{keys_total, exact_keys}
 use Rattle.folder_core.proofs.BestLaws.{best-found, best-none}
 use Rattle.folder_core.proofs.DeviceLaws.{devices-rise, devices-tell}
@@ -106,39 +106,37 @@ greater Greater e = refl
 greater Less e = absurd (true≢false (sym e))
 greater Equal e = absurd (true≢false (sym e))
 
-module _ (s : FolderState) (after : Option Name) (limit : ℕ) where
-  abbrev is_behind : Name → Bool
-  is_behind n = option_map_or (λ a. is_gt (bytes_cmp n a)) after true
-
+module _ (after : Option Name) where
   abbrev pub Behind : Name → Type 0
   Behind n = (a : Name) → after ≡ Some a → bytes_cmp n a ≡ Greater
 
-  behind : (n : Name) → is_behind n ≡ true → Behind n
-  behind n e a is = greater (bytes_cmp n a) (sym (ap (λ o. option_map_or (λ b. is_gt (bytes_cmp n b)) o true) is) ∙ e)
+  pub behind : (n : Name) → is_after after n ≡ true → Behind n
+  behind n e a is = greater (bytes_cmp n a) (sym (ap (λ o. is_after o n) is) ∙ e)
 
-  of_behind : (n : Name) → Behind n → is_behind n ≡ true
+  pub of_behind : (n : Name) → Behind n → is_after after n ≡ true
   of_behind n each =
-      elim after as (λ o. ((a : Name) → o ≡ Some a → bytes_cmp n a ≡ Greater) → option_map_or (λ b. is_gt (bytes_cmp n b)) o true ≡ true) [
+      elim after as (λ o. ((a : Name) → o ≡ Some a → bytes_cmp n a ≡ Greater) → is_after o n ≡ true) [
         | None ↦ λ _. refl
         | Some a ↦ λ f. ap is_gt (f a refl)
       ] each
 
+module _ (s : FolderState) (after : Option Name) (limit : ℕ) where
   pub need-page_rises : IsStrictlySortedBy bytes_cmp (need_page s after limit)
-  need-page_rises = sorted_take bytes_cmp limit (filter is_behind (need s)) (IsStrictlySortedBy-filter bytes_cmp is_behind (need s) (need-rising s))
+  need-page_rises = sorted_take bytes_cmp limit (filter (is_after after) (need s)) (IsStrictlySortedBy-filter bytes_cmp (is_after after) (need s) (need-rising s))
 
   pub need-page_fits : length (need_page s after limit) ≤ limit
-  need-page_fits = let e = length-take limit (filter is_behind (need s)) in omega arith
+  need-page_fits = let e = length-take limit (filter (is_after after) (need s)) in omega arith
 
-  pub need-page_of : (n : Name) → Contains (need_page s after limit) n → Contains (need s) n × Behind n
+  pub need-page_of : (n : Name) → Contains (need_page s after limit) n → Contains (need s) n × Behind after n
   need-page_of n c =
-      let r = of_filter is_behind (need s) n (in_take limit (filter is_behind (need s)) n (contains_in _ n c)) in
-      (in_contains (need s) n r.0, behind n r.1)
+      let r = of_filter (is_after after) (need s) n (in_take limit (filter (is_after after) (need s)) n (contains_in _ n c)) in
+      (in_contains (need s) n r.0, behind after n r.1)
 
-  pub need-page_has : (n : Name) → Contains (need s) n → Behind n
+  pub need-page_has : (n : Name) → Contains (need s) n → Behind after n
       → Contains (need_page s after limit) n ⊎ ((length (need_page s after limit) ≡ limit) × ((m : Name) → Contains (need_page s after limit) m → bytes_cmp m n ≡ Less))
   need-page_has n c b =
-      by (take_or_behind bytes_cmp limit (filter is_behind (need s)) n (IsStrictlySortedBy-filter bytes_cmp is_behind (need s) (need-rising s))
-      (in_filter is_behind (need s) n (contains_in (need s) n c) (of_behind n b)))
+      by (take_or_behind bytes_cmp limit (filter (is_after after) (need s)) n (IsStrictlySortedBy-filter bytes_cmp (is_after after) (need s) (need-rising s))
+      (in_filter (is_after after) (need s) n (contains_in (need s) n c) (of_behind after n b)))
     where
       by : In n (need_page s after limit) ⊎ ((length (need_page s after limit) ≡ limit) × ((m : Name) → In m (need_page s after limit) → bytes_cmp m n ≡ Less))
           → Contains (need_page s after limit) n ⊎ ((length (need_page s after limit) ≡ limit) × ((m : Name) → Contains (need_page s after limit) m → bytes_cmp m n ≡ Less))

@@ -7,7 +7,7 @@ use Rattle.std.specs.FinMap.{FinMap, IsAntisymmetric, entries, entries_sorted, g
 use Rattle.std.specs.FinMap.Entries.{below_all}
 use Rattle.std.specs.List.{list_all, list_any, find as first_where}
 use Rattle.std.specs.Ordering.{eq_by_cmp, is_lt, is_eq, ordering_reverse}
-use Rattle.std.specs.Prelude.{bytes_eq, ◌&&◌, ◌||◌, ◌⊎◌, cond, T, Some, None, unwrap_or, map, filter, Contains}
+use Rattle.std.specs.Prelude.{bytes_eq, ◌&&◌, ◌||◌, ◌⊎◌, cond, T, Some, None, Result, Ok, Err, IfOk, unwrap_or, map, filter, Contains}
 use Rattle.std.specs.declared.cmp.Ordering.{Ordering}
 use Rattle.std.specs.declared.cmp.Ordering.TheVariants.{Less, Equal, Greater}
 pub use Rattle.folder_core.specs.Announced.{In}
@@ -123,6 +123,10 @@ module _ {A B : Type 0} (f : A → B) where
   of_map [] y i = absurd i
   of_map (x ∷ xs) y (inl s) = (x, inl refl, sym s)
   of_map (x ∷ xs) y (inr i) = let r = of_map xs y i in (r.0, inr r.1, r.2)
+
+pub ok_then : {A E : Type 0} {P Q : A → Type 0} (r : Result A E) → ((x : A) → P x → Q x) → IfOk r P → IfOk r Q
+ok_then (Ok x) each h = each x h
+ok_then (Err e) each h = tt
 
 tied : {K : Type 0} {R : K → K → Ordering} → IsAntisymmetric R → (x y : K) → eq_by_cmp R x y ≡ true → x ≡ y
 tied {R = R} same x y e = same x y ((Equal-is (R x y)).0 e)

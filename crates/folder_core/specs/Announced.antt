@@ -32,6 +32,10 @@ key_cmp = then_cmp (on (λ k. k.name) bytes_cmp) (on (λ k. k.device) bytes_cmp)
 abbrev pub Announced : Type 0
 Announced = FinMap key_cmp FileRecord
 
+-- each record is under its name
+abbrev pub IsNamed : Announced → Type 0
+IsNamed a = (k : Key) (r : FileRecord) → get a k ≡ Some r → r.name ≡ k.name
+
 -- Every device's record of each name, as `entries` lists them: by name, and then by device.
 abbrev pub Announcement : Type 0
 Announcement = Key × FileRecord

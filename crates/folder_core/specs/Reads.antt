@@ -1,5 +1,5 @@
 -- What each read of a folder answers.
-use Rattle.std.specs.Prelude.{bytes_eq, ◌≡◌, ℕ, ◌+◌, Bool, true, if◌then◌else◌, unwrap_or, not, ◌&&◌, ◌||◌, nat_lt, nat_le, max, List, [], length, map, filter, take, sum_by, count_by, flat_map, fold, Option, None, option_map, MatchOption, Contains}
+use Rattle.std.specs.Prelude.{bytes_eq, ◌≡◌, ℕ, ◌+◌, ◌<◌, ◌++◌, Bool, true, if◌then◌else◌, unwrap_or, not, ◌&&◌, ◌||◌, nat_lt, nat_le, max, List, [], ◌∷◌, length, map, filter, take, sum_by, count_by, flat_map, fold, Option, Some, None, option_map, MatchOption, Contains}
 use Rattle.std.specs.List.{last_or, range_with_len}
 use Rattle.std.specs.Option.{option_map_or}
 use Rattle.std.specs.Ordering.{nat_cmp, is_gt}
@@ -8,21 +8,40 @@ use Rattle.folder_core.specs.declared.place.Place.{Place}
 use Rattle.folder_core.specs.declared.counts.Counts.{Counts}
 use Rattle.sync_record.specs.Devices.{Identity, bytes_cmp}
 use Rattle.sync_record.specs.Records.{Name, FileRecord, is_live, is_live_file, is_directory}
-use Rattle.folder_core.specs.Announced.{is_by, best, devices_of}
+use Rattle.folder_core.specs.Announced.{Announcement, is_by, best, bests, devices_of}
 use Rattle.folder_core.specs.States.{FolderState, local, need}
 
 -- this device's records, in byte order of their names
 abbrev pub locals : FolderState → List FileRecord
 locals s = map (λ e. e.1) (filter (is_by s.me) (entries s.announced))
 
--- the best of a name, with the devices that have it
-abbrev pub best_found : FolderState → Name → Option (FileRecord × List Identity)
-best_found s n = option_map (λ b. (b.1, devices_of (entries s.announced) b)) (best (entries s.announced) n)
+-- the record, and the devices that have it
+abbrev pub Found : Type 0
+Found = FileRecord × List Identity
 
--- the first needed names behind a name, at most limit of them
+abbrev pub with_devices : List Announcement → Announcement → Found
+with_devices es b = (b.1, devices_of es b)
+
+-- the best of a name, with the devices that have it
+abbrev pub best_found : FolderState → Name → Option Found
+best_found s n = option_map (with_devices (entries s.announced)) (best (entries s.announced) n)
+
+-- the name is greater than the one given, if one is given
+abbrev pub is_after : Option Name → Name → Bool
+is_after after n = option_map_or (λ a. is_gt (bytes_cmp n a)) after true
+
+-- the bests of the names after a name, with their devices, in byte order
+abbrev pub bests_after : FolderState → Option Name → List Found
+bests_after s after =
+    map (with_devices (entries s.announced)) (filter (λ b. is_after after b.0.name) (bests (entries s.announced)))
+
+-- the first of these, at most limit of them
+abbrev pub bests_page : FolderState → Option Name → ℕ → List Found
+bests_page s after limit = take limit (bests_after s after)
+
+-- the first needed names after a name, at most limit of them
 abbrev pub need_page : FolderState → Option Name → ℕ → List Name
-need_page s after limit =
-    take limit (filter (λ n. option_map_or (λ a. is_gt (bytes_cmp n a)) after true) (need s))
+need_page s after limit = take limit (filter (is_after after) (need s))
 
 -- records in rising sequence
 abbrev pub by_sequence : List FileRecord → List FileRecord
@@ -76,7 +95,7 @@ counts s = record {
 
 pub data Query : Type 0 where
   Local Best : Name → Query
-  Need : Option Name → ℕ → Query
+  Bests Need : Option Name → ℕ → Query
   LocalSince : ℕ → ℕ → Query
   FindBlock : List ℕ → Query
   Known : Identity → Query
@@ -85,7 +104,8 @@ pub data Query : Type 0 where
 -- what kind of answer a query has
 abbrev pub Reply : Query → Type 0
 Reply (Local n) = Option FileRecord
-Reply (Best n) = Option (FileRecord × List Identity)
+Reply (Best n) = Option Found
+Reply (Bests after limit) = List Found
 Reply (Need after limit) = List Name
 Reply (LocalSince seq limit) = List FileRecord
 Reply (FindBlock hash) = Option Place
@@ -96,8 +116,16 @@ Reply CountAll = Counts
 abbrev pub Reads : FolderState → (q : Query) → Reply q → Type 0
 Reads s (Local n) r = r ≡ local s n
 Reads s (Best n) r = r ≡ best_found s n
+Reads s (Bests after limit) r = r ≡ bests_page s after limit
 Reads s (Need after limit) r = r ≡ need_page s after limit
 Reads s (LocalSince seq limit) r = r ≡ local_since s seq limit
 Reads s (FindBlock hash) r = IsPlaceFound s hash r
 Reads s (Known d) r = r ≡ known s d
 Reads s CountAll r = r ≡ counts s
+
+-- Pages of bests after a name, one after the other: each is read after the last name of the one before it, and the last
+-- page has fewer than limit.
+pub data ArePages (s : FolderState) (limit : ℕ) : Option Name → List (List Found) → Type 0 where
+  last_page : (after : Option Name) (page : List Found) → Reads s (Bests after limit) page → length page < limit → ArePages s limit after (page ∷ [])
+  next_page : (after : Option Name) (front : List Found) (b : Found) (pages : List (List Found)) →
+      Reads s (Bests after limit) (front ++ b ∷ []) → ArePages s limit (Some b.0.name) pages → ArePages s limit after ((front ++ b ∷ []) ∷ pages)

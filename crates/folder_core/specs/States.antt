@@ -8,7 +8,7 @@ use Rattle.sync_record.specs.Records.{Name, FileRecord, is_live}
 use Rattle.sync_record.specs.Validity.{is_valid}
 use Rattle.sync_version.specs.Computed.{same_version}
 use Rattle.sync_version.specs.Versions.{Vector}
-use Rattle.folder_core.specs.Announced.{Announced, Announcement, Key, key, bests}
+use Rattle.folder_core.specs.Announced.{Announced, Announcement, IsNamed, key, bests}
 
 abbrev pub same_stage : Stage → Stage → Bool
 same_stage Pulling Pulling = true
@@ -73,7 +73,7 @@ pub record IsNumbered (s : FolderState) : Type 0 where
 
 -- What holds of every state that a folder comes to.
 pub record IsFolder (s : FolderState) : Type 0 where
-  pub named : (k : Key) (r : FileRecord) → get s.announced k ≡ Some r → r.name ≡ k.name
+  pub named : IsNamed s.announced
   pub valid : (n : Name) (r : FileRecord) → local s n ≡ Some r → IsTrue (is_valid r)
   pub numbered : IsNumbered s
   pub unmoved : (n : Name) (p : Pull) → get s.pulls n ≡ Some p → p.stage ≡ Committing → local_version s n ≡ p.base

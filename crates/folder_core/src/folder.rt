@@ -1,7 +1,7 @@
-ghost use Rattle.std.specs.Prelude.{◌≡◌, ◌≢◌, IfOk, option_map};
+ghost use Rattle.std.specs.Prelude.{◌≡◌, ◌≢◌, IfOk, map, option_copied, option_map};
 ghost use Rattle.folder_core.specs.States.{FolderState};
 ghost use Rattle.folder_core.specs.Steps.{IndexFull, IndexMore};
-ghost use Rattle.folder_core.specs.Reads.{best_found};
+ghost use Rattle.folder_core.specs.Reads.{best_found, bests_page};
 ghost use Rattle.folder_core.specs.Calls.{Changes, index_answer};
 
 use crate::Best;
@@ -11,9 +11,9 @@ use sync_names::SafeName;
 use sync_record::{DeviceId, Record};
 
 /// A folder as one device keeps it, as a value. However it is kept, each change is a step of the folder, and each read
-/// tells its state.
+/// returns what its state says.
 ///
-/// Where memory is wanting, a call answers that in place of any other answer and changes nothing. `me` takes no memory.
+/// A call that returns `AllocError` changed nothing. `me` does not allocate.
 pub trait FolderCore {
     /// What it keeps.
     ghost state: { Self → FolderState };
@@ -22,20 +22,25 @@ pub trait FolderCore {
     fn me(&self) -> DeviceId
         ensures { result ≡ (state self.now).me };
 
-    /// The device announces these records and no others; of several under one name the last counts. Refused by want of
-    /// memory alone.
+    /// The device announces these records and no others; of several under one name the last counts. Returns `Err` only
+    /// if out of memory.
     fn index_full(&mut self, device: DeviceId, records: Items<Record>) -> Result<(), AllocError>
         requires { device ≢ (state self.old).me }
         ensures { Changes (state self.old) (IndexFull device records) (index_answer result) (state self.new) };
 
-    /// The device announces these records too; of several under one name the last counts. Refused by want of memory
-    /// alone.
+    /// The device announces these records too; of several under one name the last counts. Returns `Err` only if out of
+    /// memory.
     fn index_more(&mut self, device: DeviceId, records: Items<Record>) -> Result<(), AllocError>
         requires { device ≢ (state self.old).me }
         ensures { Changes (state self.old) (IndexMore device records) (index_answer result) (state self.new) };
 
     /// A copy of the best record of a name, and the devices whose valid record of the name has its version and its
-    /// content; `None` where no valid record of the name is announced. Refused by want of memory alone.
+    /// content; `None` where no valid record of the name is announced. Returns `Err` only if out of memory.
     fn best(&self, name: &SafeName) -> Result<Option<Best>, AllocError>
         ensures { IfOk result (λ b. option_map (λ b. (b.record, b.devices)) b ≡ best_found (state self.now) name.now) };
+
+    /// The bests of the names greater than `after`, or of all names where it is `None`, in byte order of the names: the
+    /// first `limit` of them, or all where there are fewer. Returns `Err` only if out of memory.
+    fn bests(&self, after: Option<&SafeName>, limit: usize) -> Result<Items<Best>, AllocError>
+        ensures { IfOk result (λ page. map (λ b. (b.record, b.devices)) page ≡ bests_page (state self.now) (option_copied after.entry) limit) };
 }

@@ -1,8 +1,8 @@
 //! A folder as one list in order.
-ghost use Rattle.std.specs.Prelude.{◌≡◌, ◌≢◌, ◌+◌, ◌<◌, ◌≤◌, [], IfOk, IsOk, None, option_map, vec_len, vec_capacity};
+ghost use Rattle.std.specs.Prelude.{◌≡◌, ◌≢◌, ◌+◌, ◌<◌, ◌≤◌, [], IfOk, IsOk, None, map, option_copied, option_map, vec_len, vec_capacity};
 ghost use Rattle.folder_core.specs.Calls.{Changes, index_answer};
 ghost use Rattle.folder_core.specs.Kept.{empty_folder};
-ghost use Rattle.folder_core.specs.Reads.{best_found};
+ghost use Rattle.folder_core.specs.Reads.{best_found, bests_page};
 ghost use Rattle.folder_core.specs.Steps.{IndexFull, IndexMore};
 
 mod entry;
@@ -13,7 +13,7 @@ mod message;
 use crate::{Best, FolderCore};
 use bep_messages::Items;
 use entry::Entry;
-use group::{best_of, devices_with, entries_of};
+use group::{best_with_devices, bests_of, entries_after, entries_of};
 use merge::merge;
 use message::last_of_each_name;
 use std::alloc::{AllocError, Global};
@@ -94,21 +94,25 @@ impl FolderCore for PlainFolder {
         Ok(())
     }
 
-    /// O(log n + k^2) for n records kept and k devices that announce the name, and the copy. A name without a best takes
-    /// no memory.
+    /// O(log n + k^2) for n records kept and k devices that announce the name, and the copy. A name without a best does
+    /// not allocate.
     fn best(&self, name: &SafeName) -> Result<Option<Best>, AllocError>
         ensures found { IfOk result (λ b. option_map (λ b. (b.record, b.devices)) b ≡ best_found self.now name.now) }
         ensures none { best_found self.now name.now ≡ None → IsOk result }
     {
         let group = entries_of(self.entries.as_slice(), name);
-        let Some(best) = best_of(group) else {
-            return Ok(None);
-        };
-        let devices = devices_with(*self.entries.allocator(), group, &best.record)?;
-        Ok(Some(Best {
-            record: best.record.copy()?,
-            devices: Items::from_vec(devices),
-        }))
+        best_with_devices(*self.entries.allocator(), group)
+    }
+
+    /// O(log n) for n records kept, and O(k^2) for each name up to the last one of the page, with k devices that announce
+    /// it, and the copies. An empty page does not allocate.
+    fn bests(&self, after: Option<&SafeName>, limit: usize) -> Result<Items<Best>, AllocError>
+        ensures page { IfOk result (λ page. map (λ b. (b.record, b.devices)) page ≡ bests_page self.now (option_copied after.entry) limit) }
+        ensures none { bests_page self.now (option_copied after.entry) limit ≡ [] → IsOk result }
+    {
+        let rest = entries_after(self.entries.as_slice(), after);
+        let page = bests_of(*self.entries.allocator(), rest, limit)?;
+        Ok(Items::from_vec(page))
     }
 }
 

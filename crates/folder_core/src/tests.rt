@@ -164,7 +164,29 @@ fn finds_each_name(rt: HostRuntime) -> Result<(), NameFault> {
     for name in ["A", "a-b", "aa", "b", "\u{ea}"] {
         finds_none(&rt, &folder, name)?;
     }
-    Ok(())
+    let sorted = ["Z", "a", "a.b", "a/b", "ab", "z", "\u{e9}"];
+    lists(&rt, &folder, None, 9, &sorted)?;
+    lists(&rt, &folder, None, 3, &sorted[..3])?;
+    lists(&rt, &folder, Some("a.b"), 3, &sorted[3..6])?;
+    lists(&rt, &folder, Some("y"), 3, &sorted[5..])?;
+    lists(&rt, &folder, Some("\u{e9}"), 3, &[])?;
+    lists(&rt, &folder, None, 0, &[])
+}
+
+#[test]
+fn lists_deletions_and_no_invalid_records(rt: HostRuntime) -> Result<(), NameFault> {
+    let invalid = Row {
+        invalid: true,
+        ..file("a", &[(1, 1)], 1)
+    };
+    let deleted = Row {
+        deleted: true,
+        ..file("b", &[(1, 1)], 1)
+    };
+    let mut folder = PlainFolder::new(rt.alloc(), device(9));
+    full(&rt, &mut folder, device(1), &[invalid, deleted])?;
+    full(&rt, &mut folder, device(2), &[file("b", &[], 1), file("c", &[], 1)])?;
+    lists(&rt, &folder, None, 9, &["b", "c"])
 }
 
 /// Tells the folder these records too. Where memory is refused, the folder must answer as before, and is told again.
@@ -233,6 +255,28 @@ fn finds(
     assert_eq!(rt; found.record.version().counters(), version, "of {name:?}");
     assert_eq!(rt; found.record.modified(), (time, 0), "of {name:?}");
     assert_eq!(rt; found.devices.as_slice(), devices, "of {name:?}");
+    Ok(())
+}
+
+fn lists(
+    rt: &(impl AllocGlobal + Abort),
+    folder: &PlainFolder,
+    after: Option<&str>,
+    limit: usize,
+    names: &[&str],
+) -> Result<(), NameFault> {
+    let after = match after {
+        Some(name) => Some(SafeName::parse(rt.alloc(), name)?),
+        None => None,
+    };
+    let page = match folder.bests(after.as_ref(), limit) {
+        Err(_) => folder.bests(after.as_ref(), limit)?,
+        Ok(page) => page,
+    };
+    assert_eq!(rt; page.as_slice().len(), names.len());
+    for (best, name) in page.as_slice().iter().zip(names) {
+        assert_eq!(rt; best.record.name().as_str(), *name);
+    }
     Ok(())
 }
 

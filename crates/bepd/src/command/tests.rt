@@ -1,10 +1,10 @@
 //! Command lines, their words with a space between.
-use super::{folder_of, refusal_status};
-use clap::Error;
-use clap::error::ErrorKind;
+use super::{Request, request_of};
 use std::alloc::AllocError;
+use std::io;
+use std::process::Abort;
 
-fn words(rt: &HostRuntime, line: &str) -> Result<Vec<String>, AllocError> {
+fn words(rt: &impl AllocGlobal, line: &str) -> io::Result<Vec<String>> {
     let mut words = Vec::new(rt.alloc());
     for word in line.split(' ') {
         words.push(String::from_str(rt.alloc(), word)?)?;
@@ -13,27 +13,47 @@ fn words(rt: &HostRuntime, line: &str) -> Result<Vec<String>, AllocError> {
 }
 
 #[test]
-fn reads_the_folder(rt: HostRuntime) -> Result<(), Error> {
+fn reads_the_folder(rt: HostRuntime) -> Result<(), AllocError> {
     let rows = [
         ("bepd best docs", "docs"),
         ("another/name best docs", "docs"),
         ("bepd best -- -docs", "-docs"),
         ("bepd best ", ""),
+        ("bepd best best", "best"),
+        ("bepd best help", "help"),
     ];
     for (line, folder) in rows {
-        let words = words(&rt, line)?;
-        assert_eq!(rt; folder_of(rt.alloc(), words.as_slice())?, folder, "{line}");
+        let words = words(&rt, line);
+        match request_of(rt.alloc(), &words) {
+            Request::Best(asked) => assert_eq!(rt; asked, folder, "{line}"),
+            Request::OutOfMemory => return Err(AllocError),
+            _ => assert!(rt; false, "{line}"),
+        }
     }
     Ok(())
 }
 
-// The status of a line that gives no folder.
-fn status(rt: &HostRuntime, line: &str) -> Result<Option<u8>, AllocError> {
-    let words = words(rt, line)?;
-    match folder_of(rt.alloc(), words.as_slice()) {
-        Ok(_) => Ok(None),
-        Err(refusal) if refusal.kind() == ErrorKind::OutOfMemory => Err(AllocError),
-        Err(refusal) => Ok(Some(refusal_status(&refusal))),
+/// Whether the text that the line is answered with is an error.
+fn is_refused(
+    rt: &(impl AllocGlobal + Abort),
+    line: &str,
+    text: &str,
+) -> Result<bool, AllocError> {
+    let words = words(rt, line);
+    match request_of(rt.alloc(), &words) {
+        Request::Text(found) => {
+            assert!(rt; found.as_str().contains(text), "{line}");
+            Ok(false)
+        }
+        Request::Refused(found) => {
+            assert!(rt; found.as_str().contains(text), "{line}");
+            Ok(true)
+        }
+        Request::OutOfMemory => Err(AllocError),
+        Request::Best(_) => {
+            assert!(rt; false, "{line}");
+            Ok(false)
+        }
     }
 }
 
@@ -50,7 +70,7 @@ fn refuses_other_lines(rt: HostRuntime) -> Result<(), AllocError> {
         "bepd help docs",
     ];
     for line in lines {
-        assert_eq!(rt; status(&rt, line)?, Some(1), "{line}");
+        assert!(rt; is_refused(&rt, line, "Usage: bepd")?, "{line}");
     }
     Ok(())
 }
@@ -58,17 +78,28 @@ fn refuses_other_lines(rt: HostRuntime) -> Result<(), AllocError> {
 #[test]
 fn answers_calls_for_help(rt: HostRuntime) -> Result<(), AllocError> {
     let lines = [
-        "bepd -h",
-        "bepd --help",
-        "bepd help",
-        "bepd help best",
-        "bepd best -h",
-        "bepd best --help",
-        "bepd -V",
-        "bepd --version",
+        ("bepd -h", "Usage: bepd <COMMAND>"),
+        ("bepd --help", "Usage: bepd <COMMAND>"),
+        ("bepd help", "Usage: bepd <COMMAND>"),
+        ("bepd help best", "Usage: bepd best <FOLDER>"),
+        ("bepd best -h", "Usage: bepd best <FOLDER>"),
+        ("bepd best --help", "Usage: bepd best <FOLDER>"),
+        ("bepd -V", "bepd 0.1.0"),
+        ("bepd --version", "bepd 0.1.0"),
     ];
-    for line in lines {
-        assert_eq!(rt; status(&rt, line)?, Some(0), "{line}");
+    for (line, text) in lines {
+        assert!(rt; !is_refused(&rt, line, text)?, "{line}");
+    }
+    Ok(())
+}
+
+#[test]
+fn refuses_words_that_are_not_text(rt: HostRuntime) -> Result<(), AllocError> {
+    let words: io::Result<Vec<String>> = Err(io::ErrorKind::InvalidData.into());
+    match request_of(rt.alloc(), &words) {
+        Request::Refused(text) => assert!(rt; text.as_str().contains("not UTF-8")),
+        Request::OutOfMemory => return Err(AllocError),
+        _ => assert!(rt; false),
     }
     Ok(())
 }

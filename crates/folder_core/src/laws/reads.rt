@@ -1,19 +1,19 @@
 //! What reads answer.
-ghost use Rattle.std.specs.Prelude.{◌≡◌, ◌≢◌, ◌↔◌, ◌⊎◌, ◌<◌, ◌≤◌, ◌+◌, ℕ, length, Option, List, Some, None, IsTrue, false, map, sum_by, Contains};
+ghost use Rattle.std.specs.Prelude.{◌≡◌, ◌≢◌, ◌↔◌, ◌⊎◌, ◌<◌, ◌≤◌, ◌+◌, ℕ, length, Option, List, Some, None, IsTrue, false, [], map, flat_map, sum_by, Contains};
 ghost use Rattle.std.specs.List.Sorted.{IsStrictlySortedBy};
 ghost use Rattle.std.specs.Ordering.{nat_cmp};
 ghost use Rattle.std.specs.declared.cmp.Ordering.TheVariants.{Less, Greater};
 ghost use Rattle.folder_core.specs.declared.counts.Counts.{Counts};
 ghost use Rattle.folder_core.specs.declared.place.Place.{Place};
-ghost use Rattle.std.specs.FinMap.{get, len};
+ghost use Rattle.std.specs.FinMap.{get, entries, len};
 ghost use Rattle.sync_blocks.specs.declared.block.Block.{Block};
 ghost use Rattle.sync_record.specs.Devices.{Identity, bytes_cmp};
 ghost use Rattle.sync_record.specs.Records.{Name, FileRecord, is_live_file};
 ghost use Rattle.sync_record.specs.Contents.{same_content};
 ghost use Rattle.sync_record.specs.Validity.{is_valid};
-ghost use Rattle.folder_core.specs.Announced.{key, IsBest};
+ghost use Rattle.folder_core.specs.Announced.{key, bests, IsBest};
 ghost use Rattle.folder_core.specs.States.{FolderState, IsFolder, local, need};
-ghost use Rattle.folder_core.specs.Reads.{Reads, Local, Best, Need, LocalSince, FindBlock, Known, CountAll};
+ghost use Rattle.folder_core.specs.Reads.{Found, with_devices, ArePages, Reads, Local, Best, Bests, Need, LocalSince, FindBlock, Known, CountAll};
 
 /// Reads of single records and of numbers: the local record of a name, which has that name, is valid and has a sequence
 /// from 1 to the last; the best of a name with the devices that have it, which rise, and none only where no valid record
@@ -53,6 +53,30 @@ pub fn needed_names_come_in_pages()
         ((a : Name) → after ≡ Some a → bytes_cmp n a ≡ Greater) →
         Contains names n
         ⊎ ((length names ≡ limit) × ((m : Name) → Contains names m → bytes_cmp m n ≡ Less)) }
+{}
+
+/// A page of bests rises and has no more than asked for; each of it is the best of its name, with the devices that have
+/// it, and after the given name. The best of a name after that one is in the page, or after a full page; so an empty page
+/// comes only where no name after the given one has a best. Pages one after the other, each read after the last name of
+/// the one before, have the best of each name once, in byte order, with its devices.
+pub fn bests_come_in_pages()
+    ensures rise { (s : FolderState) (after : Option Name) (limit : ℕ) (page : List Found) → IsFolder s →
+        Reads s (Bests after limit) page →
+        IsStrictlySortedBy bytes_cmp (map (λ b. b.0.name) page) × (length page ≤ limit) }
+    ensures only { (s : FolderState) (after : Option Name) (limit : ℕ) (page : List Found) (b : Found) → IsFolder s →
+        Reads s (Bests after limit) page → Contains page b →
+        Reads s (Best b.0.name) (Some b) × ((a : Name) → after ≡ Some a → bytes_cmp b.0.name a ≡ Greater) }
+    ensures all { (s : FolderState) (after : Option Name) (limit : ℕ) (page : List Found) (n : Name) (b : Found) → IsFolder s →
+        Reads s (Bests after limit) page → Reads s (Best n) (Some b) →
+        ((a : Name) → after ≡ Some a → bytes_cmp n a ≡ Greater) →
+        Contains page b
+        ⊎ ((length page ≡ limit) × ((c : Found) → Contains page c → bytes_cmp c.0.name n ≡ Less)) }
+    ensures end { (s : FolderState) (after : Option Name) (limit : ℕ) (n : Name) → 1 ≤ limit →
+        Reads s (Bests after limit) [] → ((a : Name) → after ≡ Some a → bytes_cmp n a ≡ Greater) →
+        Reads s (Best n) None }
+    ensures together { (s : FolderState) (limit : ℕ) (pages : List (List Found)) → IsFolder s →
+        ArePages s limit None pages →
+        flat_map (λ page. page) pages ≡ map (with_devices (entries s.announced)) (bests (entries s.announced)) }
 {}
 
 /// A page of local records rises by sequence, has no more records than asked for, and no more than 1,000,000 blocks or

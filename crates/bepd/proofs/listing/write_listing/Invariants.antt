@@ -1,7 +1,10 @@
-use Rattle.bepd.proofs.Reports.{IsWritten}
+use Rattle.bepd.proofs.Reports.{IsWritten, left_from}
 use Rattle.bepd.proofs.listing.write_listing.Given as goal
 
--- the lines of the names so far were written
-abbrev pub invariant-loop-name : goal.invariant-loop-name
-invariant-loop-name g l =
-    IsWritten (g.F.FolderCore.state l.heard.folder) l.heard.names.keys l.name-iterator (g.W.Write.contents l.initial.writer) (g.W.Write.contents l.writer)
+-- the lines of the pages so far were written
+abbrev pub invariant-loop-last : goal.invariant-loop-last
+invariant-loop-last g l =
+    IsWritten (g.F.FolderCore.state l.received.folder) l.page (g.W.Write.contents l.initial.writer) (g.W.Write.contents l.writer)
+
+abbrev pub decreases-loop-last : goal.decreases-loop-last
+decreases-loop-last g l = left_from (g.F.FolderCore.state l.received.folder) l.page

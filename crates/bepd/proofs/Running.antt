@@ -1,0 +1,25 @@
+-- What a run does that lists nothing.
+use Rattle.std.proofs.Common.{◌≡◌, ℕ, List, [], Option, Some, None, IfSome}
+use Rattle.std.proofs.KnownBytes.{Appends-nil, Consumes-nil}
+use Rattle.std.proofs.Common.{refl}
+use Rattle.bepd.specs.declared.ending.Ending.TheVariants.{Failed}
+use Rattle.bepd.specs.declared.ending.Failure.TheVariants.{OutOfMemory}
+use Rattle.bepd.specs.declared.run.Outcome.{Outcome}
+use Rattle.bepd.specs.Listing.{listing}
+use Rattle.bepd.specs.Runs.{Ends, Lists, Streams, streams}
+
+each : {A : Type 0} (o : Option A) (P : A → Type 0) → ((x : A) → P x) → IfSome o P
+each None P h = tt
+each (Some x) P h = h x
+
+-- memory ran out before anything was read
+pub lists_nothing : (folder : List ℕ) (outcome : Outcome) (input output old new : Option (List ℕ)) → Ends (Failed OutOfMemory) outcome old new
+    → Lists folder outcome (streams input output old) (streams input output new)
+lists_nothing folder outcome input output old new ends = record {
+  ending = Failed OutOfMemory;
+  bytes = [];
+  taken = Consumes-nil input;
+  answers = ([], listing folder [], refl, Appends-nil output);
+  known = each input _ (λ _ listed. absurd listed);
+  ends = ends;
+}

@@ -1,0 +1,31 @@
+use Rattle.std.proofs.Common.{◌≡◌, subst}
+use Rattle.bepd.specs.Runs.{Lists, streams}
+use Rattle.bepd.proofs.Matching.{asked_best}
+use Rattle.bepd.proofs.Running.{lists_nothing}
+use Rattle.bepd.proofs.run.run.Goals as goal
+
+pub returns-in-Best-clause-best : goal.returns-in-Best-clause-best
+returns-in-Best-clause-best g c = λ program folder line plain.
+    let old = streams (g.R.Read.remaining c.args.input.now) (g.W.Write.contents c.args.output.now) (g.E.Write.contents c.args.errors.now) in
+    let new = streams (g.R.Read.remaining c.best-ending.new.reader) (g.W.Write.contents c.best-ending.new.writer) (g.E.Write.contents c.end.new.errors) in
+    let listed = c.best-ending.ensures.listing in
+    let lists : Lists c.in-Best.folder.now c.end.result old new = record {
+      ending = c.best-ending.result;
+      bytes = listed.0;
+      taken = listed.1;
+      answers = listed.2;
+      known = c.best-ending.ensures.known;
+      ends = c.end.ensures.ends;
+    } in
+    subst (λ f. Lists f c.end.result old new) (asked_best c.args.words.now _ program folder line plain c.in-Best.ensures) lists
+
+pub returns-in-Text-clause-best : goal.returns-in-Text-clause-best
+returns-in-Text-clause-best g c = λ program folder line plain. absurd (asked_best c.args.words.now _ program folder line plain c.in-Text.ensures)
+
+pub returns-in-Refused-clause-best : goal.returns-in-Refused-clause-best
+returns-in-Refused-clause-best g c = λ program folder line plain. absurd (asked_best c.args.words.now _ program folder line plain c.in-Refused.ensures)
+
+pub returns-in-OutOfMemory-clause-best : goal.returns-in-OutOfMemory-clause-best
+returns-in-OutOfMemory-clause-best g c = λ program folder line plain.
+    lists_nothing folder c.end-in-OutOfMemory.result (g.R.Read.remaining c.args.input.now) (g.W.Write.contents c.args.output.now)
+    (g.E.Write.contents c.args.errors.now) (g.E.Write.contents c.end-in-OutOfMemory.new.errors) c.end-in-OutOfMemory.ensures.ends

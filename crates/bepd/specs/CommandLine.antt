@@ -1,0 +1,73 @@
+-- The command lines of `bepd` (own rule): `best FOLDER`, and calls for help and the version. How words become commands and
+-- values is the rule of `clap`.
+use Rattle.std.specs.Prelude.{◌≡◌, ◌≢◌, ◌⊎◌, ⊤, ℕ, Bool, true, false, ◌==◌, List, [], ◌∷◌, Option, Some, None, Result, Ok, Err, String, Vec, option_and_then, codes, map, if◌then◌else◌, bytes_eq}
+use Rattle.std.specs.declared.alloc.Global.{Global}
+use Rattle.std.specs.IoError.{error_kind}
+use Rattle.std.specs.String.{string_bytes}
+use Rattle.std.specs.declared.io.Error.{Error as IoError}
+use Rattle.std.specs.declared.io.ErrorKind.TheVariants as io
+use Rattle.clap.specs.Words.{App, Kinds, IsAmong, Row, Rule, Text, fault_of, first_of, new_app, new_rule, subcommand_of, with_rule, with_subcommand}
+use Rattle.clap.specs.Simple.{on_top}
+use Rattle.clap.specs.declared.error.kind.ErrorKind.{ErrorKind}
+use Rattle.clap.specs.declared.error.kind.ErrorKind.TheVariants.{DisplayHelp, DisplayVersion, MissingSubcommand, OutOfMemory}
+use Rattle.bepd.specs.declared.command.Request.{Request}
+use Rattle.bepd.specs.declared.command.Request.TheVariants as request
+
+abbrev pub folder_rule : Rule
+folder_rule = record (new_rule (codes "FOLDER")) { required = true }
+
+abbrev pub best_app : App
+best_app = with_rule (new_app (codes "best")) folder_rule
+
+abbrev pub bepd_app : App
+bepd_app = with_subcommand (on_top (λ s. record s { has_version = true }) (new_app (codes "bepd"))) best_app.top
+
+-- the value of FOLDER, where the command is `best`
+abbrev pub folder_at : Option (Text × List Row) → Option Text
+folder_at command = option_and_then (λ c. if bytes_eq c.0 (codes "best") then first_of (codes "FOLDER") c.1 else None) command
+
+-- what is wrong with the words; help and the version count as wrong here
+abbrev pub faults : List Text → Kinds
+faults words = fault_of bepd_app words
+
+-- the words name this folder
+abbrev pub IsGiven : List Text → Text → Type 0
+IsGiven words folder = (faults words ≡ []) × (folder_at (subcommand_of bepd_app words) ≡ Some folder)
+
+-- the words name no folder, for this reason
+abbrev pub IsErrorAt : List Text → ErrorKind → Type 0
+IsErrorAt words kind = (kind ≡ OutOfMemory)
+    ⊎ (IsAmong kind (faults words)
+    ⊎ ((folder_at (subcommand_of bepd_app words) ≡ None) × (kind ≡ MissingSubcommand)))
+
+-- the answer to such words
+abbrev pub IsAnswered : ErrorKind → Request → Type 0
+IsAnswered kind (request.Best folder) = ⊥
+IsAnswered kind (request.Text text) = (kind ≡ DisplayHelp) ⊎ (kind ≡ DisplayVersion)
+IsAnswered kind (request.Refused text) = (kind ≢ DisplayHelp) × (kind ≢ DisplayVersion) × (kind ≢ OutOfMemory)
+IsAnswered kind request.OutOfMemory = ⊤
+
+-- what the words ask for
+abbrev pub IsAsked : List Text → Request → Type 0
+IsAsked words (request.Best folder) = IsGiven words folder.now
+IsAsked words asked = (kind : ErrorKind) × IsErrorAt words kind × IsAnswered kind asked
+
+-- and words that can't be read: only out of memory isn't their fault
+abbrev pub IsUnread : IoError → Request → Type 0
+IsUnread error request.OutOfMemory = ⊤
+IsUnread error (request.Refused text) = error_kind error ≢ io.OutOfMemory
+IsUnread error _ = ⊥
+
+abbrev pub IsRequested : Result (Vec (String Global) Global) IoError → Request → Type 0
+IsRequested (Ok words) asked = IsAsked (map string_bytes words.items) asked
+IsRequested (Err error) asked = IsUnread error asked
+
+-- the words were read, and are these
+abbrev pub IsCommandLine : Result (Vec (String Global) Global) IoError → List Text → Type 0
+IsCommandLine (Ok words) line = map string_bytes words.items ≡ line
+IsCommandLine (Err error) line = ⊥
+
+-- a word that begins so (45) may be an option
+abbrev pub begins_with_hyphen : Text → Bool
+begins_with_hyphen [] = false
+begins_with_hyphen (b ∷ bs) = b == 45

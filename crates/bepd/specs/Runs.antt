@@ -1,0 +1,57 @@
+-- What the program does for a command line (own rule).
+use Rattle.std.specs.Prelude.{◌≡◌, ℕ, ◌⊎◌, false, List, [], ◌++◌, Option, OnOk, IfSome, codes}
+use Rattle.std.specs.Io.KnownBytes.{Appends, Consumes}
+use Rattle.std.specs.String.{string_bytes}
+use Rattle.bep_frames.specs.Stream.{stream}
+use Rattle.bepd.specs.declared.command.Request.{Request}
+use Rattle.bepd.specs.declared.command.Request.TheVariants.{Best, Text, Refused, OutOfMemory}
+use Rattle.bepd.specs.declared.ending.Ending.{Ending}
+use Rattle.bepd.specs.declared.ending.Ending.TheVariants.{Done, Failed}
+use Rattle.bepd.specs.declared.ending.Failure.TheVariants as failure
+use Rattle.bepd.specs.declared.run.Outcome.{Outcome}
+use Rattle.bepd.specs.Endings.{IsEndOf, IsListed, ending_text, status_of}
+use Rattle.bepd.specs.Listing.{Answers, listing}
+
+-- The standard streams: the bytes that the input has left, and those that the output and the errors have, where they are known.
+pub record Streams : Type 0 where
+  pub input : Option (List ℕ)
+  pub output : Option (List ℕ)
+  pub errors : Option (List ℕ)
+
+abbrev pub streams : Option (List ℕ) → Option (List ℕ) → Option (List ℕ) → Streams
+streams input output errors = record { input = input; output = output; errors = errors }
+
+-- the line of an ending; there is none where all is done
+abbrev pub ending_line : Ending → List ℕ
+ending_line Done = []
+ending_line ending = ending_text ending ++ codes "\n"
+
+-- the status of the ending, and its line on standard error, if that took it
+pub record Ends (ending : Ending) (outcome : Outcome) (old new : Option (List ℕ)) : Type 0 where
+  pub status : outcome.status ≡ status_of ending
+  pub line : OnOk outcome.reported (Appends old new (ending_line ending))
+
+-- the folder is listed from the input
+pub record Lists (folder : List ℕ) (outcome : Outcome) (old new : Streams) : Type 0 where
+  pub ending : Ending
+  pub bytes : List ℕ
+  pub taken : Consumes old.input new.input bytes
+  pub answers : Answers folder bytes ending old.output new.output
+  pub known : IfSome old.input (λ input. IsListed ending →
+      IsEndOf (stream false input).end ending × Appends old.output new.output (listing folder input))
+  pub ends : Ends ending outcome old.errors new.errors
+
+-- the text goes to standard output, or can't be written
+abbrev pub Shows : List ℕ → Outcome → Option (List ℕ) → Option (List ℕ) → Option (List ℕ) → Option (List ℕ) → Type 0
+Shows text outcome old_output new_output old_errors new_errors =
+    ((outcome.status ≡ 0) × Appends old_output new_output text) ⊎ Ends (Failed failure.Write) outcome old_errors new_errors
+
+-- what is done for a request: nothing is read or written but this
+abbrev pub Does : Request → Outcome → Streams → Streams → Type 0
+Does (Best folder) outcome old new = Lists folder.now outcome old new
+Does (Text text) outcome old new =
+    (new.input ≡ old.input) × Shows (string_bytes text) outcome old.output new.output old.errors new.errors
+Does (Refused text) outcome old new = (new.input ≡ old.input) × (new.output ≡ old.output) × (outcome.status ≡ 1)
+    × OnOk outcome.reported (Appends old.errors new.errors (string_bytes text))
+Does OutOfMemory outcome old new =
+    (new.input ≡ old.input) × (new.output ≡ old.output) × Ends (Failed failure.OutOfMemory) outcome old.errors new.errors

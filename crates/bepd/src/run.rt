@@ -1,0 +1,102 @@
+//! The whole program, from the words of the command line and the standard streams to the exit status.
+ghost use Rattle.std.specs.Prelude.{◌≡◌, ◌∷◌, [], List, ℕ, OnOk, IfErr, codes, false};
+ghost use Rattle.std.specs.Io.KnownBytes.{Appends};
+ghost use Rattle.bepd.specs.CommandLine.{IsCommandLine, IsRequested, begins_with_hyphen};
+ghost use Rattle.bepd.specs.Runs.{Does, Ends, Lists, Shows, streams};
+ghost use Rattle.bepd.specs.declared.command.Request.{Request as AnyRequest};
+ghost use Rattle.bepd.specs.declared.ending.Ending.TheVariants.{Done};
+
+use crate::best::best;
+use crate::command::{Request, request_of};
+use crate::ending::{Ending, Failure};
+use crate::received::own_device;
+use folder_core::PlainFolder;
+use std::alloc::Global;
+use std::io::{self, Read, Write};
+
+/// The exit status of a refused command line.
+const REFUSED_STATUS: u8 = 1;
+
+/// How the program ended.
+#[derive(Debug, Drop)]
+pub(crate) struct Outcome {
+    /// The exit status.
+    pub(crate) status: u8,
+    /// Whether standard error took what was written to it.
+    pub(crate) reported: io::Result<()>,
+}
+
+/// Does what the words of the command line ask for, of which the first is the program's name.
+///
+/// `best FOLDER` reads the input and lists on the output. The help and the version go to the output, and why words are
+/// refused to `errors`, as does the line of each ending with a status above 0.
+pub(crate) fn run<R: Read, W: Write, E: Write>(
+    alloc: Global,
+    words: &io::Result<Vec<String>>,
+    input: &mut R,
+    output: &mut W,
+    errors: &mut E,
+) -> Outcome
+    // What the words ask for is done, and nothing else.
+    ensures does { (asked : AnyRequest) × IsRequested words.now asked × Does asked result
+        (streams (R.remaining input.old) (W.contents output.old) (E.contents errors.old))
+        (streams (R.remaining input.new) (W.contents output.new) (E.contents errors.new)) }
+    // The words `PROGRAM best FOLDER` ask for the listing of just that folder.
+    ensures best { (program folder : List ℕ) → IsCommandLine words.now (program ∷ codes "best" ∷ folder ∷ []) → begins_with_hyphen folder ≡ false
+        → Lists folder result
+        (streams (R.remaining input.old) (W.contents output.old) (E.contents errors.old))
+        (streams (R.remaining input.new) (W.contents output.new) (E.contents errors.new)) }
+    // Standard error stays as it was where the status is 0.
+    ensures quiet { result.status ≡ 0 → errors.new ≡ errors.old }
+{
+    match request_of(alloc, words) {
+        Request::Best(folder) => {
+            let empty = PlainFolder::new(alloc, own_device());
+            let ending = best(alloc, folder, empty, input, output);
+            end(ending, errors)
+        }
+        Request::Text(text) => show(text.as_str(), output, errors),
+        Request::Refused(text) => Outcome {
+            status: REFUSED_STATUS,
+            reported: errors.write_all(text.as_bytes()),
+        },
+        Request::OutOfMemory => end(Ending::Failed(Failure::OutOfMemory), errors),
+    }
+}
+
+/// Ends with the ending's status, after its line on standard error where it isn't done.
+fn end<E: Write>(ending: Ending, errors: &mut E) -> Outcome
+    ensures ends { Ends ending result (E.contents errors.old) (E.contents errors.new) }
+    ensures quiet { ending ≡ Done → errors.new ≡ errors.old }
+{
+    let reported = match ending {
+        Ending::Done => Ok(()),
+        _ => writeln!(errors, "{ending}"),
+    };
+    Outcome {
+        status: ending.status(),
+        reported,
+    }
+}
+
+/// Prints the help or the version.
+fn show<W: Write, E: Write>(text: &str, output: &mut W, errors: &mut E) -> Outcome
+    ensures shows { Shows text.now result
+        (W.contents output.old) (W.contents output.new) (E.contents errors.old) (E.contents errors.new) }
+    ensures quiet { result.status ≡ 0 → errors.new ≡ errors.old }
+{
+    match print(text, output) {
+        Ok(()) => Outcome {
+            status: 0,
+            reported: Ok(()),
+        },
+        Err(_) => end(Ending::Failed(Failure::Write), errors),
+    }
+}
+
+fn print<W: Write>(text: &str, output: &mut W) -> io::Result<()>
+    ensures { OnOk result (Appends (W.contents output.old) (W.contents output.new) text.now) }
+{
+    output.write_all(text.as_bytes())?;
+    output.flush()
+}

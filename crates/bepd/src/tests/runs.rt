@@ -1,0 +1,78 @@
+//! Whole runs: a command line and an input, and what goes to the output, to the errors and to the status.
+use super::{COMPRESSED, FILE, MOST, Sink, both};
+use crate::run::run;
+use std::alloc::{AllocError, Global};
+use std::io;
+use std::process::Abort;
+use std::test::Fail;
+
+const LISTING: &str = "best file 0 0000000000000001:1 a\nskipped 0\n";
+
+fn words(alloc: Global, line: &str) -> io::Result<Vec<String>> {
+    let mut words = Vec::new(alloc);
+    for word in line.split(' ') {
+        words.push(String::from_str(alloc, word)?)?;
+    }
+    Ok(words)
+}
+
+/// Runs the line on the bytes. `None` where memory ran out.
+fn status(
+    rt: &(impl AllocGlobal + Abort),
+    line: &str,
+    mut bytes: &[u8],
+    output: &str,
+    errors: &str,
+) -> Result<Option<u8>, AllocError> {
+    let mut written = Vec::with_capacity(rt.alloc(), MOST)?;
+    let mut reported = Vec::with_capacity(rt.alloc(), MOST)?;
+    let words = words(rt.alloc(), line);
+    let outcome = run(rt.alloc(), &words, &mut bytes, &mut written, &mut reported);
+    if outcome.status == 4 {
+        assert_eq!(rt; reported.as_slice(), b"fault 33 OutOfMemory\n".as_slice(), "{line}");
+        return Ok(None);
+    }
+    assert!(rt; outcome.reported.is_ok(), "{line}");
+    assert!(rt; written.as_slice().starts_with(output.as_bytes()), "{line}");
+    assert_eq!(rt; written.is_empty(), output.is_empty(), "{line}");
+    assert!(rt; reported.as_slice().starts_with(errors.as_bytes()), "{line}");
+    assert_eq!(rt; reported.is_empty(), errors.is_empty(), "{line}");
+    Ok(Some(outcome.status))
+}
+
+#[test]
+fn runs_lines(rt: HostRuntime) -> Result<(), Fail> {
+    let bytes = both(rt.alloc(), FILE, COMPRESSED)?;
+    let whole = bytes.len() - 6;
+    for (line, count, output, errors, wanted) in [
+        ("bepd best f", whole, LISTING, "", 0),
+        ("bepd best f", whole + 6, LISTING, "fault 12 Compressed\n", 2),
+        ("bepd best f", whole + 1, LISTING, "rest 1\n", 3),
+        ("bepd best g", whole, "skipped 0\n", "", 0),
+        ("bepd", whole, "", "error: a command is required\n", 1),
+        ("bepd --help", 0, "Lists", "", 0),
+        ("bepd --version", 0, "bepd 0.1.0\n", "", 0),
+    ] {
+        let answer = status(&rt, line, &bytes.as_slice()[..count], output, errors)?;
+        if let Some(status) = answer {
+            assert_eq!(rt; status, wanted, "{line}");
+        }
+    }
+    Ok(())
+}
+
+#[test]
+fn reports_help_that_cannot_be_written(rt: HostRuntime) -> Result<(), AllocError> {
+    for fails_at in [1, 2] {
+        let mut sink = Sink::new(rt.alloc(), MOST, fails_at)?;
+        let mut reported = Vec::with_capacity(rt.alloc(), MOST)?;
+        let words = words(rt.alloc(), "bepd --version");
+        let mut input: &[u8] = &[];
+        let outcome = run(rt.alloc(), &words, &mut input, &mut sink, &mut reported);
+        if outcome.status != 4 {
+            assert_eq!(rt; outcome.status, 5);
+            assert_eq!(rt; reported.as_slice(), b"fault read or write\n".as_slice());
+        }
+    }
+    Ok(())
+}
