@@ -1,5 +1,5 @@
 //! Whole streams and their listings: worked rows, captured streams of a real peer, streams in pieces, and reads, writes
-//! and allocations that fail. Where memory is refused, a front of the listing was written, and the stream is read again.
+//! and allocations that fail. Where an allocation fails, a front of the listing was written, and the stream is read again.
 mod captured;
 mod failing;
 mod rows;
