@@ -62,4 +62,3 @@ pub count_fits : (n s : ℕ) (files all : List FileInfo) (info : FileInfo) (rest
 count_fits n s files all info rest f refused first whole =
     let skipped : length (skipped_records files) ≡ suc (length (skipped_records rest)) = ap length (ap skipped_records first ∙ skipped_first info rest f refused) in
     omega (arith, skipped, whole, skipped_fewer all)
-

@@ -8,9 +8,9 @@ ghost use Rattle.bepd.specs.Received.{own_device};
 ghost use Rattle.bepd.specs.Listing.{listing, Answers};
 
 use crate::ending::Ending;
-use crate::received::Received;
 use crate::input::read_stream;
 use crate::listing::write_listing;
+use crate::received::Received;
 use folder_core::FolderCore;
 use std::alloc::Global;
 use std::io::{Read, Write};

@@ -124,12 +124,7 @@ impl Write for Sink {
 }
 
 /// Lists over the plain folder.
-fn list<R: Read, W: Write>(
-    alloc: Global,
-    folder: &str,
-    reader: &mut R,
-    writer: &mut W,
-) -> Ending {
+fn list<R: Read, W: Write>(alloc: Global, folder: &str, reader: &mut R, writer: &mut W) -> Ending {
     let empty = PlainFolder::new(alloc, own_device());
     best(alloc, folder, empty, reader, writer)
 }
