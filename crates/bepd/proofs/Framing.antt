@@ -21,7 +21,7 @@ use Rattle.folder_core.specs.Kept.{empty_folder}
 use Rattle.folder_core.specs.States.{FolderState}
 use Rattle.folder_core.specs.Steps.{Answer, Change, IndexFull, IndexMore, step}
 use Rattle.folder_core.proofs.Lemmas.{IsOneOrWas, full-names, more-names}
-use Rattle.sync_record.specs.Records.{Name, FileRecord}
+use Rattle.sync_record.specs.Records.{FileRecord}
 use Rattle.bepd.specs.Received.{own_device, peer, is_kept, kept_records, skipped_records, frame_changes, frame_files, changed, folder_after, skipped_count}
 use Rattle.bepd.specs.Progress.{IsReceived, IsReceivedOf, Leaves}
 
