@@ -1,9 +1,8 @@
 -- What is answered of a stream that was read, once its listing was written.
-use Rattle.std.proofs.Common.{◌≡◌, ℕ, ◌≤◌, false, List, [], ◌++◌, length, Option, Some, None, Result, Ok, Err, IfErr, IfSome, refl, sym, ap, subst, ◌∙◌}
+use Rattle.std.proofs.Common.{◌≡◌, ℕ, ◌≤◌, false, List, [], ◌++◌, length, Option, Some, None, Result, Ok, Err, IfSome, refl, sym, ap, subst, ◌∙◌}
 use Rattle.std.proofs.KnownBytes.{Appends-nil, Keeps-refl}
 use Rattle.std.proofs.lemmas.Bool.{true≢false}
 use Rattle.std.specs.Prelude.{is_some}
-use Rattle.std.specs.Result.{IsErrAnd}
 use Rattle.std.specs.FinMap.{get, get-empty}
 use Rattle.std.specs.Io.KnownBytes.{Appends, Consumes}
 use Rattle.bep_frames.specs.declared.fault.FrameFault.{FrameFault}
@@ -11,7 +10,7 @@ use Rattle.bep_frames.specs.Stream.{Stream, stream}
 use Rattle.folder_core.specs.Announced.{Key, key_cmp}
 use Rattle.folder_core.specs.Kept.{empty_folder}
 use Rattle.folder_core.specs.States.{FolderState}
-use Rattle.sync_record.specs.Records.{Name, FileRecord}
+use Rattle.sync_record.specs.Records.{FileRecord}
 use Rattle.bepd.specs.declared.ending.Ending.{Ending}
 use Rattle.bepd.specs.declared.ending.Ending.TheVariants.{Done, Rest, Fault, Failed}
 use Rattle.bepd.specs.declared.ending.Failure.{Failure}

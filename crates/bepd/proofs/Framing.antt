@@ -21,7 +21,7 @@ use Rattle.folder_core.specs.Kept.{empty_folder}
 use Rattle.folder_core.specs.States.{FolderState}
 use Rattle.folder_core.specs.Steps.{Answer, Change, IndexFull, IndexMore, step}
 use Rattle.folder_core.proofs.Lemmas.{IsOneOrWas, full-names, more-names}
-use Rattle.sync_record.specs.Records.{Name, FileRecord}
+use Rattle.sync_record.specs.Records.{FileRecord}
 use Rattle.bepd.specs.Received.{own_device, peer, is_kept, kept_records, skipped_records, frame_changes, frame_files, changed, folder_after, skipped_count}
 use Rattle.bepd.specs.Progress.{IsReceived, IsReceivedOf, Leaves}
 
@@ -124,7 +124,7 @@ kept_by : (old new : State) (e : FrameFault) → TellsFault old e new → (new.r
 kept_by old new e (inl h) = (ap (λ (t : State). t.rest) h.1, ap (λ (t : State). t.hello) h.1)
 kept_by old new e (inr h) = (ap (λ (t : State). t.rest) h.2, ap (λ (t : State). t.hello) h.2)
 
--- a fault leaves what stands there
+-- a fault leaves the bytes
 kept_at_fault : (old new : State) (e : FrameFault) → Gives old (Some (Err e)) new → (new.rest ≡ old.rest) × (new.hello ≡ old.hello)
 kept_at_fault old new BadMagic g = kept_by old new BadMagic g
 kept_at_fault old new TooLong g = kept_by old new TooLong g

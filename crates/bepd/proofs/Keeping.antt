@@ -1,5 +1,5 @@
 -- The records of a message: which are kept, and how many are skipped.
-use Rattle.std.proofs.Common.{◌≡◌, ℕ, suc, ◌+◌, ◌≤◌, Bool, true, false, List, [], ◌∷◌, ◌++◌, length, drop, Some, None, refl, sym, ap, subst, ◌∙◌, inl, inr, arith, append_assoc}
+use Rattle.std.proofs.Common.{◌≡◌, ℕ, suc, ◌+◌, ◌≤◌, Bool, true, false, List, [], ◌∷◌, ◌++◌, length, drop, Some, None, refl, sym, ap, ◌∙◌, arith, append_assoc}
 use Rattle.std.specs.Prelude.{not, if◌then◌else◌}
 use Rattle.bep_messages.specs.declared.file_info.FileInfo.{FileInfo}
 use Rattle.sync_names.specs.declared.fault.NameFault.{NameFault}
@@ -62,4 +62,3 @@ pub count_fits : (n s : ℕ) (files all : List FileInfo) (info : FileInfo) (rest
 count_fits n s files all info rest f refused first whole =
     let skipped : length (skipped_records files) ≡ suc (length (skipped_records rest)) = ap length (ap skipped_records first ∙ skipped_first info rest f refused) in
     omega (arith, skipped, whole, skipped_fewer all)
-

@@ -1,4 +1,4 @@
--- Texts that loops make piece by piece, behind an old text.
+-- Texts that loops append piece by piece to an old text.
 use Rattle.std.proofs.Common.{◌≡◌, ◌<◌, ◌+◌, ℕ, List, [], ◌∷◌, ◌++◌, length, take, map, get_or, refl, sym, ap, ◌∙◌, append_assoc}
 use Rattle.std.specs.List.{flat_map, join_with_byte}
 use Rattle.std.proofs.lemmas.List.{append-nil, take_more}
@@ -25,7 +25,7 @@ joined_bare : {X : Type 0} (c : ℕ) (f : X → List ℕ) (x : X) (xs : List X)
 joined_bare c f x [] = append-nil (f x)
 joined_bare c f x (y ∷ ys) = ap (λ v. f x ++ (c ∷ v)) (joined_bare c f y ys)
 
--- the first piece, and each other behind the byte
+-- the first piece, and each other after the byte
 pub joined : {X : Type 0} (c : ℕ) (f : X → List ℕ) (old : List ℕ) (x : X) (xs : List X)
     → (old ++ f x) ++ flat_map (λ y. c ∷ f y) xs ≡ old ++ join_with_byte c (map f (x ∷ xs))
 joined c f old x xs =

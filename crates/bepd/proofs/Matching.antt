@@ -1,11 +1,11 @@
 -- What the matches of a parse say of the words.
-use Rattle.std.proofs.Common.{◌≡◌, ◌∙◌, ℕ, Bool, true, false, List, [], ◌∷◌, Option, Some, None, Result, Ok, Err, IfErr, inl, inr, refl, sym, ap, subst, map, codes}
-use Rattle.std.specs.Prelude.{option_map, option_and_then, slice_get, bytes_eq, find, is_some, if◌then◌else◌}
+use Rattle.std.proofs.Common.{◌≡◌, ◌∙◌, Bool, true, false, List, [], ◌∷◌, Option, Some, None, Result, Ok, Err, IfErr, inl, inr, refl, sym, ap, subst, map, codes}
+use Rattle.std.specs.Prelude.{option_map, option_and_then, slice_get, bytes_eq, find, is_some}
 use Rattle.std.specs.Borrow.{Bor}
 use Rattle.std.proofs.lemmas.Bool.{true≢false}
 use Rattle.std.proofs.lemmas.Slice.Eq.{bytes_eq-Decides}
 use Rattle.clap.specs.Facts.{Entry}
-use Rattle.clap.specs.Matches.{first_value, matched_of}
+use Rattle.clap.specs.Matches.{first_value}
 use Rattle.clap.specs.Walk.{first_of, row_of, rows_of, texts}
 use Rattle.clap.specs.Words.{App, HasKind, HasMatchesOf, IsAmong, Row, Text, fault_of, is_simple, is_simple_and_free, kind_of, subcommand_name_of, subcommand_of, subcommand_rows_of}
 use Rattle.clap.specs.declared.error.Error.{Error}
@@ -20,7 +20,7 @@ use Rattle.clap.specs.declared.parser.matches.ArgMatches.{ArgMatches}
 use Rattle.std.specs.Result.{IsErrAnd}
 use Rattle.clap.specs.declared.parser.matches.Found.{Found}
 use Rattle.clap.proofs.OnLiterals.{clap_on_literals}
-use Rattle.bepd.specs.CommandLine.{IsAnswered, IsAsked, IsCommandLine, IsErrorAt, IsGiven, IsRequested, begins_with_hyphen, bepd_app, faults, folder_at}
+use Rattle.bepd.specs.CommandLine.{IsAsked, IsCommandLine, IsErrorAt, IsGiven, IsRequested, begins_with_hyphen, bepd_app, faults, folder_at}
 
 pub bepd_is_simple : is_simple_and_free bepd_app ≡ true
 unfolding clap_on_literals

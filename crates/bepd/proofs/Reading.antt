@@ -8,7 +8,6 @@ use Rattle.bep_frames.specs.State.{State, fed, remaining, start, with_front}
 use Rattle.bep_frames.specs.Stream as streams
 use Rattle.bep_frames.specs.Stream.{Stream, ended, stream}
 use Rattle.folder_core.specs.States.{FolderState}
-use Rattle.sync_record.specs.Records.{Name}
 use Rattle.bepd.specs.declared.ending.Ending.{Ending}
 use Rattle.bepd.specs.declared.ending.Ending.TheVariants.{Done, Rest, Fault, Failed}
 use Rattle.bepd.specs.Endings.{IsEndOf, StopsAtFault, max_input_bytes}

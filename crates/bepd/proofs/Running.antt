@@ -1,12 +1,12 @@
 -- What a run does that lists nothing.
-use Rattle.std.proofs.Common.{◌≡◌, ℕ, List, [], Option, Some, None, IfSome}
+use Rattle.std.proofs.Common.{ℕ, List, [], Option, Some, None, IfSome}
 use Rattle.std.proofs.KnownBytes.{Appends-nil, Consumes-nil}
 use Rattle.std.proofs.Common.{refl}
 use Rattle.bepd.specs.declared.ending.Ending.TheVariants.{Failed}
 use Rattle.bepd.specs.declared.ending.Failure.TheVariants.{OutOfMemory}
 use Rattle.bepd.specs.declared.run.Outcome.{Outcome}
 use Rattle.bepd.specs.Listing.{listing}
-use Rattle.bepd.specs.Runs.{Ends, Lists, Streams, streams}
+use Rattle.bepd.specs.Runs.{Ends, Lists, streams}
 
 each : {A : Type 0} (o : Option A) (P : A → Type 0) → ((x : A) → P x) → IfSome o P
 each None P h = tt

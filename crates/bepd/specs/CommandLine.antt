@@ -1,6 +1,6 @@
 -- The command lines of `bepd` (own rule): `best FOLDER`, and calls for help and the version. How words become commands and
 -- values is the rule of `clap`.
-use Rattle.std.specs.Prelude.{◌≡◌, ◌≢◌, ◌⊎◌, ⊤, ℕ, Bool, true, false, ◌==◌, List, [], ◌∷◌, Option, Some, None, Result, Ok, Err, String, Vec, option_and_then, codes, map, if◌then◌else◌, bytes_eq}
+use Rattle.std.specs.Prelude.{◌≡◌, ◌≢◌, ◌⊎◌, ⊤, Bool, true, false, ◌==◌, List, [], ◌∷◌, Option, Some, None, Result, Ok, Err, String, Vec, option_and_then, codes, map, if◌then◌else◌, bytes_eq}
 use Rattle.std.specs.declared.alloc.Global.{Global}
 use Rattle.std.specs.IoError.{error_kind}
 use Rattle.std.specs.String.{string_bytes}

@@ -42,7 +42,7 @@ abbrev pub IsListed : Ending → Type 0
 IsListed (Failed failure) = ⊥
 IsListed _ = ⊤
 
--- how a stream ends: with a whole frame, with so many bytes behind the last one, or with a fault
+-- how a stream ends: with a whole frame, with so many bytes after the last one, or with a fault
 abbrev pub IsEndOf : Result (List ℕ) FrameFault → Ending → Type 0
 IsEndOf (Ok rest) Done = length rest ≡ 0
 IsEndOf (Ok rest) (Rest count) = (0 < count) × (count ≡ length rest)
@@ -58,7 +58,7 @@ pub record EndsInPiece (bytes : List ℕ) : Type 0 where
   pub rest : List ℕ
   pub sound : (stream false before).end ≡ Ok rest
 
--- a fault is told in the piece that shows it: nothing behind that is read
+-- nothing is read after the piece that shows a fault
 abbrev pub StopsAtFault : List ℕ → Ending → Type 0
 StopsAtFault bytes (Fault fault) = EndsInPiece bytes
 StopsAtFault bytes _ = ⊤

@@ -36,7 +36,7 @@ escaped b = if is_escaped b then codes "\\x" ++ encode_lower (b ∷ []) else b �
 abbrev pub name_text : Name → List ℕ
 name_text name = flat_map escaped name
 
--- what stands of a record in a line
+-- a record in a line
 abbrev pub record_text : FileRecord → List ℕ
 record_text r =
     kind_word r ++ codes " " ++ signed_decimal r.size ++ codes " " ++ version_text r.version ++ codes " " ++ name_text r.name

@@ -38,7 +38,7 @@ pub record IsReceivedOf (folder bytes : List ℕ) (reader : State) (s : FolderSt
   pub fits : skipped + length reader.rest ≤ length bytes
   pub later : reader.hello ≡ false
 
--- a reader has given all that stands there: a rest is left, or a fault was found
+-- a reader has given all that it can: a rest is left, or a fault was found
 abbrev pub Leaves : State → Option FrameFault → Type 0
 Leaves reader None = remaining (fed reader []) ≡ ended (Ok reader.rest)
 Leaves reader (Some fault) = (more : List ℕ) → remaining (fed reader more) ≡ ended (Err fault)

@@ -8,9 +8,9 @@ ghost use Rattle.bepd.specs.Received.{own_device};
 ghost use Rattle.bepd.specs.Listing.{listing, Answers};
 
 use crate::ending::Ending;
-use crate::received::Received;
 use crate::input::read_stream;
 use crate::listing::write_listing;
+use crate::received::Received;
 use folder_core::FolderCore;
 use std::alloc::Global;
 use std::io::{Read, Write};
@@ -19,13 +19,12 @@ use std::io::{Read, Write};
 /// `best KIND SIZE VERSION NAME` for each name that has a best, in byte order, and then `skipped N`.
 ///
 /// Only the Index and IndexUpdate messages of the folder count; others are read over. At a fault the listing is that of
-/// the frames before it, and nothing behind the piece that shows it is read. After a failed read nothing is written; after
-/// want of memory no more lines are; where a write failed, that is told before all else. An input of more than 2^40 bytes
-/// is a failed read.
+/// the frames before it, and nothing after the piece that shows it is read. After a failed read nothing is written; when
+/// out of memory, no more lines are. An input of more than 2^40 bytes is a failed read.
 ///
-/// The stream is read in pieces of 64 KiB. For each message the plain folder moves what it keeps behind the message's
-/// first name, so m messages over n names take up to O(m n), and O(n log n) where they come in order of the names. Memory
-/// for the records and their names, and a small multiple of the greatest message.
+/// `empty` is the folder in which no device announces anything. The stream is read in pieces of 64 KiB, and the listing
+/// written in pages of 1,000 names. The cost of a message and of a page is the folder's. Memory for the folder, for a
+/// small multiple of the greatest message, and for a page.
 pub fn best<F: FolderCore + Drop, R: Read, W: Write>(
     alloc: Global,
     folder: &str,

@@ -34,7 +34,7 @@ impl Error for Failure {}
 impl From<AllocError> for Failure {
     ghost from_gives = { λ _ failure. failure ≡ OutOfMemory };
 
-    fn from(_refused: AllocError) -> Failure {
+    fn from(_error: AllocError) -> Failure {
         Failure::OutOfMemory
     }
 }
@@ -42,7 +42,7 @@ impl From<AllocError> for Failure {
 /// How a listing ended. Displayed, it is the line for standard error; [`Ending::Done`] is an empty one.
 #[derive(Clone, Copy, Debug, PartialEq, Eq)]
 pub enum Ending {
-    /// The input was read to its end, behind a whole frame.
+    /// The input was read to its end, after a whole frame or none.
     Done,
     /// The input ended within a frame, of which it had so many bytes.
     Rest(usize),
@@ -53,7 +53,7 @@ pub enum Ending {
 }
 
 impl Ending {
-    /// The exit status of a program that ends so: 0 done, 2 a fault of the stream, 3 a rest, 4 want of memory, 5 a
+    /// The exit status of a program that ends so: 0 done, 2 a fault of the stream, 3 a rest, 4 out of memory, 5 a
     /// failed read or write.
     pub fn status(self) -> u8
         ensures { result ≡ status_of self }

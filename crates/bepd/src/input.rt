@@ -20,7 +20,7 @@ const MAX_INPUT_BYTES: u64 = 0x100_0000_0000;
 
 /// Reads a stream without Hello up to its end or its first fault, and takes its frames.
 ///
-/// `Read` where a read failed, though not where one was interrupted, which is tried again, or where the input has more
+/// Fails with `Read` if a read failed, other than by an interrupt, after which it is tried again, or if the input has more
 /// than 2^40 bytes.
 pub(crate) fn read_stream<F: FolderCore, R: Read>(
     alloc: Global,
@@ -61,14 +61,14 @@ pub(crate) fn read_stream<F: FolderCore, R: Read>(
     Err(Failure::Read)
 }
 
-/// So many bytes.
+/// A buffer of so many bytes.
 fn make_buffer(alloc: Global, size: usize) -> Result<Vec<u8>, AllocError>
     ensures { IfOk result (λ buffer. length buffer.items ≡ size) }
 {
     vec![in alloc; 0u8; size]
 }
 
-/// How a stream ends of which no whole frame and no fault is left.
+/// How a stream ends when no whole frame and no fault is left.
 fn end_of(frames: &FrameReader) -> Ending
     ensures { IsEndOf (Ok frames.now.rest) result }
 {
@@ -78,7 +78,7 @@ fn end_of(frames: &FrameReader) -> Ending
     }
 }
 
-/// Feeds the next bytes of the stream to the reader, and takes the frames that stand there then.
+/// Feeds the next bytes of the stream to the reader, and takes the frames that are whole then.
 fn take_piece<F: FolderCore>(
     alloc: Global,
     folder: &str,
@@ -99,7 +99,7 @@ fn take_piece<F: FolderCore>(
     take_frames(alloc, folder, received, frames)
 }
 
-/// Takes the frames that stand in the reader, until there is none or a fault.
+/// Takes the frames that the reader has, until there is none or a fault.
 fn take_frames<F: FolderCore>(
     alloc: Global,
     folder: &str,

@@ -1,4 +1,4 @@
-//! The lines of a listing, as bytes behind those of a buffer.
+//! The lines of a listing, as bytes that are appended to a buffer.
 ghost use Rattle.std.specs.Prelude.{◌≡◌, ◌++◌, OnOk};
 ghost use Rattle.hex.specs.Hex.{encode_lower};
 ghost use Rattle.bepd.specs.Lines.{best_line, counter_text, escaped, kind_word, name_text, record_text, skipped_line, version_text};
@@ -9,8 +9,8 @@ use sync_names::SafeName;
 use sync_record::{Kind, Record};
 use sync_version::Version;
 
-/// Appends the line of a name's best record: `best KIND SIZE VERSION NAME`. O(n) for n bytes of the line. Refused by
-/// want of memory alone.
+/// Appends the line of a name's best record: `best KIND SIZE VERSION NAME`. O(n) for n bytes of the line. Returns
+/// `Err` only if out of memory.
 pub(crate) fn push_best(line: &mut Vec<u8>, record: &Record) -> Result<(), AllocError>
     ensures { OnOk result (line.new.items ≡ line.old.items ++ best_line «record».now) }
 {
@@ -20,7 +20,7 @@ pub(crate) fn push_best(line: &mut Vec<u8>, record: &Record) -> Result<(), Alloc
     Ok(())
 }
 
-/// Appends the last line: `skipped N`. Refused by want of memory alone.
+/// Appends the last line: `skipped N`. Returns `Err` only if out of memory.
 pub(crate) fn push_skipped(line: &mut Vec<u8>, count: u64) -> Result<(), AllocError>
     ensures { OnOk result (line.new.items ≡ line.old.items ++ skipped_line count) }
 {

@@ -4,10 +4,10 @@
 mod best;
 mod command;
 mod ending;
-mod received;
 mod input;
 mod line;
 mod listing;
+mod received;
 mod run;
 #[cfg(test)]
 mod tests;

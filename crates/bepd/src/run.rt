@@ -1,5 +1,5 @@
 //! The whole program, from the words of the command line and the standard streams to the exit status.
-ghost use Rattle.std.specs.Prelude.{◌≡◌, ◌∷◌, [], List, ℕ, OnOk, IfErr, codes, false};
+ghost use Rattle.std.specs.Prelude.{◌≡◌, ◌∷◌, [], List, ℕ, OnOk, codes, false};
 ghost use Rattle.std.specs.Io.KnownBytes.{Appends};
 ghost use Rattle.bepd.specs.CommandLine.{IsCommandLine, IsRequested, begins_with_hyphen};
 ghost use Rattle.bepd.specs.Runs.{Does, Ends, Lists, Shows, streams};

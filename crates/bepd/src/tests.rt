@@ -1,5 +1,5 @@
 //! Whole streams and their listings: worked rows, captured streams of a real peer, streams in pieces, and reads, writes
-//! and allocations that fail. Where memory is refused, a front of the listing was written, and the stream is read again.
+//! and allocations that fail. Where an allocation fails, a front of the listing was written, and the stream is read again.
 mod captured;
 mod failing;
 mod rows;
@@ -124,12 +124,7 @@ impl Write for Sink {
 }
 
 /// Lists over the plain folder.
-fn list<R: Read, W: Write>(
-    alloc: Global,
-    folder: &str,
-    reader: &mut R,
-    writer: &mut W,
-) -> Ending {
+fn list<R: Read, W: Write>(alloc: Global, folder: &str, reader: &mut R, writer: &mut W) -> Ending {
     let empty = PlainFolder::new(alloc, own_device());
     best(alloc, folder, empty, reader, writer)
 }

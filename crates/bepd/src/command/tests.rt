@@ -34,11 +34,7 @@ fn reads_the_folder(rt: HostRuntime) -> Result<(), AllocError> {
 }
 
 /// Whether the text that the line is answered with is an error.
-fn is_refused(
-    rt: &(impl AllocGlobal + Abort),
-    line: &str,
-    text: &str,
-) -> Result<bool, AllocError> {
+fn is_refused(rt: &(impl AllocGlobal + Abort), line: &str, text: &str) -> Result<bool, AllocError> {
     let words = words(rt, line);
     match request_of(rt.alloc(), &words) {
         Request::Text(found) => {

@@ -13,8 +13,8 @@ const LEN: usize = 43;
 #[test]
 fn reads_in_pieces(rt: HostRuntime) -> Result<(), Fail> {
     let compressed = Ending::Fault(FrameFault::Compressed);
-    for (behind, ending) in [("", Ending::Done), (COMPRESSED, compressed)] {
-        let bytes = both(rt.alloc(), FILE, behind)?;
+    for (after, ending) in [("", Ending::Done), (COMPRESSED, compressed)] {
+        let bytes = both(rt.alloc(), FILE, after)?;
         for step in [1, 5, 100] {
             for interrupts in [false, true] {
                 let source = Source {
@@ -29,7 +29,7 @@ fn reads_in_pieces(rt: HostRuntime) -> Result<(), Fail> {
 }
 
 #[test]
-fn tells_failed_reads(rt: HostRuntime) -> Result<(), Fail> {
+fn reports_failed_reads(rt: HostRuntime) -> Result<(), Fail> {
     let bytes = bytes_of(rt.alloc(), FILE)?;
     for fails_at in [1, 2, 3] {
         let source = Source {
@@ -59,11 +59,11 @@ fn calls_until_done(
 }
 
 #[test]
-fn tells_failed_writes(rt: HostRuntime) -> Result<(), Fail> {
+fn reports_failed_writes(rt: HostRuntime) -> Result<(), Fail> {
     let compressed = Ending::Fault(FrameFault::Compressed);
-    for (behind, ending) in [("", Ending::Done), (COMPRESSED, compressed)] {
-        let bytes = both(rt.alloc(), FILE, behind)?;
-        // Each of two lines is a call, and the flush behind them; the fourth is never made.
+    for (after, ending) in [("", Ending::Done), (COMPRESSED, compressed)] {
+        let bytes = both(rt.alloc(), FILE, after)?;
+        // The page of lines, the last line and the flush are a call each; a fourth is never made.
         let source = in_steps(bytes.as_slice(), 100);
         assert_eq!(rt; calls_until_done(&rt, source, ending)?, 4);
     }

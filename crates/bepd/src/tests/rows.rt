@@ -62,7 +62,7 @@ fn takes_messages_in_turn(rt: HostRuntime) -> Result<(), Fail> {
         "00020802 0000001d 0a0166 120b 0a0178 4a06 0a0408011001 120b 0a0178 4a06 0a0408011002";
     let older = "00020801 00000010 0a0166 120b 0a0178 4a06 0a0408011002
         00020802 00000010 0a0166 120b 0a0178 4a06 0a0408011001";
-    // An Index takes away what it does not tell, and an IndexUpdate does not.
+    // An Index takes away what it does not have, and an IndexUpdate does not.
     let taken = "00020801 00000010 0a0166 120b 0a0178 4a06 0a0408011001 00020801 00000003 0a0166";
     let kept = "00020801 00000010 0a0166 120b 0a0178 4a06 0a0408011001 00020802 00000003 0a0166";
     // Between: a ClusterConfig, an Index of the folder "g", a Request, a Response, a DownloadProgress, a Ping, and one
@@ -144,7 +144,7 @@ skipped 0
 ";
 
 #[test]
-fn tells_how_it_ended(rt: HostRuntime) -> Result<(), Fail> {
+fn says_how_it_ended(rt: HostRuntime) -> Result<(), Fail> {
     for (ending, status, shown) in [
         (Ending::Done, 0, ""),
         (Ending::Rest(25), 3, "rest 25"),
@@ -162,8 +162,8 @@ fn tells_how_it_ended(rt: HostRuntime) -> Result<(), Fail> {
         ),
     ] {
         assert_eq!(rt; ending.status(), status);
-        let told = ending.to_string(rt.alloc())?;
-        assert_eq!(rt; told.as_bytes(), shown.as_bytes());
+        let text = ending.to_string(rt.alloc())?;
+        assert_eq!(rt; text.as_bytes(), shown.as_bytes());
     }
     Ok(())
 }

@@ -29,13 +29,20 @@ fn status(
     let words = words(rt.alloc(), line);
     let outcome = run(rt.alloc(), &words, &mut bytes, &mut written, &mut reported);
     if outcome.status == 4 {
-        assert_eq!(rt; reported.as_slice(), b"fault 33 OutOfMemory\n".as_slice(), "{line}");
+        assert_eq!(rt;
+            reported.as_slice(),
+            b"fault 33 OutOfMemory\n".as_slice(),
+            "{line}"
+        );
         return Ok(None);
     }
     assert!(rt; outcome.reported.is_ok(), "{line}");
     assert!(rt; written.as_slice().starts_with(output.as_bytes()), "{line}");
     assert_eq!(rt; written.is_empty(), output.is_empty(), "{line}");
-    assert!(rt; reported.as_slice().starts_with(errors.as_bytes()), "{line}");
+    assert!(rt;
+        reported.as_slice().starts_with(errors.as_bytes()),
+        "{line}"
+    );
     assert_eq!(rt; reported.is_empty(), errors.is_empty(), "{line}");
     Ok(Some(outcome.status))
 }
@@ -46,7 +53,13 @@ fn runs_lines(rt: HostRuntime) -> Result<(), Fail> {
     let whole = bytes.len() - 6;
     for (line, count, output, errors, wanted) in [
         ("bepd best f", whole, LISTING, "", 0),
-        ("bepd best f", whole + 6, LISTING, "fault 12 Compressed\n", 2),
+        (
+            "bepd best f",
+            whole + 6,
+            LISTING,
+            "fault 12 Compressed\n",
+            2,
+        ),
         ("bepd best f", whole + 1, LISTING, "rest 1\n", 3),
         ("bepd best g", whole, "skipped 0\n", "", 0),
         ("bepd", whole, "", "error: a command is required\n", 1),

@@ -1,4 +1,4 @@
-use Rattle.std.proofs.Common.{map, Some, None}
+use Rattle.std.proofs.Common.{map, Some}
 use Rattle.std.specs.String.{string_bytes}
 use Rattle.clap.specs.Words.{app_of}
 use Rattle.bepd.proofs.Matching.{at_error, error_at, found_at, no_faults}

@@ -1,6 +1,6 @@
 use Rattle.std.proofs.Common.{rules, ap, ap₂, ◌∙◌, ◌≡◌}
 use Rattle.std.proofs.lemmas.Result.{IfOk-weaker}
-use Rattle.bepd.specs.CommandLine.{best_app, bepd_app, folder_rule}
+use Rattle.bepd.specs.CommandLine.{best_app, folder_rule}
 use Rattle.clap.specs.Simple.{on_top}
 use Rattle.clap.specs.Words.{App, app_of, new_app, rule_of, with_rule, with_subcommand}
 use Rattle.std.specs.Prelude.{codes, true}

@@ -1,4 +1,4 @@
-use Rattle.std.proofs.Common.{◌≡◌, ◌++◌, ◌-◌, ◌∙◌, Some, ap, sym, length, rules}
+use Rattle.std.proofs.Common.{◌≡◌, ◌++◌, ◌-◌, ◌∙◌, Some, ap, sym, length}
 use Rattle.std.specs.Prelude.{flat_map, slice_get}
 use Rattle.folder_core.specs.Reads.{bests_page}
 use Rattle.bepd.specs.Lines.{best_line, skipped_line}

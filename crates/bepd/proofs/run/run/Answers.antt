@@ -1,4 +1,4 @@
-use Rattle.std.proofs.Common.{◌≡◌, subst}
+use Rattle.std.proofs.Common.{subst}
 use Rattle.bepd.specs.Runs.{Lists, streams}
 use Rattle.bepd.proofs.Matching.{asked_best}
 use Rattle.bepd.proofs.Running.{lists_nothing}
