@@ -7,14 +7,14 @@ use Rattle.std.proofs.lemmas.List.Concat.{flat_map-append}
 use Rattle.std.proofs.lemmas.List.Elements.{filter-append}
 use Rattle.std.proofs.lemmas.List.Sums.{fold-append}
 use Rattle.bep_frames.specs.declared.fault.FrameFault.{FrameFault}
-use Rattle.bep_frames.specs.declared.fault.FrameFault.TheVariants.{BadMagic, TooLong, Compressed, BadHeader, BadBody, OutOfMemory}
+use Rattle.bep_frames.specs.declared.fault.FrameFault.TheVariants.{OutOfMemory}
 use Rattle.bep_frames.specs.declared.frame.Frame.{Frame}
 use Rattle.bep_frames.specs.declared.frame.Frame.TheVariants.{Hello, Message as MessageFrame, Unknown}
 use Rattle.bep_frames.specs.declared.frame.Message.TheVariants.{ClusterConfig, Index, IndexUpdate, Request, Response, DownloadProgress, Ping, Close}
-use Rattle.bep_frames.specs.Reading.{Whole, frame_at}
-use Rattle.bep_frames.specs.State.{State, TellsFault, fed, Gives, remaining, with_front}
+use Rattle.bep_frames.specs.Grammar.{Begins}
+use Rattle.bep_frames.specs.State.{State, fed, Gives, remaining, with_front}
 use Rattle.bep_frames.specs.Stream.{ended}
-use Rattle.bep_frames.proofs.Lemmas.{front_push, given_fault, given_frame, given_none, given_shorter, index_records_few, update_records_few}
+use Rattle.bep_frames.proofs.Lemmas.{front_push, given_error_keeps, given_fault, given_frame, given_none, given_shorter, index_records_few, update_records_few}
 use Rattle.bep_messages.specs.declared.file_info.FileInfo.{FileInfo}
 use Rattle.folder_core.specs.Announced.{IsNamed, Key}
 use Rattle.folder_core.specs.Kept.{empty_folder}
@@ -87,7 +87,7 @@ files_by true files left all few less = omega (arith, few)
 files_by false files left all few less = omega (arith, less)
 
 -- the records of the folder in a frame are fewer than its bytes
-files_few : (folder bytes rest : List ℕ) (f : Frame) → frame_at false bytes ≡ Whole f rest → length rest < length bytes → length (frame_files folder f) + length rest ≤ length bytes
+files_few : (folder bytes rest : List ℕ) (f : Frame) → Begins false bytes f rest → length rest < length bytes → length (frame_files folder f) + length rest ≤ length bytes
 files_few folder bytes rest (Hello m) e less = omega (arith, less)
 files_few folder bytes rest (Unknown k) e less = omega (arith, less)
 files_few folder bytes rest (MessageFrame (ClusterConfig m)) e less = omega (arith, less)
@@ -101,7 +101,7 @@ files_few folder bytes rest (MessageFrame (IndexUpdate m)) e less = files_by (by
 
 pub given_few : (folder : List ℕ) (old new : State) (f : Frame) → old.hello ≡ false → Gives old (Some (Ok f)) new → length (frame_files folder f) + length new.rest ≤ length old.rest
 given_few folder old new f later gives =
-    files_few folder old.rest new.rest f (ap (λ due. frame_at due old.rest) (sym later) ∙ gives.1) (given_shorter old new f gives)
+    files_few folder old.rest new.rest f (subst (λ due. Begins due old.rest f new.rest) later gives.1) (given_shorter old new f gives)
 
 pub receives_frame : (folder bytes : List ℕ) (old new : State) (f : Frame) (s t : FolderState) (m n : ℕ) → Gives old (Some (Ok f)) new
     → ((frames : List Frame) → IsReceived folder frames s m → IsReceived folder (frames ++ f ∷ []) t n) → n ≤ m + length (frame_files folder f)
@@ -116,27 +116,12 @@ receives_frame folder bytes old new f s t m n gives received count h =
       later = gives.2;
     }
 
--- ---- the pieces that a reader is fed
-
 -- ---- what ends the reading
-
-kept_by : (old new : State) (e : FrameFault) → TellsFault old e new → (new.rest ≡ old.rest) × (new.hello ≡ old.hello)
-kept_by old new e (inl h) = (ap (λ (t : State). t.rest) h.1, ap (λ (t : State). t.hello) h.1)
-kept_by old new e (inr h) = (ap (λ (t : State). t.rest) h.2, ap (λ (t : State). t.hello) h.2)
-
--- a fault leaves the bytes
-kept_at_fault : (old new : State) (e : FrameFault) → Gives old (Some (Err e)) new → (new.rest ≡ old.rest) × (new.hello ≡ old.hello)
-kept_at_fault old new BadMagic g = kept_by old new BadMagic g
-kept_at_fault old new TooLong g = kept_by old new TooLong g
-kept_at_fault old new Compressed g = kept_by old new Compressed g
-kept_at_fault old new BadHeader g = kept_by old new BadHeader g
-kept_at_fault old new BadBody g = kept_by old new BadBody g
-kept_at_fault old new OutOfMemory g = (ap (λ (t : State). t.rest) g.3, ap (λ (t : State). t.hello) g.3)
 
 pub receives_fault : (folder bytes : List ℕ) (old new : State) (e : FrameFault) (s : FolderState) (n : ℕ) → Gives old (Some (Err e)) new → (e ≡ OutOfMemory → ⊥)
     → IsReceivedOf folder bytes old s n → IsReceivedOf folder bytes new s n
 receives_fault folder bytes old new e s n gives not h =
-    let kept = kept_at_fault old new e gives in
+    let kept = given_error_keeps old new e gives in
     let same : length new.rest ≡ length old.rest = ap length kept.0 in
     record {
       frames = h.frames;
