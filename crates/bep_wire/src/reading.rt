@@ -17,6 +17,23 @@ fn varint(source: &[u8], from: usize) -> Result<(u64, usize), WireFault>
         × (from < x.1) × (x.1 ≤ length source.now))
         (λ e. varint_at (drop from source.now) ≡ Err e) }
 {
+    // Keys and most lengths have one byte.
+    if from < source.len() {
+        let only = source[from];
+        if only < 128 {
+            return Ok((only as u64, from + 1));
+        }
+    }
+    varint_of_groups(source, from)
+}
+
+/// The same, however many bytes it has.
+fn varint_of_groups(source: &[u8], from: usize) -> Result<(u64, usize), WireFault>
+    ensures { MatchResult result
+        (λ x. (varint_at (drop from source.now) ≡ Ok (x.0, drop x.1 source.now))
+        × (from < x.1) × (x.1 ≤ length source.now))
+        (λ e. varint_at (drop from source.now) ≡ Err e) }
+{
     let mut value: u64 = 0;
     let mut at = from;
     for turn in 0..MAX_VARINT_LEN {
