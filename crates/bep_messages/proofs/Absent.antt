@@ -86,15 +86,15 @@ fine_then fault (x ∷ xs) ys p q =
     let h = no_first (fault x) (first_fault fault xs None) p in
     none_then (fault x) (first_fault fault (xs ++ ys) None) h.0 (fine_then fault xs ys h.1 q)
 
--- fields that are fine by a row and those behind it are fine by those alone, if these have other numbers
-pub fine_behind : (fault : Item → Option MessageFault) (number : ℕ) (rows : Table) (items : List Item) → rises number rows ≡ true
+-- fields that are fine by a row and those after it are fine by those alone, if these have other numbers
+pub fine_after : (fault : Item → Option MessageFault) (number : ℕ) (rows : Table) (items : List Item) → rises number rows ≡ true
     → AreFine (λ i. if number == i.number then fault i else item_fault rows i) items → AreFine (item_fault rows) items
-fine_behind fault number rows [] e fine = refl
-fine_behind fault number rows (i ∷ items) e fine =
+fine_after fault number rows [] e fine = refl
+fine_after fault number rows (i ∷ items) e fine =
     let h = no_first (if number == i.number then fault i else item_fault rows i) _ fine in
     let one : item_fault rows i ≡ None =
     elim (cases_eq number i.number) [
       | inl same ↦ absent_fault number rows i e (omega (arith, same))
       | inr other ↦ sym (skip number i.number (fault i) (item_fault rows i) other) ∙ h.0
     ] in
-    none_then (item_fault rows i) _ one (fine_behind fault number rows items e h.1)
+    none_then (item_fault rows i) _ one (fine_after fault number rows items e h.1)

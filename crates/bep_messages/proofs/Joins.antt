@@ -13,12 +13,12 @@ use Rattle.bep_messages.specs.Contents.{contents, bytes_in, byte_lists, scalar, 
 use Rattle.bep_messages.specs.Faults.{wire_fault, first_fault, item_fault, bytes_fault, message_fault}
 use Rattle.bep_messages.specs.Values.{empty, values}
 use Rattle.bep_messages.proofs.Words.{contents-append, byte_lists_of-append, scalar-append, scalar-none}
-use Rattle.bep_messages.proofs.Absent.{rising, rising_within, here, skip, AreFine, no_first, none_then, fine_then, fine_behind}
+use Rattle.bep_messages.proofs.Absent.{rising, rising_within, here, skip, AreFine, no_first, none_then, fine_then, fine_after}
 
 pub pair : {A B : Type 0} (a a' : A) (b b' : B) → a ≡ a' → b ≡ b' → let x : A × B = (a, b) in let y : A × B = (a', b') in x ≡ y
 pair a a' b b' p q = rw (p, q) refl
 
--- ---- no field changes nothing
+-- ---- without fields the value is the same
 
 pub values-none : (table : Table) (v : Values table) → values table v [] ≡ v
 values-none End v = refl
@@ -121,25 +121,25 @@ values-append before (One number kind rows) e v xs ys fine =
     let r = rising before number rows e in
     pair _ _ _ _
     (scalar-append kind v.0 (contents number xs) (contents number ys) ∙ ap (scalar kind v.0) (sym (contents-append number xs ys)))
-    (values-append number rows r.rows_rise v.1 xs ys (fine_behind _ number rows xs r.rows_rise fine))
+    (values-append number rows r.rows_rise v.1 xs ys (fine_after _ number rows xs r.rows_rise fine))
 values-append before (Message number inner rows) e v xs ys fine =
     let r = rising_within before number inner rows e in
     pair _ _ _ _
     (merged-append inner (values-append 0 inner r.inner_rises) v.0 (byte_lists (contents number xs)) (byte_lists (contents number ys)) (held_readable number inner rows xs fine)
     ∙ ap (merged (values inner) v.0) (sym (byte_lists_of-append number xs ys)))
-    (values-append number rows r.rows_rise v.1 xs ys (fine_behind _ number rows xs r.rows_rise fine))
+    (values-append number rows r.rows_rise v.1 xs ys (fine_after _ number rows xs r.rows_rise fine))
 values-append before (Texts number rows) e v xs ys fine =
     let r = rising before number rows e in
     pair _ _ _ _
     (append_assoc v.0 (byte_lists (contents number xs)) (byte_lists (contents number ys)) ∙ ap (λ (l : List (List ℕ)). v.0 ++ l) (sym (byte_lists_of-append number xs ys)))
-    (values-append number rows r.rows_rise v.1 xs ys (fine_behind _ number rows xs r.rows_rise fine))
+    (values-append number rows r.rows_rise v.1 xs ys (fine_after _ number rows xs r.rows_rise fine))
 values-append before (Messages number inner rows) e v xs ys fine =
     let r = rising_within before number inner rows e in
     let item : List ℕ → Values inner = λ bytes. values inner (empty inner) (fields bytes).items in
     pair _ _ _ _
     (append_assoc v.0 (map item (byte_lists (contents number xs))) (map item (byte_lists (contents number ys)))
     ∙ ap (λ (l : List (Values inner)). v.0 ++ l) (sym (ap (map item) (byte_lists_of-append number xs ys) ∙ map-append item (byte_lists (contents number xs)) (byte_lists (contents number ys)))))
-    (values-append number rows r.rows_rise v.1 xs ys (fine_behind _ number rows xs r.rows_rise fine))
+    (values-append number rows r.rows_rise v.1 xs ys (fine_after _ number rows xs r.rows_rise fine))
 
 -- one field, and then others
 pub values-next : (table : Table) → rises 0 table ≡ true → (v : Values table) (i : Item) (ys : List Item) → item_fault table i ≡ None → values table (values table v (i ∷ [])) ys ≡ values table v (i ∷ ys)

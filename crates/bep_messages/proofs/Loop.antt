@@ -6,7 +6,7 @@ use Rattle.bep_wire.specs.Fields.{Fields, fields, ended, broken, first_then}
 use Rattle.bep_messages.specs.declared.fault.MessageFault.{MessageFault}
 use Rattle.bep_messages.specs.declared.fault.MessageFault.TheVariants.{Wire, NotUtf8, OutOfMemory}
 use Rattle.bep_messages.specs.Tables.{Table, Values, rises}
-use Rattle.bep_messages.specs.Faults.{first_fault, item_fault, or_else, message_fault, Tells}
+use Rattle.bep_messages.specs.Faults.{first_fault, item_fault, or_else, message_fault, Reports}
 use Rattle.bep_messages.specs.Memory.{ItemTakes, TakesMemory, SomeTakes}
 use Rattle.bep_messages.specs.Values.{values}
 use Rattle.bep_messages.proofs.Joins.{values-none, values-next}
@@ -27,13 +27,13 @@ at_field table bytes rest i e = ap (of_fields table) e
 pub goes_on : (table : Table) (bytes rest : List ℕ) (i : Item) (total : Option MessageFault) → fields bytes ≡ first_then i (fields rest) → item_fault table i ≡ None → message_fault table bytes ≡ total → message_fault table rest ≡ total
 goes_on table bytes rest i total e fine so_far = sym (at_field table bytes rest i e ∙ ap (λ (o : Option MessageFault). or_else o (message_fault table rest)) fine) ∙ so_far
 
-tells_first : (fault other total : Option MessageFault) (e : MessageFault) → total ≡ or_else fault other → Tells fault e → Tells total e
-tells_first fault other total (Wire f) is h = is ∙ ap (λ (o : Option MessageFault). or_else o other) h
-tells_first fault other total NotUtf8 is h = is ∙ ap (λ (o : Option MessageFault). or_else o other) h
-tells_first fault other total OutOfMemory is h = tt
+reports_first : (fault other total : Option MessageFault) (e : MessageFault) → total ≡ or_else fault other → Reports fault e → Reports total e
+reports_first fault other total (Wire f) is h = is ∙ ap (λ (o : Option MessageFault). or_else o other) h
+reports_first fault other total NotUtf8 is h = is ∙ ap (λ (o : Option MessageFault). or_else o other) h
+reports_first fault other total OutOfMemory is h = tt
 
-pub stops : (table : Table) (bytes rest : List ℕ) (i : Item) (total : Option MessageFault) (e : MessageFault) → fields bytes ≡ first_then i (fields rest) → Tells (item_fault table i) e → message_fault table bytes ≡ total → Tells total e
-stops table bytes rest i total e is h so_far = tells_first (item_fault table i) (message_fault table rest) total e (sym so_far ∙ at_field table bytes rest i is) h
+pub stops : (table : Table) (bytes rest : List ℕ) (i : Item) (total : Option MessageFault) (e : MessageFault) → fields bytes ≡ first_then i (fields rest) → Reports (item_fault table i) e → message_fault table bytes ≡ total → Reports total e
+stops table bytes rest i total e is h so_far = reports_first (item_fault table i) (message_fault table rest) total e (sym so_far ∙ at_field table bytes rest i is) h
 
 -- one of these fields takes memory
 abbrev of_table : Table → Fields → Type 0

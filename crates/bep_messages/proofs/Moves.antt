@@ -1,11 +1,11 @@
--- A head that is put before what it announces.
+-- A head that is put before its content.
 use Rattle.std.proofs.Common.{◌≡◌, ℕ, ◌+◌, ◌*◌, ◌-◌, ◌≤◌, List, [], ◌++◌, length, take, drop, refl, sym, ap, ◌∙◌, append_assoc, arith}
 use Rattle.std.proofs.lemmas.List.{drop-take, drop-drop, take_rest, drop_all, append-nil, length-drop, take-append-le, drop-append-le, length-take-le, take_all}
 use Rattle.std.proofs.Math.Seq.{drop-append_seam, take-append_seam}
 use borrow.Rule.Slice.PartMut.{put_mid}
 use Rattle.bep_wire.specs.Written.{shortest, bytes_field}
 
--- the parts of a list behind a place: up to another place, and from it on
+-- the parts of a list after a place: up to another place, and from it on
 pub turned : (bytes : List ℕ) (begin end : ℕ) → begin ≤ end → end ≤ length bytes → (new : List ℕ)
     → (let part = take (length bytes - begin) (drop begin bytes) in let n = length part - (length bytes - end) in new ≡ drop n part ++ take n part)
     → put_mid begin (length bytes - begin) bytes new ≡ take begin bytes ++ (drop end bytes ++ drop begin (take end bytes))
@@ -23,7 +23,7 @@ turned bytes begin end order within new e =
     sum : (a b : ℕ) → a ≤ b → a + (b - a) ≡ b
     sum a b le = omega arith
 
--- with a head at the end, turned before what stands from a place on: seen from where the writing began
+-- with a head at the end, turned before what is there from a place on: seen from where the writing began
 pub headed : (items head new : List ℕ) (start from : ℕ) → start + from ≤ length items
     → new ≡ take (start + from) (items ++ head) ++ (drop (length items) (items ++ head) ++ drop (start + from) (take (length items) (items ++ head)))
     → drop start new ≡ take from (drop start items) ++ (head ++ drop from (drop start items))

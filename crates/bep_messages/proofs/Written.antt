@@ -1,4 +1,4 @@
--- Rows that are written: one behind the other, element by element, and with a head put before them.
+-- Rows that are written: one after the other, element by element, and with a head put before them.
 use Rattle.std.proofs.Common.{◌≡◌, ℕ, ◌+◌, ◌<◌, ◌≤◌, List, [], ◌∷◌, ◌++◌, length, get_or, take, drop, map, refl, sym, ap, subst, ◌∙◌, append_assoc, arith}
 use Rattle.std.specs.List.{AllByRecursion}
 use Rattle.std.proofs.lemmas.List.{take_more, append-nil, map-append, length-append, take-append-drop}
@@ -8,7 +8,7 @@ use Rattle.bep_wire.specs.Written.{key, shortest, bytes_field}
 use Rattle.bep_messages.specs.Forms.{bytes_form, list_form}
 use Rattle.bep_messages.specs.Writing.{Adds}
 
--- a row, and those behind it
+-- a row, and those after it
 pub adds_then : {a row b rest z : List ℕ} → Adds a row b → Adds b rest z → Adds a (row ++ rest) z
 adds_then {a} {row} {b} {rest} {z} p q = record { is = q.is ∙ ap (λ (l : List ℕ). l ++ rest) p.is ∙ append_assoc a row rest }
 
@@ -44,7 +44,7 @@ unfolding bytes_form
 form_within n [] = omega arith
 form_within n (b ∷ form) = field_within n (b ∷ form)
 
--- what stands after a place is what was written from there on
+-- what is there from a place on is what was written from there on
 pub written_from : (from : ℕ) (old form written : List ℕ) → from ≡ length old → written ≡ old ++ form → drop from written ≡ form
 written_from from old form written e is = ap (drop from) is ∙ ap (λ (k : ℕ). drop k (old ++ form)) e ∙ drop-append_seam old form
 

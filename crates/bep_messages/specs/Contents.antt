@@ -11,7 +11,7 @@ abbrev pub contents : ℕ → List Item → List Content
 contents number [] = []
 contents number (i ∷ items) = if number == i.number then i.content ∷ contents number items else contents number items
 
--- a content under another wire type than the kind's is that of an unknown field, and counts for nothing
+-- a content under another wire type than the kind's is that of an unknown field, and is skipped
 abbrev pub number_in : Content → List ℕ
 number_in (Number n) = n ∷ []
 number_in (Eight bytes) = []
@@ -79,7 +79,7 @@ scalar Digest old cs = last old (byte_lists cs)
 
 -- ---- one message
 
--- byte lists one behind the other
+-- byte lists one after the other
 abbrev pub joined : List ℕ → List (List ℕ) → List ℕ
 joined first [] = first
 joined first (next ∷ others) = first ++ joined next others

@@ -63,8 +63,8 @@ abbrev pub outcome : {A : Type 0} → Option MessageFault → A → Result A Mes
 outcome None value = Ok value
 outcome (Some f) value = Err f
 
--- an error tells the fault, unless memory ran out
-abbrev pub Tells : Option MessageFault → MessageFault → Type 0
-Tells fault (Wire f) = fault ≡ Some (Wire f)
-Tells fault NotUtf8 = fault ≡ Some NotUtf8
-Tells fault OutOfMemory = Unit {0}
+-- an error is the fault, or out of memory
+abbrev pub Reports : Option MessageFault → MessageFault → Type 0
+Reports fault (Wire f) = fault ≡ Some (Wire f)
+Reports fault NotUtf8 = fault ≡ Some NotUtf8
+Reports fault OutOfMemory = Unit {0}

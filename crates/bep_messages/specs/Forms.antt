@@ -38,7 +38,7 @@ scalar_form number Words bytes = bytes_form number bytes
 scalar_form number Octets bytes = bytes_form number bytes
 scalar_form number Digest bytes = bytes_form number bytes
 
--- a message in a message is left out where nothing of it is written
+-- a message in a message is left out if its form is empty
 abbrev pub form : (table : Table) → Values table → List ℕ
 form End v = []
 form (One number kind rows) v = scalar_form number kind v.0 ++ form rows v.1

@@ -16,7 +16,7 @@ empty (Texts number rows) = ([], empty rows)
 empty (Messages number inner rows) = ([], empty rows)
 
 -- what these fields make of a message: the last of a single value, the value of the joined bytes of a message,
--- and those of a list, in order, behind those that it has
+-- and those of a list, in order, after those that it has
 abbrev pub values : (table : Table) → Values table → List Item → Values table
 values End old items = tt
 values (One number kind rows) old items = (scalar kind old.0 (contents number items), values rows old.1 items)

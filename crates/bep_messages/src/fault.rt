@@ -55,7 +55,7 @@ impl From<WireFault> for MessageFault {
 impl From<AllocError> for MessageFault {
     ghost from_gives = { λ _ e. e ≡ OutOfMemory };
 
-    fn from(_refused: AllocError) -> MessageFault {
+    fn from(_error: AllocError) -> MessageFault {
         MessageFault::OutOfMemory
     }
 }
@@ -63,7 +63,7 @@ impl From<AllocError> for MessageFault {
 impl<T: Drop> From<AllocFailed<T>> for MessageFault {
     ghost from_gives = { λ _ e. e ≡ OutOfMemory };
 
-    fn from(_refused: AllocFailed<T>) -> MessageFault {
+    fn from(_error: AllocFailed<T>) -> MessageFault {
         MessageFault::OutOfMemory
     }
 }

@@ -29,18 +29,18 @@ pub struct FileInfo {
     /// Unix seconds of the last change.
     pub modified_s: i64,
     pub deleted: bool,
-    /// The sender does not have it to give.
+    /// The sender cannot provide it.
     pub invalid: bool,
-    /// `permissions` means nothing.
+    /// `permissions` has no meaning.
     pub no_permissions: bool,
     pub version: Vector,
     /// The sender's number of the change.
     pub sequence: i64,
-    /// Nanoseconds behind `modified_s`.
+    /// Nanoseconds after `modified_s`.
     pub modified_ns: i32,
     /// The short identity of the device that made the last change.
     pub modified_by: u64,
-    /// Of all blocks but the last, in bytes.
+    /// The size of all blocks except the last, in bytes.
     pub block_size: i32,
     pub blocks: Items<BlockInfo>,
     pub symlink_target: Octets,

@@ -11,7 +11,7 @@ use crate::{copy_fields, empty_fields, take_field, write_rows};
 use bep_wire::Field;
 use std::alloc::{AllocError, Global};
 
-/// What stands before each message but the Hello (Block Exchange Protocol v1, "Message Header").
+/// What comes before each message except the Hello (Block Exchange Protocol v1, "Message Header").
 #[derive(Debug, Drop)]
 pub struct Header {
     /// Which message follows: 0 ClusterConfig, 1 Index, 2 IndexUpdate, 3 Request, 4 Response,

@@ -3,7 +3,7 @@ ghost use Rattle.std.specs.Prelude.{◌≡◌, [], ◌∷◌, ◌++◌, IfOk, On
 use std::alloc::{AllocError, Global};
 use std::marker::Model;
 
-/// A list of values. Contracts see the list alone, and none of the `Vec` that keeps it.
+/// A list of values. Contracts see the list alone, and not the `Vec` that keeps it.
 #[derive(Debug, Drop)]
 pub struct Items<T> {
     items: Vec<T>,
@@ -18,7 +18,7 @@ impl<T> Model for Items<T> {
 }
 
 impl<T> Items<T> {
-    /// The empty list; takes no memory.
+    /// The empty list. Does not allocate.
     pub fn new(alloc: Global) -> Self
         ensures { result ≡ [] }
     {
@@ -27,14 +27,14 @@ impl<T> Items<T> {
         }
     }
 
-    /// The list of a vector's elements; takes no memory.
+    /// The list of a vector's elements. Does not allocate.
     pub fn from_vec(items: Vec<T>) -> Self
         ensures { result ≡ items.items }
     {
         Items { items }
     }
 
-    /// The vector; takes no memory.
+    /// The vector. Does not allocate.
     pub fn into_vec(self) -> Vec<T>
         ensures { result.items ≡ self }
     {
@@ -51,8 +51,8 @@ impl<T> Items<T> {
 }
 
 impl<T: Drop> Items<T> {
-    /// Puts an element at the end, in amortized O(1). Refused by want of memory alone, and then the
-    /// list is as it was.
+    /// Appends an element, in amortized O(1). Fails only if allocation fails, and then the list is as
+    /// it was.
     pub fn push(&mut self, item: T) -> Result<(), AllocError>
         ensures ok { OnOk result (self.new ≡ self.old ++ item ∷ []) }
         ensures err { OnErr result (self.new ≡ self.old) }
@@ -62,9 +62,9 @@ impl<T: Drop> Items<T> {
     }
 }
 
-/// What can be copied where memory may run out.
+/// What can be copied, unless allocation fails.
 pub trait Copied: Drop {
-    /// An equal value of its own. Refused by want of memory alone.
+    /// An equal value of its own. Fails only if allocation fails.
     fn copy(&self) -> Result<Self, AllocError>
         ensures { IfOk result (λ x. x ≡ self.now) };
 }

@@ -5,7 +5,7 @@ ghost use Rattle.std.specs.Str.{IsUtf8};
 ghost use Rattle.bep_wire.specs.Content.{content_of, content_in};
 ghost use Rattle.bep_messages.specs.Tables.{Int32, Int64, Uint32, Uint64, Enum, Boolean, Words, Octets, Digest};
 ghost use Rattle.bep_messages.specs.Contents.{scalar, byte_lists};
-ghost use Rattle.bep_messages.specs.Faults.{bytes_fault, text_fault, Tells};
+ghost use Rattle.bep_messages.specs.Faults.{bytes_fault, text_fault, Reports};
 ghost use Rattle.bep_messages.specs.Memory.{HoldsBytes, ScalarTakes};
 ghost use Rattle.bep_messages.specs.declared.fault.MessageFault.TheVariants.{OutOfMemory};
 
@@ -76,7 +76,7 @@ pub fn octets(
     requires start { field.start ≤ field.end }
     requires end { field.end ≤ length source.now }
     ensures ok { OnOk result (slot.new ≡ scalar Octets slot.old (content_in source.now field ∷ [])) }
-    ensures fault { IfErr result (Tells None) }
+    ensures fault { IfErr result (Reports None) }
     ensures memory { IfErr result (λ e. e ≡ OutOfMemory → ScalarTakes Octets (content_in source.now field)) }
 {
     if let Value::Bytes = field.value {
@@ -94,7 +94,7 @@ pub fn digest(
     requires start { field.start ≤ field.end }
     requires end { field.end ≤ length source.now }
     ensures ok { OnOk result (slot.new ≡ scalar Digest slot.old (content_in source.now field ∷ [])) }
-    ensures fault { IfErr result (Tells None) }
+    ensures fault { IfErr result (Reports None) }
     ensures memory { IfErr result (λ e. e ≡ OutOfMemory → ScalarTakes Digest (content_in source.now field)) }
 {
     if let Value::Bytes = field.value {
@@ -113,7 +113,7 @@ pub fn words(
     requires end { field.end ≤ length source.now }
     ensures ok { OnOk result ((bytes_fault text_fault (content_in source.now field) ≡ None)
         × (slot.new ≡ scalar Words slot.old (content_in source.now field ∷ []))) }
-    ensures fault { IfErr result (Tells (bytes_fault text_fault (content_in source.now field))) }
+    ensures fault { IfErr result (Reports (bytes_fault text_fault (content_in source.now field))) }
     ensures memory { IfErr result (λ e. e ≡ OutOfMemory → ScalarTakes Words (content_in source.now field)) }
 {
     if let Value::Bytes = field.value {
@@ -135,7 +135,7 @@ pub fn texts(
     requires end { field.end ≤ length source.now }
     ensures ok { OnOk result ((bytes_fault text_fault (content_in source.now field) ≡ None)
         × (slot.new ≡ slot.old ++ byte_lists (content_in source.now field ∷ []))) }
-    ensures fault { IfErr result (Tells (bytes_fault text_fault (content_in source.now field))) }
+    ensures fault { IfErr result (Reports (bytes_fault text_fault (content_in source.now field))) }
     ensures memory { IfErr result (λ e. e ≡ OutOfMemory → HoldsBytes IsUtf8 (content_in source.now field)) }
 {
     if let Value::Bytes = field.value {

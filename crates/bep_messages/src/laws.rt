@@ -1,4 +1,4 @@
-//! What the definitions say of every table, as contracts of functions that do nothing.
+//! What follows from the definitions for every table, as contracts of functions with empty bodies.
 ghost use Rattle.std.specs.Prelude.{◌≡◌, ◌≢◌, ◌≤◌, ◌∷◌, [], ◌++◌, ℕ, true, false, List, length, None};
 ghost use Rattle.std.specs.List.{AllByRecursion};
 ghost use Rattle.std.specs.Str.{IsUtf8};
@@ -20,14 +20,14 @@ pub fn fields_may_change_places()
         values table v (front ++ a ∷ b ∷ rest) ≡ values table v (front ++ b ∷ a ∷ rest) }
 {}
 
-/// An unknown field changes nothing: neither the value, wherever it stands, nor what is wrong.
+/// An unknown field changes nothing: not the value, wherever the field is, and it has no fault.
 pub fn unknown_fields_change_nothing()
     ensures value { (table : Table) (v : Values table) (front rest : List Item) (i : Item) → rises 0 table ≡ true →
         is_known table i ≡ false → values table v (front ++ i ∷ rest) ≡ values table v (front ++ rest) }
     ensures fault { (table : Table) (i : Item) → is_known table i ≡ false → item_fault table i ≡ None }
 {}
 
-/// Of a single value that occurs again the last occurrence counts: one before it may as well be missing.
+/// Of a single value that occurs again the last occurrence counts: one before it changes nothing.
 pub fn last_one_wins()
     ensures { (table : Table) (v : Values table) (front middle rest : List Item) (a b : Item) → rises 0 table ≡ true →
         is_single table a.number ≡ true → a.number ≡ b.number → is_known table b ≡ true →

@@ -2,7 +2,7 @@ ghost use Rattle.std.specs.Prelude.{◌≡◌, ◌≢◌, ◌≤◌, ◌<◌, �
 ghost use Rattle.bep_wire.specs.Content.{item_in};
 ghost use Rattle.bep_wire.specs.Fields.{fields};
 ghost use Rattle.bep_messages.specs.Tables.{Table, Values, rises};
-ghost use Rattle.bep_messages.specs.Faults.{item_fault, message_fault, Tells};
+ghost use Rattle.bep_messages.specs.Faults.{item_fault, message_fault, Reports};
 ghost use Rattle.bep_messages.specs.Memory.{ItemTakes, TakesMemory};
 ghost use Rattle.bep_messages.specs.declared.fault.MessageFault.TheVariants.{OutOfMemory};
 ghost use Rattle.bep_messages.specs.Values.{empty, values, decoded};
@@ -26,20 +26,20 @@ pub trait ProtoMessage: Drop {
 
     ghost whole: { Values table → Self };
 
-    /// The message without a field; takes no memory.
+    /// The message without a field. Does not allocate.
     fn make_empty(alloc: Global) -> Self
         ensures { parts result ≡ empty table };
 
-    /// Takes over one field of the source. After a refusal the message is worth nothing.
+    /// Merges one field of the source. If it fails, the message may have any value.
     fn put(&mut self, alloc: Global, source: &[u8], field: Field) -> Result<(), MessageFault>
         requires start { field.start ≤ field.end }
         requires end { field.end ≤ length source.now }
         ensures ok { OnOk result ((item_fault table (item_in source.now field) ≡ None)
             × (parts self.new ≡ values table (parts self.old) (item_in source.now field ∷ []))) }
-        ensures fault { IfErr result (Tells (item_fault table (item_in source.now field))) }
+        ensures fault { IfErr result (Reports (item_fault table (item_in source.now field))) }
         ensures memory { IfErr result (λ e. e ≡ OutOfMemory → ItemTakes table (item_in source.now field)) };
 
-    /// Writes the fields that aren't their defaults. After a refusal what was written is worth nothing.
+    /// Writes the fields that aren't their defaults. If it fails, any bytes may have been written.
     fn write(&self, out: &mut Writer) -> Result<(), AllocError>
         ensures ok { OnOk result (Adds out.old.written (form table (parts self.now)) out.new.written) }
         ensures fits { OnOk result (Fits table (parts self.now)) }
@@ -52,11 +52,11 @@ pub trait ProtoMessage: Drop {
 
     ghost whole_of_parts: { (m : Self) → whole (parts m) ≡ m };
 
-    /// Takes over the fields of a byte list.
+    /// Merges the fields of a byte list. If it fails, the message may have any value.
     final fn merge(&mut self, alloc: Global, bytes: &[u8]) -> Result<(), MessageFault>
         ensures ok { OnOk result ((message_fault table bytes.now ≡ None)
             × (parts self.new ≡ values table (parts self.old) (fields bytes.now).items)) }
-        ensures fault { IfErr result (Tells (message_fault table bytes.now)) }
+        ensures fault { IfErr result (Reports (message_fault table bytes.now)) }
         ensures memory { IfErr result (λ e. e ≡ OutOfMemory → TakesMemory table bytes.now) }
     {
         let mut at = 0;
@@ -69,8 +69,9 @@ pub trait ProtoMessage: Drop {
 
     /// The message of a byte list.
     ///
-    /// Refused by the first fault from left to right, that of a message in it being its own, exactly
-    /// where there is one, or by want of memory. O(n); each content is copied once.
+    /// Fails with the first fault from left to right, which may be that of a message in it, exactly if
+    /// there is one; or with `OutOfMemory` if allocation fails, which only a field before the first
+    /// fault that is kept in memory can cause (`specs/Memory.antt`). O(n); each content is copied once.
     final fn decode(alloc: Global, bytes: &[u8]) -> Result<Self, MessageFault>
         ensures decoded { result ≢ Err MessageFault.OutOfMemory → result ≡ decoded table whole bytes.now }
         ensures memory { result ≡ Err MessageFault.OutOfMemory → TakesMemory table bytes.now }
@@ -82,8 +83,8 @@ pub trait ProtoMessage: Drop {
 
     /// Appends the written form of the message, which decodes to the message.
     ///
-    /// Refused by want of memory alone, and then the vector is as it was. O(n); the form is made in
-    /// place.
+    /// Fails only if allocation fails, and then the vector has the bytes that it had. O(n) for each
+    /// level of messages in messages; the form is made in place.
     #[tactic(auto, unfolding(crate::specs::Writing::len))]
     final fn encode(&self, out: &mut Vec<u8>) -> Result<(), AllocError>
         ensures ok { OnOk result (out.new.items ≡ out.old.items ++ form table (parts self.now)) }
@@ -100,9 +101,9 @@ pub trait ProtoMessage: Drop {
                 *out = writer.finish();
                 Ok(())
             }
-            Err(refused) => {
+            Err(error) => {
                 *out = writer.undo();
-                Err(refused)
+                Err(error)
             }
         }
     }

@@ -3,7 +3,7 @@ ghost use Rattle.std.specs.Prelude.{◌≡◌, ◌≤◌, ◌∷◌, [], ◌++�
 ghost use Rattle.bep_wire.specs.Content.{content_in};
 ghost use Rattle.bep_wire.specs.Fields.{fields};
 ghost use Rattle.bep_messages.specs.Contents.{byte_lists, merged};
-ghost use Rattle.bep_messages.specs.Faults.{bytes_fault, message_fault, Tells};
+ghost use Rattle.bep_messages.specs.Faults.{bytes_fault, message_fault, Reports};
 ghost use Rattle.bep_messages.specs.Memory.{HoldsBytes, TakesMemory, ElementTakes};
 ghost use Rattle.bep_messages.specs.declared.fault.MessageFault.TheVariants.{OutOfMemory};
 ghost use Rattle.bep_messages.specs.Values.{empty, values};
@@ -25,7 +25,7 @@ pub fn one<M: ProtoMessage>(
     ensures ok { OnOk result ((bytes_fault (message_fault M.table) (content_in source.now field) ≡ None)
         × (M.parts slot.new
         ≡ merged (values M.table) (M.parts slot.old) (byte_lists (content_in source.now field ∷ [])))) }
-    ensures fault { IfErr result (Tells (bytes_fault (message_fault M.table) (content_in source.now field))) }
+    ensures fault { IfErr result (Reports (bytes_fault (message_fault M.table) (content_in source.now field))) }
     ensures memory { IfErr result (λ e. e ≡ OutOfMemory → HoldsBytes (TakesMemory M.table) (content_in source.now field)) }
 {
     match field.value {
@@ -46,7 +46,7 @@ pub fn list<M: ProtoMessage>(
         × (map M.parts slot.new ≡ map M.parts slot.old
         ++ map (λ bytes. values M.table (empty M.table) (fields bytes).items)
         (byte_lists (content_in source.now field ∷ [])))) }
-    ensures fault { IfErr result (Tells (bytes_fault (message_fault M.table) (content_in source.now field))) }
+    ensures fault { IfErr result (Reports (bytes_fault (message_fault M.table) (content_in source.now field))) }
     ensures memory { IfErr result (λ e. e ≡ OutOfMemory → HoldsBytes (ElementTakes M.table) (content_in source.now field)) }
 {
     match field.value {

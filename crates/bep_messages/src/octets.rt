@@ -20,7 +20,7 @@ impl Model for Octets {
 }
 
 impl Octets {
-    /// No bytes; takes no memory.
+    /// No bytes. Does not allocate.
     pub fn new(alloc: Global) -> Self
         ensures { result ≡ [] }
     {
@@ -29,7 +29,7 @@ impl Octets {
         }
     }
 
-    /// A copy of bytes. Refused by want of memory alone, and never where there are none.
+    /// A copy of bytes. Fails only if allocation fails, and never if there are no bytes.
     pub fn from_slice(alloc: Global, bytes: &[u8]) -> Result<Self, AllocError>
         ensures value { IfOk result (λ s. s ≡ bytes.now) }
         ensures empty { bytes.now ≡ [] → IsOk result }
@@ -42,14 +42,14 @@ impl Octets {
         })
     }
 
-    /// The bytes of a vector; takes no memory.
+    /// The bytes of a vector. Does not allocate.
     pub fn from_vec(bytes: Vec<u8>) -> Self
         ensures { result ≡ bytes.items }
     {
         Octets { bytes }
     }
 
-    /// The vector; takes no memory.
+    /// The vector. Does not allocate.
     pub fn into_vec(self) -> Vec<u8>
         ensures { result.items ≡ self }
     {
@@ -90,7 +90,7 @@ impl Model for ShortOctets {
 }
 
 impl ShortOctets {
-    /// No bytes; takes no memory.
+    /// No bytes. Does not allocate.
     pub fn new(alloc: Global) -> Self
         ensures { result ≡ [] }
     {
@@ -99,7 +99,7 @@ impl ShortOctets {
         }
     }
 
-    /// A copy of bytes. Refused by want of memory alone, and only where there are more than 32.
+    /// A copy of bytes. Fails only if allocation fails, and never for up to `DIGEST_LEN` bytes.
     pub fn from_slice(alloc: Global, bytes: &[u8]) -> Result<Self, AllocError>
         ensures ok { IfOk result (λ s. s ≡ bytes.now) }
         ensures short { length bytes.now ≤ DIGEST_LEN → IsOk result }

@@ -1,4 +1,4 @@
-//! One row of a message, written by its kind; nothing where it has its default.
+//! One row of a message, written by its kind, unless it has its default.
 ghost use Rattle.std.specs.Prelude.{◌≡◌, ◌≤◌, ◌<◌, ◌+◌, length, map, OnOk, OnErr};
 ghost use Rattle.std.specs.List.{AllByRecursion};
 ghost use Rattle.bep_wire.specs.Written.{bytes_field};

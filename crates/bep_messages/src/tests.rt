@@ -1,4 +1,4 @@
-//! Bytes made by hand from the protocol's tables. Each growth may be refused once (`tools/refusals`):
+//! Bytes made by hand from the protocol's tables. Each allocation may fail once (`tools/refusals`):
 //! then the same call is made again.
 use crate::{
     BlockInfo, Close, ClusterConfig, Copied, Counter, Device, DownloadProgress, FileInfo, Folder,
@@ -15,7 +15,7 @@ fn decode<M: ProtoMessage>(rt: &impl AllocGlobal, bytes: &[u8]) -> Result<M, Mes
     }
 }
 
-/// Encodes behind a byte that stands there already; a refused growth must have left that byte alone.
+/// Encodes after a byte that is there already; a failed allocation must have left that byte alone.
 fn expect_form<R: Abort + AllocGlobal, M: ProtoMessage>(
     rt: &R,
     message: &M,
@@ -29,7 +29,7 @@ fn expect_form<R: Abort + AllocGlobal, M: ProtoMessage>(
         assert_eq!(rt;
             out.as_slice(),
             [7].as_slice(),
-            "a refused growth changed the vector"
+            "a failed allocation changed the vector"
         );
         message.encode(&mut out)?;
     }
@@ -70,7 +70,7 @@ fn expect_fault<R: Abort + AllocGlobal, M: ProtoMessage>(
     _like: &M,
 ) {
     assert!(rt;
-        matches!(decode::<M>(rt, bytes), Err(told) if told == fault),
+        matches!(decode::<M>(rt, bytes), Err(found) if found == fault),
         "{bytes:?}"
     );
 }
@@ -292,7 +292,7 @@ fn faults(rt: HostRuntime) -> Result<(), Fail> {
         MessageFault::NotUtf8,
         &file,
     );
-    // A group within the version, and a bad key behind it; and the other way round.
+    // A group within the version, and a bad key after it; and the other way round.
     expect_fault(
         &rt,
         &[0x4a, 0x01, 0x0b, 0x0e],

@@ -21,7 +21,7 @@ impl Model for Text {
 }
 
 impl Text {
-    /// The empty text; takes no memory.
+    /// The empty text. Does not allocate.
     pub fn new(alloc: Global) -> Self
         ensures { result ≡ [] }
     {
@@ -30,7 +30,7 @@ impl Text {
         }
     }
 
-    /// A copy of a text. Refused by want of memory alone, and never where the text is empty.
+    /// A copy of a text. Fails only if allocation fails, and never if the text is empty.
     pub fn from_str(alloc: Global, text: &str) -> Result<Self, AllocError>
         ensures value { IfOk result (λ s. s ≡ text.now) }
         ensures empty { text.now ≡ [] → IsOk result }
@@ -43,14 +43,14 @@ impl Text {
         })
     }
 
-    /// The text of a string; takes no memory.
+    /// The text of a string. Does not allocate.
     pub fn from_string(text: String) -> Self
         ensures { result ≡ string_bytes text }
     {
         Text { text }
     }
 
-    /// The string; takes no memory.
+    /// The string. Does not allocate.
     pub fn into_string(self) -> String
         ensures { string_bytes result ≡ self }
     {

@@ -6,7 +6,7 @@ use bep_wire::{MAX_FIELD_NUMBER, put_bytes, put_varint};
 use std::alloc::AllocError;
 use std::marker::Model;
 
-/// A vector behind whose bytes messages are written. Contracts see the bytes that it had, which
+/// A vector to which messages are appended. Contracts see the bytes that it had, which
 /// stay as they are, and those that were written.
 #[derive(Debug, Drop)]
 pub struct Writer {
@@ -31,7 +31,7 @@ impl Model for Writer {
 
 #[tactic(auto, unfolding(crate::specs::Writing::len))]
 impl Writer {
-    /// Nothing is written yet; takes no memory.
+    /// A writer that has written no bytes yet. Does not allocate.
     pub fn new(bytes: Vec<u8>) -> Writer
         ensures kept { result.kept ≡ bytes.items }
         ensures written { result.written ≡ [] }
@@ -119,7 +119,7 @@ impl Writer {
     }
 }
 
-/// Puts what stands from `end` on before what stands from `begin` to `end`.
+/// Puts the bytes from `end` on before those from `begin` to `end`.
 fn to_front(bytes: &mut [u8], begin: usize, end: usize)
     requires order { begin ≤ end }
     requires within { end ≤ length bytes.old }

@@ -1,4 +1,4 @@
--- What is in the grammar is read so, and where nothing is, that is told.
+-- What is in the grammar is read so, and each fault by the grammar is found.
 use Rattle.std.proofs.Common.{◌≡◌, ◌⊎◌, inl, inr, ℕ, zero, suc, ◌+◌, ◌*◌, ◌/◌, ◌%◌, ◌<◌, ◌≤◌, true, false, ltb, leb, ◌&&◌, List, [], ◌∷◌, ◌++◌, length, Result, Ok, Err, refl, sym, ap, subst, ◌∙◌, arith, append_assoc}
 use Rattle.std.proofs.lemmas.Bool.{cases_lt, lt-ltb, le-ltb, le-leb, lt-leb}
 use Rattle.std.proofs.lemmas.List.{length-append, take_at, drop_at}
@@ -64,7 +64,7 @@ piece_fault : (n : ℕ) (bytes : List ℕ) → length bytes < n → piece_at n b
 unfolding piece_at
 piece_fault n bytes lt = let t = lt-ltb (length bytes) n lt in rw t refl
 
--- ---- what stands behind a key
+-- ---- what follows a key
 
 pub content_again : (wire : Wire) (len held rest : List ℕ) (v : Content) → Holds wire len held v → content_at wire (len ++ (held ++ rest)) ≡ Ok (v, held ++ rest, rest)
 unfolding content_at
@@ -76,7 +76,7 @@ content_again wire len held rest (Bytes bytes) h =
 
 cut_fault : (bytes : List ℕ) → IsCut bytes → content_at BytesWire bytes ≡ Err Truncated
 unfolding content_at
-cut_fault bytes h = rw (h.split, varint_again h.len h.behind h.n h.length_is, piece_fault h.n h.behind h.fewer) refl
+cut_fault bytes h = rw (h.split, varint_again h.len h.after h.n h.length_is, piece_fault h.n h.after h.fewer) refl
 
 pub content_fault : (wire : Wire) (bytes : List ℕ) (f : WireFault) → HoldsNothing wire bytes f → content_at wire bytes ≡ Err f
 unfolding content_at
@@ -120,12 +120,12 @@ field_again head held rest i h =
     = rw (varint_again h.key (h.len ++ (held ++ rest)) k h.key_is, number_test (k / 8) number, content_again (wire_of (k % 8)) h.len held rest i.content h.holds) refl in
     ap field_at regrouped ∙ read ∙ ap (λ (n : ℕ). made n i.content (held ++ rest) rest) h.number_is
 
-behind_fault : (k : ℕ) (key rest : List ℕ) (f : WireFault) → IsVarint key k → NoContent k rest f → field_at (key ++ rest) ≡ Err f
+key_fault : (k : ℕ) (key rest : List ℕ) (f : WireFault) → IsVarint key k → NoContent k rest f → field_at (key ++ rest) ≡ Err f
 unfolding field_at
-behind_fault k key rest f is (inl h) = rw (varint_again key rest k is, no_number_test (k / 8) h.0, h.1) refl
-behind_fault k key rest f is (inr h) = rw (varint_again key rest k is, number_test (k / 8) h.0, content_fault (wire_of (k % 8)) rest f h.1) refl
+key_fault k key rest f is (inl h) = rw (varint_again key rest k is, no_number_test (k / 8) h.0, h.1) refl
+key_fault k key rest f is (inr h) = rw (varint_again key rest k is, number_test (k / 8) h.0, content_fault (wire_of (k % 8)) rest f h.1) refl
 
 pub field_fault : (bytes : List ℕ) (f : WireFault) → NoVarint bytes f ⊎ IsKeyAlone bytes f → field_at bytes ≡ Err f
 unfolding field_at
 field_fault bytes f (inl h) = rw (varint_fault bytes f h) refl
-field_fault bytes f (inr h) = ap field_at h.split ∙ behind_fault h.word h.key h.behind f h.key_is h.wrong
+field_fault bytes f (inr h) = ap field_at h.split ∙ key_fault h.word h.key h.after f h.key_is h.wrong

@@ -67,6 +67,12 @@ ends low turn at bytes total lt within last so_far =
     = rw (k, front, test, one, add-mod-mod low (get_or bytes at 0 % 128 * 2 ^ (7 * turn)) (2 ^ 64), flip) refl in
     sym so_far ∙ step
 
+-- a varint of one byte is that byte
+pub ends_at_once : (at : ℕ) (bytes : List ℕ) → at < length bytes → get_or bytes at 0 < 128 → varint_at (drop at bytes) ≡ Ok (get_or bytes at 0, drop (at + 1) bytes)
+ends_at_once at bytes within last =
+    let value : (0 + get_or bytes at 0 % 128 * 2 ^ (7 * 0) % 2 ^ 64) % 2 ^ 64 ≡ get_or bytes at 0 = omega (arith, last) in
+    ends 0 0 at bytes _ (omega arith) within last (varint_starts (drop at bytes)) ∙ ap (λ (n : ℕ). Ok (n, drop (at + 1) bytes)) value
+
 pub stops : (low turn at : ℕ) (bytes : List ℕ) (total : Result (ℕ × List ℕ) WireFault) → turn < 10 → length bytes ≤ at
     → with_low low turn (groups_at (10 - turn) (drop at bytes)) ≡ total → total ≡ Err Truncated
 unfolding groups_at

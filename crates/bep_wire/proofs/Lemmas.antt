@@ -42,7 +42,7 @@ shortest_least = shortest_is_least
 
 -- ---- written fields are read again
 
--- a written key, a length where the wire type has one, and what they announce are a field
+-- a written key, a length where the wire type has one, and what they are for are a field
 written_field : (number wire : ℕ) (len held : List ℕ) (v : Content) → IsNumber number → wire < 8 → Holds (wire_of wire) len held v → IsField (key number wire ++ len) held (record { number = number; content = v })
 written_field number wire len held v is lt holds =
     let word = 8 * number + wire in

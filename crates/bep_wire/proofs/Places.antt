@@ -7,7 +7,7 @@ use Rattle.bep_wire.specs.Content.{item_in, held_in}
 use Rattle.bep_wire.specs.Reading.{field_at}
 use Rattle.bep_wire.specs.Grammar.{IsField, NoField}
 use Rattle.bep_wire.specs.Fields.{broken, fields}
-use Rattle.bep_wire.specs.Places.{StandsAt, FindsField, ReadsField}
+use Rattle.bep_wire.specs.Places.{IsFieldAt, FindsField, ReadsField}
 use Rattle.bep_wire.proofs.Sound.{FieldSound, field_sound}
 use Rattle.bep_wire.proofs.Readings.{fields_none, fields_next, fields_broken}
 
@@ -25,11 +25,11 @@ between_places source text from end le within e =
     let len : length text ≡ end - from = omega (arith, length-append text (drop end source), ap length e, length-drop from source, length-drop end source) in
     ap (take (end - from)) e ∙ take_at text (drop end source) (end - from) len
 
-stands : (source : List ℕ) (from : ℕ) (f : Field) → from < f.start → f.start ≤ f.end → f.end ≤ length source → field_at (drop from source) ≡ Ok (item_in source f, drop f.start source, drop f.end source) → StandsAt source from f
+stands : (source : List ℕ) (from : ℕ) (f : Field) → from < f.start → f.start ≤ f.end → f.end ≤ length source → field_at (drop from source) ≡ Ok (item_in source f, drop f.start source, drop f.end source) → IsFieldAt source from f
 stands source from f head order within e =
     let s : FieldSound (drop from source) (Ok (item_in source f, drop f.start source, drop f.end source)) = subst (FieldSound (drop from source)) e (field_sound (drop from source)) in
     let first : slice_range source from f.start ≡ s.head = between_places source s.head from f.start (omega arith) (omega arith) s.before in
-    let second : slice_range source f.start f.end ≡ s.held = between_places source s.held f.start f.end order within s.behind in
+    let second : slice_range source f.start f.end ≡ s.held = between_places source s.held f.start f.end order within s.after in
     record {
       head = head;
       order = order;

@@ -20,7 +20,7 @@ head_long head held i h = omega (arith, spelling_long h.key h.key_is.ends, lengt
 pub field_shorter : (bytes : List ℕ) (x : Item × List ℕ × List ℕ) → field_at bytes ≡ Ok x → length x.2 < length bytes
 field_shorter bytes x e =
     let s : FieldSound bytes (Ok x) = subst (FieldSound bytes) e (field_sound bytes) in
-    omega (arith, head_long s.head s.held x.0 s.field, length-append s.head x.1, ap length s.before, length-append s.held x.2, ap length s.behind)
+    omega (arith, head_long s.head s.held x.0 s.field, length-append s.head x.1, ap length s.before, length-append s.held x.2, ap length s.after)
 
 read_same : (f g : List ℕ → Fields) (r : Result (Item × List ℕ × List ℕ) WireFault) → ((x : Item × List ℕ × List ℕ) → r ≡ Ok x → f x.2 ≡ g x.2) → read_then f r ≡ read_then g r
 read_same f g (Ok x) h = ap (first_then x.0) (h x refl)
@@ -66,7 +66,7 @@ abbrev AreRead : List ℕ → Fields → Type 0
 AreRead bytes fs = Reads bytes fs.items fs.fault
 
 begins : (bytes : List ℕ) (x : Item × List ℕ × List ℕ) → FieldSound bytes (Ok x) → Begins bytes x.0 x.2
-begins bytes x s = record { head = s.head; held = s.held; split = s.before ∙ ap (λ (l : List ℕ). s.head ++ l) s.behind; field = s.field }
+begins bytes x s = record { head = s.head; held = s.held; split = s.before ∙ ap (λ (l : List ℕ). s.head ++ l) s.after; field = s.field }
 
 reads_then : (bytes : List ℕ) (r : Result (Item × List ℕ × List ℕ) WireFault) → 0 < length bytes → FieldSound bytes r → ((x : Item × List ℕ × List ℕ) → r ≡ Ok x → AreRead x.2 (fields x.2)) → AreRead bytes (read_then fields r)
 reads_then bytes (Ok x) lt s h = (x.2, begins bytes x s, h x refl)
@@ -97,10 +97,10 @@ one_reading_only bytes (i ∷ items) end h =
 -- ---- the fields of joined bytes
 
 -- these items, and then those of another reading
-abbrev pub behind : List Item → Fields → Fields
-behind items others = record { items = items ++ others.items; fault = others.fault }
+abbrev pub items_then : List Item → Fields → Fields
+items_then items others = record { items = items ++ others.items; fault = others.fault }
 
-joined : (a b : List ℕ) (items : List Item) → Reads a items None → fields (a ++ b) ≡ behind items (fields b)
+joined : (a b : List ℕ) (items : List Item) → Reads a items None → fields (a ++ b) ≡ items_then items (fields b)
 joined a b [] h = ap (λ (l : List ℕ). fields (l ++ b)) h
 joined a b (i ∷ items) h =
     let s = h.1 in
@@ -108,5 +108,5 @@ joined a b (i ∷ items) h =
     = ap (λ (l : List ℕ). l ++ b) s.split ∙ append_assoc s.head (s.held ++ h.0) b ∙ ap (λ (l : List ℕ). s.head ++ l) (append_assoc s.held h.0 b) in
     ap fields regrouped ∙ fields_field s.head s.held (h.0 ++ b) i s.field ∙ ap (first_then i) (joined h.0 b items h.2)
 
-pub fields_joined : (a b : List ℕ) → (fields a).fault ≡ None → fields (a ++ b) ≡ behind (fields a).items (fields b)
+pub fields_joined : (a b : List ℕ) → (fields a).fault ≡ None → fields (a ++ b) ≡ items_then (fields a).items (fields b)
 fields_joined a b e = joined a b (fields a).items (subst (Reads a (fields a).items) e (fields_are_read a))

@@ -1,4 +1,4 @@
--- What is read is in the grammar, and so is what is wrong where nothing is read.
+-- What is read is in the grammar, and so is each fault.
 use Rattle.std.proofs.Common.{◌≡◌, ◌⊎◌, inl, inr, ℕ, zero, suc, ◌+◌, ◌*◌, ◌/◌, ◌%◌, ◌^◌, ◌<◌, ◌≤◌, ltb, leb, cond, ◌&&◌, List, [], ◌∷◌, ◌++◌, length, take, Result, Ok, Err, refl, sym, ap, subst, ◌∙◌, arith, append_assoc}
 use Rattle.std.proofs.lemmas.Bool.{cases_lt, lt-ltb, le-ltb, le-leb, lt-leb}
 use Rattle.std.proofs.lemmas.List.{take-append-drop, length-take-le}
@@ -61,7 +61,7 @@ pub varint_sound : (bytes : List ℕ) → VarintSound bytes (varint_at bytes)
 unfolding varint_at
 varint_sound bytes = varint_from_groups bytes (groups_at 10 bytes) (groups_sound 10 bytes)
 
--- ---- what stands behind a key
+-- ---- what follows a key
 
 abbrev PieceSound : ℕ → List ℕ → Result (List ℕ × List ℕ) WireFault → Type 0
 PieceSound n bytes (Ok x) = (bytes ≡ x.0 ++ x.1) × (length x.0 ≡ n)
@@ -80,7 +80,7 @@ pub record Found (wire : Wire) (bytes : List ℕ) (content : Content) (at rest :
   pub len : List ℕ
   pub held : List ℕ
   pub before : bytes ≡ len ++ at
-  pub behind : at ≡ held ++ rest
+  pub after : at ≡ held ++ rest
   pub holds : Holds wire len held content
 
 abbrev pub ContentSound : Wire → List ℕ → Result (Content × List ℕ × List ℕ) WireFault → Type 0
@@ -88,21 +88,21 @@ ContentSound wire bytes (Ok x) = Found wire bytes x.0 x.1 x.2
 ContentSound wire bytes (Err f) = HoldsNothing wire bytes f
 
 number_found : (bytes : List ℕ) (r : Result (ℕ × List ℕ) WireFault) → VarintSound bytes r → ContentSound VarintWire bytes (r >>= λ x. Ok (Number x.0, bytes, x.1))
-number_found bytes (Ok x) h = record { len = []; held = h.0; before = refl; behind = h.1; holds = (refl, refl, h.2) }
+number_found bytes (Ok x) h = record { len = []; held = h.0; before = refl; after = h.1; holds = (refl, refl, h.2) }
 number_found bytes (Err f) h = h
 
 eight_found : (bytes : List ℕ) (r : Result (List ℕ × List ℕ) WireFault) → PieceSound 8 bytes r → ContentSound EightWire bytes (r >>= λ x. Ok (Eight x.0, bytes, x.1))
-eight_found bytes (Ok x) h = record { len = []; held = x.0; before = refl; behind = h.0; holds = (refl, refl, refl, h.1) }
+eight_found bytes (Ok x) h = record { len = []; held = x.0; before = refl; after = h.0; holds = (refl, refl, refl, h.1) }
 eight_found bytes (Err f) h = h
 
 four_found : (bytes : List ℕ) (r : Result (List ℕ × List ℕ) WireFault) → PieceSound 4 bytes r → ContentSound FourWire bytes (r >>= λ x. Ok (Four x.0, bytes, x.1))
-four_found bytes (Ok x) h = record { len = []; held = x.0; before = refl; behind = h.0; holds = (refl, refl, refl, h.1) }
+four_found bytes (Ok x) h = record { len = []; held = x.0; before = refl; after = h.0; holds = (refl, refl, refl, h.1) }
 four_found bytes (Err f) h = h
 
 piece_found : (bytes len : List ℕ) (n : ℕ) (rest : List ℕ) (r : Result (List ℕ × List ℕ) WireFault) → bytes ≡ len ++ rest → IsVarint len n → PieceSound n rest r
     → ContentSound BytesWire bytes (r >>= λ x. Ok (Bytes x.0, rest, x.1))
-piece_found bytes len n rest (Ok x) e is h = record { len = len; held = x.0; before = e; behind = h.0; holds = (refl, subst (IsVarint len) (sym h.1) is, refl) }
-piece_found bytes len n rest (Err f) e is h = inr (h.0, record { len = len; behind = rest; n = n; split = e; length_is = is; fewer = h.1 })
+piece_found bytes len n rest (Ok x) e is h = record { len = len; held = x.0; before = e; after = h.0; holds = (refl, subst (IsVarint len) (sym h.1) is, refl) }
+piece_found bytes len n rest (Err f) e is h = inr (h.0, record { len = len; after = rest; n = n; split = e; length_is = is; fewer = h.1 })
 
 bytes_found : (bytes : List ℕ) (r : Result (ℕ × List ℕ) WireFault) → VarintSound bytes r → ContentSound BytesWire bytes (r >>= λ n. piece_at n.0 n.1 >>= λ x. Ok (Bytes x.0, n.1, x.1))
 bytes_found bytes (Ok x) h = piece_found bytes h.0 x.0 x.1 (piece_at x.0 x.1) h.1 h.2 (piece_sound x.0 x.1)
@@ -123,7 +123,7 @@ pub record FieldFound (bytes : List ℕ) (i : Item) (at rest : List ℕ) : Type 
   pub head : List ℕ
   pub held : List ℕ
   pub before : bytes ≡ head ++ at
-  pub behind : at ≡ held ++ rest
+  pub after : at ≡ held ++ rest
   pub field : IsField head held i
 
 abbrev pub FieldSound : List ℕ → Result (Item × List ℕ × List ℕ) WireFault → Type 0
@@ -136,14 +136,14 @@ content_field bytes key rest k (Ok x) e is number h = record {
   head = key ++ h.len;
   held = h.held;
   before = e ∙ ap (λ (l : List ℕ). key ++ l) h.before ∙ sym (append_assoc key h.len x.1);
-  behind = h.behind;
+  after = h.after;
   field = record { key = key; len = h.len; word = k; split = refl; key_is = is; number_is = refl; in_range = number; holds = h.holds };
 }
 content_field bytes key rest k (Err f) e is number h =
-    inr (record { key = key; behind = rest; word = k; split = e; key_is = is; wrong = inr (number, h) })
+    inr (record { key = key; after = rest; word = k; split = e; key_is = is; wrong = inr (number, h) })
 
 no_number : (bytes key rest : List ℕ) (k : ℕ) → bytes ≡ key ++ rest → IsVarint key k → (IsNumber (k / 8) → ⊥) → IsKeyAlone bytes BadKey
-no_number bytes key rest k e is none = record { key = key; behind = rest; word = k; split = e; key_is = is; wrong = inl (none, refl) }
+no_number bytes key rest k e is none = record { key = key; after = rest; word = k; split = e; key_is = is; wrong = inl (none, refl) }
 
 key_field : (bytes : List ℕ) (r : Result (ℕ × List ℕ) WireFault) → VarintSound bytes r
     → FieldSound bytes (r >>= λ key. cond (ltb 0 (key.0 / 8) && leb (key.0 / 8) MAX_FIELD_NUMBER) (content_at (wire_of (key.0 % 8)) key.1 >>= λ x. Ok (record { number = key.0 / 8; content = x.0 }, x.1, x.2)) (Err BadKey))

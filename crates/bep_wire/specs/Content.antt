@@ -1,10 +1,10 @@
--- A field without where it stands in its source (Protocol Buffers encoding, "Message Structure").
+-- A field without its place in its source (Protocol Buffers encoding, "Message Structure").
 use Rattle.std.specs.Prelude.{ℕ, ◌==◌, if◌then◌else◌, List, slice_range}
 use Rattle.bep_wire.specs.declared.field.Value.{Value}
 use Rattle.bep_wire.specs.declared.field.Value.TheVariants as values
 use Rattle.bep_wire.specs.declared.field.Field.{Field}
 
--- the wire types: a varint, eight bytes, a length and so many bytes, four bytes; the two of groups; and those that mean nothing
+-- the wire types: a varint, eight bytes, a length and so many bytes, four bytes; the two of groups; and those without a meaning
 pub data Wire : Type 0 where
   VarintWire : Wire
   EightWire : Wire
@@ -34,7 +34,7 @@ pub record Item : Type 0 where
   pub number : ℕ
   pub content : Content
 
--- ---- the same of a `Field`, whose bytes stand in its source
+-- ---- the same of a `Field`, whose bytes are in its source
 
 abbrev pub content_of : Value → List ℕ → Content
 content_of (values.Varint n) held = Number n

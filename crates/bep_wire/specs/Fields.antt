@@ -16,7 +16,7 @@ ended = record { items = []; fault = None }
 abbrev pub broken : WireFault → Fields
 broken f = record { items = []; fault = Some f }
 
--- a field, and those behind it
+-- a field, and those after it
 abbrev pub first_then : Item → Fields → Fields
 first_then i others = record { items = i ∷ others.items; fault = others.fault }
 

@@ -3,7 +3,7 @@
 use Rattle.std.specs.Prelude.{◌≡◌, ◌⊎◌, ℕ, ◌+◌, ◌*◌, ◌/◌, ◌%◌, ◌^◌, ◌<◌, ◌≤◌, List, [], ◌∷◌, ◌++◌, length, take, Option, Some, None}
 use Rattle.std.specs.List.{AllByRecursion}
 use Rattle.bep_wire.specs.declared.fault.WireFault.{WireFault}
-use Rattle.bep_wire.specs.declared.field.TheConstants.{MAX_FIELD_NUMBER}
+use Rattle.bep_wire.specs.declared.field.TheConstants.{MAX_FIELD_NUMBER, MAX_VARINT_LEN}
 use Rattle.bep_wire.specs.declared.fault.WireFault.TheVariants.{Truncated, LongVarint, BadKey, Group}
 use Rattle.bep_wire.specs.Content.{Wire, VarintWire, EightWire, BytesWire, FourWire, GroupWire, NoWire, wire_of, Content, Number, Eight, Bytes, Four, Item}
 
@@ -19,10 +19,10 @@ abbrev pub spelled : List ℕ → ℕ
 spelled [] = 0
 spelled (b ∷ bytes) = b % 128 + 128 * spelled bytes
 
--- a varint: at most ten bytes, of whose number the low 64 bits count
+-- a varint: at most MAX_VARINT_LEN bytes, of whose number the low 64 bits count
 pub record IsVarint (bytes : List ℕ) (n : ℕ) : Type 0 where
   pub ends : IsSpelling bytes
-  pub short : length bytes ≤ 10
+  pub short : length bytes ≤ MAX_VARINT_LEN
   pub value : n ≡ spelled bytes % 2 ^ 64
 
 abbrev pub AllGoOn : List ℕ → Type 0
@@ -30,14 +30,14 @@ AllGoOn bytes = AllByRecursion (λ b. 128 ≤ b) bytes
 
 -- no varint begins here: the bytes end before it does, or the tenth says that more follows
 abbrev pub NoVarint : List ℕ → WireFault → Type 0
-NoVarint bytes Truncated = AllGoOn bytes × (length bytes < 10)
-NoVarint bytes LongVarint = AllGoOn (take 10 bytes) × (10 ≤ length bytes)
+NoVarint bytes Truncated = AllGoOn bytes × (length bytes < MAX_VARINT_LEN)
+NoVarint bytes LongVarint = AllGoOn (take MAX_VARINT_LEN bytes) × (MAX_VARINT_LEN ≤ length bytes)
 NoVarint bytes BadKey = ⊥
 NoVarint bytes Group = ⊥
 
--- ---- what stands behind a key
+-- ---- what follows a key
 
--- Behind a key of this wire type stand a length, where the wire type has one, and these bytes, which hold this.
+-- After a key of this wire type come a length, if the wire type has one, and these bytes, which hold this.
 abbrev pub Holds : Wire → List ℕ → List ℕ → Content → Type 0
 Holds wire len held (Number n) = (wire ≡ VarintWire) × (len ≡ []) × IsVarint held n
 Holds wire len held (Eight bytes) = (wire ≡ EightWire) × (len ≡ []) × (bytes ≡ held) × (length held ≡ 8)
@@ -47,13 +47,13 @@ Holds wire len held (Four bytes) = (wire ≡ FourWire) × (len ≡ []) × (bytes
 -- a length, and fewer bytes than it says
 pub record IsCut (bytes : List ℕ) : Type 0 where
   pub len : List ℕ
-  pub behind : List ℕ
+  pub after : List ℕ
   pub n : ℕ
-  pub split : bytes ≡ len ++ behind
+  pub split : bytes ≡ len ++ after
   pub length_is : IsVarint len n
-  pub fewer : length behind < n
+  pub fewer : length after < n
 
--- what is wrong with these bytes behind a key of this wire type
+-- the fault of these bytes after a key of this wire type
 abbrev pub HoldsNothing : Wire → List ℕ → WireFault → Type 0
 HoldsNothing VarintWire bytes f = NoVarint bytes f
 HoldsNothing EightWire bytes f = (f ≡ Truncated) × (length bytes < 8)
@@ -78,20 +78,20 @@ pub record IsField (head held : List ℕ) (i : Item) : Type 0 where
   pub in_range : IsNumber i.number
   pub holds : Holds (wire_of (word % 8)) len held i.content
 
--- what is wrong behind a key: its number first
+-- the fault after a key: that of its number first
 abbrev pub NoContent : ℕ → List ℕ → WireFault → Type 0
 NoContent word bytes f =
     ((IsNumber (word / 8) → ⊥) × (f ≡ BadKey))
     ⊎ (IsNumber (word / 8) × HoldsNothing (wire_of (word % 8)) bytes f)
 
--- a key, and what is wrong behind it
+-- a key, and the fault after it
 pub record IsKeyAlone (bytes : List ℕ) (f : WireFault) : Type 0 where
   pub key : List ℕ
-  pub behind : List ℕ
+  pub after : List ℕ
   pub word : ℕ
-  pub split : bytes ≡ key ++ behind
+  pub split : bytes ≡ key ++ after
   pub key_is : IsVarint key word
-  pub wrong : NoContent word behind f
+  pub wrong : NoContent word after f
 
 -- no field begins here, though bytes are left
 abbrev pub NoField : List ℕ → WireFault → Type 0

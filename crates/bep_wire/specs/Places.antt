@@ -8,8 +8,8 @@ use Rattle.bep_wire.specs.Content.{item_in, held_in}
 use Rattle.bep_wire.specs.Grammar.{IsField}
 use Rattle.bep_wire.specs.Fields.{fields, ended, first_then}
 
--- The field stands at a place of the source: its head up to its start, and what it holds from there to its end.
-pub record StandsAt (source : List ℕ) (from : ℕ) (f : Field) : Type 0 where
+-- A field at a place of the source: its head up to its start, and what it holds from there to its end.
+pub record IsFieldAt (source : List ℕ) (from : ℕ) (f : Field) : Type 0 where
   pub head : from < f.start
   pub order : f.start ≤ f.end
   pub within : f.end ≤ length source
@@ -18,19 +18,19 @@ pub record StandsAt (source : List ℕ) (from : ℕ) (f : Field) : Type 0 where
 -- the field at a place, or none where the source ends there
 abbrev pub FindsField : List ℕ → ℕ → Option Field → Type 0
 FindsField source from None = length source ≤ from
-FindsField source from (Some f) = StandsAt source from f
+FindsField source from (Some f) = IsFieldAt source from f
 
--- from a place on stand these fields, each where the one before ends, and nothing else
+-- from a place on these are the fields, each where the one before ends, up to the end of the source
 abbrev pub AreFields : List ℕ → ℕ → List Field → Type 0
 AreFields source from [] = length source ≤ from
-AreFields source from (f ∷ fs) = StandsAt source from f × AreFields source f.end fs
+AreFields source from (f ∷ fs) = IsFieldAt source from f × AreFields source f.end fs
 
--- The reading from a place on is this field and then the reading from its end on, or it is nothing.
+-- The reading from a place on is this field and then the reading from its end on, or it is at the end.
 abbrev pub ReadsField : List ℕ → ℕ → Option Field → Type 0
 ReadsField source from None = fields (drop from source) ≡ ended
 ReadsField source from (Some f) = fields (drop from source) ≡ first_then (item_in source f) (fields (drop f.end source))
 
--- a fault of the bytes is the one that ends their reading
-abbrev pub TellsFault : Option WireFault → FieldsFault → Type 0
-TellsFault fault (Wire f) = fault ≡ Some f
-TellsFault fault OutOfMemory = Unit {0}
+-- an error is the fault that ends the reading of the bytes, or out of memory
+abbrev pub ReportsFault : Option WireFault → FieldsFault → Type 0
+ReportsFault fault (Wire f) = fault ≡ Some f
+ReportsFault fault OutOfMemory = Unit {0}

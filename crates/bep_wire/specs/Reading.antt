@@ -2,7 +2,7 @@
 -- grammar says, and nothing else, is the law `one_reading`.
 use Rattle.std.specs.Prelude.{Result, Ok, Err, ℕ, zero, suc, ◌+◌, ◌*◌, ◌/◌, ◌%◌, ◌^◌, ◌&&◌, List, [], ◌∷◌, length, take, drop, nat_lt, nat_le, if◌then◌else◌}
 use Rattle.bep_wire.specs.declared.fault.WireFault.{WireFault}
-use Rattle.bep_wire.specs.declared.field.TheConstants.{MAX_FIELD_NUMBER}
+use Rattle.bep_wire.specs.declared.field.TheConstants.{MAX_FIELD_NUMBER, MAX_VARINT_LEN}
 use Rattle.bep_wire.specs.declared.fault.WireFault.TheVariants.{Truncated, LongVarint, BadKey, Group}
 use Rattle.bep_wire.specs.Content.{Wire, VarintWire, EightWire, BytesWire, FourWire, GroupWire, NoWire, wire_of, Content, Number, Eight, Bytes, Four, Item}
 
@@ -18,7 +18,7 @@ groups_at (suc left) [] = Err Truncated
 groups_at (suc left) (b ∷ bytes) = if nat_lt b 128 then Ok (b % 128, bytes) else (groups_at left bytes >>= λ x. Ok (b % 128 + 128 * x.0, x.1))
 
 unfoldable pub varint_at : List ℕ → Result (ℕ × List ℕ) WireFault
-varint_at bytes = groups_at 10 bytes >>= λ x. Ok (x.0 % 2 ^ 64, x.1)
+varint_at bytes = groups_at MAX_VARINT_LEN bytes >>= λ x. Ok (x.0 % 2 ^ 64, x.1)
 
 unfoldable pub piece_at : ℕ → List ℕ → Result (List ℕ × List ℕ) WireFault
 piece_at n bytes = if nat_lt (length bytes) n then Err Truncated else Ok (take n bytes, drop n bytes)

@@ -89,7 +89,7 @@ impl From<WireFault> for FieldsFault {
 impl<T: Drop> From<AllocFailed<T>> for FieldsFault {
     ghost from_gives = { λ _ e. e ≡ OutOfMemory };
 
-    fn from(_refused: AllocFailed<T>) -> FieldsFault {
+    fn from(_error: AllocFailed<T>) -> FieldsFault {
         FieldsFault::OutOfMemory
     }
 }

@@ -1,6 +1,9 @@
 /// The greatest field number (Protocol Buffers, language guide for proto3, "Assigning Field Numbers").
 pub const MAX_FIELD_NUMBER: u32 = 536_870_911;
 
+/// The greatest length of a varint in bytes (Protocol Buffers encoding, "Base 128 Varints").
+pub const MAX_VARINT_LEN: usize = 10;
+
 /// What a field holds, by the wire type of its key
 /// (Protocol Buffers encoding, "Message Structure").
 #[derive(Clone, Copy, Debug, PartialEq, Eq)]

@@ -1,4 +1,4 @@
-//! What the definitions say, as contracts of functions that do nothing.
+//! What follows from the definitions, as contracts of functions with empty bodies.
 ghost use Rattle.std.specs.Prelude.{◌≡◌, ◌++◌, ◌<◌, ◌≤◌, ◌^◌, length, ℕ, List, Option, None};
 ghost use Rattle.bep_wire.specs.declared.fault.WireFault.{WireFault};
 ghost use Rattle.bep_wire.specs.Content.{Item, Number, Bytes};

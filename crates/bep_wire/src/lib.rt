@@ -11,7 +11,7 @@ mod reading;
 mod writing;
 
 pub use fault::{FieldsFault, WireFault};
-pub use field::{Field, MAX_FIELD_NUMBER, Value};
+pub use field::{Field, MAX_FIELD_NUMBER, MAX_VARINT_LEN, Value};
 pub use reading::{next_field, read_fields};
 pub use writing::{put_bytes, put_varint};
 

@@ -4,14 +4,31 @@ ghost use Rattle.bep_wire.specs.Grammar.{NoField};
 ghost use Rattle.bep_wire.specs.Reading.{varint_at, piece_at, content_at, field_at};
 ghost use Rattle.bep_wire.specs.Fields.{fields, broken};
 ghost use Rattle.bep_wire.specs.declared.fault.FieldsFault.TheVariants.{OutOfMemory};
-ghost use Rattle.bep_wire.specs.Places.{FindsField, ReadsField, AreFields, TellsFault};
+ghost use Rattle.bep_wire.specs.Places.{FindsField, ReadsField, AreFields, ReportsFault};
 
 use crate::fault::{FieldsFault, WireFault};
-use crate::field::{Field, MAX_FIELD_NUMBER, Value};
+use crate::field::{Field, MAX_FIELD_NUMBER, MAX_VARINT_LEN, Value};
 use std::alloc::Global;
 
-/// The varint at a place, and the place behind it. Bits past 64 are shifted out.
+/// The varint at a place, and the place after it. Bits past 64 are dropped.
 fn varint(source: &[u8], from: usize) -> Result<(u64, usize), WireFault>
+    ensures { MatchResult result
+        (λ x. (varint_at (drop from source.now) ≡ Ok (x.0, drop x.1 source.now))
+        × (from < x.1) × (x.1 ≤ length source.now))
+        (λ e. varint_at (drop from source.now) ≡ Err e) }
+{
+    // Keys and most lengths have one byte.
+    if from < source.len() {
+        let only = source[from];
+        if only < 128 {
+            return Ok((only as u64, from + 1));
+        }
+    }
+    varint_of_groups(source, from)
+}
+
+/// The same, however many bytes it has.
+fn varint_of_groups(source: &[u8], from: usize) -> Result<(u64, usize), WireFault>
     ensures { MatchResult result
         (λ x. (varint_at (drop from source.now) ≡ Ok (x.0, drop x.1 source.now))
         × (from < x.1) × (x.1 ≤ length source.now))
@@ -19,7 +36,7 @@ fn varint(source: &[u8], from: usize) -> Result<(u64, usize), WireFault>
 {
     let mut value: u64 = 0;
     let mut at = from;
-    for turn in 0..10u32 {
+    for turn in 0..MAX_VARINT_LEN {
         if at >= source.len() {
             return Err(WireFault::Truncated);
         }
@@ -51,7 +68,7 @@ fn piece(source: &[u8], from: usize, len: u64) -> Result<usize, WireFault>
 
 /// The field of a number and a wire type, whose key ends at a place.
 #[tactic(auto, unfolding(crate::specs::Reading::content_at))]
-fn field_behind(number: u32, wire: u64, source: &[u8], from: usize) -> Result<Field, WireFault>
+fn field_after(number: u32, wire: u64, source: &[u8], from: usize) -> Result<Field, WireFault>
     requires { from ≤ length source.now }
     ensures { MatchResult result
         (λ x. (content_at (wire_of wire) (drop from source.now)
@@ -93,23 +110,22 @@ fn field(source: &[u8], from: usize) -> Result<Option<Field>, WireFault>
     if from >= source.len() {
         return Ok(None);
     }
-    let (key, behind) = varint(source, from)?;
+    let (key, after) = varint(source, from)?;
     let number = key / 8;
     if number == 0 || number > MAX_FIELD_NUMBER as u64 {
         return Err(WireFault::BadKey);
     }
-    let field = field_behind(number as u32, key % 8, source, behind)?;
+    let field = field_after(number as u32, key % 8, source, after)?;
     Ok(Some(field))
 }
 
 /// The field that begins at a place of a byte list, with the place of the bytes that it holds, or
-/// none where no byte is left there. A place past the end is as one at the end.
+/// `None` if no byte is left there, also for a place past the end.
 ///
-/// Refused as `Truncated`, `LongVarint`, `BadKey` or `Group` exactly where bytes are left and no
-/// field begins. Takes no memory and reads no byte twice; O(1) but for the walk over at most two
-/// varints.
+/// Fails with `Truncated`, `LongVarint`, `BadKey` or `Group` exactly if bytes are left and no field
+/// begins. Does not allocate and reads no byte twice; O(1), since it reads at most two varints.
 pub fn next_field(source: &[u8], from: usize) -> Result<Option<Field>, WireFault>
-    // What is found stands there in the grammar, and a fault says what the grammar lacks there.
+    // What is returned is a field there by the grammar, and a fault is one by the grammar.
     ensures grammar { MatchResult result (FindsField source.now from) (NoField (drop from source.now)) }
     // It is the first of the one reading of the bytes from the place on.
     ensures reading { MatchResult result (ReadsField source.now from) (λ e. fields (drop from source.now) ≡ broken e) }
@@ -119,17 +135,17 @@ pub fn next_field(source: &[u8], from: usize) -> Result<Option<Field>, WireFault
 
 /// All fields of a byte list, in order.
 ///
-/// Refused by the first fault of the bytes, exactly where they have one, or by want of memory for the
-/// list. O(n); no byte of the source is copied.
+/// Fails with the first fault of the bytes, exactly if they have one, or with `OutOfMemory` if
+/// allocation fails for the list. O(n); no byte of the source is copied.
 pub fn read_fields(alloc: Global, source: &[u8]) -> Result<Vec<Field>, FieldsFault>
-    // They stand in the grammar one after the other, from the first byte to the last,
+    // They are fields by the grammar, one after the other, from the first byte to the last,
     ensures places { IfOk result (λ found. AreFields source.now 0 found.items) }
     // and are the fields of the one reading of the bytes, which has no fault.
     ensures items { IfOk result (λ found. (fields source.now).items ≡ map (item_in source.now) found.items) }
     ensures whole { IfOk result (λ _. (fields source.now).fault ≡ None) }
     // A fault of the bytes is the one that ends their reading.
-    ensures fault { IfErr result (TellsFault (fields source.now).fault) }
-    // Memory is wanted for a field alone: where none is read, its want is never told.
+    ensures fault { IfErr result (ReportsFault (fields source.now).fault) }
+    // The list allocates only for a field: not if the bytes begin with a fault, or are empty.
     ensures memory { IfErr result (λ e. e ≡ OutOfMemory → 0 < length (fields source.now).items) }
 {
     let mut found = Vec::new(alloc);

@@ -1,5 +1,5 @@
 //! Values from outside: the published examples of the encoding, and bytes made by hand from its rules.
-//! Each growth may be refused once (`tools/refusals`): then the same call is made again.
+//! Each allocation may fail once (`tools/refusals`): then the same call is made again.
 use crate::{
     Field, FieldsFault, MAX_FIELD_NUMBER, Value, WireFault, next_field, put_bytes, put_varint,
     read_fields,
@@ -17,7 +17,7 @@ fn field(number: u32, value: Value, start: usize, end: usize) -> Field {
     }
 }
 
-/// Reads all fields, again after a refused growth.
+/// Reads all fields, again if an allocation failed.
 fn fields_of(alloc: Global, source: &[u8]) -> Result<Vec<Field>, FieldsFault> {
     match read_fields(alloc, source) {
         Err(FieldsFault::OutOfMemory) => read_fields(alloc, source),
@@ -25,10 +25,10 @@ fn fields_of(alloc: Global, source: &[u8]) -> Result<Vec<Field>, FieldsFault> {
     }
 }
 
-fn expect_field(rt: &impl Abort, source: &[u8], from: usize, wanted: Field) {
+fn expect_field(rt: &impl Abort, source: &[u8], from: usize, expected: Field) {
     assert_eq!(rt;
         next_field(source, from),
-        Ok(Some(wanted)),
+        Ok(Some(expected)),
         "{source:?} from {from}"
     );
 }
@@ -38,11 +38,11 @@ fn expect_fault(rt: &impl Abort, source: &[u8], fault: WireFault) {
 }
 
 /// A list of one field is read whole, and is Truncated wherever it is cut within.
-fn expect_only(rt: &impl Abort, alloc: Global, source: &[u8], wanted: Field) -> Result<(), Fail> {
-    expect_field(rt, source, 0, wanted);
+fn expect_only(rt: &impl Abort, alloc: Global, source: &[u8], expected: Field) -> Result<(), Fail> {
+    expect_field(rt, source, 0, expected);
     assert_eq!(rt; next_field(source, source.len()), Ok(None));
     let all = fields_of(alloc, source)?;
-    assert_eq!(rt; all.as_slice(), [wanted].as_slice());
+    assert_eq!(rt; all.as_slice(), [expected].as_slice());
     for len in 1..source.len() {
         if let Some(cut) = source.get(..len) {
             expect_fault(rt, cut, WireFault::Truncated);
@@ -51,10 +51,14 @@ fn expect_only(rt: &impl Abort, alloc: Global, source: &[u8], wanted: Field) -> 
     Ok(())
 }
 
-/// Appends a varint to `old`, again after a refused growth, which must have left it as it was.
+/// Appends a varint to `old`, again if an allocation failed, which must have left it as it was.
 fn put_again(rt: &impl Abort, out: &mut Vec<u8>, old: &[u8], value: u64) -> Result<(), Fail> {
     if put_varint(out, value).is_err() {
-        assert_eq!(rt; out.as_slice(), old, "a refused growth changed the vector");
+        assert_eq!(rt;
+            out.as_slice(),
+            old,
+            "a failed allocation changed the vector"
+        );
         put_varint(out, value)?;
     }
     Ok(())
@@ -99,7 +103,7 @@ fn each_wire_type(rt: HostRuntime) -> Result<(), Fail> {
     expect_only(&rt, alloc, &[0x12, 0x00], none)?;
     let four = field(3, Value::Four, 1, 5);
     expect_only(&rt, alloc, &[0x1d, 1, 2, 3, 4], four)?;
-    // The greatest field number, under wire types 0 and 2; one more is refused before its wire type is looked at.
+    // The greatest field number, under wire types 0 and 2; one more fails before its wire type is looked at.
     let greatest = field(536_870_911, Value::Varint(1), 5, 6);
     expect_only(&rt, alloc, &[0xf8, 0xff, 0xff, 0xff, 0x0f, 0x01], greatest)?;
     let greatest = field(536_870_911, Value::Bytes, 6, 7);
@@ -137,7 +141,7 @@ fn several_fields(rt: HostRuntime) -> Result<(), Fail> {
     assert_eq!(rt; next_field(&source, 13), Ok(None));
     assert_eq!(rt; next_field(&source, 14), Ok(None));
     assert_eq!(rt; next_field(&source, usize::MAX), Ok(None));
-    // The first fault stands behind two fields.
+    // The first fault is after two fields.
     let fault = fields_of(rt.alloc(), &[0x08, 0x01, 0x12, 0x00, 0x0b, 0x08]).err();
     assert_eq!(rt; fault, Some(FieldsFault::Wire(WireFault::Group)));
     Ok(())
@@ -183,7 +187,7 @@ fn push_again(text: &mut Vec<u8>, byte: u8) -> Result<(), Fail> {
     Ok(())
 }
 
-/// The text is written for the value, and read as it, also behind another field's bytes.
+/// The text is written for the value, and read as it, also after another field's bytes.
 fn expect_varint<R: Abort + AllocGlobal>(rt: &R, text: &[u8], value: u64) -> Result<(), Fail> {
     let mut out = Vec::new(rt.alloc());
     put_again(rt, &mut out, &[], value)?;
@@ -218,7 +222,7 @@ fn fields_of_bytes(rt: HostRuntime) -> Result<(), Fail> {
                 assert_eq!(rt;
                     out.as_slice(),
                     [7].as_slice(),
-                    "a refused growth changed the vector"
+                    "a failed allocation changed the vector"
                 );
                 put_bytes(&mut out, number, bytes)?;
             }

@@ -1,7 +1,7 @@
 use Rattle.std.proofs.Common.{◌≡◌, ◌-◌, ◌+◌, ◌<◌, ◌≤◌, drop, length}
 use Rattle.bep_wire.specs.Reading.{groups_at, varint_at}
 use Rattle.bep_wire.proofs.Groups.{with_low}
-use Rattle.bep_wire.proofs.reading.varint.Given as goal
+use Rattle.bep_wire.proofs.reading.varint_of_groups.Given as goal
 
 abbrev pub invariant-loop-turn : goal.invariant-loop-turn
 invariant-loop-turn l = record {
