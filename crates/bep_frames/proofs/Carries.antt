@@ -11,7 +11,7 @@ use Rattle.bep_frames.specs.declared.fault.FrameFault.TheVariants.{BadBody, OutO
 use Rattle.bep_frames.specs.declared.frame.Frame.{Frame}
 use Rattle.bep_frames.specs.declared.frame.Frame.TheVariants.{Hello as HelloFrame, Message as MessageFrame, Unknown}
 use Rattle.bep_frames.specs.declared.frame.Message.{Message}
-use Rattle.bep_frames.specs.Carried.{Kind, kind_at, IsUnknown, IsMessage, Carries, frame_read, carried_as, carried}
+use Rattle.bep_frames.specs.Carried.{Kind, kind_at, IsUnknown, Carries, frame_read, carried_as, carried}
 use Rattle.bep_frames.specs.Memory.{BodyTakesMemory}
 use Rattle.bep_messages.specs.Memory.{TakesMemory}
 use Rattle.bep_frames.specs.Readable.{FailsAs}

@@ -15,7 +15,7 @@ use Rattle.bep_messages.specs.Protocol.{file_info_table, cluster_config_table, i
 use Rattle.bep_messages.specs.Structs.{file_info, cluster_config, index, index_update, request, response, download_progress, ping, close}
 use Rattle.bep_messages.specs.Contents.{contents, bytes_in, byte_lists}
 use Rattle.bep_messages.specs.Faults.{message_fault, outcome}
-use Rattle.bep_messages.specs.Values.{empty, values, value, decoded}
+use Rattle.bep_messages.specs.Values.{empty, values, value}
 use Rattle.bep_frames.specs.declared.frame.Frame.{Frame}
 use Rattle.bep_frames.specs.declared.frame.Frame.TheVariants.{Message as MessageFrame}
 use Rattle.bep_frames.specs.declared.frame.Message.{Message}

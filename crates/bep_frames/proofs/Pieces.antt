@@ -1,6 +1,6 @@
 -- A piece of some bytes is there or not, whatever follows it.
 use Rattle.std.proofs.Common.{◌≡◌, ℕ, zero, suc, ◌-◌, ◌<◌, ◌≤◌, Bool, false, List, [], ◌++◌, length, take, drop, ℤ, pos, Result, Ok, Err, refl, sym, ap, subst, ◌∙◌, inl, inr, arith, append_assoc}
-use Rattle.std.specs.Prelude.{◌≢◌, ◌⊎◌, negsuc, nat_eq, if◌then◌else◌, MatchResult, IsErrAnd}
+use Rattle.std.specs.Prelude.{◌≢◌, ◌⊎◌, negsuc, nat_eq, if◌then◌else◌, MatchResult}
 use Rattle.std.specs.List.{starts_with}
 use Rattle.std.proofs.Common.{append-nil}
 use Rattle.bep_messages.specs.declared.fault.MessageFault.{MessageFault}
@@ -13,15 +13,13 @@ use Rattle.bep_frames.specs.declared.fault.FrameFault.{FrameFault}
 use Rattle.bep_frames.specs.declared.fault.FrameFault.TheVariants.{BadMagic, TooLong, Compressed, BadHeader, BadBody, OutOfMemory}
 use Rattle.bep_frames.specs.declared.found.Found.{Found}
 use Rattle.bep_frames.specs.declared.found.Found.TheVariants.{Missing, Whole as WholeFound}
-use Rattle.bep_frames.specs.declared.frame.Frame.TheVariants.{Hello as HelloFrame, Message as MessageFrame}
+use Rattle.bep_frames.specs.declared.frame.Frame.TheVariants.{Hello as HelloFrame}
 use Rattle.bep_frames.specs.declared.frame.Frame.{Frame}
-use Rattle.bep_frames.specs.declared.frame.Message.{Message}
 use Rattle.bep_frames.specs.Carried.{carried}
 use Rattle.bep_frames.specs.Readable.{FailsAs}
 use Rattle.bep_frames.specs.Grammar.{magic, max_message_bytes, number16, number32, IsSized16}
 use Rattle.bep_frames.specs.Found.{LacksMore, Finds, Fails, IsCut16}
 use Rattle.std.proofs.lemmas.Bool.{cases_lt}
-use Rattle.std.proofs.lemmas.Result.{err_from_is_err_and}
 use Rattle.std.proofs.lemmas.List.{length-append, length-take-le, take-append-drop}
 use Rattle.std.proofs.Math.Seq.{take-append_seam, drop-append_seam}
 use Rattle.bep_frames.specs.Reading.{Step, More, Whole, Broken, piece_at, sized16_at, hello_found, hello_read, hello_sized, hello_front, hello_at, message_found, message_read, message_sized, message_at, is_zero, header_found, header_read}

@@ -14,20 +14,20 @@ use Rattle.bep_frames.specs.Reading.{Step, More, Whole, Broken, sized16_at, fram
 abbrev pub LacksMore : (List ℕ → Step) → List ℕ → ℕ → Type 0
 LacksMore at bytes missing = (more : List ℕ) → length more < missing → at (bytes ++ more) ≡ More
 
--- the bytes after their number of 16 bits, and the rest
+-- bytes after their length of 16 bits, and the rest
 pub record IsCut16 (bytes held rest : List ℕ) : Type 0 where
   pub sized : List ℕ
   pub split : bytes ≡ sized ++ rest
   pub sized_is : IsSized16 sized held
 
--- the same of bytes that take memory, where they are a message of this table
+-- the same, where decoding the bytes by this table takes memory
 pub record TakesMemory16 (table : Table) (bytes : List ℕ) : Type 0 where
   pub held : List ℕ
   pub rest : List ℕ
   pub cut : IsCut16 bytes held rest
   pub takes : TakesMemory table held
 
--- the same after their number of 32 bits, where they are a message of this type
+-- a body after its length of 32 bits, where decoding it as a message of this type takes memory
 pub record TakesMemory32 (kind : ℤ) (bytes : List ℕ) : Type 0 where
   pub sized : List ℕ
   pub body : List ℕ

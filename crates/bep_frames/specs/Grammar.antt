@@ -17,7 +17,7 @@ use Rattle.bep_frames.specs.Carried.{Carries}
 abbrev pub magic : List ℕ
 magic = 46 ∷ 167 ∷ 217 ∷ 11 ∷ []
 
--- the most bytes of a Hello, of which the length has 16 bits, and of any other message
+-- the most bytes of a Hello, since its length has 16 bits, and of any other message
 abbrev pub max_hello_bytes : ℕ
 max_hello_bytes = 65535
 
@@ -31,14 +31,14 @@ number16 bytes = from_be_bytes w16 bytes
 abbrev pub number32 : List ℕ → ℕ
 number32 bytes = from_be_bytes w32 bytes
 
--- some bytes after their number, which has 16 bits
+-- some bytes after their length, which has 16 bits
 pub record IsSized16 (bytes held : List ℕ) : Type 0 where
   pub size : List ℕ
   pub split : bytes ≡ size ++ held
   pub width : length size ≡ 2
   pub size_is : length held ≡ number16 size
 
--- the same where it has 32 bits
+-- the same where the length has 32 bits
 pub record IsSized32 (bytes held : List ℕ) : Type 0 where
   pub size : List ℕ
   pub split : bytes ≡ size ++ held

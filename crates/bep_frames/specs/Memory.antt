@@ -1,5 +1,5 @@
--- When the frame that is first in some bytes may need memory (own rule): a header never does, nor does a message of an
--- unknown type, nor one of which the fields keep nothing in memory.
+-- Where reading the first frame of some bytes may allocate (own rule): only to decode a whole Hello, or a whole message of
+-- a known type, that takes memory. A header never does, nor does a message of an unknown type.
 use Rattle.std.specs.Prelude.{◌≡◌, ℕ, ◌≤◌, Bool, true, false, ℤ, pos, negsuc, List, ◌++◌, length, IsSomeAnd}
 use Rattle.bep_messages.specs.declared.header.Header.{Header}
 use Rattle.bep_messages.specs.Protocol.{hello_table}
@@ -12,7 +12,7 @@ abbrev pub BodyTakesMemory : ℤ → List ℕ → Type 0
 BodyTakesMemory (pos n) bytes = IsSomeAnd (kind_at n) (λ kind. TakesMemory kind.table bytes)
 BodyTakesMemory (negsuc n) bytes = ⊥
 
--- a whole Hello that takes memory
+-- a whole Hello of which decoding takes memory
 pub record HelloTakesMemory (bytes : List ℕ) : Type 0 where
   pub sized : List ℕ
   pub body : List ℕ
@@ -21,7 +21,7 @@ pub record HelloTakesMemory (bytes : List ℕ) : Type 0 where
   pub sized_is : IsSized16 sized body
   pub takes : TakesMemory hello_table body
 
--- a whole message of a known type that takes memory
+-- a whole message of a known type of which decoding takes memory
 pub record MessageTakesMemory (bytes : List ℕ) : Type 0 where
   pub says : Header
   pub sized : List ℕ
@@ -33,7 +33,7 @@ pub record MessageTakesMemory (bytes : List ℕ) : Type 0 where
   pub short : length body ≤ max_message_bytes
   pub takes : BodyTakesMemory says.kind body
 
--- what is first in the bytes takes memory, where a Hello is due and where none is
+-- one of these is first in the bytes, where a Hello is due and where none is
 abbrev pub FrameTakesMemory : Bool → List ℕ → Type 0
 FrameTakesMemory true bytes = HelloTakesMemory bytes
 FrameTakesMemory false bytes = MessageTakesMemory bytes

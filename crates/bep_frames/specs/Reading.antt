@@ -25,7 +25,7 @@ pub data Step : Type 0 where
 unfoldable pub piece_at : ℕ → List ℕ → (List ℕ → List ℕ → Step) → Step
 piece_at n bytes next = if nat_lt (length bytes) n then More else next (take n bytes) (drop n bytes)
 
--- the bytes after their number of 16 bits, and those after them, once they are there
+-- the bytes after their length of 16 bits, and those after them, once they are there
 unfoldable pub sized16_at : List ℕ → (List ℕ → List ℕ → Step) → Step
 sized16_at bytes next = piece_at 2 bytes (λ size after. piece_at (number16 size) after next)
 

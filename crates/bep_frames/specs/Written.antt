@@ -10,7 +10,7 @@ use Rattle.bep_frames.specs.declared.frame.Message.{Message}
 use Rattle.bep_frames.specs.declared.frame.Message.TheVariants.{ClusterConfig, Index, IndexUpdate, Request, Response, DownloadProgress, Ping, Close}
 use Rattle.bep_frames.specs.Grammar.{magic}
 
--- bytes after their number
+-- bytes after their length, in 16 bits and in 32
 abbrev pub sized16 : List ℕ → List ℕ
 sized16 bytes = to_be_bytes w16 (length bytes) ++ bytes
 

@@ -1,5 +1,4 @@
-use Rattle.std.proofs.Common.{true, false, ap, take, ◌∙◌, arith, rules}
-use Rattle.std.proofs.lemmas.List.{take_at}
+use Rattle.std.proofs.Common.{true, false, arith, rules}
 use Rattle.bep_frames.specs.Reading.{hello_at, hello_sized, hello_front}
 use Rattle.bep_frames.proofs.Places.{hello_takes}
 use Rattle.bep_frames.proofs.Sound.{same_front}
