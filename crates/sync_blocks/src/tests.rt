@@ -1,7 +1,8 @@
 //! Borders of the sizes, worked block lists, readers in small pieces, and reads and allocations that fail. The digests
 //! are those of Python's `hashlib`.
 use super::{
-    Block, MAX_BLOCK_SIZE, MIN_BLOCK_SIZE, ReadFault, block_size_for, blocks_of, is_block_size, tiles,
+    Block, MAX_BLOCK_SIZE, MIN_BLOCK_SIZE, ReadFault, block_size_for, blocks_of, is_block_size,
+    tiles,
 };
 use std::alloc::{AllocError, Global};
 use std::io;

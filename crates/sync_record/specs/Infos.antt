@@ -89,9 +89,9 @@ abbrev pub content_of : Plain → List BlockInfo → Plain × List Block
 content_of plain blocks =
     if not plain.deleted && int_eq plain.type_number (pos 0)
     then (
-        if list_all is_block blocks && describes_file plain.size plain.block_size (map block_of blocks)
-        then (plain, map block_of blocks)
-        else (record plain { invalid = true }, [])
+    if list_all is_block blocks && describes_file plain.size plain.block_size (map block_of blocks)
+    then (plain, map block_of blocks)
+    else (record plain { invalid = true }, [])
     )
     else (plain, [])
 

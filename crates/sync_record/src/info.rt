@@ -65,7 +65,11 @@ fn read_blocks(alloc: Global, infos: &[BlockInfo]) -> Result<Option<Vec<Block>>,
 fn read_block_size(announced: i32) -> i32
     ensures { result ≡ block_size_of announced }
 {
-    if announced == 0 { MIN_BLOCK_SIZE as i32 } else { announced }
+    if announced == 0 {
+        MIN_BLOCK_SIZE as i32
+    } else {
+        announced
+    }
 }
 
 // A natural number of a message.
@@ -112,8 +116,11 @@ fn read_content(
     if plain.deleted || plain.type_number != 0 {
         return Ok((plain, Vec::new(alloc)));
     }
-    let blocks = read_blocks(alloc, infos)?
-        .filter(|blocks| describes_file(plain.size, plain.block_size, blocks));
+    let blocks = read_blocks(alloc, infos)?.filter(|blocks| describes_file(
+        plain.size,
+        plain.block_size,
+        blocks,
+    ));
     Ok(match blocks {
         Some(blocks) => (plain, blocks),
         None => {

@@ -86,11 +86,12 @@ from_fields-requires c = record {
 }
 
 pub returns-clause-answer : goal.returns-clause-answer
-returns-clause-answer c =
-    (ap refusal (sym c.into_string.ensures) ∙ c.in_ok-name.ensures.answer.0, 
-    c.in_ok-from_fields.ensures
-    ∙ made c.args.info _ _ _ _ _ _ _
-    (record { name_is = c.in_ok-name.ensures.answer.1; text_is = c.into_string.ensures; version_is = c.in_ok-version.ensures.value; counters_are = c.as_slice.ensures; content_is = c.in_ok-plain.ensures.value; plain_is = c.read_plain-plain.ensures.value; infos_are = c.as_slice-2.ensures }))
+returns-clause-answer c = (
+  ap refusal (sym c.into_string.ensures) ∙ c.in_ok-name.ensures.answer.0,
+  c.in_ok-from_fields.ensures
+      ∙ made c.args.info _ _ _ _ _ _ _
+      (record { name_is = c.in_ok-name.ensures.answer.1; text_is = c.into_string.ensures; version_is = c.in_ok-version.ensures.value; counters_are = c.as_slice.ensures; content_is = c.in_ok-plain.ensures.value; plain_is = c.read_plain-plain.ensures.value; infos_are = c.as_slice-2.ensures }),
+)
 
 -- what was made is no refusal
 made_unrefused : (name : Name) (r : FileRecord) (refused : Option NameFault) → IfSome refused (λ fault. Failed (Ok name) fault) → IfSome refused (λ fault. Failed (Ok r) fault)
