@@ -176,8 +176,7 @@ module _ (s : FolderState) (named : IsNamed s.announced) where
       let es = entries s.announced in
       let at = of_map (with_devices es) (listed after) b (in_take limit (bests_after s after) b (contains_in _ b c)) in
       let kept = of_filter (is_listed_after after) bs at.0 at.1 in
-      let name : at.0.0.name ≡ b.0.name = sym (bests-named at.0 kept.0) ∙ ap (λ (x : Found). x.0.name) at.2 in
-      (
+      let name : at.0.0.name ≡ b.0.name = sym (bests-named at.0 kept.0) ∙ ap (λ (x : Found). x.0.name) at.2 in (
         sym (ap (option_map (with_devices es)) ((bests-tell s.announced b.0.name at.0).0 (in_contains bs at.0 kept.0, name)) ∙ ap Some at.2),
         behind after b.0.name (subst (λ n. is_after after n ≡ true) name kept.1),
       )

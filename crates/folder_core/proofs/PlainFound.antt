@@ -154,7 +154,7 @@ only_of n [] rise = refl
 only_of n (b ∷ bs) rise =
     elim (is_of n b) as (λ t. is_of n b ≡ t → cond t (b ∷ filter (is_of n) bs) (filter (is_of n) bs) ≡ option_to_list (cond t (Some b) (find (is_of n) bs))) [
       | true ↦ λ t. ap (λ l. b ∷ l) (only_of n bs rise.1 ∙ ap option_to_list (none_found (is_of n) bs (λ f i.
-      false_from_ne_true (is_of n f) (λ u. apart b.0.name f.0.name (rise.0 f i) (same_bytes b.0.name n t ∙ sym (same_bytes f.0.name n u))))))
+          false_from_ne_true (is_of n f) (λ u. apart b.0.name f.0.name (rise.0 f i) (same_bytes b.0.name n t ∙ sym (same_bytes f.0.name n u))))))
       | false ↦ λ t. only_of n bs rise.1
     ] refl
 

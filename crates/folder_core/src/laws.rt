@@ -26,8 +26,8 @@ pub use pulls::{
     finish_records_the_target, need_is_the_rule, pulls_end_by_their_tickets,
 };
 pub use reads::{
-    bests_come_in_pages, blocks_are_found_where_they_stand, local_records_come_in_pages, needed_names_come_in_pages,
-    reads_tell_the_state,
+    bests_come_in_pages, blocks_are_found_where_they_stand, local_records_come_in_pages,
+    needed_names_come_in_pages, reads_tell_the_state,
 };
 pub use rows::{best_in_rows, changes_in_rows, histories_in_rows, reads_in_rows};
 pub use scans::{

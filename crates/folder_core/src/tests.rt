@@ -185,7 +185,12 @@ fn lists_deletions_and_no_invalid_records(rt: HostRuntime) -> Result<(), NameFau
     };
     let mut folder = PlainFolder::new(rt.alloc(), device(9));
     full(&rt, &mut folder, device(1), &[invalid, deleted])?;
-    full(&rt, &mut folder, device(2), &[file("b", &[], 1), file("c", &[], 1)])?;
+    full(
+        &rt,
+        &mut folder,
+        device(2),
+        &[file("b", &[], 1), file("c", &[], 1)],
+    )?;
     lists(&rt, &folder, None, 9, &["b", "c"])
 }
 

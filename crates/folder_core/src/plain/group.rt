@@ -143,11 +143,7 @@ fn dominates(a: &Record, b: &Record) -> bool
 
 /// The devices whose valid record has the version and the content of the best, in the order of the entries. O(k) for k
 /// entries.
-fn devices_with(
-    alloc: Global,
-    group: &[Entry],
-    best: &Record,
-) -> Result<Vec<DeviceId>, AllocError>
+fn devices_with(alloc: Global, group: &[Entry], best: &Record) -> Result<Vec<DeviceId>, AllocError>
     ensures { IfOk result (λ ds. ds.items ≡ devices_with group.now best.now) }
 {
     group
