@@ -5,11 +5,10 @@ use Rattle.folder_core.proofs.Orders.{bytes_total}
 use Rattle.folder_core.proofs.PlainTests.{filter_filter, none_left}
 use Rattle.folder_core.proofs.ReadLaws.{Behind, behind, in_take, of_behind, sorted_take, take_or_behind}
 use Rattle.folder_core.proofs.TestLemmas.{inside, none_some, In, in_contains, contains_in, in_filter, in_map, of_filter, of_map}
-use Rattle.folder_core.specs.Announced.{Announced, Announcement, IsNamed, best, bests}
+use Rattle.folder_core.specs.Announced.{Announcement, IsNamed, best, bests}
 use Rattle.folder_core.specs.Reads.{ArePages, Found, best_found, bests_after, bests_page, is_after, last_page, next_page, with_devices}
 use Rattle.folder_core.specs.States.{FolderState}
 use Rattle.std.proofs.Common.{◌≡◌, ℕ, zero, suc, ◌<◌, ◌≤◌, Bool, true, false, List, [], ◌∷◌, ◌++◌, ◌-◌, ◌⊎◌, length, take, append-nil, refl, sym, ap, subst, ◌∙◌, inl, inr, arith}
-use Rattle.std.proofs.lemmas.Bool.{true≢false}
 use Rattle.std.proofs.lemmas.List.{length-take, take_all}
 use Rattle.std.proofs.lemmas.List.Folds.{flat_map-map}
 use Rattle.std.specs.Cmp.{tied_itself}
@@ -17,9 +16,9 @@ use Rattle.std.specs.FinMap.{entries}
 use Rattle.std.specs.List.{AllByRecursion}
 use Rattle.std.specs.List.Sorted.{IsStrictlySortedBy}
 use Rattle.std.specs.Ordering.{is_gt, ordering_reverse}
-use Rattle.std.specs.Prelude.{◌&&◌, cond, filter, flat_map, map, slice_get, Option, Some, None, option_map, Contains, min}
+use Rattle.std.specs.Prelude.{◌&&◌, cond, filter, flat_map, map, slice_get, Option, Some, None, option_map, Contains}
 use Rattle.std.specs.declared.cmp.Ordering.{Ordering}
-use Rattle.std.specs.declared.cmp.Ordering.TheVariants.{Less, Equal, Greater}
+use Rattle.std.specs.declared.cmp.Ordering.TheVariants.{Less}
 use Rattle.sync_record.specs.Devices.{bytes_cmp}
 use Rattle.sync_record.specs.Records.{Name, FileRecord}
 
