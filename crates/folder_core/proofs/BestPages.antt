@@ -1,10 +1,10 @@
 -- Pages of bests: each after the last name of the one before.
-use Rattle.folder_core.proofs.AllBests.{bests-announced, bests-tell}
-use Rattle.folder_core.proofs.NeedLaws.{Rising, bests-rising, rising-filter}
+use Rattle.folder_core.proofs.BestList.{bests-announced, bests-tell}
+use Rattle.folder_core.proofs.PullNeed.{Rising, bests-rising, rising-filter}
 use Rattle.folder_core.proofs.Orders.{bytes_total}
-use Rattle.folder_core.proofs.PlainTests.{filter_filter, none_left}
-use Rattle.folder_core.proofs.ReadLaws.{Behind, behind, in_take, of_behind, sorted_take, take_or_behind}
-use Rattle.folder_core.proofs.TestLemmas.{inside, none_some, In, in_contains, contains_in, in_filter, in_map, of_filter, of_map}
+use Rattle.folder_core.proofs.ListFilters.{filter_filter, none_left}
+use Rattle.folder_core.proofs.ReadAnswers.{Behind, behind, in_take, of_behind, sorted_take, take_or_behind}
+use Rattle.folder_core.proofs.ListTests.{inside, none_some, In, in_contains, contains_in, in_filter, in_map, of_filter, of_map}
 use Rattle.folder_core.specs.Announced.{Announcement, IsNamed, best, bests}
 use Rattle.folder_core.specs.Reads.{ArePages, Found, best_found, bests_after, bests_page, is_after, last_page, next_page, with_devices}
 use Rattle.folder_core.specs.States.{FolderState}

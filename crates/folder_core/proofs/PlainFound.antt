@@ -23,16 +23,16 @@ use Rattle.sync_record.proofs.SameContent.{reflexive}
 use Rattle.sync_version.proofs.Lemmas.{dominates_itself, same_version_tells}
 use Rattle.sync_version.specs.Computed.{dominates, same_version}
 use Rattle.folder_core.specs.declared.plain.entry.Entry.{Entry}
-use Rattle.folder_core.specs.Announced.{In, Announcement, key_cmp, is_best, is_of, best, bests, devices_of}
-use Rattle.folder_core.proofs.AllBests.{apart}
-use Rattle.folder_core.proofs.NeedLaws.{Rising, bests-rising}
+use Rattle.folder_core.specs.Announced.{Announcement, key_cmp, is_best, is_of, best, bests, devices_of}
+use Rattle.folder_core.proofs.BestList.{apart}
+use Rattle.folder_core.proofs.PullNeed.{Rising, bests-rising}
 use Rattle.folder_core.proofs.Orders.{exact_keys, is_true, keys_total}
-use Rattle.folder_core.proofs.Preferred.{is_preferred}
+use Rattle.folder_core.proofs.BestPreferred.{is_preferred}
 use Rattle.folder_core.specs.Codes.{Pulls}
 use Rattle.folder_core.specs.Reads.{best_found, bests_after, is_after, with_devices}
-use Rattle.folder_core.specs.Kept.{Rises, better, better_of, devices_with, filed, folder_of, group_best, is_undominated, listed_bests}
-use Rattle.folder_core.proofs.PlainTests.{filter_in, filter_map, filter_swap, any_map, none_found}
-use Rattle.folder_core.proofs.TestLemmas.{same_bytes, alike_bytes, below_in, in_map, inside, none_some, of_filter, parts}
+use Rattle.folder_core.specs.Plain.{Rises, better, better_of, devices_with, filed, folder_of, group_best, is_undominated, listed_bests}
+use Rattle.folder_core.proofs.ListFilters.{filter_in, filter_map, filter_swap, any_map, none_found}
+use Rattle.folder_core.proofs.ListTests.{same_bytes, alike_bytes, below_in, in_map, inside, none_some, of_filter, parts, In}
 use Rattle.folder_core.proofs.PlainBest.{undominated, higher, best_reduced, top}
 use Rattle.folder_core.proofs.PlainGroup.{behind_prefix, best_in_group, bests_in_part, devices_in_group, drop_rises, found_in_part, group, is_before, is_named, named_down, partitioned, prefix_passes}
 

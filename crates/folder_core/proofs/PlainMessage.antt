@@ -20,11 +20,11 @@ use Rattle.std.proofs.lemmas.Map.Lookups.{exact_bytes}
 use Rattle.std.proofs.lemmas.Bool.{and_from, and_parts, false_from_ne_true, not-true, true≢false}
 use Rattle.sync_record.specs.Devices.{bytes_cmp}
 use Rattle.sync_record.specs.Records.{Name, FileRecord}
-use Rattle.folder_core.specs.Kept.{IsLastOfEach, NamesRise, named}
+use Rattle.folder_core.specs.Plain.{IsLastOfEach, NamesRise, named}
 use Rattle.folder_core.proofs.Orders.{is_true}
-use Rattle.folder_core.proofs.PlainTests.{join, less_is, none_found}
-use Rattle.folder_core.proofs.ReadLaws.{all_at}
-use Rattle.folder_core.proofs.TestLemmas.{alike_bytes, is_less, parts, same_bytes}
+use Rattle.folder_core.proofs.ListFilters.{join, less_is, none_found}
+use Rattle.folder_core.proofs.ReadAnswers.{all_at}
+use Rattle.folder_core.proofs.ListTests.{alike_bytes, is_less, parts, same_bytes}
 
 -- records by their names
 abbrev pub before : FileRecord → FileRecord → Bool

@@ -5,7 +5,7 @@ ghost use Rattle.sync_record.specs.Contents.{same_content};
 ghost use Rattle.sync_record.specs.Preference.{is_preferred};
 ghost use Rattle.sync_record.specs.Validity.{is_valid};
 ghost use Rattle.sync_version.specs.Computed.{dominates, same_version};
-ghost use Rattle.folder_core.specs.Kept.{Rises, is_undominated, better, better_of, devices_with, group_best, listed_bests};
+ghost use Rattle.folder_core.specs.Plain.{Rises, is_undominated, better, better_of, devices_with, group_best, listed_bests};
 ghost use Rattle.folder_core.specs.Reads.{is_after};
 
 use super::entry::Entry;

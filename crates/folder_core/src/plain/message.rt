@@ -1,6 +1,6 @@
 //! The records of a message.
 ghost use Rattle.std.specs.Prelude.{◌≤◌, IfOk, IsOk, vec_len};
-ghost use Rattle.folder_core.specs.Kept.{IsLastOfEach, NamesRise};
+ghost use Rattle.folder_core.specs.Plain.{IsLastOfEach, NamesRise};
 
 use std::alloc::AllocError;
 use sync_record::Record;

@@ -6,11 +6,11 @@ use Rattle.std.proofs.lemmas.Bool.{true≢false}
 use Rattle.std.proofs.lemmas.List.{map-append}
 use Rattle.std.proofs.lemmas.List.Sums.{prefix_len-le-length}
 use Rattle.folder_core.specs.declared.best.Best.{Best}
-use Rattle.folder_core.specs.Kept.{Rises, group_best, listed_bests}
+use Rattle.folder_core.specs.Plain.{Rises, group_best, listed_bests}
 use Rattle.folder_core.specs.Reads.{Found}
 use Rattle.folder_core.proofs.PlainFound.{IsFirstStep, first_step, page_more, page_not_empty, page_same}
 use Rattle.folder_core.proofs.PlainGroup.{is_named}
-use Rattle.folder_core.proofs.TestLemmas.{none_some}
+use Rattle.folder_core.proofs.ListTests.{none_some}
 use Rattle.folder_core.proofs.plain.group.bests_of.Goals as goal
 
 abbrev told : Best → Found

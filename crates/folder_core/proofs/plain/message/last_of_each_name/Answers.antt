@@ -1,7 +1,7 @@
 use Rattle.std.proofs.Common.{◌≡◌, true, length, ap, sym, subst, ◌∙◌, rules}
 use Rattle.std.specs.List.{AllAdjacentBelow, dedup, find}
 use Rattle.std.proofs.lemmas.Fn.{always_returns_same, dedup_same}
-use Rattle.folder_core.specs.Kept.{IsLastOfEach}
+use Rattle.folder_core.specs.Plain.{IsLastOfEach}
 use Rattle.folder_core.proofs.PlainMessage.{InOrder, already_last, in_order, not_out_of_order, rises_in_order, before, before_ranks, dedup_first, dedup_rises, is_record_of, same_name, stable_first}
 use Rattle.folder_core.proofs.plain.message.last_of_each_name.Goals as goal
 
