@@ -1,16 +1,17 @@
 -- The merge of a device's records with a list of entries, from behind.
-use Rattle.std.proofs.Common.{append-nil, ◌≡◌, ℕ, ◌+◌, ◌-◌, List, [], ◌∷◌, ◌++◌, get_or, length, take, refl, sym, ap, subst, ◌∙◌, arith}
-use Rattle.std.specs.Prelude.{T, Option, None, Some, map, MatchOption}
+use Rattle.std.proofs.Common.{append-nil, ◌≡◌, ℕ, ◌+◌, ◌-◌, ◌<◌, ◌≤◌, Bool, true, false, drop, reverse, List, [], ◌∷◌, ◌++◌, get_or, length, take, refl, sym, ap, subst, ◌∙◌, arith}
+use Rattle.std.specs.Prelude.{T, not, Option, None, Some, map, MatchOption}
 use Rattle.std.specs.Bool.{passes}
-use Rattle.std.specs.List.{AllByRecursion, slice_get}
+use Rattle.std.specs.List.{AllByRecursion, AllWithin, slice_get}
 use Rattle.std.specs.Option.{option_to_list}
 use Rattle.std.specs.declared.cmp.Ordering.{Ordering}
 use Rattle.std.specs.declared.cmp.Ordering.TheVariants.{Less, Equal, Greater}
 use Rattle.std.specs.Ordering.{is_eq, is_gt, ordering_reverse, ordering_then}
 use Rattle.std.specs.FinMap.{is_sorted, put}
 use Rattle.std.specs.FinMap.Entries.{below_all, by_order}
-use Rattle.std.proofs.lemmas.List.{get_or_push, length_push, map_push, take_all, take_more}
+use Rattle.std.proofs.lemmas.List.{append_assoc, reverse-append, take-append-drop, get_or_push, length_push, map_push, take_all, take_more}
 use Rattle.std.proofs.lemmas.List.Sums.{fold-append}
+use Rattle.std.proofs.Math.Seq.{take-append_seam}
 use Rattle.std.proofs.lemmas.Option.{get_or_from_slice_get, slice_get-get_or, slice_get_past, slice_get_within}
 use Rattle.std.proofs.lemmas.Bool.{and_parts, true≢false}
 use Rattle.sync_record.specs.Devices.{Identity, bytes_cmp}
@@ -209,3 +210,49 @@ module _ (d : Identity) where
       ∙ put_instead (filed_by d r) (filed e) (merged es' rs')
       (put_all_stand_before (key r.name d) (map (filed_by d) rs') (map filed es') records_before (subst (λ k. StandBefore k (map filed es')) same entries_before))
       (sym equal)
+
+-- ---- what is after the last record
+
+greater_of : (r : Ordering) → not (is_gt r) ≡ false → r ≡ Greater
+greater_of Less e = absurd (true≢false e)
+greater_of Equal e = absurd (true≢false e)
+greater_of Greater e = refl
+
+abbrev pub is_up_to_key : Key → Entry → Bool
+is_up_to_key k e = not (is_gt (key_cmp (filed e).0 k))
+
+pub up_to_key_down : (k : Key) (x y : Entry) → key_cmp (filed x).0 (filed y).0 ≡ Less → is_up_to_key k y ≡ true → is_up_to_key k x ≡ true
+up_to_key_down k x y less t =
+    elim (key_cmp (filed y).0 k) as (λ r. key_cmp (filed y).0 k ≡ r → not (is_gt r) ≡ true → is_up_to_key k x ≡ true) [
+      | Less ↦ λ e u. ap (λ r. not (is_gt r)) (keys_total.trans (filed x).0 (filed y).0 k less e)
+      | Equal ↦ λ e u. ap (λ r. not (is_gt r)) (ap (key_cmp (filed x).0) (sym (exact_keys (filed y).0 k e)) ∙ less)
+      | Greater ↦ λ e u. absurd (true≢false (sym u))
+    ] refl t
+
+at_push : {A : Type 0} (xs : List A) (e : A) (rest : List A) → get_or ((xs ++ e ∷ []) ++ rest) (length xs) e ≡ e
+at_push [] e rest = refl
+at_push (x ∷ xs) e rest = at_push xs e rest
+
+within_push : {A : Type 0} (xs : List A) (e : A) (rest : List A) → length xs < length ((xs ++ e ∷ []) ++ rest)
+within_push [] e rest = omega arith
+within_push (x ∷ xs) e rest = let s = within_push xs e rest in omega arith
+
+-- the last of a front of a list of which all from some place on are after a key
+module _ (k : Key) (old es es' : List Entry) (e : Entry) (kept n : ℕ) (front : es ≡ take n old) (split : es ≡ es' ++ e ∷ []) where
+  whole : old ≡ (es' ++ e ∷ []) ++ drop n old
+  whole = sym (take-append-drop n old) ∙ ap (λ xs. xs ++ drop n old) (sym front ∙ split)
+
+  pub popped_greater : AllWithin (λ y. is_up_to_key k y ≡ false) old kept (length old) → kept ≤ length es' → Greater ≡ key_cmp (filed e).0 k
+  popped_greater fails within =
+      let later : AllWithin (λ y. is_up_to_key k y ≡ false) ((es' ++ e ∷ []) ++ drop n old) kept (length ((es' ++ e ∷ []) ++ drop n old)) =
+      subst (λ (xs : List Entry). AllWithin (λ y. is_up_to_key k y ≡ false) xs kept (length xs)) whole fails in
+      sym (greater_of _ (ap (is_up_to_key k) (sym (at_push es' e (drop n old))) ∙ later (length es') e within (within_push es' e (drop n old))))
+
+  pub popped_front : es' ≡ take (length es') old
+  popped_front = sym (ap (take (length es')) (whole ∙ append_assoc es' (e ∷ []) (drop n old)) ∙ take-append_seam es' (e ∷ drop n old))
+
+-- what is moved from the end of one list to the end of the other
+pub moved : (es' : List Announcement) (room : List Entry) (e : Entry) → es' ++ map filed (reverse (room ++ e ∷ [])) ≡ (es' ++ filed e ∷ []) ++ map filed (reverse room)
+moved es' room e =
+    ap (λ xs. es' ++ map filed xs) (reverse-append room (e ∷ []))
+    ∙ sym (append_assoc es' (filed e ∷ []) (map filed (reverse room)))
