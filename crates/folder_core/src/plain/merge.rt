@@ -34,7 +34,8 @@ pub(super) fn merge(
 }
 
 /// Moves the entries that are greater than what the device announces in the last of the records to `room`, the last
-/// first; none where there is no record. Does not allocate. O(log n + t) for n entries and t that are moved.
+/// first; none where there is no record. Does not allocate. O(log n + t) for n entries and t that are moved, O(1) where
+/// there are none.
 fn move_greater(
     entries: &mut Vec<Entry>,
     device: DeviceId,
@@ -54,6 +55,12 @@ fn move_greater(
     let Some(record) = records.last() else {
         return;
     };
+    let Some(last) = entries.last() else {
+        return;
+    };
+    if !is_greater(last, device, record) {
+        return;
+    }
     let kept = entries.partition_point(|entry| !is_greater(entry, device, record));
     while entries.len() > kept {
         if let Some(entry) = entries.pop() {

@@ -20,13 +20,13 @@ loop-entries-preserved-in-Some-pop c =
     let e = c.in-Some-pop.entry in
     let room = c.loop-entries.room.items in
     let kept = c.partition_point-kept.result in
-    let seen = c.deref.result.now in
+    let seen = c.deref-2.result.now in
     let inv = c.loop-entries.invariant in
     let split : es ≡ es' ++ e ∷ [] = c.in-Some-pop.ensures.items in
     let place = IsPartitionPoint-from_clause (is_up_to_key k) seen kept c.partition_point-kept.ensures.partitioned
-    (partitioned (λ _. Unit {0}) (is_up_to_key k) (λ x y _. up_to_key_down k x y) seen (subst Rises (sym c.deref.ensures.value) c.requires.rises) (λ x i. tt))
+    (partitioned (λ _. Unit {0}) (is_up_to_key k) (λ x y _. up_to_key_down k x y) seen (subst Rises (sym c.deref-2.ensures.value) c.requires.rises) (λ x i. tt))
     (λ a r f k. search rules) in
-    let fails : AllWithin (λ y. is_up_to_key k y ≡ false) old kept (length old) = subst (λ xs. AllWithin (λ y. is_up_to_key k y ≡ false) xs kept (length xs)) c.deref.ensures.value place.1 in
+    let fails : AllWithin (λ y. is_up_to_key k y ≡ false) old kept (length old) = subst (λ xs. AllWithin (λ y. is_up_to_key k y ≡ false) xs kept (length xs)) c.deref-2.ensures.value place.1 in
     let len : vec_len c.pop.new.self ≡ length es' = omega arith in
     let one_less = c.in-Some-pop.ensures.len in
     let one_more = c.push_reserved.ensures.len in
