@@ -76,7 +76,7 @@ get-index_own d rs a n = get-announce_own d rs (without d a) n ∙ ap (option_or
 pub get-index_other : (d : Identity) (rs : List FileRecord) (a : Announced) (e : Identity) (n : Name) → d ≢ e → get (announce d rs (without d a)) (key n e) ≡ get a (key n e)
 get-index_other d rs a e n other = get-announce d rs (without d a) e n other ∙ get-without_other d a e n other
 
--- A change of one device's records makes each by what stood there, and leaves the others'.
+-- A change of one device's records makes each by what was there, and leaves the others'.
 pub record ChangesOnly (d : Identity) (change : Announced → Announced) (made : Name → Option FileRecord → Option FileRecord) : Type 0 where
   pub own : (a : Announced) (n : Name) → get (change a) (key n d) ≡ made n (get a (key n d))
   pub others : (a : Announced) (e : Identity) (n : Name) → d ≢ e → get (change a) (key n e) ≡ get a (key n e)

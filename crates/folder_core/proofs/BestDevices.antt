@@ -60,8 +60,8 @@ devices-rise a b = rising-devices b (entries a) (entries_sorted a)
 abbrev pub HasIt : Announced → Name → Announcement → Identity → Type 0
 HasIt a n b d = (r : FileRecord) × (get a (key n d) ≡ Some r) × IsTrue (is_valid r) × (r.version ≡ b.1.version) × IsTrue (same_content r b.1)
 
-pub devices-tell : (a : Announced) (n : Name) (b : Announcement) (d : Identity) → best (entries a) n ≡ Some b → Contains (devices_of (entries a) b) d ↔ HasIt a n b d
-devices-tell a n b d is = (
+pub devices-listed : (a : Announced) (n : Name) (b : Announcement) (d : Identity) → best (entries a) n ≡ Some b → Contains (devices_of (entries a) b) d ↔ HasIt a n b d
+devices-listed a n b d is = (
   λ c. there (of_map (λ (e : Announcement). e.0.device) (filter (has_it b) (entries a)) d (contains_in (devices_of (entries a) b) d c)),
   λ h.
       let e : Announcement = (key n d, h.0) in

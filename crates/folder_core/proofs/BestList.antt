@@ -32,8 +32,8 @@ bests-rise a = names-rising (bests (entries a)) (bests-rising a)
 pub bests-announced : (a : Announced) (e : Announcement) → In e (bests (entries a)) → get a e.0 ≡ Some e.1
 bests-announced a e i = in_get keys_total exact_keys a e (of_filter (is_best (entries a)) (entries a) e i).0
 
-pub bests-tell : (a : Announced) (n : Name) (e : Announcement) → (Contains (bests (entries a)) e × (e.0.name ≡ n)) ↔ (best (entries a) n ≡ Some e)
-bests-tell a n e = (
+pub bests-listed : (a : Announced) (n : Name) (e : Announcement) → (Contains (bests (entries a)) e × (e.0.name ≡ n)) ↔ (best (entries a) n ≡ Some e)
+bests-listed a n e = (
   λ h. let chosen = of_filter (is_best (entries a)) (entries a) e (contains_in (bests (entries a)) e h.0) in
       let b = of_is_best a (entries a) (lists-entries a) e (bests-announced a e (contains_in (bests (entries a)) e h.0)) chosen.1 in
       subst (λ m. best (entries a) m ≡ Some e) h.1 (best-only a e.0.name e.0.device e.1 b),

@@ -1,4 +1,4 @@
--- In which order scans, the entrance to a commit and the ends of a pull are refused.
+-- In which order scans, entering a commit and the ends of a pull are tested.
 use Rattle.std.proofs.Common.{◌≡◌, ◌≢◌, ℕ, ◌+◌, ◌-◌, ◌^◌, ◌<◌, ◌≤◌, Bool, true, false, List, [], ◌∷◌, refl, sym, ap, ◌∙◌}
 use Rattle.std.specs.Prelude.{not, ◌&&◌, ◌==◌, if◌then◌else◌, Option, Some, None, option_and_then, unwrap_or}
 use Rattle.std.specs.Option.{option_map_or}
@@ -190,8 +190,8 @@ module _ (s : FolderState) (n : Name) (moment : ℕ) where
 abbrev fits_ticket : Token → Stage → Pull → Bool
 fits_ticket t stage p = (p.number == t.number) && same_record p.target t.target && same_stage p.stage stage
 
-pub stands-found : (s : FolderState) (t : Token) (stage : Stage) (p : Pull) → IsFor s t stage p → pull_of s t stage ≡ Some p
-stands-found s t stage p st =
+pub ticket-found : (s : FolderState) (t : Token) (stage : Stage) (p : Pull) → IsFor s t stage p → pull_of s t stage ≡ Some p
+ticket-found s t stage p st =
     ap (option_and_then (λ q. if fits_ticket t stage q then Some q else None)) st.open_pull
     ∙ cond-true (fits_ticket t stage p) (Some p) None
     (and_from _ _ (and_from _ _ (eq-eqb p.number t.number st.number)
@@ -202,8 +202,8 @@ stands-found s t stage p st =
     own Pulling = refl
     own Committing = refl
 
-pub found-stands : (s : FolderState) (t : Token) (stage : Stage) (p : Pull) → pull_of s t stage ≡ Some p → IsFor s t stage p
-found-stands s t stage p found =
+pub found-ticket : (s : FolderState) (t : Token) (stage : Stage) (p : Pull) → pull_of s t stage ≡ Some p → IsFor s t stage p
+found-ticket s t stage p found =
     let is = pull_of-is s t stage p found in
     let fit = and_parts _ _ (pull_of-fits s t stage p found) in
     let same = and_parts _ _ fit.0 in
@@ -214,34 +214,34 @@ found-stands s t stage p found =
       target = same_record-is p.target t.target same.1;
     }
 
-none-stands : (s : FolderState) (t : Token) (stage : Stage) → ((p : Pull) → ¬ (IsFor s t stage p)) → pull_of s t stage ≡ None
-none-stands s t stage none = by (pull_of s t stage) refl
+no-ticket : (s : FolderState) (t : Token) (stage : Stage) → ((p : Pull) → ¬ (IsFor s t stage p)) → pull_of s t stage ≡ None
+no-ticket s t stage none = by (pull_of s t stage) refl
   where
     by : (o : Option Pull) → pull_of s t stage ≡ o → o ≡ None
     by None e = refl
-    by (Some p) e = absurd (none p (found-stands s t stage p e))
+    by (Some p) e = absurd (none p (found-ticket s t stage p e))
 
 module _ (s : FolderState) (t : Token) where
   pub enter-stray : ((p : Pull) → ¬ (IsFor s t Pulling p)) → (step s (EnterCommit t)).0 ≡ Stray
-  enter-stray none = ap (λ o. answer (enter_commit s t o)) (none-stands s t Pulling none)
+  enter-stray none = ap (λ o. answer (enter_commit s t o)) (no-ticket s t Pulling none)
 
   pub finish-stray : (assembled : FileRecord) → ((p : Pull) → ¬ (IsFor s t Committing p)) → (step s (Finish t assembled)).0 ≡ Stray
-  finish-stray assembled none = ap (λ o. answer (finish s t o)) (none-stands s t Committing none)
+  finish-stray assembled none = ap (λ o. answer (finish s t o)) (no-ticket s t Committing none)
 
   pub finish-done : (assembled : FileRecord) (p : Pull) → IsFor s t Committing p → (step s (Finish t assembled)).0 ≡ Done (s.last + 1)
-  finish-done assembled p st = ap (λ o. answer (finish s t o)) (stands-found s t Committing p st)
+  finish-done assembled p st = ap (λ o. answer (finish s t o)) (ticket-found s t Committing p st)
 
   pub give_up-stray : ((p : Pull) → ¬ (IsFor s t Pulling p)) → (step s (GiveUp t)).0 ≡ Stray
-  give_up-stray none = ap (λ o. answer (close_pull s t o)) (none-stands s t Pulling none)
+  give_up-stray none = ap (λ o. answer (close_pull s t o)) (no-ticket s t Pulling none)
 
   pub give_up-closed : (p : Pull) → IsFor s t Pulling p → (step s (GiveUp t)).0 ≡ Closed
-  give_up-closed p st = ap (λ o. answer (close_pull s t o)) (stands-found s t Pulling p st)
+  give_up-closed p st = ap (λ o. answer (close_pull s t o)) (ticket-found s t Pulling p st)
 
   pub abort-stray : ((p : Pull) → ¬ (IsFor s t Committing p)) → (step s (Abort t)).0 ≡ Stray
-  abort-stray none = ap (λ o. answer (close_pull s t o)) (none-stands s t Committing none)
+  abort-stray none = ap (λ o. answer (close_pull s t o)) (no-ticket s t Committing none)
 
   pub abort-closed : (p : Pull) → IsFor s t Committing p → (step s (Abort t)).0 ≡ Closed
-  abort-closed p st = ap (λ o. answer (close_pull s t o)) (stands-found s t Committing p st)
+  abort-closed p st = ap (λ o. answer (close_pull s t o)) (ticket-found s t Committing p st)
 
   module _ (p : Pull) (st : IsFor s t Pulling p) where
     abbrev entered : Answer × FolderState
@@ -257,7 +257,7 @@ module _ (s : FolderState) (t : Token) where
     base_test = (not (same_local_version (local_version s t.name) p.base), LocalMoved)
 
     past-stray : step s (EnterCommit t) ≡ first_answer s (base_test ∷ best_test ∷ room_test ∷ []) entered
-    past-stray = ap (enter_commit s t) (stands-found s t Pulling p st)
+    past-stray = ap (enter_commit s t) (ticket-found s t Pulling p st)
 
     pub enter-moved : local_version s t.name ≢ p.base → (step s (EnterCommit t)).0 ≡ LocalMoved
     enter-moved other =

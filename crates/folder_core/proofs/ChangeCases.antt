@@ -1,4 +1,4 @@
--- What a change can come to: refused, or made after all of its tests failed.
+-- What a change can come to: the answer of a test, or made after all of its tests failed.
 use Rattle.std.proofs.Common.{◌≡◌, ℕ, ◌+◌, Bool, true, false, List, [], ◌∷◌, refl}
 use Rattle.std.specs.Prelude.{cond, Option, Some, None, is_some, ⊤}
 use Rattle.std.specs.Option.{option_map_or}
@@ -18,17 +18,17 @@ AllFail [] = ⊤
 AllFail (t ∷ ts) = (t.0 ≡ false) × AllFail ts
 
 -- no answer of the tests says that the change was made
-abbrev pub AllRefuse : List (Bool × Answer) → Type 0
-AllRefuse [] = ⊤
-AllRefuse (t ∷ ts) = (is_accepted t.1 ≡ false) × AllRefuse ts
+abbrev pub AllAnswer : List (Bool × Answer) → Type 0
+AllAnswer [] = ⊤
+AllAnswer (t ∷ ts) = (is_accepted t.1 ≡ false) × AllAnswer ts
 
-refuse-cases : (P : Answer × FolderState → Type 0) (s : FolderState) (tests : List (Bool × Answer)) (made : Answer × FolderState)
-    → AllRefuse tests → ((a : Answer) → is_accepted a ≡ false → P (a, s)) → (AllFail tests → P made) → P (first_answer s tests made)
-refuse-cases P s [] made refusing refused go = go tt
-refuse-cases P s (t ∷ ts) made refusing refused go =
+answer-cases : (P : Answer × FolderState → Type 0) (s : FolderState) (tests : List (Bool × Answer)) (made : Answer × FolderState)
+    → AllAnswer tests → ((a : Answer) → is_accepted a ≡ false → P (a, s)) → (AllFail tests → P made) → P (first_answer s tests made)
+answer-cases P s [] made answering tested go = go tt
+answer-cases P s (t ∷ ts) made answering tested go =
     elim (t.0) as (λ b. t.0 ≡ b → P (cond b (t.1, s) (first_answer s ts made))) [
-      | true ↦ λ _. refused t.1 refusing.0
-      | false ↦ λ fails. refuse-cases P s ts made refusing.1 refused (λ fs. go (fails, fs))
+      | true ↦ λ _. tested t.1 answering.0
+      | false ↦ λ fails. answer-cases P s ts made answering.1 tested (λ fs. go (fails, fs))
     ] refl
 
 -- the first test holds, or fails and the next decide
@@ -51,7 +51,7 @@ gone_now s n r moment = gone_record s r (next_version s n moment) moment
 
 -- What has to hold of each outcome, so that it holds of each change.
 pub record Cases (s : FolderState) (P : Change → Answer × FolderState → Type 0) : Type 0 where
-  pub refused : (c : Change) (a : Answer) → is_accepted a ≡ false → P c (a, s)
+  pub tested : (c : Change) (a : Answer) → is_accepted a ≡ false → P c (a, s)
   pub found : (n : Name) (expected : Option Vector) (f : Finding) (moment : ℕ) → AllFail (found_tests s n expected f moment)
       → P (ScanFound n expected f moment) (Recorded (s.last + 1), with_local s (found_now s n f moment))
   pub gone : (n : Name) (expected : Option Vector) (moment : ℕ) (r : FileRecord) → local s n ≡ Some r → AllFail (scan_tests s n expected r.deleted)
@@ -71,43 +71,43 @@ pub record Cases (s : FolderState) (P : Change → Answer × FolderState → Typ
 module _ (s : FolderState) (P : Change → Answer × FolderState → Type 0) (c : Cases s P) where
   found-cases : (n : Name) (expected : Option Vector) (f : Finding) (moment : ℕ) → P (ScanFound n expected f moment) (scan_found s n expected f moment)
   found-cases n expected f moment =
-      refuse-cases (P (ScanFound n expected f moment)) s (found_tests s n expected f moment)
+      answer-cases (P (ScanFound n expected f moment)) s (found_tests s n expected f moment)
       (Recorded (s.last + 1), with_local s (found_now s n f moment))
-      (refl, (refl, (refl, (refl, (refl, tt))))) (c.refused _) (c.found n expected f moment)
+      (refl, (refl, (refl, (refl, (refl, tt))))) (c.tested _) (c.found n expected f moment)
 
   gone-cases : (n : Name) (expected : Option Vector) (moment : ℕ) (r : Option FileRecord) → local s n ≡ r → P (ScanGone n expected moment) (scan_gone s n expected moment r)
   gone-cases n expected moment None is =
-      refuse-cases (P (ScanGone n expected moment)) s (scan_tests s n expected true) (Unchanged, s)
-      (refl, (refl, (refl, (refl, (refl, tt))))) (c.refused _) (λ _. c.refused _ Unchanged refl)
+      answer-cases (P (ScanGone n expected moment)) s (scan_tests s n expected true) (Unchanged, s)
+      (refl, (refl, (refl, (refl, (refl, tt))))) (c.tested _) (λ _. c.tested _ Unchanged refl)
   gone-cases n expected moment (Some r) is =
-      refuse-cases (P (ScanGone n expected moment)) s (scan_tests s n expected r.deleted)
+      answer-cases (P (ScanGone n expected moment)) s (scan_tests s n expected r.deleted)
       (Recorded (s.last + 1), with_local s (gone_now s n r moment))
-      (refl, (refl, (refl, (refl, (refl, tt))))) (c.refused _) (c.gone n expected moment r is)
+      (refl, (refl, (refl, (refl, (refl, tt))))) (c.tested _) (c.gone n expected moment r is)
 
   begin-cases : (n : Name) (b : Option Announcement) → best (entries s.announced) n ≡ b → P (BeginPull n) (begin_pull s n b)
   begin-cases n None is =
-      refuse-cases (P (BeginPull n)) s ((is_some (get s.pulls n), Busy) ∷ []) (NotNeeded, s)
-      (refl, tt) (c.refused _) (λ _. c.refused _ NotNeeded refl)
+      answer-cases (P (BeginPull n)) s ((is_some (get s.pulls n), Busy) ∷ []) (NotNeeded, s)
+      (refl, tt) (c.tested _) (λ _. c.tested _ NotNeeded refl)
   begin-cases n (Some b) is =
-      refuse-cases (P (BeginPull n)) s (begin_tests s n b) (Begun (next_ticket s n b.1), with_pull s (next_ticket s n b.1) Pulling)
-      (refl, (refl, (refl, tt))) (c.refused _) (c.begun n b is)
+      answer-cases (P (BeginPull n)) s (begin_tests s n b) (Begun (next_ticket s n b.1), with_pull s (next_ticket s n b.1) Pulling)
+      (refl, (refl, (refl, tt))) (c.tested _) (c.begun n b is)
 
   enter-cases : (t : Token) (p : Option Pull) → pull_of s t Pulling ≡ p → P (EnterCommit t) (enter_commit s t p)
-  enter-cases t None is = c.refused _ Stray refl
+  enter-cases t None is = c.tested _ Stray refl
   enter-cases t (Some p) is =
-      refuse-cases (P (EnterCommit t)) s (enter_tests s t.name p) (Entered t, with_commit s t.name p)
-      (refl, (refl, (refl, tt))) (c.refused _) (c.entered t p is)
+      answer-cases (P (EnterCommit t)) s (enter_tests s t.name p) (Entered t, with_commit s t.name p)
+      (refl, (refl, (refl, tt))) (c.tested _) (c.entered t p is)
 
   finish-cases : (t : Token) (assembled : FileRecord) (p : Option Pull) → pull_of s t Committing ≡ p → P (Finish t assembled) (finish s t p)
-  finish-cases t assembled None is = c.refused _ Stray refl
+  finish-cases t assembled None is = c.tested _ Stray refl
   finish-cases t assembled (Some p) is = c.finished t assembled p is
 
   give_up-cases : (t : Token) (p : Option Pull) → pull_of s t Pulling ≡ p → P (GiveUp t) (close_pull s t p)
-  give_up-cases t None is = c.refused _ Stray refl
+  give_up-cases t None is = c.tested _ Stray refl
   give_up-cases t (Some p) is = c.given_up t p is
 
   abort-cases : (t : Token) (p : Option Pull) → pull_of s t Committing ≡ p → P (Abort t) (close_pull s t p)
-  abort-cases t None is = c.refused _ Stray refl
+  abort-cases t None is = c.tested _ Stray refl
   abort-cases t (Some p) is = c.aborted t p is
 
   pub step-cases : (x : Change) → P x (step s x)

@@ -144,7 +144,7 @@ named-without d a old k r e = by (not (bytes_eq k.device d)) (sym (get-without d
 
 pub step-folder : (s : FolderState) (c : Change) → IsFolder s → MayChange s c → IsFolder (step s c).1
 step-folder s c old = step-cases s (λ x d. MayChange s x → IsFolder d.1) (record {
-  refused = λ _ a _ _. old;
+  tested = λ _ a _ _. old;
   found = λ n expected f moment fail may.
       let r = found_now s n f moment in
       with_local-folder s old r (found-valid s n (next_version s n moment) f f.content may)

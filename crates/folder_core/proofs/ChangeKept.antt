@@ -10,7 +10,7 @@ made s t e = absurd (true≢false e)
 
 pub step-keeps : (s : FolderState) (c : Change) → is_accepted (step s c).0 ≡ false → (step s c).1 ≡ s
 step-keeps s c = step-cases s (λ _ d. is_accepted d.0 ≡ false → d.1 ≡ s) (record {
-  refused = λ _ a _ _. refl;
+  tested = λ _ a _ _. refl;
   found = λ n expected f moment _. made s _;
   gone = λ n expected moment r _ _. made s _;
   full = λ d rs. made s _;

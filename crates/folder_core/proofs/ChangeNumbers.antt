@@ -11,7 +11,7 @@ use Rattle.folder_core.proofs.AnnouncedMaps.{insert_split}
 use Rattle.folder_core.proofs.AnnouncedIndexes.{get-announce, get-without_other, get-index_other}
 use Rattle.folder_core.proofs.ChangeCases.{step-cases, found_now, gone_now}
 
--- what stands at a name behind a new local record
+-- what is at a name after a new local record
 pub local-split : (s : FolderState) (r : FileRecord) (n : Name) (q : FileRecord) → local (with_local s r) n ≡ Some q
     → ((n ≡ r.name) × (record r { sequence = s.last + 1 } ≡ q)) ⊎ (local s n ≡ Some q)
 local-split s r n q e = by (insert_split keys_total exact_keys s.announced (key r.name s.me) (key n s.me) (record r { sequence = s.last + 1 }) q e)
@@ -56,7 +56,7 @@ same-numbered s old a same = record {
 
 pub step-numbered : (s : FolderState) (c : Change) → IsNumbered s → MayChange s c → IsNumbered (step s c).1
 step-numbered s c old = step-cases s (λ x d. MayChange s x → IsNumbered d.1) (record {
-  refused = λ _ a _ _. old;
+  tested = λ _ a _ _. old;
   found = λ n expected f moment _ _. with_local-numbered s old (found_now s n f moment);
   gone = λ n expected moment r _ _ _. with_local-numbered s old (gone_now s n r moment);
   full = λ d rs may. same-numbered s old (announce d rs (without d s.announced)) (λ n. get-index_other d rs s.announced s.me n may);
@@ -84,7 +84,7 @@ local-new s r n q e = by (local-split s r n q e)
 -- a local record that wasn't there before has a greater sequence than any before
 pub step-new : (s : FolderState) (c : Change) → MayChange s c → IsNew s (step s c).1
 step-new s = step-cases s (λ x d. MayChange s x → IsNew s d.1) (record {
-  refused = λ _ a _ _ n r e. inl e;
+  tested = λ _ a _ _ n r e. inl e;
   found = λ n expected f moment _ _. local-new s (found_now s n f moment);
   gone = λ n expected moment r _ _ _. local-new s (gone_now s n r moment);
   full = λ d rs may n r e. inl (sym (get-index_other d rs s.announced s.me n may) ∙ e);

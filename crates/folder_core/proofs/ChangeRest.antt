@@ -21,7 +21,7 @@ use Rattle.folder_core.proofs.ChangeCases.{step-cases, found_now, gone_now}
 
 pub step-me : (s : FolderState) (c : Change) → (step s c).1.me ≡ s.me
 step-me s = step-cases s (λ _ d. d.1.me ≡ s.me) (record {
-  refused = λ _ a _. refl;
+  tested = λ _ a _. refl;
   found = λ n expected f moment _. refl;
   gone = λ n expected moment r _ _. refl;
   full = λ d rs. refl;
@@ -50,7 +50,7 @@ same_or_not {P} x y f g = by (cases_Bool (bytes_eq x y))
 pub step-devices : (s : FolderState) (c : Change) (n : Name) (d : Identity) → d ≢ s.me
     → (get (step s c).1.announced (key n d) ≡ get s.announced (key n d)) ⊎ Announces c d
 step-devices s = step-cases s (λ x o. (n : Name) (d : Identity) → d ≢ s.me → (get o.1.announced (key n d) ≡ get s.announced (key n d)) ⊎ Announces x d) (record {
-  refused = λ _ a _ n d _. inl refl;
+  tested = λ _ a _ n d _. inl refl;
   found = λ m expected f moment _ n d other. inl (local-only (found_now s m f moment) n d other);
   gone = λ m expected moment r _ _ n d other. inl (local-only (gone_now s m r moment) n d other);
   full = λ e rs n d _. same_or_not e d (λ same. inr (inl (rs, ap (λ x. IndexFull x rs) same))) (λ apart. inl (get-index_other e rs s.announced d n apart));
@@ -75,7 +75,7 @@ PullsAt c n =
 -- and pulls by theirs
 pub step-pulls : (s : FolderState) (c : Change) (n : Name) → (get (step s c).1.pulls n ≡ get s.pulls n) ⊎ PullsAt c n
 step-pulls s = step-cases s (λ x o. (n : Name) → (get o.1.pulls n ≡ get s.pulls n) ⊎ PullsAt x n) (record {
-  refused = λ _ a _ n. inl refl;
+  tested = λ _ a _ n. inl refl;
   found = λ m expected f moment _ n. inl refl;
   gone = λ m expected moment r _ _ n. inl refl;
   full = λ e rs n. inl refl;
@@ -103,7 +103,7 @@ LocalAt c n =
 -- local records change by scans and finishes of their names alone
 pub step-locals : (s : FolderState) → IsFolder s → (c : Change) (n : Name) → MayChange s c → (local (step s c).1 n ≡ local s n) ⊎ LocalAt c n
 step-locals s folder = step-cases s (λ x o. (n : Name) → MayChange s x → (local o.1 n ≡ local s n) ⊎ LocalAt x n) (record {
-  refused = λ _ a _ n _. inl refl;
+  tested = λ _ a _ n _. inl refl;
   found = λ m expected f moment _ n _. same_or_not m n (λ same. inr (inl (expected, f, moment, ap (λ x. ScanFound x expected f moment) same)))
       (λ apart. inl (local-elsewhere s (found_now s m f moment) m n (found-name s m (next_version s m moment) f f.content) (λ e. apart (sym e))));
   gone = λ m expected moment r is _ n _. same_or_not m n (λ same. inr (inr (inl (expected, moment, ap (λ x. ScanGone x expected moment) same))))

@@ -24,9 +24,9 @@ taken : (a : Answer) (k : ℕ) → Takes a k → (has_sequence a ≡ true) × (s
 taken a k (inl e) = (ap has_sequence e, ap sequence_of e)
 taken a k (inr e) = (ap has_sequence e, ap sequence_of e)
 
-refused-takes : (a : Answer) → is_accepted a ≡ false → (k : ℕ) → Takes a k → ⊥
-refused-takes a unmade k (inl e) = true≢false (ap is_accepted (sym e) ∙ unmade)
-refused-takes a unmade k (inr e) = true≢false (ap is_accepted (sym e) ∙ unmade)
+tested-takes : (a : Answer) → is_accepted a ≡ false → (k : ℕ) → Takes a k → ⊥
+tested-takes a unmade k (inl e) = true≢false (ap is_accepted (sym e) ∙ unmade)
+tested-takes a unmade k (inr e) = true≢false (ap is_accepted (sym e) ∙ unmade)
 
 abbrev Counts : FolderState → Answer × FolderState → Type 0
 Counts s d = (k : ℕ) → Takes d.0 k → (k ≡ s.last + 1) × (d.1.last ≡ k)
@@ -36,7 +36,7 @@ untaken a k none takes = true≢false (sym (taken a k takes).0 ∙ none)
 
 pub step-taken : (s : FolderState) (c : Change) (k : ℕ) → Takes (step s c).0 k → (k ≡ s.last + 1) × ((step s c).1.last ≡ k)
 step-taken s = step-cases s (λ _ d. Counts s d) (record {
-  refused = λ _ a unmade k takes. absurd (refused-takes a unmade k takes);
+  tested = λ _ a unmade k takes. absurd (tested-takes a unmade k takes);
   found = λ n expected f moment _ k takes. let e = (taken _ k takes).1 in (sym e, e);
   gone = λ n expected moment r _ _ k takes. let e = (taken _ k takes).1 in (sym e, e);
   full = λ d rs k takes. absurd (untaken Applied k refl takes);
@@ -51,7 +51,7 @@ step-taken s = step-cases s (λ _ d. Counts s d) (record {
 
 pub step-kept : (s : FolderState) (c : Change) → ((step s c).1.last ≡ s.last) ⊎ ((k : ℕ) × Takes (step s c).0 k)
 step-kept s = step-cases s (λ _ d. (d.1.last ≡ s.last) ⊎ ((k : ℕ) × Takes d.0 k)) (record {
-  refused = λ _ a _. inl refl;
+  tested = λ _ a _. inl refl;
   found = λ n expected f moment _. inr (s.last + 1, inl refl);
   gone = λ n expected moment r _ _. inr (s.last + 1, inl refl);
   full = λ d rs. inl refl;

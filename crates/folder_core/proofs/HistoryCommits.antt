@@ -33,13 +33,13 @@ record Entrance (es : List Entry) (n : Name) (p : Pull) : Type 0 where
   name : ticket.name ≡ n
   target : ticket.target ≡ p.target
 
--- What stands in the history of an open pull: its begin, and behind it its entrance to the commit, if it entered.
+-- What is in the history of an open pull: its begin, and after it its entrance to the commit, if it entered.
 record Opened (front : List Entry) (n : Name) (p : Pull) : Type 0 where
   before : List Entry
   begun : Entry
   between : List Entry
   ticket : Token
-  stands : front ≡ before ++ begun ∷ between
+  divided : front ≡ before ++ begun ∷ between
   began : begun.answer ≡ Begun ticket
   number : ticket.number ≡ p.number
   name : ticket.name ≡ n
@@ -49,7 +49,7 @@ record Opened (front : List Entry) (n : Name) (p : Pull) : Type 0 where
   enters : count_by (λ e. is_enter_of n e.answer) between ≡ cond (is_committing p) 1 0
   entrance : is_committing p ≡ true → Entrance between n p
 
--- one more entry behind those among which the entrance stands
+-- one more entry after those among which the entrance is
 further : (es : List Entry) (e : Entry) (n : Name) (p : Pull) → Entrance es n p → Entrance (es ++ e ∷ []) n p
 further es e n p x = record {
   entry = x.entry;
@@ -75,7 +75,7 @@ goes_on front e n p q o quiet number target base enters entrance = record {
   begun = o.begun;
   between = o.between ++ e ∷ [];
   ticket = o.ticket;
-  stands = ap (λ f. f ++ e ∷ []) o.stands ∙ append_assoc o.before (o.begun ∷ o.between) (e ∷ []);
+  divided = ap (λ f. f ++ e ∷ []) o.divided ∙ append_assoc o.before (o.begun ∷ o.between) (e ∷ []);
   began = o.began;
   number = o.number ∙ number;
   name = o.name;
@@ -124,7 +124,7 @@ module _ (s : FolderState) (front : List Entry) (e : Entry) (accepted : is_accep
           begun = e;
           between = [];
           ticket = next_ticket s m b.1;
-          stands = refl;
+          divided = refl;
           began = sym is;
           number = ap (λ (y : Pull). y.number) x.1;
           name = sym x.0;
@@ -170,7 +170,7 @@ module _ (s : FolderState) (front : List Entry) (e : Entry) (accepted : is_accep
 
     traced_step : (c : Change) → (step s c).0 ≡ e.answer → Traced (step s c).1
     traced_step = step-cases s (λ _ d. d.0 ≡ e.answer → Traced d.1) (record {
-      refused = λ _ a no is. absurd (true≢false (sym accepted ∙ ap is_accepted (sym is) ∙ no));
+      tested = λ _ a no is. absurd (true≢false (sym accepted ∙ ap is_accepted (sym is) ∙ no));
       found = λ m x f moment _ is. same_pulls (Recorded (s.last + 1)) (λ _. refl) (λ _. refl) is;
       gone = λ m x moment r _ _ is. same_pulls (Recorded (s.last + 1)) (λ _. refl) (λ _. refl) is;
       full = λ d rs is. same_pulls Applied (λ _. refl) (λ _. refl) is;
@@ -203,7 +203,7 @@ other_answer a t no_begin is = true≢false (ap begins (sym is) ∙ no_begin)
 
 begins-well : (s : FolderState) (c : Change) (t : Token) → (step s c).0 ≡ Begun t → BeginsWell s t
 begins-well s = step-cases s (λ _ d. (t : Token) → d.0 ≡ Begun t → BeginsWell s t) (record {
-  refused = λ _ a no t is. absurd (true≢false (ap is_accepted (sym is) ∙ no));
+  tested = λ _ a no t is. absurd (true≢false (ap is_accepted (sym is) ∙ no));
   found = λ m x f moment _ t is. absurd (other_answer (Recorded (s.last + 1)) t refl is);
   gone = λ m x moment r _ _ t is. absurd (other_answer (Recorded (s.last + 1)) t refl is);
   full = λ d rs t is. absurd (other_answer Applied t refl is);
@@ -258,10 +258,10 @@ module _ (passes : ℕ) (opening : FolderState) (front rest : List Entry) (done 
         begun = o.begun;
         between = o.between;
         ticket = o.ticket;
-        stands = o.stands;
+        divided = o.divided;
         began = o.began;
         over = (legal-begin passes opening o.before (o.between ++ done ∷ rest) o.begun o.ticket
-            (subst (IsLegal passes opening) (ap (λ es. es ++ done ∷ rest) o.stands ∙ append_assoc o.before (o.begun ∷ o.between) (done ∷ rest)) legal) o.began).0;
+            (subst (IsLegal passes opening) (ap (λ es. es ++ done ∷ rest) o.divided ∙ append_assoc o.before (o.begun ∷ o.between) (done ∷ rest)) legal) o.began).0;
         same = (o.number ∙ eqb-true p.number commit.number same.0, o.name, o.target ∙ same_record-is p.target commit.target same.1);
         entered = x.entry;
         entrance = x.ticket;

@@ -55,7 +55,7 @@ module _ (limit : ℕ) (s : FolderState) (es : List Entry) (c : Change) where
       (cond-true (is_over limit (length es) made) (HistoryFull, state_after s es) made (and_from _ _ accepted (lt-ltb limit needs over)))
 
   fits : (is_accepted made.0 ≡ false) ⊎ (needs ≤ limit) → is_over limit (length es) made ≡ false
-  fits (inl refused) = and_left _ _ refused
+  fits (inl tested) = and_left _ _ tested
   fits (inr room) = and_right _ _ (false_from_ne_true (nat_lt limit needs) (λ t. let lt = ltb-true limit needs t in omega arith))
 
   pub shared-same : (is_accepted made.0 ≡ false) ⊎ (needs ≤ limit) → shared_answer limit s es c ≡ made.0
@@ -97,7 +97,7 @@ Frees s c d = ends_pull c ≡ true → (is_accepted d.0 ≡ false) ⊎ (len d.1.
 
 frees : (s : FolderState) (c : Change) → Frees s c (step s c)
 frees s = step-cases s (Frees s) (record {
-  refused = λ _ a unmade _. inl unmade;
+  tested = λ _ a unmade _. inl unmade;
   found = λ n expected f moment _ e. absurd (true≢false (sym e));
   gone = λ n expected moment r _ _ e. absurd (true≢false (sym e));
   full = λ d rs e. absurd (true≢false (sym e));
@@ -113,7 +113,7 @@ frees s = step-cases s (Frees s) (record {
 module _ (limit : ℕ) (s : FolderState) (es : List Entry) (kept : length es + len (state_after s es).pulls ≤ limit) where
   fits-end : (c : Change) → (is_accepted (step (state_after s es) c).0 ≡ false) ⊎ (len (step (state_after s es) c).1.pulls + 1 ≤ len (state_after s es).pulls)
       → shared_answer limit s es c ≡ (step (state_after s es) c).0
-  fits-end c (inl refused) = shared-same limit s es c (inl refused)
+  fits-end c (inl tested) = shared-same limit s es c (inl tested)
   fits-end c (inr fewer) = shared-same limit s es c (inr (omega arith))
 
   pub finish-fits : (t : Token) (assembled : FileRecord) → shared_answer limit s es (Finish t assembled) ≡ (step (state_after s es) (Finish t assembled)).0

@@ -34,7 +34,7 @@ use Rattle.folder_core.specs.Plain.{Rises, better, better_of, devices_with, file
 use Rattle.folder_core.proofs.ListFilters.{filter_in, filter_map, filter_swap, any_map, none_found}
 use Rattle.folder_core.proofs.ListTests.{same_bytes, alike_bytes, below_in, in_map, inside, none_some, of_filter, parts, In}
 use Rattle.folder_core.proofs.PlainBest.{undominated, higher, best_reduced, top}
-use Rattle.folder_core.proofs.PlainGroup.{behind_prefix, best_in_group, bests_in_part, devices_in_group, drop_rises, found_in_part, group, is_before, is_named, named_down, partitioned, prefix_passes}
+use Rattle.folder_core.proofs.PlainGroup.{after_prefix, best_in_group, bests_in_part, devices_in_group, drop_rises, found_in_part, group, is_before, is_named, named_down, partitioned, prefix_passes}
 
 undominated-filed : (es : List Entry) (e : Entry) → undominated (map filed es) (filed e) ≡ is_undominated es e
 undominated-filed es e = ap (λ b. is_valid e.record && not b) (any_map filed (λ f. is_valid f.1 && dominates f.1.version e.record.version) es)
@@ -178,12 +178,12 @@ module _ (es : List Entry) (rises : Rises es) where
   listed_group n =
       ap (λ xs. map (with_devices xs) (bests xs)) (sym (group_is n es rises))
       ∙ ap (map (with_devices (group n (map filed es)))) (bests_in_part (λ m. bytes_eq m n) (map filed es) ∙ only_of n (bests (map filed es)) rising ∙ ap option_to_list (best_is n es rises))
-      ∙ told _ refl
+      ∙ shown _ refl
     where
-      told : (o : Option Entry) → o ≡ reduce better (filter (is_undominated (filter (is_named n) es)) (filter (is_named n) es)) →
+      shown : (o : Option Entry) → o ≡ reduce better (filter (is_undominated (filter (is_named n) es)) (filter (is_named n) es)) →
           map (with_devices (group n (map filed es))) (option_to_list (option_map filed o)) ≡ option_to_list (option_map (λ b. (b.record, devices_with (filter (is_named n) es) b.record)) o)
-      told None is = refl
-      told (Some b) is =
+      shown None is = refl
+      shown (Some b) is =
           let here : b.record.name ≡ n = named_best n es rises b is in
           λ i. (b.record, (sym (devices_in_group n (map filed es) (filed b) here) ∙ devices_is n es rises b here) i) ∷ []
 
@@ -240,19 +240,19 @@ module _ (e : Entry) (es : List Entry) (rises : Rises (e ∷ es)) where
   pub group_front : take count (e ∷ es) ≡ filter (is_named e.record.name) (e ∷ es)
   group_front = prefix_passes (is_named e.record.name) (e ∷ es) parted
 
-  others_behind : drop count (e ∷ es) ≡ filter (λ x. not (is_named e.record.name x)) (e ∷ es)
-  others_behind = behind_prefix (is_named e.record.name) (e ∷ es) parted
+  others_after : drop count (e ∷ es) ≡ filter (λ x. not (is_named e.record.name x)) (e ∷ es)
+  others_after = after_prefix (is_named e.record.name) (e ∷ es) parted
 
   pub first_listed : listed_bests (e ∷ es) ≡ option_to_list (group_best (take count (e ∷ es))) ++ listed_bests (drop count (e ∷ es))
   first_listed =
       listed_split (e ∷ es) rises (λ m. bytes_eq m e.record.name)
-      (sym (take-append-drop count (e ∷ es)) ∙ (λ i. group_front i ++ others_behind i))
-      ∙ (λ i. (listed_group (e ∷ es) rises e.record.name ∙ ap (λ g. option_to_list (group_best g)) (sym group_front)) i ++ listed_bests (sym others_behind i))
+      (sym (take-append-drop count (e ∷ es)) ∙ (λ i. group_front i ++ others_after i))
+      ∙ (λ i. (listed_group (e ∷ es) rises e.record.name ∙ ap (λ g. option_to_list (group_best g)) (sym group_front)) i ++ listed_bests (sym others_after i))
 
   pub count_positive : 1 ≤ count
   count_positive = subst (λ b. 1 ≤ cond b (1 + prefix_len (is_named e.record.name) es) 0) (sym (alike_bytes e.record.name e.record.name refl)) (omega arith)
 
--- what the first name of a list has, and the list behind it
+-- what the first name of a list has, and the list after it
 pub record IsFirstStep (rest : List Entry) (e : Entry) (k : ℕ) : Type 0 where
   pub listed : listed_bests rest ≡ option_to_list (group_best (take k rest)) ++ listed_bests (drop k rest)
   pub rises : Rises (drop k rest)

@@ -27,8 +27,8 @@ copy-due None target = (λ e. absurd (true≢false (sym e)), λ c. absurd (none_
 copy-due (Some base) target = (
   λ e.
       let other = and_parts _ _ e in
-      let behind = and_parts _ _ other.0 in
-      let ahead = and_parts _ _ behind.0 in
+      let after_it = and_parts _ _ other.0 in
+      let ahead = and_parts _ _ after_it.0 in
       let file = and_parts _ _ ahead.0 in
       let live = and_parts _ _ file.0 in (
         base,
@@ -37,7 +37,7 @@ copy-due (Some base) target = (
         file.1,
         not-true target.deleted live.0,
         uncovered base.version target.version (not-true _ ahead.1),
-        uncovered target.version base.version (not-true _ behind.1),
+        uncovered target.version base.version (not-true _ after_it.1),
         not-true _ other.1,
       ),
   λ c.

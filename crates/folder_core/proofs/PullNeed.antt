@@ -1,4 +1,4 @@
--- Needed names stand in byte order, each once, and are those whose best is needed.
+-- Needed names are in byte order, each once, and are those whose best is needed.
 use Rattle.folder_core.proofs.BestRule.{of_is_best, one_best, is_best_found}
 use Rattle.folder_core.proofs.AnnouncedListings.{lists-entries}
 use Rattle.folder_core.proofs.Orders.{bytes_total, keys_total, exact_keys}
@@ -62,7 +62,7 @@ module _ (p : Announcement → Bool) where
         | false ↦ λ t. rest
       ] refl
 
--- the bests of an index stand in byte order, one a name
+-- the bests of an index are in byte order, one a name
 pub bests-rising : (m : Announced) → Rising (bests (entries m))
 bests-rising m = rising_kept (is_best (entries m)) (entries m) (entries_sorted m) (λ e f i j p q named.
     let a = of_is_best m (entries m) (lists-entries m) e (in_get keys_total exact_keys m e i) p in
@@ -134,8 +134,8 @@ module _ (s : FolderState) (n : Name) where
           let b = of_is_best s.announced es (lists-entries s.announced) e (in_get keys_total exact_keys s.announced e chosen.0) chosen.1 in
           (e, subst (λ y. best es y ≡ Some e) x.2 (is_best_found s.announced es (lists-entries s.announced) e.0.name e.0.device e.1 b), x.2, kept.1)
 
-  pub need-tells : Contains (need s) n ↔ NeedsIt s n
-  need-tells = (
+  pub need-rule : Contains (need s) n ↔ NeedsIt s n
+  need-rule = (
     λ c.
         let h = listed-needed c in
         let r = (rule (local s n) h.0.1).0 (subst (λ y. is_needed_by y h.0 ≡ true) h.2 h.3) in

@@ -1,4 +1,4 @@
--- The open pull that a ticket stands for.
+-- The open pull that a ticket is for.
 use Rattle.std.proofs.Common.{◌≡◌, Bool, true, false, refl, sym, ap, ◌∙◌}
 use Rattle.std.specs.Prelude.{cond, if◌then◌else◌, option_and_then, ◌&&◌, ◌==◌, Option, Some, None}
 use Rattle.std.specs.FinMap.{get}
@@ -9,7 +9,7 @@ use Rattle.folder_core.specs.States.{FolderState, Pull, same_stage}
 use Rattle.folder_core.specs.Steps.{Token, pull_of}
 use Rattle.folder_core.proofs.ListTests.{inside}
 
--- an open pull that a ticket stands for
+-- an open pull that a ticket is for
 abbrev pub fits : Token → Stage → Pull → Bool
 fits t stage q = (q.number == t.number) && same_record q.target t.target && same_stage q.stage stage
 

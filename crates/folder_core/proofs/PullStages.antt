@@ -49,7 +49,7 @@ no-pull s (Finish t r) a unmade = tt
 
 opens : (s : FolderState) (c : Change) → Opens s c (step s c)
 opens s = step-cases s (Opens s) (record {
-  refused = no-pull s;
+  tested = no-pull s;
   found = λ n expected f moment _. tt;
   gone = λ n expected moment r _ _. tt;
   full = λ d rs. tt;

@@ -1,4 +1,4 @@
--- What the reads of a folder tell of its state.
+-- What the reads of a folder say of its state.
 use Rattle.std.proofs.Common.{◌≡◌, ◌≢◌, ◌↔◌, ℕ, zero, suc, ◌≤◌, Bool, true, false, List, [], ◌∷◌, ◌++◌, length, refl, sym, ap, subst, ◌∙◌, arith, ◌⊎◌, inl, inr}
 use Rattle.std.specs.Prelude.{bytes_eq, nat_le, max, map, filter, fold, take, flat_map, Option, Some, None, option_map, Contains, IsTrue}
 use Rattle.std.specs.Ordering.{is_gt}
@@ -23,7 +23,7 @@ use Rattle.folder_core.specs.States.{FolderState, local, need}
 use Rattle.folder_core.specs.Reads.{is_after, locals, best_found, need_page, places, known, IsPlaceFound}
 use Rattle.folder_core.proofs.Orders.{keys_total, exact_keys}
 use Rattle.folder_core.proofs.BestRule.{best-found, best-none}
-use Rattle.folder_core.proofs.BestDevices.{devices-rise, devices-tell}
+use Rattle.folder_core.proofs.BestDevices.{devices-rise, devices-listed}
 use Rattle.folder_core.proofs.PullNeed.{need-rising}
 use Rattle.folder_core.proofs.ListTests.{inside, none_some, In, in_contains, contains_in, in_map, of_map, in_filter, of_filter, get_in, in_get}
 
@@ -32,25 +32,25 @@ use Rattle.folder_core.proofs.ListTests.{inside, none_some, In, in_contains, con
 abbrev pub HasBestOf : Announced → Name → FileRecord → Identity → Type 0
 HasBestOf a n r d = (q : FileRecord) × (get a (key n d) ≡ Some q) × IsTrue (is_valid q) × (q.version ≡ r.version) × IsTrue (same_content q r)
 
-abbrev pub BestTold : FolderState → Name → FileRecord → List Identity → Type 0
-BestTold s n r ds =
+abbrev pub BestFound : FolderState → Name → FileRecord → List Identity → Type 0
+BestFound s n r ds =
     (d : Identity) × IsBest s.announced n d r × IsStrictlySortedBy bytes_cmp ds × ((e : Identity) → Contains ds e ↔ HasBestOf s.announced n r e)
 
 module _ (s : FolderState) (n : Name) where
-  abbrev told : Option Announcement → Option (FileRecord × List Identity)
-  told o = option_map (λ b. (b.1, devices_of (entries s.announced) b)) o
+  abbrev shown : Option Announcement → Option (FileRecord × List Identity)
+  shown o = option_map (λ b. (b.1, devices_of (entries s.announced) b)) o
 
-  best-by : (o : Option Announcement) → best (entries s.announced) n ≡ o → (r : FileRecord) (ds : List Identity) → Some (r, ds) ≡ told o → BestTold s n r ds
+  best-by : (o : Option Announcement) → best (entries s.announced) n ≡ o → (r : FileRecord) (ds : List Identity) → Some (r, ds) ≡ shown o → BestFound s n r ds
   best-by None is r ds e = absurd (none_some (r, ds) (sym e))
   best-by (Some b) is r ds e =
       let same : (b.1, devices_of (entries s.announced) b) ≡ (r, ds) = inside (b.1, devices_of (entries s.announced) b) (r, ds) (sym e) in
-      subst (λ (x : FileRecord × List Identity). BestTold s n x.0 x.1) same
-      (b.0.device, (best-found s.announced n b is).1, devices-rise s.announced b, λ d. devices-tell s.announced n b d is)
+      subst (λ (x : FileRecord × List Identity). BestFound s n x.0 x.1) same
+      (b.0.device, (best-found s.announced n b is).1, devices-rise s.announced b, λ d. devices-listed s.announced n b d is)
 
-  pub best-read : (r : FileRecord) (ds : List Identity) → Some (r, ds) ≡ best_found s n → BestTold s n r ds
+  pub best-read : (r : FileRecord) (ds : List Identity) → Some (r, ds) ≡ best_found s n → BestFound s n r ds
   best-read r ds e = best-by (best (entries s.announced) n) refl r ds e
 
-  none-by : (o : Option Announcement) → None ≡ told o → o ≡ None
+  none-by : (o : Option Announcement) → None ≡ shown o → o ≡ None
   none-by None e = refl
   none-by (Some b) e = absurd (none_some (b.1, devices_of (entries s.announced) b) e)
 
@@ -83,13 +83,13 @@ module _ {A : Type 0} (c : A → A → Ordering) where
   sorted_take (suc k) [] s = tt
   sorted_take (suc k) (y ∷ ys) s = (all_take (λ z. c y z ≡ Less) k ys s.0, sorted_take k ys s.1)
 
-  -- of a rising list an element is in the front, or behind a whole front
-  pub take_or_behind : (k : ℕ) (xs : List A) (x : A) → IsStrictlySortedBy c xs → In x xs → In x (take k xs) ⊎ ((length (take k xs) ≡ k) × ((y : A) → In y (take k xs) → c y x ≡ Less))
+  -- of a rising list an element is in the front, or after a whole front
+  pub take_or_after : (k : ℕ) (xs : List A) (x : A) → IsStrictlySortedBy c xs → In x xs → In x (take k xs) ⊎ ((length (take k xs) ≡ k) × ((y : A) → In y (take k xs) → c y x ≡ Less))
   unfolding IsStrictlySortedBy
-  take_or_behind zero xs x s i = inr (refl, λ y j. absurd j)
-  take_or_behind (suc k) [] x s i = absurd i
-  take_or_behind (suc k) (z ∷ zs) x s (inl e) = inl (inl e)
-  take_or_behind (suc k) (z ∷ zs) x s (inr i) = by (take_or_behind k zs x s.1 i)
+  take_or_after zero xs x s i = inr (refl, λ y j. absurd j)
+  take_or_after (suc k) [] x s i = absurd i
+  take_or_after (suc k) (z ∷ zs) x s (inl e) = inl (inl e)
+  take_or_after (suc k) (z ∷ zs) x s (inr i) = by (take_or_after k zs x s.1 i)
     where
       ahead : ((y : A) → In y (take k zs) → c y x ≡ Less) → (y : A) → In y (z ∷ take k zs) → c y x ≡ Less
       ahead each y (inl e) = ap (λ w. c w x) e ∙ all_at (λ w. c z w ≡ Less) zs x s.0 i
@@ -106,14 +106,14 @@ greater Less e = absurd (true≢false (sym e))
 greater Equal e = absurd (true≢false (sym e))
 
 module _ (after : Option Name) where
-  abbrev pub Behind : Name → Type 0
-  Behind n = (a : Name) → after ≡ Some a → bytes_cmp n a ≡ Greater
+  abbrev pub IsAfter : Name → Type 0
+  IsAfter n = (a : Name) → after ≡ Some a → bytes_cmp n a ≡ Greater
 
-  pub behind : (n : Name) → is_after after n ≡ true → Behind n
-  behind n e a is = greater (bytes_cmp n a) (sym (ap (λ o. is_after o n) is) ∙ e)
+  pub after_it : (n : Name) → is_after after n ≡ true → IsAfter n
+  after_it n e a is = greater (bytes_cmp n a) (sym (ap (λ o. is_after o n) is) ∙ e)
 
-  pub of_behind : (n : Name) → Behind n → is_after after n ≡ true
-  of_behind n each =
+  pub of_after : (n : Name) → IsAfter n → is_after after n ≡ true
+  of_after n each =
       elim after as (λ o. ((a : Name) → o ≡ Some a → bytes_cmp n a ≡ Greater) → is_after o n ≡ true) [
         | None ↦ λ _. refl
         | Some a ↦ λ f. ap is_gt (f a refl)
@@ -126,16 +126,16 @@ module _ (s : FolderState) (after : Option Name) (limit : ℕ) where
   pub need-page_fits : length (need_page s after limit) ≤ limit
   need-page_fits = let e = length-take limit (filter (is_after after) (need s)) in omega arith
 
-  pub need-page_of : (n : Name) → Contains (need_page s after limit) n → Contains (need s) n × Behind after n
+  pub need-page_of : (n : Name) → Contains (need_page s after limit) n → Contains (need s) n × IsAfter after n
   need-page_of n c =
       let r = of_filter (is_after after) (need s) n (in_take limit (filter (is_after after) (need s)) n (contains_in _ n c)) in
-      (in_contains (need s) n r.0, behind after n r.1)
+      (in_contains (need s) n r.0, after_it after n r.1)
 
-  pub need-page_has : (n : Name) → Contains (need s) n → Behind after n
+  pub need-page_has : (n : Name) → Contains (need s) n → IsAfter after n
       → Contains (need_page s after limit) n ⊎ ((length (need_page s after limit) ≡ limit) × ((m : Name) → Contains (need_page s after limit) m → bytes_cmp m n ≡ Less))
   need-page_has n c b =
-      by (take_or_behind bytes_cmp limit (filter (is_after after) (need s)) n (IsStrictlySortedBy-filter bytes_cmp (is_after after) (need s) (need-rising s))
-      (in_filter (is_after after) (need s) n (contains_in (need s) n c) (of_behind after n b)))
+      by (take_or_after bytes_cmp limit (filter (is_after after) (need s)) n (IsStrictlySortedBy-filter bytes_cmp (is_after after) (need s) (need-rising s))
+      (in_filter (is_after after) (need s) n (contains_in (need s) n c) (of_after after n b)))
     where
       by : In n (need_page s after limit) ⊎ ((length (need_page s after limit) ≡ limit) × ((m : Name) → In m (need_page s after limit) → bytes_cmp m n ≡ Less))
           → Contains (need_page s after limit) n ⊎ ((length (need_page s after limit) ≡ limit) × ((m : Name) → Contains (need_page s after limit) m → bytes_cmp m n ≡ Less))
@@ -193,9 +193,9 @@ module _ {A B : Type 0} (f : A → List B) where
       by rest (inl j) = (z, inl refl, j)
       by rest (inr j) = let r = rest j in (r.0, inr r.1, r.2)
 
--- a block of this digest stands there in a live local file
-abbrev pub StandsIn : FolderState → List ℕ → Place → Type 0
-StandsIn s hash p =
+-- a block of this digest is there in a live local file
+abbrev pub IsPlaceOf : FolderState → List ℕ → Place → Type 0
+IsPlaceOf s hash p =
     (n : Name) × (r : FileRecord) × (b : Block) × (local s n ≡ Some r) × IsTrue (is_live_file r) × Contains r.blocks b × (b.hash ≡ hash)
     × (p ≡ record { name = r.name; offset = b.offset; size = b.size })
 
@@ -209,8 +209,8 @@ module _ (s : FolderState) (hash : List ℕ) where
   abbrev places_in : FileRecord → List Place
   places_in r = map (place_in r) (filter is_wanted r.blocks)
 
-  pub stands-listed : (p : Place) → StandsIn s hash p → In p (places s hash)
-  stands-listed p h =
+  pub place-listed : (p : Place) → IsPlaceOf s hash p → In p (places s hash)
+  place-listed p h =
       let r : FileRecord = h.1 in
       let b : Block = h.2 in
       subst (λ x. In x (places s hash)) (sym h.7)
@@ -218,8 +218,8 @@ module _ (s : FolderState) (hash : List ℕ) where
       (in_filter is_live_file (locals s) r (own-listed s h.0 r h.3) h.4)
       (in_map (place_in r) (filter is_wanted r.blocks) b (in_filter is_wanted r.blocks b (contains_in r.blocks b h.5) ((bytes_eq-Decides b.hash hash).1 h.6))))
 
-  pub listed-stands : (p : Place) → In p (places s hash) → StandsIn s hash p
-  listed-stands p i =
+  pub listed-place : (p : Place) → In p (places s hash) → IsPlaceOf s hash p
+  listed-place p i =
       let x = of_flat_map places_in (filter is_live_file (locals s)) p i in
       let r : FileRecord = x.0 in
       let file = of_filter is_live_file (locals s) r x.1 in
@@ -229,17 +229,17 @@ module _ (s : FolderState) (hash : List ℕ) where
       let wanted = of_filter is_wanted r.blocks b y.1 in
       (own.0, r, b, own.1, file.1, in_contains r.blocks b wanted.0, (bytes_eq-Decides b.hash hash).0 wanted.1, sym y.2)
 
-  pub place-read : (p : Place) → IsPlaceFound s hash (Some p) ↔ StandsIn s hash p
-  place-read p = (λ c. listed-stands p (contains_in (places s hash) p c), λ h. in_contains (places s hash) p (stands-listed p h))
+  pub place-read : (p : Place) → IsPlaceFound s hash (Some p) ↔ IsPlaceOf s hash p
+  place-read p = (λ c. listed-place p (contains_in (places s hash) p c), λ h. in_contains (places s hash) p (place-listed p h))
 
   none-of : (ps : List Place) → ((p : Place) → In p ps → ⊥) → ps ≡ []
   none-of [] none = refl
   none-of (p ∷ ps) none = absurd (none p (inl refl))
 
-  pub no_place-read : IsPlaceFound s hash None ↔ ((p : Place) → ¬ (StandsIn s hash p))
+  pub no_place-read : IsPlaceFound s hash None ↔ ((p : Place) → ¬ (IsPlaceOf s hash p))
   no_place-read = (
-    λ e p h. subst (In p) e (stands-listed p h),
-    λ none. none-of (places s hash) (λ p i. none p (listed-stands p i)),
+    λ e p h. subst (In p) e (place-listed p h),
+    λ none. none-of (places s hash) (λ p i. none p (listed-place p i)),
   )
 
 -- ---- the greatest sequence of a device

@@ -97,8 +97,8 @@ module _ (limit : ℕ) (xs : List FileRecord) where
   pub page-is : page_of limit xs ≡ take longest.at xs
   page-is = ap (λ o. unwrap_or o []) longest.last
 
-fits-tells : (limit : ℕ) (rs : List FileRecord) → fits_page limit rs ≡ true → (length rs ≤ limit) × ((blocks_of rs ≤ 1000000) ⊎ (length rs ≤ 1))
-fits-tells limit rs e = let t = and_parts _ _ e in (leb-true (length rs) limit t.0, by (or_cases _ _ t.1))
+fits-is : (limit : ℕ) (rs : List FileRecord) → fits_page limit rs ≡ true → (length rs ≤ limit) × ((blocks_of rs ≤ 1000000) ⊎ (length rs ≤ 1))
+fits-is limit rs e = let t = and_parts _ _ e in (leb-true (length rs) limit t.0, by (or_cases _ _ t.1))
   where
     by : (nat_le (blocks_of rs) 1000000 ≡ true) ⊎ (nat_le (length rs) 1 ≡ true) → (blocks_of rs ≤ 1000000) ⊎ (length rs ≤ 1)
     by (inl f) = inl (leb-true (blocks_of rs) 1000000 f)
@@ -121,7 +121,7 @@ full-by limit rs q le e more = by (and_cases _ _ e)
 abbrev seq_cmp : FileRecord → FileRecord → Ordering
 seq_cmp q r = nat_cmp q.sequence r.sequence
 
--- what stands behind a front, first
+-- what is after a front, first
 pub record Next (k : ℕ) (xs : List FileRecord) (r : FileRecord) : Type 0 where
   next : FileRecord
   below : k < length xs
@@ -317,7 +317,7 @@ module _ (s : FolderState) (seq limit : ℕ) (numbered : IsNumbered s) where
   page-rises = subst (λ rs. IsStrictlySortedBy nat_cmp (map (λ r. r.sequence) rs)) (sym page-front) (rising-sequences front (sorted_take seq_cmp at ordered ordered-rises))
 
   front-fits : (length front ≤ limit) × ((blocks_of front ≤ 1000000) ⊎ (length front ≤ 1))
-  front-fits = fits-tells limit front (longest limit ordered).passes
+  front-fits = fits-is limit front (longest limit ordered).passes
 
   pub page-fits : (length page ≤ limit) × ((blocks_of page ≤ 1000000) ⊎ (length page ≤ 1))
   page-fits = subst (λ rs. (length rs ≤ limit) × ((blocks_of rs ≤ 1000000) ⊎ (length rs ≤ 1))) (sym page-front) front-fits

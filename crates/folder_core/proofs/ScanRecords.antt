@@ -27,7 +27,7 @@ use Rattle.folder_core.proofs.ChangeFolders.{found-name}
 abbrev pub numbered : FolderState → FileRecord → FileRecord
 numbered s r = record r { sequence = s.last + 1 }
 
--- what stands at its name, and at every other
+-- what is at its name, and at every other
 pub local-here : (s : FolderState) (r : FileRecord) (n : Name) → r.name ≡ n → local (with_local s r) n ≡ Some (numbered s r)
 local-here s r n here =
     get-insert keys_total s.announced (key r.name s.me) (numbered s r) (key n s.me)
@@ -38,7 +38,7 @@ pub local-elsewhere : (s : FolderState) (r : FileRecord) (n m : Name) → r.name
 local-elsewhere s r n m here other =
     insert_other keys_total exact_keys s.announced (key r.name s.me) (key m s.me) (numbered s r) (λ t. other (ap (λ (k : Key). k.name) t ∙ here))
 
--- the record that stands at the name, and that no other name's changed
+-- the record that is at the name, and that no other name's changed
 record Puts (s : FolderState) (n : Name) (r : FileRecord) (t : FolderState) : Type 0 where
   here : local t n ≡ Some (numbered s r)
   elsewhere : (m : Name) → m ≢ n → local t m ≡ local s m
@@ -56,21 +56,21 @@ number_of (Recorded k) = k
 number_of (Done k) = k
 number_of _ = 0
 
-refused-records : (s : FolderState) (c : Change) (a : Answer) → is_accepted a ≡ false → Recording s c (a, s)
-refused-records s (ScanFound n expected f moment) a fails = λ k is. absurd (true≢false (ap is_accepted (sym is) ∙ fails))
-refused-records s (ScanGone n expected moment) a fails = λ k r is there. absurd (true≢false (ap is_accepted (sym is) ∙ fails))
-refused-records s (IndexFull d rs) a fails = tt
-refused-records s (IndexMore d rs) a fails = tt
-refused-records s (Forget d) a fails = tt
-refused-records s (BeginPull n) a fails = tt
-refused-records s (EnterCommit t) a fails = tt
-refused-records s (Finish t assembled) a fails = tt
-refused-records s (GiveUp t) a fails = tt
-refused-records s (Abort t) a fails = tt
+tested-records : (s : FolderState) (c : Change) (a : Answer) → is_accepted a ≡ false → Recording s c (a, s)
+tested-records s (ScanFound n expected f moment) a fails = λ k is. absurd (true≢false (ap is_accepted (sym is) ∙ fails))
+tested-records s (ScanGone n expected moment) a fails = λ k r is there. absurd (true≢false (ap is_accepted (sym is) ∙ fails))
+tested-records s (IndexFull d rs) a fails = tt
+tested-records s (IndexMore d rs) a fails = tt
+tested-records s (Forget d) a fails = tt
+tested-records s (BeginPull n) a fails = tt
+tested-records s (EnterCommit t) a fails = tt
+tested-records s (Finish t assembled) a fails = tt
+tested-records s (GiveUp t) a fails = tt
+tested-records s (Abort t) a fails = tt
 
 recording : (s : FolderState) (c : Change) → Recording s c (step s c)
 recording s = step-cases s (Recording s) (record {
-  refused = refused-records s;
+  tested = tested-records s;
   found = λ n expected f moment _ k is. (ap number_of (sym is), puts s n (found_now s n f moment) (found-name s n (next_version s n moment) f f.content));
   gone = λ n expected moment r there _ k q is also.
       let same : r ≡ q = ap (λ o. unwrap_or o r) (sym there ∙ also) in
@@ -178,7 +178,7 @@ finishes s c p k folder is stage number target given = record {
 
 finish-cases : (s : FolderState) (c : Token) (assembled : FileRecord) → Finished s (Finish c assembled) (step s (Finish c assembled))
 finish-cases s c assembled = step-cases s (Finished s) (record {
-  refused = none;
+  tested = none;
   found = λ n expected f moment _. tt;
   gone = λ n expected moment r _ _. tt;
   full = λ d rs. tt;
@@ -208,5 +208,5 @@ finish-cases s c assembled = step-cases s (Finished s) (record {
     none (GiveUp t) a fails = tt
     none (Abort t) a fails = tt
 
-pub finish-tells : (s : FolderState) (c : Token) (assembled : FileRecord) (k : ℕ) → IsFolder s → (step s (Finish c assembled)).0 ≡ Done k → Finishes s c k (step s (Finish c assembled)).1
-finish-tells s c assembled = finish-cases s c assembled
+pub finish-recorded : (s : FolderState) (c : Token) (assembled : FileRecord) (k : ℕ) → IsFolder s → (step s (Finish c assembled)).0 ≡ Done k → Finishes s c k (step s (Finish c assembled)).1
+finish-recorded s c assembled = finish-cases s c assembled

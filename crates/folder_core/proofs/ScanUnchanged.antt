@@ -49,9 +49,9 @@ module _ (s : FolderState) (n : Name) (v : Vector) (f : Finding) (r : FileRecord
   abbrev made : FoundContent → FileRecord
   made c = found_record s n v (record f { content = c })
 
-  pub same-tells : (c : FoundContent) → same_content (made c) r ≡ true → HasFound c r
-  same-tells FoundDirectory e = let t = and_parts (not r.deleted) _ e in (not-true r.deleted t.0, directory-kind (made FoundDirectory) r t.1)
-  same-tells (FoundFile size block_size blocks) e =
+  pub same-found : (c : FoundContent) → same_content (made c) r ≡ true → HasFound c r
+  same-found FoundDirectory e = let t = and_parts (not r.deleted) _ e in (not-true r.deleted t.0, directory-kind (made FoundDirectory) r t.1)
+  same-found (FoundFile size block_size blocks) e =
       let t = and_parts (not r.deleted) _ e in
       let k = file-kind (made (FoundFile size block_size blocks)) r t.1 in
       let w = and_parts (int_eq (pos size) r.size) _ k.1 in
@@ -64,11 +64,11 @@ module _ (s : FolderState) (n : Name) (v : Vector) (f : Finding) (r : FileRecord
           let p = and_parts (int_eq (pos block_size) r.block_size) _ b in
           inr (sym (ints (pos block_size) r.block_size p.0), sym ((pointwise_decides block-Decides blocks r.blocks).0 p.1))
 
-  pub tells-same : (c : FoundContent) → HasFound c r → same_content (made c) r ≡ true
-  tells-same FoundDirectory h =
+  pub found-same : (c : FoundContent) → HasFound c r → same_content (made c) r ≡ true
+  found-same FoundDirectory h =
       and_from (not r.deleted) _ (not_from_false r.deleted h.0)
       (ap (λ t. same_of_kinds Directory (kind_by t) (made FoundDirectory) r) (ints r.type_number (pos 1) h.1))
-  tells-same (FoundFile size block_size blocks) h =
+  found-same (FoundFile size block_size blocks) h =
       and_from (not r.deleted) _ (not_from_false r.deleted h.0)
       (ap (λ t. same_of_kinds File (kind_by t) (made (FoundFile size block_size blocks)) r) (ints r.type_number (pos 0) h.1)
       ∙ and_from (int_eq (pos size) r.size) _ (ap (int_eq (pos size)) h.2 ∙ ints-own (pos size)) (by h.3))
@@ -100,7 +100,7 @@ module _ (s : FolderState) (n : Name) (f : Finding) (moment : ℕ) where
 
   from-test : (c : FoundContent) (o : Option FileRecord) → local s n ≡ o → option_map_or (same_content (found_record s n (next_version s n moment) (record f { content = c }))) o false ≡ true → HasLocally c
   from-test c None here e = absurd (true≢false (sym e))
-  from-test c (Some r) here e = (r, here, same-tells s n (next_version s n moment) f r c e)
+  from-test c (Some r) here e = (r, here, same-found s n (next_version s n moment) f r c e)
 
   pub unchanged-has : (expected : Option Vector) (c : FoundContent) → f.content ≡ c → (step s (ScanFound n expected f moment)).0 ≡ Unchanged → HasLocally c
   unchanged-has expected c found is =
@@ -112,4 +112,4 @@ module _ (s : FolderState) (n : Name) (f : Finding) (moment : ℕ) where
   pub has-unchanged : (c : FoundContent) (r : FileRecord) → Idle s n → local s n ≡ Some r → f.content ≡ c → HasFound c r → (step s (ScanFound n (local_version s n) f moment)).0 ≡ Unchanged
   has-unchanged c r idle here found has =
       found-unchanged s n f moment r idle here
-      (ap (λ x. same_content (found_record s n (next_version s n moment) (record f { content = x })) r) found ∙ tells-same s n (next_version s n moment) f r c has)
+      (ap (λ x. same_content (found_record s n (next_version s n moment) (record f { content = x })) r) found ∙ found-same s n (next_version s n moment) f r c has)

@@ -66,7 +66,7 @@ pub record EndsPull (opening : FolderState) (front : List Entry) (commit : Token
   pub begun : Entry
   pub between : List Entry
   pub ticket : Token
-  pub stands : front ≡ before ++ begun ∷ between
+  pub divided : front ≡ before ++ begun ∷ between
   pub began : begun.answer ≡ Begun ticket
   pub over : ticket.base ≡ local (state_after opening before) ticket.name
   pub same : (ticket.number ≡ commit.number) × (ticket.name ≡ commit.name) × (ticket.target ≡ commit.target)

@@ -6,7 +6,7 @@ ghost use Rattle.folder_core.specs.Announced.{Announcement, best};
 ghost use Rattle.folder_core.specs.States.{FolderState, local};
 ghost use Rattle.folder_core.specs.Reads.{Query, Reply, Reads};
 ghost use Rattle.folder_core.specs.Histories.{Entry, IsLegal, IsReplay, state_after, shared_answer, own_entries, CommitsAreLegal};
-ghost use Rattle.folder_core.specs.Shared.{View, Tells, ReadsThere};
+ghost use Rattle.folder_core.specs.Shared.{View, IsAnswered, ReadsThere};
 ghost use Rattle.folder_core.specs.Steps.{Change, Finish, GiveUp, Abort};
 ghost use Rattle.folder_core.specs.Steps.{Begun};
 ghost use Rattle.folder_core.specs.Steps.{Answer, HistoryFull, Token, MayChange, step, is_accepted};
@@ -70,10 +70,10 @@ pub fn own_entries_are_those_of_the_pass()
 /// there; so a legal history stays legal. Any other answer is the shared answer at the history that the caller then
 /// knows, and the call adds no entry. A call that is out of memory changes nothing that the caller knows.
 pub fn calls_share_one_history()
-    ensures grows { (old new : View) (c : Change) (a : Answer) → Tells old c (Some a) new →
+    ensures grows { (old new : View) (c : Change) (a : Answer) → IsAnswered old c (Some a) new →
         IsPrefix old.seen new.seen
         × (new.opening ≡ old.opening) × (new.limit ≡ old.limit) × (new.pass ≡ old.pass) }
-    ensures entered { (old new : View) (c : Change) (a : Answer) → Tells old c (Some a) new → is_accepted a ≡ true →
+    ensures entered { (old new : View) (c : Change) (a : Answer) → IsAnswered old c (Some a) new → is_accepted a ≡ true →
         (own_entries old.pass new.seen
         ≡ own_entries old.pass old.seen ++ (record { pass = old.pass; change = c; answer = a }) ∷ [])
         × (front : List Entry) × (new.seen ≡ front ++ (record { pass = old.pass; change = c; answer = a }) ∷ [])
@@ -81,10 +81,10 @@ pub fn calls_share_one_history()
     ensures legal { (passes limit : ℕ) (s : FolderState) (es : List Entry) (e : Entry) → IsLegal passes s es →
         1 ≤ e.pass → e.pass ≤ passes → MayChange (state_after s es) e.change → is_accepted e.answer ≡ true →
         e.answer ≡ shared_answer limit s es e.change → IsLegal passes s (es ++ e ∷ []) }
-    ensures not_accepted { (old new : View) (c : Change) (a : Answer) → Tells old c (Some a) new → is_accepted a ≡ false →
+    ensures not_accepted { (old new : View) (c : Change) (a : Answer) → IsAnswered old c (Some a) new → is_accepted a ≡ false →
         (own_entries old.pass new.seen ≡ own_entries old.pass old.seen)
         × (a ≡ shared_answer old.limit old.opening new.seen c) }
-    ensures out_of_memory { (old new : View) (c : Change) → Tells old c None new → new ≡ old }
+    ensures out_of_memory { (old new : View) (c : Change) → IsAnswered old c None new → new ≡ old }
     ensures read { (old new : View) (q : Query) (r : Reply q) → ReadsThere old new q r →
         IsPrefix old.seen new.seen
         × (new.opening ≡ old.opening) × (new.limit ≡ old.limit) × (new.pass ≡ old.pass)

@@ -20,8 +20,8 @@ pub returns-clause-directory : goal.returns-clause-directory
 returns-clause-directory c = λ s n expected f moment is. ap is_found is
 
 pub returns-clause-file : goal.returns-clause-file
-returns-clause-file c = λ s n expected f moment size block_size r valid live told blocks is.
-    ap is_found is ∙ (λ i. describes_file (sym told i) (sym blocks i) r.blocks) ∙ described r valid live
+returns-clause-file c = λ s n expected f moment size block_size r valid live shown blocks is.
+    ap is_found is ∙ (λ i. describes_file (sym shown i) (sym blocks i) r.blocks) ∙ described r valid live
 
 pub returns-clause-rest : goal.returns-clause-rest
 returns-clause-rest c = λ s n expected moment t. (tt, tt, tt, refl, tt, tt)

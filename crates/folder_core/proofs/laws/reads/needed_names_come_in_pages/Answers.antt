@@ -15,5 +15,5 @@ pub returns-clause-only : goal.returns-clause-only
 returns-clause-only c = λ s after limit names n e listed. need-page_of s after limit n (subst (λ ns. Contains ns n) e listed)
 
 pub returns-clause-all : goal.returns-clause-all
-returns-clause-all c = λ s after limit names n e needed behind.
-    subst (λ ns. Contains ns n ⊎ ((length ns ≡ limit) × ((m : Name) → Contains ns m → bytes_cmp m n ≡ Less))) (sym e) (need-page_has s after limit n needed behind)
+returns-clause-all c = λ s after limit names n e needed after_it.
+    subst (λ ns. Contains ns n ⊎ ((length ns ≡ limit) × ((m : Name) → Contains ns m → bytes_cmp m n ≡ Less))) (sym e) (need-page_has s after limit n needed after_it)
