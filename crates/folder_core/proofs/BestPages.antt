@@ -1,15 +1,14 @@
 -- Pages of bests: each after the last name of the one before.
-use Rattle.folder_core.proofs.AllBests.{bests-announced, bests-tell}
-use Rattle.folder_core.proofs.NeedLaws.{Rising, bests-rising, rising-filter}
+use Rattle.folder_core.proofs.BestList.{bests-announced, bests-listed}
+use Rattle.folder_core.proofs.PullNeed.{Rising, bests-rising, rising-filter}
 use Rattle.folder_core.proofs.Orders.{bytes_total}
-use Rattle.folder_core.proofs.PlainTests.{filter_filter, none_left}
-use Rattle.folder_core.proofs.ReadLaws.{Behind, behind, in_take, of_behind, sorted_take, take_or_behind}
-use Rattle.folder_core.proofs.TestLemmas.{inside, none_some, In, in_contains, contains_in, in_filter, in_map, of_filter, of_map}
-use Rattle.folder_core.specs.Announced.{Announced, Announcement, IsNamed, best, bests}
+use Rattle.folder_core.proofs.ListFilters.{filter_filter, none_left}
+use Rattle.folder_core.proofs.ReadAnswers.{IsAfter, after_it, in_take, of_after, sorted_take, take_or_after}
+use Rattle.folder_core.proofs.ListTests.{inside, none_some, In, in_contains, contains_in, in_filter, in_map, of_filter, of_map}
+use Rattle.folder_core.specs.Announced.{Announcement, IsNamed, best, bests}
 use Rattle.folder_core.specs.Reads.{ArePages, Found, best_found, bests_after, bests_page, is_after, last_page, next_page, with_devices}
 use Rattle.folder_core.specs.States.{FolderState}
 use Rattle.std.proofs.Common.{◌≡◌, ℕ, zero, suc, ◌<◌, ◌≤◌, Bool, true, false, List, [], ◌∷◌, ◌++◌, ◌-◌, ◌⊎◌, length, take, append-nil, refl, sym, ap, subst, ◌∙◌, inl, inr, arith}
-use Rattle.std.proofs.lemmas.Bool.{true≢false}
 use Rattle.std.proofs.lemmas.List.{length-take, take_all}
 use Rattle.std.proofs.lemmas.List.Folds.{flat_map-map}
 use Rattle.std.specs.Cmp.{tied_itself}
@@ -17,9 +16,9 @@ use Rattle.std.specs.FinMap.{entries}
 use Rattle.std.specs.List.{AllByRecursion}
 use Rattle.std.specs.List.Sorted.{IsStrictlySortedBy}
 use Rattle.std.specs.Ordering.{is_gt, ordering_reverse}
-use Rattle.std.specs.Prelude.{◌&&◌, cond, filter, flat_map, map, slice_get, Option, Some, None, option_map, Contains, min}
+use Rattle.std.specs.Prelude.{◌&&◌, cond, filter, flat_map, map, slice_get, Option, Some, None, option_map, Contains}
 use Rattle.std.specs.declared.cmp.Ordering.{Ordering}
-use Rattle.std.specs.declared.cmp.Ordering.TheVariants.{Less, Equal, Greater}
+use Rattle.std.specs.declared.cmp.Ordering.TheVariants.{Less}
 use Rattle.sync_record.specs.Devices.{bytes_cmp}
 use Rattle.sync_record.specs.Records.{Name, FileRecord}
 
@@ -45,13 +44,13 @@ not_greater_than : (m n : Name) → bytes_cmp m n ≡ Less → is_after (Some n)
 not_greater_than m n less = ap is_gt less
 
 module _ (es : List Announcement) where
-  abbrev told : Announcement → Found
-  told b = with_devices es b
+  abbrev shown : Announcement → Found
+  shown b = with_devices es b
 
   abbrev Named : List Announcement → Type 0
   Named fs = (f : Announcement) → In f fs → f.1.name ≡ f.0.name
 
-  found_above : (f : Announcement) (fs : List Announcement) → Rising (f ∷ fs) → Named (f ∷ fs) → AllByRecursion (λ b. found_cmp (told f) b ≡ Less) (map told fs)
+  found_above : (f : Announcement) (fs : List Announcement) → Rising (f ∷ fs) → Named (f ∷ fs) → AllByRecursion (λ b. found_cmp (shown f) b ≡ Less) (map shown fs)
   found_above f [] rise named = tt
   found_above f (g ∷ fs) rise named = (
     (λ i. bytes_cmp (named f (inl refl) i) (named g (inr (inl refl)) i)) ∙ rise.0 g (inl refl),
@@ -62,7 +61,7 @@ module _ (es : List Announcement) where
       skip h (inl e) = inl e
       skip h (inr i) = inr (inr i)
 
-  found-rise : (fs : List Announcement) → Rising fs → Named fs → IsStrictlySortedBy found_cmp (map told fs)
+  found-rise : (fs : List Announcement) → Rising fs → Named fs → IsStrictlySortedBy found_cmp (map shown fs)
   unfolding IsStrictlySortedBy
   found-rise [] rise named = tt
   found-rise (f ∷ fs) rise named = (found_above f fs rise named, found-rise fs rise.1 (λ g i. named g (inr i)))
@@ -75,7 +74,7 @@ module _ (es : List Announcement) where
   abbrev After : Found → List Announcement → List Announcement
   After b fs = filter (λ f. is_after (Some b.0.name) f.0.name) fs
 
-  not_after_itself : (f : Announcement) (fs : List Announcement) → Rising (f ∷ fs) → f.1.name ≡ f.0.name → After (told f) (f ∷ fs) ≡ fs
+  not_after_itself : (f : Announcement) (fs : List Announcement) → Rising (f ∷ fs) → f.1.name ≡ f.0.name → After (shown f) (f ∷ fs) ≡ fs
   not_after_itself f fs rise named =
       (λ i. filter (λ g. is_after (Some (named i)) g.0.name) (f ∷ fs))
       ∙ ap (λ r. cond (is_gt r) (f ∷ filter (λ g. is_after (Some f.0.name) g.0.name) fs) (filter (λ g. is_after (Some f.0.name) g.0.name) fs)) (tied_itself bytes_total f.0.name)
@@ -84,22 +83,22 @@ module _ (es : List Announcement) where
   skips_smaller : (f : Announcement) (fs : List Announcement) (b : Found) → bytes_cmp f.0.name b.0.name ≡ Less → After b (f ∷ fs) ≡ After b fs
   skips_smaller f fs b less = ap (λ r. cond r (f ∷ After b fs) (After b fs)) (not_greater_than f.0.name b.0.name less)
 
-  -- behind a front of a rising list is what is after its last name
-  next : (fs : List Announcement) (k : ℕ) (front : List Found) (b : Found) → Rising fs → Named fs → take k (map told fs) ≡ front ++ b ∷ [] → map told fs ≡ (front ++ b ∷ []) ++ map told (After b fs)
+  -- after a front of a rising list is what is after its last name
+  next : (fs : List Announcement) (k : ℕ) (front : List Found) (b : Found) → Rising fs → Named fs → take k (map shown fs) ≡ front ++ b ∷ [] → map shown fs ≡ (front ++ b ∷ []) ++ map shown (After b fs)
   next [] zero front b rise named is = absurd (no_last front b is)
   next [] (suc k) front b rise named is = absurd (no_last front b is)
   next (f ∷ fs) zero front b rise named is = absurd (no_last front b is)
   next (f ∷ fs) (suc k) [] b rise named is =
-      let parts = uncons (told f) b (take k (map told fs)) [] is in
-      (λ i. parts.0 i ∷ map told (sym (not_after_itself f fs rise (named f (inl refl))) i))
-      ∙ (λ i. b ∷ map told (After (parts.0 i) (f ∷ fs)))
+      let parts = uncons (shown f) b (take k (map shown fs)) [] is in
+      (λ i. parts.0 i ∷ map shown (sym (not_after_itself f fs rise (named f (inl refl))) i))
+      ∙ (λ i. b ∷ map shown (After (parts.0 i) (f ∷ fs)))
   next (f ∷ fs) (suc k) (c ∷ front) b rise named is =
-      let parts = uncons (told f) c (take k (map told fs)) (front ++ b ∷ []) is in
-      let listed = of_map told fs b (in_take k (map told fs) b (subst (In b) (sym parts.1) (last_name front b))) in
+      let parts = uncons (shown f) c (take k (map shown fs)) (front ++ b ∷ []) is in
+      let listed = of_map shown fs b (in_take k (map shown fs) b (subst (In b) (sym parts.1) (last_name front b))) in
       let less : bytes_cmp f.0.name b.0.name ≡ Less =
       (λ i. bytes_cmp f.0.name ((ap (λ (x : Found). x.0.name) (sym listed.2) ∙ named listed.0 (inr listed.1)) i)) ∙ rise.0 listed.0 listed.1 in
       (λ i. parts.0 i ∷ next fs k front b rise.1 (λ g j. named g (inr j)) parts.1 i)
-      ∙ (λ i. (c ∷ front ++ b ∷ []) ++ map told (sym (skips_smaller f fs b less) i))
+      ∙ (λ i. (c ∷ front ++ b ∷ []) ++ map shown (sym (skips_smaller f fs b less) i))
 
 module _ (s : FolderState) (named : IsNamed s.announced) where
   abbrev bs : List Announcement
@@ -122,9 +121,9 @@ module _ (s : FolderState) (named : IsNamed s.announced) where
 
   -- a name after one that is after another is after both
   later : (after : Option Name) (m n : Name) → is_after after m ≡ true → is_after (Some m) n ≡ true → is_after after n ≡ true
-  later after m n p q = of_behind after n (λ a is.
-      let above : bytes_cmp a m ≡ Less = bytes_total.antisymm a m ∙ ap ordering_reverse (behind after m p a is) in
-      let over : bytes_cmp m n ≡ Less = bytes_total.antisymm m n ∙ ap ordering_reverse (behind (Some m) n q m refl) in
+  later after m n p q = of_after after n (λ a is.
+      let above : bytes_cmp a m ≡ Less = bytes_total.antisymm a m ∙ ap ordering_reverse (after_it after m p a is) in
+      let over : bytes_cmp m n ≡ Less = bytes_total.antisymm m n ∙ ap ordering_reverse (after_it (Some m) n q m refl) in
       bytes_total.antisymm n a ∙ ap ordering_reverse (bytes_total.trans a m n above over))
 
   listed-later : (after : Option Name) (m : Name) → is_after after m ≡ true → filter (is_listed_after (Some m)) (listed after) ≡ listed (Some m)
@@ -171,18 +170,17 @@ module _ (s : FolderState) (named : IsNamed s.announced) where
   pub bests-page_rises : (after : Option Name) (limit : ℕ) → IsStrictlySortedBy bytes_cmp (map (λ b. b.0.name) (bests_page s after limit))
   bests-page_rises after limit = names_rise (bests_page s after limit) (sorted_take found_cmp limit (bests_after s after) (bests_after-rise after))
 
-  pub bests-page_of : (after : Option Name) (limit : ℕ) (b : Found) → Contains (bests_page s after limit) b → (Some b ≡ best_found s b.0.name) × Behind after b.0.name
+  pub bests-page_of : (after : Option Name) (limit : ℕ) (b : Found) → Contains (bests_page s after limit) b → (Some b ≡ best_found s b.0.name) × IsAfter after b.0.name
   bests-page_of after limit b c =
       let es = entries s.announced in
       let at = of_map (with_devices es) (listed after) b (in_take limit (bests_after s after) b (contains_in _ b c)) in
       let kept = of_filter (is_listed_after after) bs at.0 at.1 in
-      let name : at.0.0.name ≡ b.0.name = sym (bests-named at.0 kept.0) ∙ ap (λ (x : Found). x.0.name) at.2 in
-      (
-        sym (ap (option_map (with_devices es)) ((bests-tell s.announced b.0.name at.0).0 (in_contains bs at.0 kept.0, name)) ∙ ap Some at.2),
-        behind after b.0.name (subst (λ n. is_after after n ≡ true) name kept.1),
+      let name : at.0.0.name ≡ b.0.name = sym (bests-named at.0 kept.0) ∙ ap (λ (x : Found). x.0.name) at.2 in (
+        sym (ap (option_map (with_devices es)) ((bests-listed s.announced b.0.name at.0).0 (in_contains bs at.0 kept.0, name)) ∙ ap Some at.2),
+        after_it after b.0.name (subst (λ n. is_after after n ≡ true) name kept.1),
       )
 
-module _ (s : FolderState) (after : Option Name) (n : Name) (is_behind : Behind after n) where
+module _ (s : FolderState) (after : Option Name) (n : Name) (is_after_it : IsAfter after n) where
   abbrev es : List Announcement
   es = entries s.announced
 
@@ -192,8 +190,8 @@ module _ (s : FolderState) (after : Option Name) (n : Name) (is_behind : Behind 
   found_at : (b : Found) (o : Option Announcement) → best es n ≡ o → Some b ≡ option_map (with_devices es) o → Found_at b
   found_at b None is e = absurd (none_some b (sym e))
   found_at b (Some f) is e =
-      let t = (bests-tell s.announced n f).1 is in
-      (f, in_filter (λ g. is_after after g.0.name) (bests es) f (contains_in (bests es) f t.0) (subst (λ m. is_after after m ≡ true) (sym t.1) (of_behind after n is_behind)), t.1, sym (inside b (with_devices es f) e))
+      let t = (bests-listed s.announced n f).1 is in
+      (f, in_filter (λ g. is_after after g.0.name) (bests es) f (contains_in (bests es) f t.0) (subst (λ m. is_after after m ≡ true) (sym t.1) (of_after after n is_after_it)), t.1, sym (inside b (with_devices es f) e))
 
   pub found_after : (b : Found) → Some b ≡ best_found s n → Found_at b
   found_after b e = found_at b (best es n) refl e
@@ -208,7 +206,7 @@ module _ (s : FolderState) (after : Option Name) (n : Name) (is_behind : Behind 
   some_left (suc k) [] x one e i = i
   some_left (suc k) (y ∷ ys) x one e i = let c : [] ≡ y ∷ take k ys = e in cc
 
-  -- an empty page comes only where there is no best behind
+  -- an empty page comes only where there is no best after
   pub bests-page_end : (limit : ℕ) → 1 ≤ limit → [] ≡ bests_page s after limit → None ≡ best_found s n
   bests-page_end limit one e = none (best_found s n) refl
     where
@@ -219,7 +217,7 @@ module _ (s : FolderState) (after : Option Name) (n : Name) (is_behind : Behind 
   pub bests-page_has : IsNamed s.announced → (limit : ℕ) (b : Found) → Some b ≡ best_found s n
       → Contains (bests_page s after limit) b ⊎ ((length (bests_page s after limit) ≡ limit) × ((c : Found) → Contains (bests_page s after limit) c → bytes_cmp c.0.name n ≡ Less))
   bests-page_has named limit b e =
-      by (take_or_behind found_cmp limit (bests_after s after) b (bests_after-rise s named after) (listed_after b e))
+      by (take_or_after found_cmp limit (bests_after s after) b (bests_after-rise s named after) (listed_after b e))
     where
       name : b.0.name ≡ n
       name =

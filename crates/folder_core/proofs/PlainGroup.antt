@@ -1,4 +1,4 @@
--- The entries of one name stand side by side, and have the best of it and the devices that have it.
+-- The entries of one name are side by side, and have the best of it and the devices that have it.
 use Rattle.std.proofs.Common.{◌≡◌, ℕ, suc, ◌+◌, ◌<◌, ◌≤◌, Bool, true, false, List, [], ◌∷◌, length, take, drop, refl, sym, ap, ◌∙◌, inl, inr, arith}
 use Rattle.std.specs.Prelude.{bytes_eq, ◌&&◌, ◌||◌, not, cond, T, Some, None, filter, map, slice_index_or}
 use Rattle.std.specs.Bool.{passes}
@@ -18,12 +18,12 @@ use Rattle.sync_record.specs.Records.{Name}
 use Rattle.sync_record.specs.Validity.{is_valid}
 use Rattle.sync_version.specs.Computed.{dominates, same_version}
 use Rattle.folder_core.specs.declared.plain.entry.Entry.{Entry}
-use Rattle.folder_core.specs.Announced.{In, Announcement, Key, key_cmp, is_of, is_candidate, is_best, best, bests, devices_of, is_by}
+use Rattle.folder_core.specs.Announced.{Announcement, Key, key_cmp, is_of, is_candidate, is_best, best, bests, devices_of, is_by}
 use Rattle.folder_core.specs.Reads.{is_after, with_devices}
-use Rattle.folder_core.proofs.Preferred.{is_preferred}
-use Rattle.folder_core.specs.Kept.{Rises, filed}
-use Rattle.folder_core.proofs.PlainTests.{none_left, any_filter, filter_filter, filter_in, filter_swap, find_filter, find_same, map_in}
-use Rattle.folder_core.proofs.TestLemmas.{same_bytes, alike_bytes, is_less, of_filter, parts}
+use Rattle.folder_core.proofs.BestPreferred.{is_preferred}
+use Rattle.folder_core.specs.Plain.{Rises, filed}
+use Rattle.folder_core.proofs.ListFilters.{none_left, any_filter, filter_filter, filter_in, filter_swap, find_filter, find_same, map_in}
+use Rattle.folder_core.proofs.ListTests.{same_bytes, alike_bytes, is_less, of_filter, parts, In}
 
 -- ---- where the entries of a name begin and end
 
@@ -57,7 +57,7 @@ partitioned P p down (e ∷ es) h each (suc i) ℕ.zero d le short t = absurd (o
 partitioned P p down (e ∷ es) h each (suc i) (suc j) d le short t =
     partitioned P p down es (rest_rises e es h) (λ x k. each x (inr k)) i j d (omega arith) (omega arith) t
 
--- the entries up to a partition point are those that pass, and the others are behind it
+-- the entries up to a partition point are those that pass, and the others are after it
 pub front_is : {A : Type 0} (p : A → Bool) (xs : List A) (i : ℕ) → i ≤ length xs → AllWithin (λ y. p y ≡ true) xs 0 i → AllWithin (λ y. p y ≡ false) xs i (length xs) → take i xs ≡ filter p xs
 front_is p [] ℕ.zero le pass fail = refl
 front_is p [] (suc i) le pass fail = refl
@@ -94,12 +94,12 @@ module _ {A : Type 0} (p : A → Bool) where
         | false ↦ λ f. front_is p xs 0 (omega arith) (λ k d l s. absurd (omega arith)) (rest_fails x xs parted f)
       ] refl
 
-  pub behind_prefix : (xs : List A) → IsPartitionedBy p xs → drop (prefix_len p xs) xs ≡ filter (λ x. not (p x)) xs
-  behind_prefix [] parted = refl
-  behind_prefix (x ∷ xs) parted =
+  pub after_prefix : (xs : List A) → IsPartitionedBy p xs → drop (prefix_len p xs) xs ≡ filter (λ x. not (p x)) xs
+  after_prefix [] parted = refl
+  after_prefix (x ∷ xs) parted =
       let one_more : 1 + prefix_len p xs ≡ suc (prefix_len p xs) = omega arith in
       elim (p x) as (λ b. p x ≡ b → drop (cond b (1 + prefix_len p xs) 0) (x ∷ xs) ≡ cond (not b) (x ∷ filter (λ y. not (p y)) xs) (filter (λ y. not (p y)) xs)) [
-        | true ↦ λ t. ap (λ k. drop k (x ∷ xs)) one_more ∙ behind_prefix xs (λ i j d le short. parted (suc i) (suc j) d (omega arith) (omega arith))
+        | true ↦ λ t. ap (λ k. drop k (x ∷ xs)) one_more ∙ after_prefix xs (λ i j d le short. parted (suc i) (suc j) d (omega arith) (omega arith))
         | false ↦ λ f. ap (λ ys. x ∷ ys) (back_is p xs 0 (omega arith) (λ k d l s. absurd (omega arith)) (rest_fails x xs parted f))
       ] refl
 
@@ -111,7 +111,7 @@ less_before Greater s e f = absurd (true≢false (sym (ap is_lt e)))
 is_less_of : (r : Ordering) → is_lt r ≡ true → r ≡ Less
 is_less_of r e = is_less r (passes _ e)
 
--- a name before one that stands before n
+-- a name before one that is before n
 pub before_down : (n : Name) (x y : Entry) → key_cmp (filed x).0 (filed y).0 ≡ Less → is_before n y ≡ true → is_before n x ≡ true
 before_down n x y less t =
     let below : bytes_cmp y.record.name n ≡ Less = is_less_of _ t in
@@ -121,7 +121,7 @@ before_down n x y less t =
       | Greater ↦ λ e l. absurd (true≢false (sym (ap is_lt l)))
     ] refl less
 
--- a name that doesn't stand before n, before one that is n
+-- a name that isn't before n, before one that is n
 pub named_down : (n : Name) (x y : Entry) → is_before n x ≡ false → key_cmp (filed x).0 (filed y).0 ≡ Less → is_named n y ≡ true → is_named n x ≡ true
 named_down n x y late less t =
     let there : y.record.name ≡ n = same_bytes y.record.name n t in
@@ -135,7 +135,7 @@ named_is_late n x =
       | false ↦ λ t. sym (none_left (not (is_before n x)))
     ] refl
 
--- ---- where the entries behind a name begin
+-- ---- where the entries after a name begin
 
 abbrev pub is_up_to : Name → Entry → Bool
 is_up_to n e = is_le (bytes_cmp e.record.name n)

@@ -8,7 +8,7 @@ use Rattle.sync_record.specs.Records.{Name}
 use Rattle.folder_core.specs.States.{FolderState, Pull}
 use Rattle.folder_core.specs.Steps.{least_free}
 use Rattle.folder_core.proofs.Orders.{bytes_total, exact_names}
-use Rattle.folder_core.proofs.TestLemmas.{inside, none_some, In, any_in, in_any, in_filter, in_map, of_map, get_in, in_get}
+use Rattle.folder_core.proofs.ListTests.{inside, none_some, In, any_in, in_any, in_filter, in_map, of_map, get_in, in_get}
 
 -- the first number of a range that passes
 module _ (p : ℕ → Bool) where
@@ -80,20 +80,20 @@ module _ (used : List ℕ) where
       by (Some k) e = (k, refl)
       by None e = absurd (let h = holds_row (length used + 1) 1 used (λ m h l. used_in m (none-found free 1 (length used + 1) e m h l)) in omega arith)
 
-  least-tells : (1 ≤ least_free used) × (free (least_free used) ≡ true) × ((m : ℕ) → 1 ≤ m → m < least_free used → free m ≡ false)
-  least-tells =
+  least-is : (1 ≤ least_free used) × (free (least_free used) ≡ true) × ((m : ℕ) → 1 ≤ m → m < least_free used → free m ≡ false)
+  least-is =
       let is : some-free.0 ≡ least_free used = sym (ap (λ o. unwrap_or o 0) some-free.1) in
       subst (λ k. (1 ≤ k) × (free k ≡ true) × ((m : ℕ) → 1 ≤ m → m < k → free m ≡ false)) is
       (first-found free 1 (length used + 1) some-free.0 some-free.1)
 
   pub least_positive : 1 ≤ least_free used
-  least_positive = least-tells.0
+  least_positive = least-is.0
 
   pub least_new : ¬ (In (least_free used) used)
-  least_new i = true≢false (sym (in_any (λ m. m == least_free used) used (least_free used) i (eq-eqb (least_free used) (least_free used) refl)) ∙ not-true _ least-tells.1)
+  least_new i = true≢false (sym (in_any (λ m. m == least_free used) used (least_free used) i (eq-eqb (least_free used) (least_free used) refl)) ∙ not-true _ least-is.1)
 
   pub below_least : (m : ℕ) → 1 ≤ m → m < least_free used → In m used
-  below_least m h l = used_in m (least-tells.2 m h l)
+  below_least m h l = used_in m (least-is.2 m h l)
 
 -- the number of the next pull
 abbrev pub numbers : FolderState → List ℕ

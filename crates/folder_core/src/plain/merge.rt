@@ -1,16 +1,17 @@
 //! The merge of a message with the list of a folder.
-ghost use Rattle.std.specs.Prelude.{◌≡◌, ◌+◌, ◌<◌, ◌≤◌, [], ◌∷◌, ◌++◌, map, reverse, option_copied, MatchOption, IfSome, vec_len, vec_capacity};
+ghost use Rattle.std.specs.Prelude.{◌≡◌, ◌+◌, ◌<◌, ◌≤◌, [], ◌∷◌, ◌++◌, length, map, reverse, option_copied, MatchOption, IfSome, vec_len, vec_capacity};
+ghost use Rattle.std.specs.Ordering.{is_gt};
 ghost use Rattle.std.specs.declared.cmp.Ordering.TheVariants.{Less};
 ghost use Rattle.folder_core.specs.Announced.{key, key_cmp};
-ghost use Rattle.folder_core.specs.Kept.{filed, filed_by, put_all, NamesRise, Rises};
+ghost use Rattle.folder_core.specs.Plain.{filed, filed_by, put_all, NamesRise, Rises};
 
 use super::entry::Entry;
 use std::cmp::Ordering;
 use sync_record::{DeviceId, Record};
 
-/// Puts a device's records among the entries, each in its place and in place of the device's record of its name. Takes
-/// no memory but the room that it is given. O(t + m) for m records and t entries behind the place of the first of them,
-/// which are moved; the entries before it stay where they are.
+/// Puts a device's records among the entries, each in its place and in place of the device's record of its name. Does not
+/// allocate; `room` holds what is moved. O(t + m log n) for m records and n entries, t of them after the place of the first, which
+/// are moved; the entries before it stay where they are.
 pub(super) fn merge(
     entries: &mut Vec<Entry>,
     device: DeviceId,
@@ -24,10 +25,55 @@ pub(super) fn merge(
     requires room_fits { 0 < vec_len records → vec_len entries.old + vec_len records ≤ vec_capacity room }
     ensures { map filed entries.new.items ≡ put_all (map filed entries.old.items) (map (filed_by device) records.items) }
 {
+    move_greater(entries, device, records.as_slice(), &mut room);
     while let Some(entry) = last_entry(entries, device, &mut records) {
         room.push_reserved(entry);
+        move_greater(entries, device, records.as_slice(), &mut room);
     }
     put_back(entries, room);
+}
+
+/// Moves the entries that are greater than what the device announces in the last of the records to `room`, the last
+/// first; none where there is no record. Does not allocate. O(log n + t) for n entries and t that are moved, O(1) where
+/// there are none.
+fn move_greater(
+    entries: &mut Vec<Entry>,
+    device: DeviceId,
+    records: &[Record],
+    room: &mut Vec<Entry>,
+)
+    requires rises { Rises entries.old.items }
+    requires names_rise { NamesRise records.now }
+    requires fits { 0 < length records.now → vec_len entries.old + vec_len room.old ≤ vec_capacity room.old }
+    ensures all { put_all (map filed entries.new.items) (map (filed_by device) records.now) ++ map filed (reverse room.new.items) ≡ put_all (map filed entries.old.items) (map (filed_by device) records.now) ++ map filed (reverse room.old.items) }
+    ensures rises { Rises entries.new.items }
+    ensures len { vec_len entries.new + vec_len room.new ≡ vec_len entries.old + vec_len room.old }
+    ensures no_more { vec_len entries.new ≤ vec_len entries.old }
+    ensures entries_capacity { vec_capacity entries.new ≡ vec_capacity entries.old }
+    ensures room_capacity { vec_capacity room.new ≡ vec_capacity room.old }
+{
+    let Some(record) = records.last() else {
+        return;
+    };
+    let Some(last) = entries.last() else {
+        return;
+    };
+    if !is_greater(last, device, record) {
+        return;
+    }
+    let kept = entries.partition_point(|entry| !is_greater(entry, device, record));
+    while entries.len() > kept {
+        if let Some(entry) = entries.pop() {
+            room.push_reserved(entry);
+        }
+    }
+}
+
+/// Whether an entry is after what the device announces, by name and then by device.
+fn is_greater(entry: &Entry, device: DeviceId, announced: &Record) -> bool
+    ensures { result ≡ is_gt (key_cmp (filed entry.now).0 (key announced.now.name device)) }
+{
+    order(Some(entry), device, announced) == Ordering::Greater
 }
 
 /// Takes the last of the entries and the records; of equal keys the record. `None` where no record is left.
@@ -54,7 +100,7 @@ fn last_entry(
     Some(Entry { device, record })
 }
 
-/// How an entry stands to what the device announces: by name, and then by device. Before it where there is no entry.
+/// Compares an entry with what the device announces, by name and then by device. `Less` where there is no entry.
 fn order(entry: Option<&Entry>, device: DeviceId, announced: &Record) -> Ordering
     ensures { MatchOption (option_copied entry.entry) (result ≡ Less) (λ e. result ≡ key_cmp (filed e).0 (key announced.now.name device)) }
 {
@@ -65,7 +111,7 @@ fn order(entry: Option<&Entry>, device: DeviceId, announced: &Record) -> Orderin
     entry.record.name().cmp(announced.name()).then(by_device)
 }
 
-/// Puts behind the entries what was taken of them, the last of it first.
+/// Puts back after the entries what was taken from them, the last of it first.
 fn put_back(entries: &mut Vec<Entry>, mut taken: Vec<Entry>)
     requires { vec_len entries.old + vec_len taken ≤ vec_capacity entries.old }
     ensures { entries.new.items ≡ entries.old.items ++ reverse taken.items }

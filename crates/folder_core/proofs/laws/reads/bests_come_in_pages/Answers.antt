@@ -18,12 +18,12 @@ returns-clause-only c = λ s after limit page b folder e listed.
     bests-page_of s folder.named after limit b (subst (λ (bs : List Found). Contains bs b) e listed)
 
 pub returns-clause-all : goal.returns-clause-all
-returns-clause-all c = λ s after limit page n b folder e best behind.
+returns-clause-all c = λ s after limit page n b folder e best after_it.
     subst (λ (bs : List Found). Contains bs b ⊎ ((length bs ≡ limit) × ((d : Found) → Contains bs d → bytes_cmp d.0.name n ≡ Less))) (sym e)
-    (bests-page_has s after n behind folder.named limit b best)
+    (bests-page_has s after n after_it folder.named limit b best)
 
 pub returns-clause-end : goal.returns-clause-end
-returns-clause-end c = λ s after limit n one e behind. bests-page_end s after n behind limit one e
+returns-clause-end c = λ s after limit n one e after_it. bests-page_end s after n after_it limit one e
 
 pub returns-clause-together : goal.returns-clause-together
 returns-clause-together c = λ s limit pages folder read. pages-together s folder.named limit _ pages read ∙ bests_after-none s
