@@ -10,8 +10,8 @@ use std::cmp::Ordering;
 use sync_record::{DeviceId, Record};
 
 /// Puts a device's records among the entries, each in its place and in place of the device's record of its name. Does not
-/// allocate; `room` holds what is moved. O(t + m log n) for m records and n entries, t of them after the place of the first, which
-/// are moved; the entries before it stay where they are.
+/// allocate; `room` holds what is moved. O(t + m log n) for m records and n entries, t of them after the place of the
+/// first record, which are moved; the entries before it stay where they are.
 pub(super) fn merge(
     entries: &mut Vec<Entry>,
     device: DeviceId,
