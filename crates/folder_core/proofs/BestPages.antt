@@ -1,15 +1,14 @@
 -- Pages of bests: each after the last name of the one before.
-use Rattle.folder_core.proofs.AllBests.{bests-announced, bests-tell}
-use Rattle.folder_core.proofs.NeedLaws.{Rising, bests-rising, rising-filter}
+use Rattle.folder_core.proofs.BestList.{bests-announced, bests-tell}
+use Rattle.folder_core.proofs.PullNeed.{Rising, bests-rising, rising-filter}
 use Rattle.folder_core.proofs.Orders.{bytes_total}
-use Rattle.folder_core.proofs.PlainTests.{filter_filter, none_left}
-use Rattle.folder_core.proofs.ReadLaws.{Behind, behind, in_take, of_behind, sorted_take, take_or_behind}
-use Rattle.folder_core.proofs.TestLemmas.{inside, none_some, In, in_contains, contains_in, in_filter, in_map, of_filter, of_map}
-use Rattle.folder_core.specs.Announced.{Announced, Announcement, IsNamed, best, bests}
+use Rattle.folder_core.proofs.ListFilters.{filter_filter, none_left}
+use Rattle.folder_core.proofs.ReadAnswers.{Behind, behind, in_take, of_behind, sorted_take, take_or_behind}
+use Rattle.folder_core.proofs.ListTests.{inside, none_some, In, in_contains, contains_in, in_filter, in_map, of_filter, of_map}
+use Rattle.folder_core.specs.Announced.{Announcement, IsNamed, best, bests}
 use Rattle.folder_core.specs.Reads.{ArePages, Found, best_found, bests_after, bests_page, is_after, last_page, next_page, with_devices}
 use Rattle.folder_core.specs.States.{FolderState}
 use Rattle.std.proofs.Common.{◌≡◌, ℕ, zero, suc, ◌<◌, ◌≤◌, Bool, true, false, List, [], ◌∷◌, ◌++◌, ◌-◌, ◌⊎◌, length, take, append-nil, refl, sym, ap, subst, ◌∙◌, inl, inr, arith}
-use Rattle.std.proofs.lemmas.Bool.{true≢false}
 use Rattle.std.proofs.lemmas.List.{length-take, take_all}
 use Rattle.std.proofs.lemmas.List.Folds.{flat_map-map}
 use Rattle.std.specs.Cmp.{tied_itself}
@@ -17,9 +16,9 @@ use Rattle.std.specs.FinMap.{entries}
 use Rattle.std.specs.List.{AllByRecursion}
 use Rattle.std.specs.List.Sorted.{IsStrictlySortedBy}
 use Rattle.std.specs.Ordering.{is_gt, ordering_reverse}
-use Rattle.std.specs.Prelude.{◌&&◌, cond, filter, flat_map, map, slice_get, Option, Some, None, option_map, Contains, min}
+use Rattle.std.specs.Prelude.{◌&&◌, cond, filter, flat_map, map, slice_get, Option, Some, None, option_map, Contains}
 use Rattle.std.specs.declared.cmp.Ordering.{Ordering}
-use Rattle.std.specs.declared.cmp.Ordering.TheVariants.{Less, Equal, Greater}
+use Rattle.std.specs.declared.cmp.Ordering.TheVariants.{Less}
 use Rattle.sync_record.specs.Devices.{bytes_cmp}
 use Rattle.sync_record.specs.Records.{Name, FileRecord}
 
@@ -176,8 +175,7 @@ module _ (s : FolderState) (named : IsNamed s.announced) where
       let es = entries s.announced in
       let at = of_map (with_devices es) (listed after) b (in_take limit (bests_after s after) b (contains_in _ b c)) in
       let kept = of_filter (is_listed_after after) bs at.0 at.1 in
-      let name : at.0.0.name ≡ b.0.name = sym (bests-named at.0 kept.0) ∙ ap (λ (x : Found). x.0.name) at.2 in
-      (
+      let name : at.0.0.name ≡ b.0.name = sym (bests-named at.0 kept.0) ∙ ap (λ (x : Found). x.0.name) at.2 in (
         sym (ap (option_map (with_devices es)) ((bests-tell s.announced b.0.name at.0).0 (in_contains bs at.0 kept.0, name)) ∙ ap Some at.2),
         behind after b.0.name (subst (λ n. is_after after n ≡ true) name kept.1),
       )

@@ -13,12 +13,12 @@ use Rattle.sync_record.specs.Preference.{preference}
 use Rattle.sync_record.specs.Records.{Name, FileRecord}
 use Rattle.sync_record.specs.Validity.{is_valid}
 use Rattle.sync_version.specs.Computed.{dominates}
-use Rattle.folder_core.specs.Announced.{In, Announcement, Lists, key_cmp, is_of, is_by, is_candidate, is_best, best, bests}
-use Rattle.folder_core.proofs.BestLaws.{is_best_found, of_is_best, preferred_itself}
-use Rattle.folder_core.proofs.Listings.{lists-entries}
-use Rattle.folder_core.proofs.PlainTests.{any_same, none_found}
-use Rattle.folder_core.proofs.TestLemmas.{alike_bytes, in_all, in_filter, of_filter}
-use Rattle.folder_core.proofs.Preferred.{is_preferred}
+use Rattle.folder_core.specs.Announced.{Announcement, key_cmp, is_of, is_by, is_candidate, is_best, best, bests}
+use Rattle.folder_core.proofs.BestRule.{is_best_found, of_is_best, preferred_itself}
+use Rattle.folder_core.proofs.AnnouncedListings.{lists-entries}
+use Rattle.folder_core.proofs.ListFilters.{any_same, none_found}
+use Rattle.folder_core.proofs.ListTests.{alike_bytes, in_all, in_filter, of_filter, In, Lists}
+use Rattle.folder_core.proofs.BestPreferred.{is_preferred}
 
 abbrev pub undominated : List Announcement → Announcement → Bool
 undominated es e = is_valid e.1 && not (list_any (λ f. is_valid f.1 && dominates f.1.version e.1.version) es)

@@ -14,15 +14,15 @@ use Rattle.std.specs.FinMap.Entries.{below_all, find-put, is_sorted-put, is_sort
 use Rattle.sync_record.specs.Devices.{Identity, bytes_cmp}
 use Rattle.sync_record.specs.Records.{Name, FileRecord}
 use Rattle.folder_core.specs.declared.plain.entry.Entry.{Entry}
-use Rattle.folder_core.specs.Announced.{Announced, Announcement, Key, announce, key, key_cmp, without}
+use Rattle.folder_core.specs.Announced.{Announced, Announcement, Key, announce, key, key_cmp, without, last_of}
 use Rattle.folder_core.specs.Codes.{Pulls}
-use Rattle.folder_core.specs.Kept.{IsLastOfEach, Rises, filed, filed_by, folder_of, last_of, put_all}
+use Rattle.folder_core.specs.Plain.{IsLastOfEach, Rises, filed, filed_by, folder_of, put_all}
 use Rattle.folder_core.specs.Steps.{Applied, IndexFull, IndexMore, step}
-use Rattle.folder_core.proofs.Indexes.{get-announce, get-announce_own, same_key}
+use Rattle.folder_core.proofs.AnnouncedIndexes.{get-announce, get-announce_own, same_key}
 use Rattle.folder_core.proofs.Orders.{exact_keys, is_true, keys_total, retain_listed}
 use Rattle.folder_core.proofs.PlainMerge.{keys_rise}
-use Rattle.folder_core.proofs.PlainTests.{filter_map}
-use Rattle.folder_core.proofs.TestLemmas.{alike_bytes, by_or, is_less, parts, same_bytes}
+use Rattle.folder_core.proofs.ListFilters.{filter_map}
+use Rattle.folder_core.proofs.ListTests.{alike_bytes, by_or, is_less, parts, same_bytes}
 
 -- ---- what is found in a list in which others were put
 

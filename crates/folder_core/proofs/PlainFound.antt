@@ -1,6 +1,6 @@
 -- What the plain folder finds as the best of a name is the best.
 use Rattle.std.proofs.Common.{◌≡◌, ℕ, suc, Bool, true, false, List, [], ◌∷◌, ◌++◌, ◌+◌, ◌-◌, ◌<◌, ◌≤◌, length, take, drop, get_or, append-nil, refl, sym, ap, subst, ◌∙◌, inl, inr, arith}
-use Rattle.std.specs.Prelude.{bytes_eq, ◌&&◌, not, cond, T, Option, Some, None, filter, fold, map, option_map, slice_get}
+use Rattle.std.specs.Prelude.{bytes_eq, ◌&&◌, ◌||◌, not, cond, T, Option, Some, None, filter, fold, map, option_map, slice_get}
 use Rattle.std.specs.Bool.{passes}
 use Rattle.std.specs.Cmp.{tied_itself}
 use Rattle.std.specs.Cmp.Lexicographic.{nat_list_cmp_total}
@@ -12,25 +12,27 @@ use Rattle.std.specs.declared.cmp.Ordering.{Ordering}
 use Rattle.std.specs.declared.cmp.Ordering.TheVariants.{Less, Equal, Greater}
 use Rattle.std.specs.FinMap.{entries-from_sorted, from_sorted, is_sorted}
 use Rattle.std.specs.FinMap.Entries.{is_sorted-where_key}
-use Rattle.std.proofs.lemmas.Bool.{false_from_ne_true, true≢false}
+use Rattle.std.proofs.lemmas.Bool.{and_from, false_from_ne_true, true≢false}
 use Rattle.std.proofs.lemmas.List.{append_assoc, length-drop, map-append, take-append-drop, take_more}
 use Rattle.std.proofs.lemmas.List.Elements.{filter-append}
 use Rattle.sync_record.specs.Contents.{same_content}
 use Rattle.sync_record.specs.Devices.{Identity, bytes_cmp}
-use Rattle.sync_record.specs.Records.{Name, FileRecord}
+use Rattle.sync_record.specs.Records.{Name}
 use Rattle.sync_record.specs.Validity.{is_valid}
+use Rattle.sync_record.proofs.SameContent.{reflexive}
+use Rattle.sync_version.proofs.Lemmas.{dominates_itself, same_version_tells}
 use Rattle.sync_version.specs.Computed.{dominates, same_version}
 use Rattle.folder_core.specs.declared.plain.entry.Entry.{Entry}
-use Rattle.folder_core.specs.Announced.{In, Announcement, key_cmp, is_best, is_of, best, bests, devices_of}
-use Rattle.folder_core.proofs.AllBests.{apart}
-use Rattle.folder_core.proofs.NeedLaws.{Rising, bests-rising}
+use Rattle.folder_core.specs.Announced.{Announcement, key_cmp, is_best, is_of, best, bests, devices_of}
+use Rattle.folder_core.proofs.BestList.{apart}
+use Rattle.folder_core.proofs.PullNeed.{Rising, bests-rising}
 use Rattle.folder_core.proofs.Orders.{exact_keys, is_true, keys_total}
-use Rattle.folder_core.proofs.Preferred.{is_preferred}
+use Rattle.folder_core.proofs.BestPreferred.{is_preferred}
 use Rattle.folder_core.specs.Codes.{Pulls}
 use Rattle.folder_core.specs.Reads.{best_found, bests_after, is_after, with_devices}
-use Rattle.folder_core.specs.Kept.{Rises, better, better_of, devices_with, filed, folder_of, group_best, is_undominated, listed_bests}
-use Rattle.folder_core.proofs.PlainTests.{filter_in, filter_map, filter_swap, any_map, none_found}
-use Rattle.folder_core.proofs.TestLemmas.{same_bytes, alike_bytes, below_in, in_map, inside, none_some, of_filter, parts}
+use Rattle.folder_core.specs.Plain.{Rises, better, better_of, devices_with, filed, folder_of, group_best, is_undominated, listed_bests}
+use Rattle.folder_core.proofs.ListFilters.{filter_in, filter_map, filter_swap, any_map, none_found}
+use Rattle.folder_core.proofs.ListTests.{same_bytes, alike_bytes, below_in, in_map, inside, none_some, of_filter, parts, In}
 use Rattle.folder_core.proofs.PlainBest.{undominated, higher, best_reduced, top}
 use Rattle.folder_core.proofs.PlainGroup.{behind_prefix, best_in_group, bests_in_part, devices_in_group, drop_rises, found_in_part, group, is_before, is_named, named_down, partitioned, prefix_passes}
 
@@ -146,6 +148,16 @@ module _ (me : Identity) (n : Name) (es : List Entry) (last : ℕ) (pulls : Pull
   pub best_is_found : group_best (filter (is_named n) es) ≡ best_found (folder_of me es last pulls) n
   best_is_found = group_found _ refl
 
+-- a valid entry alone is the best
+pub alone_best : (e : Entry) → is_valid e.record ≡ true → Some (e.record, e.device ∷ []) ≡ group_best (e ∷ [])
+alone_best e valid =
+    let v = e.record.version in
+    let free : is_undominated (e ∷ []) e ≡ true = (λ i. valid i && not ((valid i && dominates_itself v i) || false)) in
+    let has : (is_valid e.record && same_version v v && same_content e.record e.record) ≡ true =
+    and_from _ _ (and_from _ _ valid ((same_version_tells v v).1 refl)) (reflexive e.record) in
+    (λ i. Some (e.record, map (λ (f : Entry). f.device) (cond (sym has i) (e ∷ []) [])))
+    ∙ (λ i. option_map (λ (b : Entry). (b.record, devices_with (e ∷ []) b.record)) (reduce better (cond (sym free i) (e ∷ []) [])))
+
 -- ---- the bests of a list, name by name
 
 -- of rising names one at most is this one
@@ -154,7 +166,7 @@ only_of n [] rise = refl
 only_of n (b ∷ bs) rise =
     elim (is_of n b) as (λ t. is_of n b ≡ t → cond t (b ∷ filter (is_of n) bs) (filter (is_of n) bs) ≡ option_to_list (cond t (Some b) (find (is_of n) bs))) [
       | true ↦ λ t. ap (λ l. b ∷ l) (only_of n bs rise.1 ∙ ap option_to_list (none_found (is_of n) bs (λ f i.
-      false_from_ne_true (is_of n f) (λ u. apart b.0.name f.0.name (rise.0 f i) (same_bytes b.0.name n t ∙ sym (same_bytes f.0.name n u))))))
+          false_from_ne_true (is_of n f) (λ u. apart b.0.name f.0.name (rise.0 f i) (same_bytes b.0.name n t ∙ sym (same_bytes f.0.name n u))))))
       | false ↦ λ t. only_of n bs rise.1
     ] refl
 

@@ -18,12 +18,12 @@ use Rattle.sync_record.specs.Records.{Name}
 use Rattle.sync_record.specs.Validity.{is_valid}
 use Rattle.sync_version.specs.Computed.{dominates, same_version}
 use Rattle.folder_core.specs.declared.plain.entry.Entry.{Entry}
-use Rattle.folder_core.specs.Announced.{In, Announcement, Key, key_cmp, is_of, is_candidate, is_best, best, bests, devices_of, is_by}
+use Rattle.folder_core.specs.Announced.{Announcement, Key, key_cmp, is_of, is_candidate, is_best, best, bests, devices_of, is_by}
 use Rattle.folder_core.specs.Reads.{is_after, with_devices}
-use Rattle.folder_core.proofs.Preferred.{is_preferred}
-use Rattle.folder_core.specs.Kept.{Rises, filed}
-use Rattle.folder_core.proofs.PlainTests.{none_left, any_filter, filter_filter, filter_in, filter_swap, find_filter, find_same, map_in}
-use Rattle.folder_core.proofs.TestLemmas.{same_bytes, alike_bytes, is_less, of_filter, parts}
+use Rattle.folder_core.proofs.BestPreferred.{is_preferred}
+use Rattle.folder_core.specs.Plain.{Rises, filed}
+use Rattle.folder_core.proofs.ListFilters.{none_left, any_filter, filter_filter, filter_in, filter_swap, find_filter, find_same, map_in}
+use Rattle.folder_core.proofs.ListTests.{same_bytes, alike_bytes, is_less, of_filter, parts, In}
 
 -- ---- where the entries of a name begin and end
 

@@ -17,10 +17,10 @@ use Rattle.sync_record.specs.Devices.{Identity, bytes_cmp}
 use Rattle.sync_record.specs.Records.{FileRecord}
 use Rattle.folder_core.specs.declared.plain.entry.Entry.{Entry}
 use Rattle.folder_core.specs.Announced.{Announcement, Key, key, key_cmp}
-use Rattle.folder_core.specs.Kept.{NamesRise, Rises, filed, filed_by, named, put_all}
+use Rattle.folder_core.specs.Plain.{NamesRise, Rises, filed, filed_by, named, put_all}
 use Rattle.folder_core.proofs.Orders.{keys_total, exact_keys, is_true}
-use Rattle.folder_core.proofs.PlainTests.{join, less_is}
-use Rattle.folder_core.proofs.TestLemmas.{inside, is_less, parts}
+use Rattle.folder_core.proofs.ListFilters.{join, less_is}
+use Rattle.folder_core.proofs.ListTests.{inside, is_less, parts}
 
 -- ---- lists that stand before a key
 

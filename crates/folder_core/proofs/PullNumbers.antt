@@ -8,7 +8,7 @@ use Rattle.sync_record.specs.Records.{Name}
 use Rattle.folder_core.specs.States.{FolderState, Pull}
 use Rattle.folder_core.specs.Steps.{least_free}
 use Rattle.folder_core.proofs.Orders.{bytes_total, exact_names}
-use Rattle.folder_core.proofs.TestLemmas.{inside, none_some, In, any_in, in_any, in_filter, in_map, of_map, get_in, in_get}
+use Rattle.folder_core.proofs.ListTests.{inside, none_some, In, any_in, in_any, in_filter, in_map, of_map, get_in, in_get}
 
 -- the first number of a range that passes
 module _ (p : ℕ → Bool) where

@@ -1,5 +1,5 @@
 -- The records that devices announce, and the best of each name (Syncthing, "Understanding Synchronization").
-use Rattle.std.specs.Prelude.{bytes_eq, ◌≡◌, ◌≢◌, Bool, not, ◌&&◌, ◌||◌, ◌⊎◌, List, [], ◌∷◌, map, filter, find, fold, Option, Some, IsTrue}
+use Rattle.std.specs.Prelude.{bytes_eq, ◌≡◌, ◌≢◌, Bool, not, ◌&&◌, ◌||◌, List, map, filter, find, fold, reverse, Option, Some, IsTrue, Contains}
 use Rattle.std.specs.List.{list_all, list_any}
 use Rattle.std.specs.Ordering.{on, then_cmp}
 use Rattle.std.specs.declared.cmp.Ordering.{Ordering}
@@ -10,11 +10,6 @@ use Rattle.sync_record.specs.Preference.{is_preferred}
 use Rattle.sync_record.specs.Records.{Name, FileRecord}
 use Rattle.sync_record.specs.Validity.{is_valid}
 use Rattle.sync_version.specs.Computed.{dominates, same_version}
-
--- x is among the elements
-abbrev pub In : {A : Type 0} → A → List A → Type 0
-In x [] = ⊥
-In x (y ∷ ys) = (x ≡ y) ⊎ In x ys
 
 -- of which name, and by which device
 pub record Key : Type 0 where
@@ -49,6 +44,10 @@ is_by d e = bytes_eq e.0.device d
 -- the device announces these records too; of several under one name the last counts
 abbrev pub announce : Identity → List FileRecord → Announced → Announced
 announce d records a = fold (λ a r. insert a (key r.name d) r) a records
+
+-- the last record of a name
+abbrev pub last_of : Name → List FileRecord → Option FileRecord
+last_of n rs = find (λ r. bytes_eq r.name n) (reverse rs)
 
 -- the device announces nothing
 abbrev pub without : Identity → Announced → Announced
@@ -94,5 +93,5 @@ pub record IsBest (a : Announced) (n : Name) (d : Identity) (r : FileRecord) : T
 
 -- the list has what is announced and nothing else, in any order
 pub record Lists (a : Announced) (es : List Announcement) : Type 0 where
-  pub has : (k : Key) (r : FileRecord) → get a k ≡ Some r → In (k, r) es
-  pub only : (e : Announcement) → In e es → get a e.0 ≡ Some e.1
+  pub has : (k : Key) (r : FileRecord) → get a k ≡ Some r → Contains es (k, r)
+  pub only : (e : Announcement) → Contains es e → get a e.0 ≡ Some e.1

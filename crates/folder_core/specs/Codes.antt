@@ -1,4 +1,4 @@
--- By what a proof tells folder states apart.
+-- Folder states as codes, by which a proof compares them.
 use Rattle.std.specs.Prelude.{◌≡◌, ℕ, ℤ, Bool, true, false, List, Option, refl}
 use Rattle.std.specs.Coded.{Coded, code_by, coded_ℕ, coded_ℤ, coded_bool, coded_list, coded_option, coded×}
 use Rattle.std.specs.FinMap as map

@@ -38,7 +38,7 @@ IsReplay passes opening es end = IsLegal passes opening es × (state_after openi
 abbrev pub is_over : ℕ → ℕ → Answer × FolderState → Bool
 is_over limit entries done = is_accepted done.0 && nat_lt limit (entries + 1 + len done.1.pulls)
 
--- a change's answer and state behind a history of some length
+-- a change's answer and state after a history of some length
 abbrev pub shared_step : ℕ → ℕ → FolderState → Change → Answer × FolderState
 shared_step limit entries s change = if is_over limit entries (step s change) then (HistoryFull, s) else step s change
 
@@ -59,7 +59,7 @@ abbrev pub is_enter_of : Name → Answer → Bool
 is_enter_of n (Entered t) = bytes_eq t.name n
 is_enter_of n _ = false
 
--- A finish that stands behind some entries ends the pull that was begun there over the local record, and entered: over
+-- A finish after some entries ends the pull that was begun there over the local record, and entered: over
 -- the version of that record, which is the local one still, with its target assembled.
 pub record EndsPull (opening : FolderState) (front : List Entry) (commit : Token) (assembled : FileRecord) : Type 0 where
   pub before : List Entry

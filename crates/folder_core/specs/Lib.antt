@@ -1,10 +1,14 @@
+-- the rules
 pub mod Announced
 pub mod States
 pub mod Steps
 pub mod Reads
 pub mod Histories
 pub mod Shared
-pub mod Codes
+-- how calls say the rules, and how a proof compares states
 pub mod Calls
+pub mod Codes
+-- the plain folder's own words
+pub mod Plain
+-- worked rows
 pub mod Samples
-pub mod Kept

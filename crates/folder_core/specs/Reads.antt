@@ -51,10 +51,14 @@ by_sequence rs = map (λ e. e.1) (fold (λ es r. put nat_cmp r.sequence r es) []
 abbrev pub beginnings : {X : Type 0} → List X → List (List X)
 beginnings xs = map (λ n. take n xs) (range_with_len 0 (length xs + 1))
 
--- no more than limit records, and no more than 1,000,000 blocks, but one record always fits
+-- the most blocks in a page of more than one record
+abbrev pub max_page_blocks : ℕ
+max_page_blocks = 1000000
+
+-- no more than limit records, and no more than the most blocks, except that one record always fits
 abbrev pub fits_page : ℕ → List FileRecord → Bool
 fits_page limit rs =
-    nat_le (length rs) limit && (nat_le (sum_by (λ r. length r.blocks) rs) 1000000 || nat_le (length rs) 1)
+    nat_le (length rs) limit && (nat_le (sum_by (λ r. length r.blocks) rs) max_page_blocks || nat_le (length rs) 1)
 
 -- the longest beginning that fits
 abbrev pub page_of : ℕ → List FileRecord → List FileRecord

@@ -101,7 +101,7 @@ abbrev pub Leads : FolderState → Row → Type 0
 Leads s [] = ⊤
 Leads s (m ∷ ms) = (step s m.0 ≡ (m.1, m.2)) × Leads m.2 ms
 
--- the same behind a history of some length
+-- the same after a history of some length
 abbrev pub SharedLeads : ℕ → ℕ → FolderState → Row → Type 0
 SharedLeads limit entries s [] = ⊤
 SharedLeads limit entries s (m ∷ ms) =
@@ -274,7 +274,7 @@ gone = record (recorded x 2) {
   version = (9, 50) ∷ [];
 }
 
--- a directory stands at its name at the second 9, by a clock that runs behind
+-- a directory is at its name at the second 9, by a clock that is slow
 abbrev pub found_directory : Finding
 found_directory = record { content = FoundDirectory; modified_s = pos 9; modified_ns = pos 0 }
 

@@ -1,4 +1,4 @@
--- What a call of a shared folder tells its caller.
+-- What a call of a shared folder returns to its caller.
 use Rattle.std.specs.Prelude.{◌≡◌, ℕ, List, [], ◌∷◌, ◌++◌, Option, Some, None, MatchBool}
 use mathlib.Core.List.{IsPrefix}
 use Rattle.folder_core.specs.States.{FolderState}
@@ -20,19 +20,19 @@ pub record Sees (old new : View) : Type 0 where
   pub own : own_entries old.pass new.seen ≡ own_entries old.pass old.seen
   pub same : new ≡ record old { seen = new.seen }
 
--- the change was made behind what the caller then saw, and its entry is the last
+-- the change was made after what the caller then saw, and its entry is the last
 pub record Makes (old new : View) (change : Change) (answer : Answer) : Type 0 where
   pub point : View
   pub sees : Sees old point
   pub told : answer ≡ shared_answer old.limit old.opening point.seen change
   pub entered : new ≡ record point { seen = point.seen ++ (record { pass = old.pass; change = change; answer = answer }) ∷ [] }
 
--- the change was refused at the point that the caller then knows
+-- the change was not made, by the answer at the point that the caller then knows
 pub record Declines (old new : View) (change : Change) (answer : Answer) : Type 0 where
   pub sees : Sees old new
   pub told : answer ≡ shared_answer old.limit old.opening new.seen change
 
--- Without an answer memory was wanting: nothing was changed and nothing seen.
+-- Without an answer the call is out of memory: nothing was changed and nothing seen.
 abbrev pub Tells : View → Change → Option Answer → View → Type 0
 Tells old change None new = new ≡ old
 Tells old change (Some answer) new = MatchBool (is_accepted answer) (Makes old new change answer) (Declines old new change answer)

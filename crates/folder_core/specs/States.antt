@@ -1,6 +1,6 @@
 -- A folder as one device keeps it.
 use Rattle.std.specs.Prelude.{◌≡◌, ℕ, ◌+◌, ◌-◌, ◌^◌, ◌≤◌, Bool, true, false, not, ◌&&◌, ◌||◌, List, map, filter, count_by, Option, Some, None, is_some, option_map, IsTrue, nat_le}
-use Rattle.std.specs.FinMap.{FinMap, get, entries}
+use Rattle.std.specs.FinMap.{FinMap, empty, get, entries}
 use Rattle.folder_core.specs.declared.stage.Stage.{Stage}
 use Rattle.folder_core.specs.declared.stage.Stage.TheVariants.{Pulling, Committing}
 use Rattle.sync_record.specs.Devices.{Identity, bytes_cmp}
@@ -29,6 +29,10 @@ pub record FolderState : Type 0 where
   pub last : ℕ
   pub pulls : FinMap bytes_cmp Pull
 
+-- the folder of this device in which no device announces anything
+abbrev pub empty_folder : Identity → FolderState
+empty_folder me = record { me = me; announced = empty; last = 0; pulls = empty }
+
 abbrev pub local : FolderState → Name → Option FileRecord
 local s n = get s.announced (key n s.me)
 
@@ -53,6 +57,10 @@ need s = map (λ b. b.0.name) (filter (is_needed s) (bests (entries s.announced)
 
 abbrev pub is_committing : Pull → Bool
 is_committing p = same_stage p.stage Committing
+
+-- no commit of the name is open
+abbrev pub NoCommit : FolderState → Name → Type 0
+NoCommit s n = (p : Pull) → get s.pulls n ≡ Some p → p.stage ≡ Pulling
 
 -- how many commits are open
 abbrev pub open_commits : FolderState → ℕ

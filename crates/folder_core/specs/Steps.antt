@@ -31,7 +31,7 @@ abbrev pub is_found : FoundContent → Bool
 is_found FoundDirectory = true
 is_found (FoundFile size block_size blocks) = describes_file (pos size) (pos block_size) blocks
 
--- what stands for an open pull outside the folder, as a ticket or, from Entered on, as a commit
+-- what a caller holds of an open pull, as a ticket or, from Entered on, as a commit
 pub record Token : Type 0 where
   pub number : ℕ
   pub name : Name
@@ -53,7 +53,7 @@ pub data Answer : Type 0 where
   Recorded Done : ℕ → Answer
   Begun Entered : Token → Answer
 
--- these answers tell that the change was made; every other leaves the state
+-- these answers say that the change was made; every other leaves the state
 abbrev pub is_accepted : Answer → Bool
 is_accepted Applied = true
 is_accepted Closed = true
@@ -64,9 +64,9 @@ is_accepted (Entered t) = true
 is_accepted _ = false
 
 -- the answer of the first test that holds, and the state as it was; the given ones where no test holds
-abbrev pub refuse : FolderState → List (Bool × Answer) → Answer × FolderState → Answer × FolderState
-refuse s [] made = made
-refuse s (t ∷ ts) made = if t.0 then (t.1, s) else refuse s ts made
+abbrev pub first_answer : FolderState → List (Bool × Answer) → Answer × FolderState → Answer × FolderState
+first_answer s [] made = made
+first_answer s (t ∷ ts) made = if t.0 then (t.1, s) else first_answer s ts made
 
 -- the state with this local record, under the next sequence
 abbrev pub with_local : FolderState → FileRecord → FolderState
@@ -134,13 +134,13 @@ scan_tests s n expected is_unchanged =
 abbrev pub scan_found : FolderState → Name → Option Vector → Finding → ℕ → Answer × FolderState
 scan_found s n expected found moment =
     let r : FileRecord = found_record s n (next_version s n moment) found in
-    refuse s (scan_tests s n expected (option_map_or (same_content r) (local s n) false))
+    first_answer s (scan_tests s n expected (option_map_or (same_content r) (local s n) false))
     (Recorded (s.last + 1), with_local s r)
 
 abbrev pub scan_gone : FolderState → Name → Option Vector → ℕ → Option FileRecord → Answer × FolderState
-scan_gone s n expected moment None = refuse s (scan_tests s n expected true) (Unchanged, s)
+scan_gone s n expected moment None = first_answer s (scan_tests s n expected true) (Unchanged, s)
 scan_gone s n expected moment (Some r) =
-    refuse s (scan_tests s n expected r.deleted)
+    first_answer s (scan_tests s n expected r.deleted)
     (Recorded (s.last + 1), with_local s (gone_record s r (next_version s n moment) moment))
 
 -- the least of 1, 2, .. that isn't among the numbers
@@ -173,14 +173,21 @@ begin_tests s n b =
     ∷ []
 
 abbrev pub begin_pull : FolderState → Name → Option Announcement → Answer × FolderState
-begin_pull s n None = refuse s ((is_some (get s.pulls n), Busy) ∷ []) (NotNeeded, s)
+begin_pull s n None = first_answer s ((is_some (get s.pulls n), Busy) ∷ []) (NotNeeded, s)
 begin_pull s n (Some b) =
-    refuse s (begin_tests s n b) (Begun (next_ticket s n b.1), with_pull s (next_ticket s n b.1) Pulling)
+    first_answer s (begin_tests s n b) (Begun (next_ticket s n b.1), with_pull s (next_ticket s n b.1) Pulling)
 
--- the open pull that the ticket stands for, at this stage; else the ticket is stray
+-- the open pull that the ticket is for, at this stage; else the ticket is stray
 abbrev pub pull_of : FolderState → Token → Stage → Option Pull
 pull_of s t stage = option_and_then (λ p.
     if (p.number == t.number) && same_record p.target t.target && same_stage p.stage stage then Some p else None) (get s.pulls t.name)
+
+-- the ticket is for this open pull, which is at this stage
+pub record IsFor (s : FolderState) (t : Token) (stage : Stage) (p : Pull) : Type 0 where
+  pub open_pull : get s.pulls t.name ≡ Some p
+  pub at_stage : p.stage ≡ stage
+  pub number : p.number ≡ t.number
+  pub target : p.target ≡ t.target
 
 -- the best of the name has the version and the content
 abbrev pub is_still_best : FolderState → FileRecord → Bool
@@ -198,7 +205,7 @@ with_commit s n p = record s { pulls = insert s.pulls n (record p { stage = Comm
 
 abbrev pub enter_commit : FolderState → Token → Option Pull → Answer × FolderState
 enter_commit s t None = (Stray, s)
-enter_commit s t (Some p) = refuse s (enter_tests s t.name p) (Entered t, with_commit s t.name p)
+enter_commit s t (Some p) = first_answer s (enter_tests s t.name p) (Entered t, with_commit s t.name p)
 
 abbrev pub without_pull : FolderState → Name → FolderState
 without_pull s n = record s { pulls = remove s.pulls n }
@@ -227,7 +234,7 @@ step s (Finish c assembled) = finish s c (pull_of s c Committing)
 step s (GiveUp t) = close_pull s t (pull_of s t Pulling)
 step s (Abort c) = close_pull s c (pull_of s c Committing)
 
--- what a caller owes: an index is another device's, what was found is a file's or a directory's, the commit's target was assembled
+-- what a caller has to ensure: an index is another device's, what was found is a file's or a directory's, the commit's target was assembled
 abbrev pub MayChange : FolderState → Change → Type 0
 MayChange s (IndexFull d records) = d ≢ s.me
 MayChange s (IndexMore d records) = d ≢ s.me

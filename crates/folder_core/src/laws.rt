@@ -1,4 +1,5 @@
-//! What the definitions of a folder say, as contracts of functions that do nothing.
+//! The laws of a folder. A law is a function that does nothing, whose contract says of the definitions in `specs/` what
+//! follows from them in plainer words; so a reader who finds a law true of folders knows that the definitions mean it.
 
 mod announced;
 mod best;
@@ -11,26 +12,26 @@ mod scans;
 
 pub use announced::{forget_removes, index_full_replaces, index_more_adds, indexes_in_any_order};
 pub use best::{
-    best_in_any_order, best_is_preferred, bests_stand_once_in_order, devices_have_the_best,
+    best_in_any_order, best_is_preferred, bests_are_listed_once_in_order, devices_have_the_best,
 };
 pub use changes::{
-    callers_owe_no_more, calls_are_steps, changes_keep_folders, changes_leave_the_rest,
-    refusal_keeps, sequences_stay_distinct,
+    callers_ensure_no_more, calls_are_steps, changes_keep_folders, changes_leave_the_rest,
+    other_answers_keep_the_state, sequences_stay_distinct,
 };
 pub use histories::{
-    calls_tell_of_one_history, commits_are_legal, histories_keep_room, legal_histories_grow,
+    calls_share_one_history, commits_are_legal, histories_keep_room, legal_histories_grow,
     own_entries_are_those_of_the_pass,
 };
 pub use pulls::{
-    begin_pull_takes_the_needed, copies_are_due_in_conflict, entrances_are_refused_in_order,
+    begin_pull_takes_the_needed, copies_are_due_in_conflict, entering_is_tested_in_order,
     finish_records_the_target, need_is_the_rule, pulls_end_by_their_tickets,
 };
 pub use reads::{
-    bests_come_in_pages, blocks_are_found_where_they_stand, local_records_come_in_pages, needed_names_come_in_pages,
-    reads_tell_the_state,
+    bests_come_in_pages, blocks_are_found_where_they_are, local_records_come_in_pages,
+    needed_names_come_in_pages, reads_follow_the_state,
 };
 pub use rows::{best_in_rows, changes_in_rows, histories_in_rows, reads_in_rows};
 pub use scans::{
-    findings_are_refused_in_order, losses_are_refused_in_order, scans_record_what_is_found,
+    findings_are_tested_in_order, losses_are_tested_in_order, scans_record_what_is_found,
     scans_record_what_is_gone, unchanged_is_what_was_there,
 };

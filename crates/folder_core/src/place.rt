@@ -1,6 +1,6 @@
 use sync_names::SafeName;
 
-/// Where bytes of some digest stand: in which file, and which of its bytes.
+/// Where bytes of some digest are: in which file, and which of its bytes.
 #[derive(Debug, Drop)]
 pub struct Place {
     pub name: SafeName,

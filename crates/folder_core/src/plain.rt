@@ -1,8 +1,8 @@
 //! A folder as one list in order.
 ghost use Rattle.std.specs.Prelude.{◌≡◌, ◌≢◌, ◌+◌, ◌<◌, ◌≤◌, [], IfOk, IsOk, None, map, option_copied, option_map, vec_len, vec_capacity};
 ghost use Rattle.folder_core.specs.Calls.{Changes, index_answer};
-ghost use Rattle.folder_core.specs.Kept.{empty_folder};
 ghost use Rattle.folder_core.specs.Reads.{best_found, bests_page};
+ghost use Rattle.folder_core.specs.States.{empty_folder};
 ghost use Rattle.folder_core.specs.Steps.{IndexFull, IndexMore};
 
 mod entry;
@@ -22,8 +22,8 @@ use sync_names::SafeName;
 use sync_record::{DeviceId, Record};
 
 /// A folder as one list of records, by name and then by device. A look-up takes O(log n) for n records; a message of m
-/// records is sorted and merged with the list from behind, in O(t + m log m) for t records that stand behind the place
-/// of its first.
+/// records is sorted and merged with the list from its end, in O(t + m log m) for t records that are after the place of
+/// its first.
 #[derive(Debug, Drop)]
 pub struct PlainFolder {
     me: DeviceId,
@@ -40,7 +40,7 @@ impl Model for PlainFolder {
     ghost coded = { coded_folder };
 
     ghost use Rattle.std.specs.FinMap as map;
-    ghost use Rattle.folder_core.specs.Kept.{Rises, folder_of};
+    ghost use Rattle.folder_core.specs.Plain.{Rises, folder_of};
 
     ghost view = { λ f. folder_of f.me f.entries.items 0 map.empty };
 
@@ -48,7 +48,7 @@ impl Model for PlainFolder {
 }
 
 impl PlainFolder {
-    /// The folder of this device in which no device announces anything. Takes no memory. O(1).
+    /// The folder of this device in which no device announces anything. Does not allocate. O(1).
     pub fn new(alloc: Global, me: DeviceId) -> PlainFolder
         ensures { result ≡ empty_folder me }
     {
@@ -67,8 +67,8 @@ impl FolderCore for PlainFolder {
         self.me
     }
 
-    /// O(n + m log m) for n records kept and m given. None is copied, and there is room for n + m of them meanwhile. A
-    /// message without records takes no memory.
+    /// O(n + m log m) for n records kept and m given, and O(n + m) where the names given are in order. None is copied;
+    /// it allocates for n + m of them. A message without records does not allocate.
     fn index_full(&mut self, device: DeviceId, records: Items<Record>) -> Result<(), AllocError>
         requires { device ≢ self.old.me }
         ensures changes { Changes self.old (IndexFull device records) (index_answer result) self.new }
@@ -81,8 +81,9 @@ impl FolderCore for PlainFolder {
         Ok(())
     }
 
-    /// O(t + m log m) for m records given and t kept behind the place of the first of them, amortized. None is copied,
-    /// and there is room for all kept and given ones meanwhile. A message without records takes no memory.
+    /// O(t + m log m) for m records given and t kept after the place of the first of them, amortized, and O(t + m) where
+    /// the names given are in order. None is copied; it allocates for all kept and given ones. A message without records
+    /// does not allocate.
     fn index_more(&mut self, device: DeviceId, records: Items<Record>) -> Result<(), AllocError>
         requires { device ≢ self.old.me }
         ensures changes { Changes self.old (IndexMore device records) (index_answer result) self.new }
@@ -117,7 +118,7 @@ impl FolderCore for PlainFolder {
 }
 
 /// Makes room in the entries for the records too, and an empty list, with room for just both where there is a record.
-/// The entries stay as they are. Without a record no memory is taken.
+/// The entries stay as they are. Without a record it does not allocate.
 fn room_for(entries: &mut Vec<Entry>, records: &Vec<Record>) -> Result<Vec<Entry>, AllocError>
     ensures entries_stay { entries.new.items ≡ entries.old.items }
     ensures entries_fit { IfOk result (λ _. vec_len entries.new + vec_len records.now ≤ vec_capacity entries.new) }

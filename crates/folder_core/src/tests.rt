@@ -1,4 +1,4 @@
-//! Worked rows of the rules, and allocations that are refused.
+//! Worked rows of the rules, and allocations that fail.
 use crate::{Best, FolderCore, PlainFolder};
 use bep_messages::{BlockInfo, Counter, FileInfo, Items, Octets, ShortOctets, Text, Vector};
 use std::process::Abort;
@@ -143,7 +143,7 @@ fn takes_messages_in(rt: HostRuntime) -> Result<(), NameFault> {
     finds(&rt, &folder, "x", &[(1, 3)], 3, &[device(1)])?;
     finds(&rt, &folder, "y", &[(1, 4)], 4, &[device(1)])?;
     finds(&rt, &folder, "z", &[(1, 5)], 5, &[device(1)])?;
-    // It drops what it does not tell again, of this device alone.
+    // It drops what it does not have, of this device alone.
     more(&rt, &mut folder, device(2), &[file("x", &[(2, 1)], 1)])?;
     full(&rt, &mut folder, device(1), &[file("y", &[(1, 6)], 6)])?;
     finds(&rt, &folder, "x", &[(2, 1)], 1, &[device(2)])?;
@@ -185,11 +185,16 @@ fn lists_deletions_and_no_invalid_records(rt: HostRuntime) -> Result<(), NameFau
     };
     let mut folder = PlainFolder::new(rt.alloc(), device(9));
     full(&rt, &mut folder, device(1), &[invalid, deleted])?;
-    full(&rt, &mut folder, device(2), &[file("b", &[], 1), file("c", &[], 1)])?;
+    full(
+        &rt,
+        &mut folder,
+        device(2),
+        &[file("b", &[], 1), file("c", &[], 1)],
+    )?;
     lists(&rt, &folder, None, 9, &["b", "c"])
 }
 
-/// Tells the folder these records too. Where memory is refused, the folder must answer as before, and is told again.
+/// Gives the folder these records too. Where allocation fails, the folder must answer as before, and gets them again.
 fn more(
     rt: &(impl AllocGlobal + Abort),
     folder: &mut PlainFolder,
@@ -205,7 +210,7 @@ fn more(
     Ok(())
 }
 
-/// Tells the folder these records and no others of the device, in the same way.
+/// Gives the folder these records and no others of the device, in the same way.
 fn full(
     rt: &(impl AllocGlobal + Abort),
     folder: &mut PlainFolder,
@@ -221,7 +226,7 @@ fn full(
     Ok(())
 }
 
-/// The best of a name, asked for once more where memory is refused.
+/// The best of a name, asked for once more where allocation fails.
 fn best(
     rt: &(impl AllocGlobal + Abort),
     folder: &PlainFolder,

@@ -29,9 +29,9 @@ pub fn best_is_preferred()
 
 /// The list of all bests has the best of each name that has one, once, in byte order of the names; and looked up
 /// name by name, over any rising names among which all of them are, it is the same list.
-pub fn bests_stand_once_in_order()
+pub fn bests_are_listed_once_in_order()
     ensures rise { (a : Announced) → IsStrictlySortedBy bytes_cmp (map (λ e. e.0.name) (bests (entries a))) }
-    ensures told { (a : Announced) (n : Name) (e : Announcement) →
+    ensures listed { (a : Announced) (n : Name) (e : Announcement) →
         (Contains (bests (entries a)) e × (e.0.name ≡ n)) ↔ (best (entries a) n ≡ Some e) }
     ensures by_name { (a : Announced) (names : List Name) → IsStrictlySortedBy bytes_cmp names →
         ((e : Announcement) → Contains (bests (entries a)) e → Contains names e.0.name) →
@@ -50,7 +50,7 @@ pub fn best_in_any_order()
 /// The devices of a best rise, and are those whose valid record of the name has its version and its content.
 pub fn devices_have_the_best()
     ensures rise { (a : Announced) (e : Announcement) → IsStrictlySortedBy bytes_cmp (devices_of (entries a) e) }
-    ensures told { (a : Announced) (n : Name) (e : Announcement) (d : Identity) → best (entries a) n ≡ Some e →
+    ensures listed { (a : Announced) (n : Name) (e : Announcement) (d : Identity) → best (entries a) n ≡ Some e →
         Contains (devices_of (entries a) e) d ↔ ((r : FileRecord) × (get a (key n d) ≡ Some r)
         × IsTrue (is_valid r) × (r.version ≡ e.1.version) × IsTrue (same_content r e.1)) }
 {}

@@ -18,7 +18,7 @@ ghost use Rattle.std.specs.declared.alloc.AllocError.{AllocError};
 
 /// An answer that isn't accepted leaves the state; accepted are Applied, Closed, Recorded, Done, Begun and Entered, and no
 /// others.
-pub fn refusal_keeps()
+pub fn other_answers_keep_the_state()
     ensures kept { (s : FolderState) (c : Change) → is_accepted (step s c).0 ≡ false → (step s c).1 ≡ s }
     ensures accepted { (a : Answer) → IsTrue (is_accepted a) ↔
         ((a ≡ Applied) ⊎ ((a ≡ Closed) ⊎ (((k : ℕ) × (a ≡ Recorded k)) ⊎ (((k : ℕ) × (a ≡ Done k))
@@ -35,9 +35,9 @@ pub fn changes_keep_folders()
         IsFolder s → IsLegal passes s es → IsFolder (state_after s es) }
 {}
 
-/// What a caller of a change doesn't owe: any index of another device may come, whatever it says; a directory may be found,
+/// What a caller of a change need not ensure: any index of another device may come, whatever it says; a directory may be found,
 /// and a file with what a valid live file has; and all else may be asked at any state, a finish with the commit's target.
-pub fn callers_owe_no_more()
+pub fn callers_ensure_no_more()
     ensures indexes { (s : FolderState) (d : Identity) (records : List FileRecord) → d ≢ s.me →
         MayChange s (IndexFull d records) × MayChange s (IndexMore d records) × MayChange s (Forget d) }
     ensures directory { (s : FolderState) (n : Name) (expected : Option Vector) (f : Finding) (moment : ℕ) →
@@ -84,11 +84,11 @@ pub fn sequences_stay_distinct()
         local (step s c).1 n ≡ Some r → (local s n ≡ Some r) ⊎ (s.last < r.sequence) }
 {}
 
-/// A call on a folder by itself leads to the step's state with the step's answer, or wants memory and changes nothing.
+/// A call on a folder by itself leads to the step's state with the step's answer, or is out of memory and changes nothing.
 pub fn calls_are_steps()
     ensures made { (s t : FolderState) (c : Change) (a : Answer) → Changes s c (Some a) t →
         (a ≡ (step s c).0) × (t ≡ (step s c).1) }
-    ensures wanting { (s t : FolderState) (c : Change) → Changes s c None t → t ≡ s }
-    ensures answered { (done : Unit {0}) (refused : AllocError) →
-        (index_answer (Ok done) ≡ Some Applied) × (index_answer (Err refused) ≡ None) }
+    ensures out_of_memory { (s t : FolderState) (c : Change) → Changes s c None t → t ≡ s }
+    ensures answered { (done : Unit {0}) (fault : AllocError) →
+        (index_answer (Ok done) ≡ Some Applied) × (index_answer (Err fault) ≡ None) }
 {}

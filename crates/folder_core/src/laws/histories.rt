@@ -1,4 +1,4 @@
-//! Histories of a folder, and what callers that share one are told.
+//! Histories of a folder, and the answers that callers who share one get.
 ghost use Rattle.std.specs.Prelude.{[], ◌∷◌, ◌++◌, ◌≡◌, ◌≢◌, ◌↔◌, ◌⊎◌, ◌<◌, ◌≤◌, ◌+◌, ℕ, length, List, Some, None, IsTrue, true, false};
 ghost use Rattle.std.specs.FinMap.{entries, len};
 ghost use Rattle.sync_record.specs.Records.{FileRecord};
@@ -23,7 +23,7 @@ pub fn commits_are_legal()
 {}
 
 /// The empty history is legal, and one more entry keeps a history legal exactly where its pass was given out, its caller
-/// kept the change's conditions, and its answer is accepted and is the step's behind the entries before it.
+/// kept the change's conditions, and its answer is accepted and is the step's after the entries before it.
 pub fn legal_histories_grow()
     ensures none { (passes : ℕ) (s : FolderState) → IsLegal passes s [] × (state_after s [] ≡ s) }
     ensures one_more { (passes : ℕ) (s : FolderState) (es : List Entry) (e : Entry) → IsLegal passes s (es ++ e ∷ []) ↔
@@ -35,14 +35,14 @@ pub fn legal_histories_grow()
         IsReplay passes s es t ↔ (IsLegal passes s es × (state_after s es ≡ t)) }
 {}
 
-/// Behind a history a change is answered as the step answers, but as HistoryFull where it would be accepted and its entry
-/// and those of the pulls that are then open have no room. So an accepted change leaves room for them, and where it was
-/// left, what ends an open pull isn't refused for room.
+/// After a history a change is answered as the step answers, except with HistoryFull where it would be accepted and its
+/// entry and those of the pulls that are then open have no room. So an accepted change leaves room for them, and where
+/// it was left, what ends an open pull is not answered with HistoryFull.
 pub fn histories_keep_room()
     ensures full { (limit : ℕ) (s : FolderState) (es : List Entry) (c : Change) →
         is_accepted (step (state_after s es) c).0 ≡ true →
         limit < length es + 1 + len (step (state_after s es) c).1.pulls → shared_answer limit s es c ≡ HistoryFull }
-    ensures told { (limit : ℕ) (s : FolderState) (es : List Entry) (c : Change) →
+    ensures answered { (limit : ℕ) (s : FolderState) (es : List Entry) (c : Change) →
         (is_accepted (step (state_after s es) c).0 ≡ false)
         ⊎ (length es + 1 + len (step (state_after s es) c).1.pulls ≤ limit) →
         shared_answer limit s es c ≡ (step (state_after s es) c).0 }
@@ -65,11 +65,11 @@ pub fn own_entries_are_those_of_the_pass()
         own_entries pass (es ++ e ∷ []) ≡ own_entries pass es }
 {}
 
-/// What a call of a shared folder tells: the caller's history goes on, of the same folder, limit and pass. An accepted
-/// change stands in it once, as the caller's only new entry and behind all that it had seen, and its answer is the shared
-/// answer there; so a legal history stays legal. A refusal is the shared answer at the history that the caller then
-/// knows, and enters nothing of its own. Without an answer nothing was seen.
-pub fn calls_tell_of_one_history()
+/// After a call of a shared folder the caller's history goes on, of the same folder, limit and pass. An accepted change
+/// is in it once, as the caller's only new entry and after all that it had seen, and its answer is the shared answer
+/// there; so a legal history stays legal. Any other answer is the shared answer at the history that the caller then
+/// knows, and the call adds no entry. A call that is out of memory changes nothing that the caller knows.
+pub fn calls_share_one_history()
     ensures grows { (old new : View) (c : Change) (a : Answer) → Tells old c (Some a) new →
         IsPrefix old.seen new.seen
         × (new.opening ≡ old.opening) × (new.limit ≡ old.limit) × (new.pass ≡ old.pass) }
@@ -81,10 +81,10 @@ pub fn calls_tell_of_one_history()
     ensures legal { (passes limit : ℕ) (s : FolderState) (es : List Entry) (e : Entry) → IsLegal passes s es →
         1 ≤ e.pass → e.pass ≤ passes → MayChange (state_after s es) e.change → is_accepted e.answer ≡ true →
         e.answer ≡ shared_answer limit s es e.change → IsLegal passes s (es ++ e ∷ []) }
-    ensures refused { (old new : View) (c : Change) (a : Answer) → Tells old c (Some a) new → is_accepted a ≡ false →
+    ensures not_accepted { (old new : View) (c : Change) (a : Answer) → Tells old c (Some a) new → is_accepted a ≡ false →
         (own_entries old.pass new.seen ≡ own_entries old.pass old.seen)
         × (a ≡ shared_answer old.limit old.opening new.seen c) }
-    ensures wanting { (old new : View) (c : Change) → Tells old c None new → new ≡ old }
+    ensures out_of_memory { (old new : View) (c : Change) → Tells old c None new → new ≡ old }
     ensures read { (old new : View) (q : Query) (r : Reply q) → ReadsThere old new q r →
         IsPrefix old.seen new.seen
         × (new.opening ≡ old.opening) × (new.limit ≡ old.limit) × (new.pass ≡ old.pass)

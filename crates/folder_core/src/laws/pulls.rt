@@ -9,27 +9,26 @@ ghost use Rattle.sync_record.specs.Records.{Name, FileRecord, is_file, is_direct
 ghost use Rattle.sync_record.specs.Contents.{same_content};
 ghost use Rattle.sync_record.specs.Validity.{is_valid};
 ghost use Rattle.folder_core.specs.Announced.{Announcement, best};
-ghost use Rattle.folder_core.specs.States.{FolderState, Pull, IsFolder, local, local_version, need, open_commits};
+ghost use Rattle.folder_core.specs.States.{FolderState, Pull, IsFolder, local, local_version, max_sequence, need, open_commits};
 ghost use Rattle.folder_core.specs.declared.stage.Stage.TheVariants.{Pulling, Committing};
-ghost use Rattle.folder_core.specs.Samples.{target};
 ghost use Rattle.folder_core.specs.Steps.{BeginPull, EnterCommit, Finish, GiveUp, Abort};
 ghost use Rattle.folder_core.specs.Steps.{Busy, SequenceFull, NotNeeded, Unsupported, Begun};
 ghost use Rattle.folder_core.specs.Steps.{Stray, LocalMoved, Superseded, Entered, Done, Closed};
-ghost use Rattle.folder_core.specs.Steps.{Token, step, is_copy_due};
+ghost use Rattle.folder_core.specs.Steps.{IsFor, Token, step, is_copy_due};
 
 /// Needed names strictly rise. A name is needed exactly where it has a best, the local record is absent or of
 /// another version, and the best isn't a deletion of what isn't there.
 pub fn need_is_the_rule()
     ensures rises { (s : FolderState) → IsStrictlySortedBy bytes_cmp (need s) }
-    ensures told { (s : FolderState) (n : Name) → Contains (need s) n ↔
+    ensures rule { (s : FolderState) (n : Name) → Contains (need s) n ↔
         ((e : Announcement) × (best (entries s.announced) n ≡ Some e)
         × ((r : FileRecord) → local s n ≡ Some r → r.version ≢ e.1.version)
         × ¬ (IsTrue e.1.deleted × (local s n ≡ None))) }
 {}
 
-/// A pull is refused as busy where one of the name is open, as not needed where the name isn't needed, and as
-/// unsupported where the best is live and neither a file nor a directory. Else it is begun: over the local record, for
-/// the best, under the least positive number that no open pull has; and it is open then, as its ticket says.
+/// To begin a pull is answered with Busy where one of the name is open, with NotNeeded where the name isn't needed, and
+/// with Unsupported where the best is live and neither a file nor a directory. Else it is begun: over the local record,
+/// for the best, under the least positive number that no open pull has; and it is open then, as its ticket says.
 pub fn begin_pull_takes_the_needed()
     ensures busy { (s : FolderState) (n : Name) (p : Pull) → get s.pulls n ≡ Some p → (step s (BeginPull n)).0 ≡ Busy }
     ensures not_needed { (s : FolderState) (n : Name) →
@@ -52,56 +51,56 @@ pub fn begin_pull_takes_the_needed()
         }) }
 {}
 
-/// The entrance to a commit is refused, in this order: of a ticket that stands for no open pull; where the local
-/// version isn't that of the begin; where the best hasn't the target's version and content; where no sequence is left.
-/// Else the pull is committing.
-pub fn entrances_are_refused_in_order()
+/// A commit is not entered, in this order: with a ticket that is for no open pull; where the local version isn't that of
+/// the begin; where the best hasn't the target's version and content; where no sequence is left. Else the pull is
+/// committing.
+pub fn entering_is_tested_in_order()
     ensures stray { (s : FolderState) (t : Token) →
-        ((p : Pull) → get s.pulls t.name ≡ Some p → p.stage ≡ Pulling → p.number ≡ t.number → p.target ≢ t.target) →
+        ((p : Pull) → ¬ (IsFor s t Pulling p)) →
         (step s (EnterCommit t)).0 ≡ Stray }
     ensures moved { (s : FolderState) (t : Token) (p : Pull) →
-        get s.pulls t.name ≡ Some p → p.stage ≡ Pulling → p.number ≡ t.number → p.target ≡ t.target →
+        IsFor s t Pulling p →
         local_version s t.name ≢ p.base → (step s (EnterCommit t)).0 ≡ LocalMoved }
     ensures superseded { (s : FolderState) (t : Token) (p : Pull) →
-        get s.pulls t.name ≡ Some p → p.stage ≡ Pulling → p.number ≡ t.number → p.target ≡ t.target →
+        IsFor s t Pulling p →
         local_version s t.name ≡ p.base →
         ((e : Announcement) → best (entries s.announced) t.target.name ≡ Some e →
         e.1.version ≡ t.target.version → same_content e.1 t.target ≡ false) →
         (step s (EnterCommit t)).0 ≡ Superseded }
     ensures sequence { (s : FolderState) (t : Token) (p : Pull) (e : Announcement) →
-        get s.pulls t.name ≡ Some p → p.stage ≡ Pulling → p.number ≡ t.number → p.target ≡ t.target →
+        IsFor s t Pulling p →
         local_version s t.name ≡ p.base → best (entries s.announced) t.target.name ≡ Some e →
         e.1.version ≡ t.target.version → IsTrue (same_content e.1 t.target) →
-        2 ^ 63 - 1 - s.last ≤ open_commits s → (step s (EnterCommit t)).0 ≡ SequenceFull }
+        max_sequence - s.last ≤ open_commits s → (step s (EnterCommit t)).0 ≡ SequenceFull }
     ensures entered { (s : FolderState) (t : Token) (p : Pull) (e : Announcement) →
-        get s.pulls t.name ≡ Some p → p.stage ≡ Pulling → p.number ≡ t.number → p.target ≡ t.target →
+        IsFor s t Pulling p →
         local_version s t.name ≡ p.base → best (entries s.announced) t.target.name ≡ Some e →
         e.1.version ≡ t.target.version → IsTrue (same_content e.1 t.target) →
-        open_commits s < 2 ^ 63 - 1 - s.last → (step s (EnterCommit t)).0 ≡ Entered t }
+        open_commits s < max_sequence - s.last → (step s (EnterCommit t)).0 ≡ Entered t }
     ensures committing { (s : FolderState) (t : Token) (p : Pull) →
         get s.pulls t.name ≡ Some p → (step s (EnterCommit t)).0 ≡ Entered t →
         get (step s (EnterCommit t)).1.pulls t.name ≡ Some (record p { stage = Committing }) }
 {}
 
-/// A pull ends by a ticket or a commit that stands for it, and by no other; and then none of its name is open.
+/// A pull ends by a ticket or a commit that is for it, and by no other; and then none of its name is open.
 pub fn pulls_end_by_their_tickets()
     ensures done { (s : FolderState) (t : Token) (assembled : FileRecord) (p : Pull) →
-        get s.pulls t.name ≡ Some p → p.stage ≡ Committing → p.number ≡ t.number → p.target ≡ t.target →
+        IsFor s t Committing p →
         (step s (Finish t assembled)).0 ≡ Done (s.last + 1) }
     ensures no_commit { (s : FolderState) (t : Token) (assembled : FileRecord) →
-        ((p : Pull) → get s.pulls t.name ≡ Some p → p.stage ≡ Committing → p.number ≡ t.number → p.target ≢ t.target) →
+        ((p : Pull) → ¬ (IsFor s t Committing p)) →
         (step s (Finish t assembled)).0 ≡ Stray }
     ensures given_up { (s : FolderState) (t : Token) (p : Pull) →
-        get s.pulls t.name ≡ Some p → p.stage ≡ Pulling → p.number ≡ t.number → p.target ≡ t.target →
+        IsFor s t Pulling p →
         (step s (GiveUp t)).0 ≡ Closed }
     ensures none_to_give_up { (s : FolderState) (t : Token) →
-        ((p : Pull) → get s.pulls t.name ≡ Some p → p.stage ≡ Pulling → p.number ≡ t.number → p.target ≢ t.target) →
+        ((p : Pull) → ¬ (IsFor s t Pulling p)) →
         (step s (GiveUp t)).0 ≡ Stray }
     ensures aborted { (s : FolderState) (t : Token) (p : Pull) →
-        get s.pulls t.name ≡ Some p → p.stage ≡ Committing → p.number ≡ t.number → p.target ≡ t.target →
+        IsFor s t Committing p →
         (step s (Abort t)).0 ≡ Closed }
     ensures none_to_abort { (s : FolderState) (t : Token) →
-        ((p : Pull) → get s.pulls t.name ≡ Some p → p.stage ≡ Committing → p.number ≡ t.number → p.target ≢ t.target) →
+        ((p : Pull) → ¬ (IsFor s t Committing p)) →
         (step s (Abort t)).0 ≡ Stray }
     ensures none_after_giving_up { (s : FolderState) (t : Token) →
         (step s (GiveUp t)).0 ≡ Closed → get (step s (GiveUp t)).1.pulls t.name ≡ None }
@@ -109,7 +108,7 @@ pub fn pulls_end_by_their_tickets()
         (step s (Abort t)).0 ≡ Closed → get (step s (Abort t)).1.pulls t.name ≡ None }
 {}
 
-/// A finish closes the committing pull that its commit stands for, and records the valid target with both versions'
+/// A finish closes the committing pull that its commit is for, and records the valid target with both versions'
 /// counters under the next sequence: the local version is still that of the begin.
 pub fn finish_records_the_target()
     ensures recorded { (s : FolderState) (c : Token) (assembled : FileRecord) (k : ℕ) →

@@ -13,13 +13,13 @@ ghost use Rattle.sync_record.specs.Contents.{same_content};
 ghost use Rattle.sync_record.specs.Validity.{is_valid};
 ghost use Rattle.folder_core.specs.Announced.{key, bests, IsBest};
 ghost use Rattle.folder_core.specs.States.{FolderState, IsFolder, local, need};
-ghost use Rattle.folder_core.specs.Reads.{Found, with_devices, ArePages, Reads, Local, Best, Bests, Need, LocalSince, FindBlock, Known, CountAll};
+ghost use Rattle.folder_core.specs.Reads.{Found, with_devices, ArePages, Reads, Local, Best, Bests, Need, LocalSince, FindBlock, Known, CountAll, max_page_blocks};
 
 /// Reads of single records and of numbers: the local record of a name, which has that name, is valid and has a sequence
 /// from 1 to the last; the best of a name with the devices that have it, which rise, and none only where no valid record
 /// is announced; of this device the last sequence, and of another device the greatest of its records' sequences, 0
 /// without any; how many names are needed, how many pulls are open.
-pub fn reads_tell_the_state()
+pub fn reads_follow_the_state()
     ensures local { (s : FolderState) (n : Name) (r : Option FileRecord) →
         Reads s (Local n) r ↔ (r ≡ get s.announced (key n s.me)) }
     ensures best { (s : FolderState) (n : Name) (r : FileRecord) (devices : List Identity) →
@@ -40,8 +40,8 @@ pub fn reads_tell_the_state()
         (c.needed ≡ length (need s)) × (c.pulls ≡ len s.pulls) × (c.last ≡ s.last) }
 {}
 
-/// A page of needed names rises and has no more than asked for; all of it is needed and behind the given name, and what is
-/// needed and behind that name is in the page, or behind a full page.
+/// A page of needed names rises and has no more than asked for; all of it is needed and after the given name, and what is
+/// needed and after that name is in the page, or after a full page.
 pub fn needed_names_come_in_pages()
     ensures rise { (s : FolderState) (after : Option Name) (limit : ℕ) (names : List Name) →
         Reads s (Need after limit) names → IsStrictlySortedBy bytes_cmp names × (length names ≤ limit) }
@@ -79,14 +79,14 @@ pub fn bests_come_in_pages()
         flat_map (λ page. page) pages ≡ map (with_devices (entries s.announced)) (bests (entries s.announced)) }
 {}
 
-/// A page of local records rises by sequence, has no more records than asked for, and no more than 1,000,000 blocks or
+/// A page of local records rises by sequence, has no more records than asked for, and no more than the most blocks or
 /// one record; all of it is local and above the given sequence. A local record above that sequence is in the page, or
 /// the page stops before it, at a record with which it would have too many records or blocks.
 pub fn local_records_come_in_pages()
     ensures rise { (s : FolderState) (after limit : ℕ) (page : List FileRecord) → IsFolder s →
         Reads s (LocalSince after limit) page →
         IsStrictlySortedBy nat_cmp (map (λ r. r.sequence) page) × (length page ≤ limit)
-        × ((sum_by (λ r. length r.blocks) page ≤ 1000000) ⊎ (length page ≤ 1)) }
+        × ((sum_by (λ r. length r.blocks) page ≤ max_page_blocks) ⊎ (length page ≤ 1)) }
     ensures only { (s : FolderState) (after limit : ℕ) (page : List FileRecord) (r : FileRecord) → IsFolder s →
         Reads s (LocalSince after limit) page → Contains page r →
         (n : Name) × (local s n ≡ Some r) × (after < r.sequence) }
@@ -96,12 +96,12 @@ pub fn local_records_come_in_pages()
         ⊎ ((m : Name) × (q : FileRecord) × (local s m ≡ Some q) × (q.sequence ≤ r.sequence)
         × ((p : FileRecord) → Contains page p → p.sequence < q.sequence)
         × ((length page ≡ limit)
-        ⊎ ((1 ≤ length page) × (1000000 < sum_by (λ r. length r.blocks) page + length q.blocks)))) }
+        ⊎ ((1 ≤ length page) × (max_page_blocks < sum_by (λ r. length r.blocks) page + length q.blocks)))) }
 {}
 
 /// A place that is found is one of a block with the digest in a live local file, and none is found only where no live local
 /// file has such a block.
-pub fn blocks_are_found_where_they_stand()
+pub fn blocks_are_found_where_they_are()
     ensures place { (s : FolderState) (hash : List ℕ) (p : Place) → Reads s (FindBlock hash) (Some p) ↔
         ((n : Name) × (r : FileRecord) × (b : Block) × (local s n ≡ Some r) × IsTrue (is_live_file r)
         × Contains r.blocks b × (b.hash ≡ hash)

@@ -7,46 +7,46 @@ ghost use Rattle.sync_blocks.specs.declared.block.Block.{Block};
 ghost use Rattle.sync_record.specs.Devices.{short_id};
 ghost use Rattle.sync_record.specs.Records.{Name, FileRecord, is_file, is_directory};
 ghost use Rattle.sync_record.specs.Contents.{same_content};
-ghost use Rattle.folder_core.specs.States.{FolderState, Pull, IsFolder, local, local_version, open_commits};
+ghost use Rattle.folder_core.specs.States.{FolderState, Pull, IsFolder, NoCommit, local, local_version, max_sequence, open_commits};
 ghost use Rattle.folder_core.specs.declared.stage.Stage.TheVariants.{Pulling, Committing};
 ghost use Rattle.folder_core.specs.Steps.{ScanFound, ScanGone};
 ghost use Rattle.folder_core.specs.Steps.{Busy, Moved, Unchanged, CounterFull, SequenceFull, Recorded};
 ghost use Rattle.folder_core.specs.Steps.{Finding, FoundFile, FoundDirectory, step, found_record, next_version};
 
-/// A scan of a finding is refused, in this order: while a commit of the name is open; where the local version isn't the
+/// A scan of a finding records nothing, in this order: while a commit of the name is open; where the local version isn't the
 /// expected one; where the local record has the content; where the counter, and where the sequence can't rise.
-pub fn findings_are_refused_in_order()
+pub fn findings_are_tested_in_order()
     ensures busy { (s : FolderState) (n : Name) (expected : Option Vector) (f : Finding) (moment : ℕ) (p : Pull) →
         get s.pulls n ≡ Some p → p.stage ≡ Committing → (step s (ScanFound n expected f moment)).0 ≡ Busy }
     ensures moved { (s : FolderState) (n : Name) (expected : Option Vector) (f : Finding) (moment : ℕ) →
-        ((p : Pull) → get s.pulls n ≡ Some p → p.stage ≡ Pulling) → expected ≢ local_version s n →
+        NoCommit s n → expected ≢ local_version s n →
         (step s (ScanFound n expected f moment)).0 ≡ Moved (local_version s n) }
     ensures unchanged { (s : FolderState) (n : Name) (f : Finding) (moment : ℕ) (r : FileRecord) →
-        ((p : Pull) → get s.pulls n ≡ Some p → p.stage ≡ Pulling) → local s n ≡ Some r →
+        NoCommit s n → local s n ≡ Some r →
         IsTrue (same_content (found_record s n (next_version s n moment) f) r) →
         (step s (ScanFound n (local_version s n) f moment)).0 ≡ Unchanged }
     ensures counter { (s : FolderState) (n : Name) (f : Finding) (moment : ℕ) →
-        ((p : Pull) → get s.pulls n ≡ Some p → p.stage ≡ Pulling) →
+        NoCommit s n →
         ((r : FileRecord) → local s n ≡ Some r → same_content (found_record s n (next_version s n moment) f) r ≡ false) →
         counter (unwrap_or (local_version s n) []) (short_id s.me) ≡ 2 ^ 64 - 1 →
         (step s (ScanFound n (local_version s n) f moment)).0 ≡ CounterFull }
     ensures sequence { (s : FolderState) (n : Name) (f : Finding) (moment : ℕ) →
-        ((p : Pull) → get s.pulls n ≡ Some p → p.stage ≡ Pulling) →
+        NoCommit s n →
         ((r : FileRecord) → local s n ≡ Some r → same_content (found_record s n (next_version s n moment) f) r ≡ false) →
         counter (unwrap_or (local_version s n) []) (short_id s.me) ≢ 2 ^ 64 - 1 →
-        2 ^ 63 - 1 - s.last ≤ open_commits s →
+        max_sequence - s.last ≤ open_commits s →
         (step s (ScanFound n (local_version s n) f moment)).0 ≡ SequenceFull }
     ensures recorded { (s : FolderState) (n : Name) (f : Finding) (moment : ℕ) →
-        ((p : Pull) → get s.pulls n ≡ Some p → p.stage ≡ Pulling) →
+        NoCommit s n →
         ((r : FileRecord) → local s n ≡ Some r → same_content (found_record s n (next_version s n moment) f) r ≡ false) →
         counter (unwrap_or (local_version s n) []) (short_id s.me) ≢ 2 ^ 64 - 1 →
-        open_commits s < 2 ^ 63 - 1 - s.last →
+        open_commits s < max_sequence - s.last →
         (step s (ScanFound n (local_version s n) f moment)).0 ≡ Recorded (s.last + 1) }
 {}
 
-/// A finding is told as unchanged only where the local record is live and says what was found: a directory, or a file of
-/// that size and, where it isn't empty, of that block size and those blocks. So no edit is taken for what was there. And
-/// where it says so, no commit is open and the local version is the expected one, it is told so.
+/// The answer to a finding is Unchanged only where the local record is live and says what was found: a directory, or a
+/// file of that size and, where it isn't empty, of that block size and those blocks. So no edit is taken for what was
+/// there. And where the record says so, no commit is open and the local version is the expected one, that is the answer.
 pub fn unchanged_is_what_was_there()
     ensures directory { (s : FolderState) (n : Name) (expected : Option Vector) (f : Finding) (moment : ℕ) →
         f.content ≡ FoundDirectory → (step s (ScanFound n expected f moment)).0 ≡ Unchanged →
@@ -57,39 +57,40 @@ pub fn unchanged_is_what_was_there()
         (r : FileRecord) × (local s n ≡ Some r) × (r.deleted ≡ false) × IsTrue (is_file r) × (r.size ≡ pos size)
         × ((size ≡ 0) ⊎ ((r.block_size ≡ pos block_size) × (r.blocks ≡ blocks))) }
     ensures same_directory { (s : FolderState) (n : Name) (f : Finding) (moment : ℕ) (r : FileRecord) →
-        ((p : Pull) → get s.pulls n ≡ Some p → p.stage ≡ Pulling) → f.content ≡ FoundDirectory →
+        NoCommit s n → f.content ≡ FoundDirectory →
         local s n ≡ Some r → r.deleted ≡ false → IsTrue (is_directory r) →
         (step s (ScanFound n (local_version s n) f moment)).0 ≡ Unchanged }
     ensures same_file { (s : FolderState) (n : Name) (f : Finding)
         (size block_size : ℕ) (blocks : List Block) (moment : ℕ) (r : FileRecord) →
-        ((p : Pull) → get s.pulls n ≡ Some p → p.stage ≡ Pulling) → f.content ≡ FoundFile size block_size blocks →
+        NoCommit s n → f.content ≡ FoundFile size block_size blocks →
         local s n ≡ Some r → r.deleted ≡ false → IsTrue (is_file r) → r.size ≡ pos size →
         (size ≡ 0) ⊎ ((r.block_size ≡ pos block_size) × (r.blocks ≡ blocks)) →
         (step s (ScanFound n (local_version s n) f moment)).0 ≡ Unchanged }
 {}
 
-/// A scan of a name that is gone is refused in the same order; it is unchanged where there is no live local record.
-pub fn losses_are_refused_in_order()
+/// A scan of a name that is gone has the same tests in the same order; it is unchanged where there is no live local
+/// record.
+pub fn losses_are_tested_in_order()
     ensures busy { (s : FolderState) (n : Name) (expected : Option Vector) (moment : ℕ) (p : Pull) →
         get s.pulls n ≡ Some p → p.stage ≡ Committing → (step s (ScanGone n expected moment)).0 ≡ Busy }
     ensures moved { (s : FolderState) (n : Name) (expected : Option Vector) (moment : ℕ) →
-        ((p : Pull) → get s.pulls n ≡ Some p → p.stage ≡ Pulling) → expected ≢ local_version s n →
+        NoCommit s n → expected ≢ local_version s n →
         (step s (ScanGone n expected moment)).0 ≡ Moved (local_version s n) }
     ensures unchanged { (s : FolderState) (n : Name) (moment : ℕ) →
-        ((p : Pull) → get s.pulls n ≡ Some p → p.stage ≡ Pulling) →
+        NoCommit s n →
         ((r : FileRecord) → local s n ≡ Some r → IsTrue r.deleted) →
         (step s (ScanGone n (local_version s n) moment)).0 ≡ Unchanged }
     ensures counter { (s : FolderState) (n : Name) (moment : ℕ) (r : FileRecord) →
-        ((p : Pull) → get s.pulls n ≡ Some p → p.stage ≡ Pulling) → local s n ≡ Some r → r.deleted ≡ false →
+        NoCommit s n → local s n ≡ Some r → r.deleted ≡ false →
         counter r.version (short_id s.me) ≡ 2 ^ 64 - 1 →
         (step s (ScanGone n (local_version s n) moment)).0 ≡ CounterFull }
     ensures sequence { (s : FolderState) (n : Name) (moment : ℕ) (r : FileRecord) →
-        ((p : Pull) → get s.pulls n ≡ Some p → p.stage ≡ Pulling) → local s n ≡ Some r → r.deleted ≡ false →
-        counter r.version (short_id s.me) ≢ 2 ^ 64 - 1 → 2 ^ 63 - 1 - s.last ≤ open_commits s →
+        NoCommit s n → local s n ≡ Some r → r.deleted ≡ false →
+        counter r.version (short_id s.me) ≢ 2 ^ 64 - 1 → max_sequence - s.last ≤ open_commits s →
         (step s (ScanGone n (local_version s n) moment)).0 ≡ SequenceFull }
     ensures recorded { (s : FolderState) (n : Name) (moment : ℕ) (r : FileRecord) →
-        ((p : Pull) → get s.pulls n ≡ Some p → p.stage ≡ Pulling) → local s n ≡ Some r → r.deleted ≡ false →
-        counter r.version (short_id s.me) ≢ 2 ^ 64 - 1 → open_commits s < 2 ^ 63 - 1 - s.last →
+        NoCommit s n → local s n ≡ Some r → r.deleted ≡ false →
+        counter r.version (short_id s.me) ≢ 2 ^ 64 - 1 → open_commits s < max_sequence - s.last →
         (step s (ScanGone n (local_version s n) moment)).0 ≡ Recorded (s.last + 1) }
 {}
 

@@ -1,11 +1,11 @@
 //! The entries of one name, and the best of them.
-ghost use Rattle.std.specs.Prelude.{◌≡◌, [], None, IfOk, IsOk, map, filter, take, bytes_eq, not, ◌&&◌, option_copied, option_map};
+ghost use Rattle.std.specs.Prelude.{◌≡◌, [], ◌∷◌, None, IfOk, IsOk, map, filter, take, bytes_eq, not, ◌&&◌, option_copied, option_map};
 ghost use Rattle.std.specs.List.{list_any, reduce, prefix_len};
 ghost use Rattle.sync_record.specs.Contents.{same_content};
 ghost use Rattle.sync_record.specs.Preference.{is_preferred};
 ghost use Rattle.sync_record.specs.Validity.{is_valid};
 ghost use Rattle.sync_version.specs.Computed.{dominates, same_version};
-ghost use Rattle.folder_core.specs.Kept.{Rises, is_undominated, better, better_of, devices_with, group_best, listed_bests};
+ghost use Rattle.folder_core.specs.Plain.{Rises, is_undominated, better, better_of, devices_with, group_best, listed_bests};
 ghost use Rattle.folder_core.specs.Reads.{is_after};
 
 use super::entry::Entry;
@@ -80,6 +80,9 @@ pub(super) fn best_with_devices(alloc: Global, group: &[Entry]) -> Result<Option
     ensures found { IfOk result (λ b. option_map (λ b. (b.record, b.devices)) b ≡ group_best group.now) }
     ensures none { group_best group.now ≡ None → IsOk result }
 {
+    if let [only] = group {
+        return best_alone(alloc, only);
+    }
     let Some(best) = best_of(group) else {
         return Ok(None);
     };
@@ -87,6 +90,22 @@ pub(super) fn best_with_devices(alloc: Global, group: &[Entry]) -> Result<Option
     Ok(Some(Best {
         record: best.record.copy()?,
         devices: Items::from_vec(devices),
+    }))
+}
+
+/// The same of the only entry of a name: it is the best where it is valid.
+fn best_alone(alloc: Global, entry: &Entry) -> Result<Option<Best>, AllocError>
+    ensures found { IfOk result (λ b. option_map (λ b. (b.record, b.devices)) b ≡ group_best (entry.now ∷ [])) }
+    ensures none { group_best (entry.now ∷ []) ≡ None → IsOk result }
+{
+    if !entry.record.is_valid() {
+        return Ok(None);
+    }
+    let mut devices = Items::new(alloc);
+    devices.push(entry.device)?;
+    Ok(Some(Best {
+        record: entry.record.copy()?,
+        devices,
     }))
 }
 
@@ -138,16 +157,12 @@ fn is_dominated(group: &[Entry], candidate: &Record) -> bool
 fn dominates(a: &Record, b: &Record) -> bool
     ensures { result ≡ (is_valid a.now && dominates a.now.version b.now.version) }
 {
-    a.is_valid() && a.version().relation(b.version()) == Relation::Dominates
+    a.version().relation(b.version()) == Relation::Dominates && a.is_valid()
 }
 
 /// The devices whose valid record has the version and the content of the best, in the order of the entries. O(k) for k
 /// entries.
-fn devices_with(
-    alloc: Global,
-    group: &[Entry],
-    best: &Record,
-) -> Result<Vec<DeviceId>, AllocError>
+fn devices_with(alloc: Global, group: &[Entry], best: &Record) -> Result<Vec<DeviceId>, AllocError>
     ensures { IfOk result (λ ds. ds.items ≡ devices_with group.now best.now) }
 {
     group
@@ -161,5 +176,5 @@ fn devices_with(
 fn has(a: &Record, b: &Record) -> bool
     ensures { result ≡ (is_valid a.now && same_version a.now.version b.now.version && same_content a.now b.now) }
 {
-    a.is_valid() && a.version() == b.version() && same_content(a, b)
+    a.version() == b.version() && a.is_valid() && same_content(a, b)
 }

@@ -2,15 +2,15 @@
 ghost use Rattle.std.specs.Prelude.{◌≡◌, ◌+◌, ◌<◌, ◌≤◌, [], ◌∷◌, ◌++◌, map, reverse, option_copied, MatchOption, IfSome, vec_len, vec_capacity};
 ghost use Rattle.std.specs.declared.cmp.Ordering.TheVariants.{Less};
 ghost use Rattle.folder_core.specs.Announced.{key, key_cmp};
-ghost use Rattle.folder_core.specs.Kept.{filed, filed_by, put_all, NamesRise, Rises};
+ghost use Rattle.folder_core.specs.Plain.{filed, filed_by, put_all, NamesRise, Rises};
 
 use super::entry::Entry;
 use std::cmp::Ordering;
 use sync_record::{DeviceId, Record};
 
-/// Puts a device's records among the entries, each in its place and in place of the device's record of its name. Takes
-/// no memory but the room that it is given. O(t + m) for m records and t entries behind the place of the first of them,
-/// which are moved; the entries before it stay where they are.
+/// Puts a device's records among the entries, each in its place and in place of the device's record of its name. Does not
+/// allocate; `room` holds what is moved. O(t + m) for m records and t entries after the place of the first of them, which
+/// are moved; the entries before it stay where they are.
 pub(super) fn merge(
     entries: &mut Vec<Entry>,
     device: DeviceId,
@@ -54,7 +54,7 @@ fn last_entry(
     Some(Entry { device, record })
 }
 
-/// How an entry stands to what the device announces: by name, and then by device. Before it where there is no entry.
+/// Compares an entry with what the device announces, by name and then by device. `Less` where there is no entry.
 fn order(entry: Option<&Entry>, device: DeviceId, announced: &Record) -> Ordering
     ensures { MatchOption (option_copied entry.entry) (result ≡ Less) (λ e. result ≡ key_cmp (filed e).0 (key announced.now.name device)) }
 {
@@ -65,7 +65,7 @@ fn order(entry: Option<&Entry>, device: DeviceId, announced: &Record) -> Orderin
     entry.record.name().cmp(announced.name()).then(by_device)
 }
 
-/// Puts behind the entries what was taken of them, the last of it first.
+/// Puts back after the entries what was taken from them, the last of it first.
 fn put_back(entries: &mut Vec<Entry>, mut taken: Vec<Entry>)
     requires { vec_len entries.old + vec_len taken ≤ vec_capacity entries.old }
     ensures { entries.new.items ≡ entries.old.items ++ reverse taken.items }

@@ -1,5 +1,5 @@
 use Rattle.std.proofs.Common.{refl}
-use Rattle.folder_core.proofs.Indexes.{get-without_own, get-without_other}
+use Rattle.folder_core.proofs.AnnouncedIndexes.{get-without_own, get-without_other}
 use Rattle.folder_core.proofs.laws.announced.forget_removes.Goals as goal
 
 pub returns-clause-own : goal.returns-clause-own

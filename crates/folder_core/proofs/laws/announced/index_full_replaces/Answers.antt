@@ -1,5 +1,5 @@
 use Rattle.std.proofs.Common.{refl}
-use Rattle.folder_core.proofs.Indexes.{get-index_own, get-index_other}
+use Rattle.folder_core.proofs.AnnouncedIndexes.{get-index_own, get-index_other}
 use Rattle.folder_core.proofs.laws.announced.index_full_replaces.Goals as goal
 
 pub returns-clause-own : goal.returns-clause-own

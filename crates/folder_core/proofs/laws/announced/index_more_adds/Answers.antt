@@ -1,5 +1,5 @@
 use Rattle.std.proofs.Common.{refl}
-use Rattle.folder_core.proofs.Indexes.{get-announce_own, get-announce}
+use Rattle.folder_core.proofs.AnnouncedIndexes.{get-announce_own, get-announce}
 use Rattle.folder_core.proofs.laws.announced.index_more_adds.Goals as goal
 
 pub returns-clause-own : goal.returns-clause-own

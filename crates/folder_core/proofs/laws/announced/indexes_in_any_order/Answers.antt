@@ -1,6 +1,6 @@
 use Rattle.std.proofs.Common.{ap, sym}
 use Rattle.folder_core.specs.Announced.{announce, without}
-use Rattle.folder_core.proofs.Indexes.{either_order, announce-only, index-only}
+use Rattle.folder_core.proofs.AnnouncedIndexes.{either_order, announce-only, index-only}
 use Rattle.folder_core.proofs.laws.announced.indexes_in_any_order.Goals as goal
 
 pub returns-clause-announced : goal.returns-clause-announced

@@ -1,4 +1,4 @@
-use Rattle.folder_core.proofs.BestLaws.{best-found, best-only, best-one, best-some, best-none, best-undominated}
+use Rattle.folder_core.proofs.BestRule.{best-found, best-only, best-one, best-some, best-none, best-undominated}
 use Rattle.folder_core.proofs.laws.best.best_is_preferred.Goals as goal
 
 pub returns-clause-found : goal.returns-clause-found

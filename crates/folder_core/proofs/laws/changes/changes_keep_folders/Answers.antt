@@ -1,4 +1,4 @@
-use Rattle.folder_core.proofs.FolderLaws.{empty-folder, step-folder, legal-folder}
+use Rattle.folder_core.proofs.ChangeFolders.{empty-folder, step-folder, legal-folder}
 use Rattle.folder_core.proofs.laws.changes.changes_keep_folders.Goals as goal
 
 pub returns-clause-empty : goal.returns-clause-empty

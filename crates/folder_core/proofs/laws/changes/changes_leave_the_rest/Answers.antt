@@ -1,4 +1,4 @@
-use Rattle.folder_core.proofs.FrameLaws.{step-me, step-devices, step-locals, step-pulls}
+use Rattle.folder_core.proofs.ChangeRest.{step-me, step-devices, step-locals, step-pulls}
 use Rattle.folder_core.proofs.laws.changes.changes_leave_the_rest.Goals as goal
 
 pub returns-clause-device : goal.returns-clause-device

@@ -1,5 +1,5 @@
-use Rattle.folder_core.proofs.NumberLaws.{step-numbered, step-new}
-use Rattle.folder_core.proofs.SequenceLaws.{step-taken, step-kept, step-fits}
+use Rattle.folder_core.proofs.ChangeNumbers.{step-numbered, step-new}
+use Rattle.folder_core.proofs.ChangeSequences.{step-taken, step-kept, step-fits}
 use Rattle.folder_core.proofs.laws.changes.sequences_stay_distinct.Goals as goal
 
 pub returns-clause-numbered : goal.returns-clause-numbered

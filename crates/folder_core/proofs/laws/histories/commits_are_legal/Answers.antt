@@ -1,4 +1,4 @@
-use Rattle.folder_core.proofs.CommitLaws.{commits-legal, legal-begin}
+use Rattle.folder_core.proofs.HistoryCommits.{commits-legal, legal-begin}
 use Rattle.folder_core.proofs.laws.histories.commits_are_legal.Goals as goal
 
 pub returns-clause-finish : goal.returns-clause-finish

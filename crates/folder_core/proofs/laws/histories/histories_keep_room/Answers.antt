@@ -1,11 +1,11 @@
-use Rattle.folder_core.proofs.HistoryLaws.{shared-full, shared-same, shared-room, finish-fits, give_up-fits, abort-fits}
+use Rattle.folder_core.proofs.HistoryEntries.{shared-full, shared-same, shared-room, finish-fits, give_up-fits, abort-fits}
 use Rattle.folder_core.proofs.laws.histories.histories_keep_room.Goals as goal
 
 pub returns-clause-full : goal.returns-clause-full
 returns-clause-full c = shared-full
 
-pub returns-clause-told : goal.returns-clause-told
-returns-clause-told c = shared-same
+pub returns-clause-answered : goal.returns-clause-answered
+returns-clause-answered c = shared-same
 
 pub returns-clause-left : goal.returns-clause-left
 returns-clause-left c = shared-room

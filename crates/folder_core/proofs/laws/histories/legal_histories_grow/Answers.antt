@@ -1,4 +1,4 @@
-use Rattle.folder_core.proofs.HistoryLaws.{legal-front, legal-push, state-push}
+use Rattle.folder_core.proofs.HistoryEntries.{legal-front, legal-push, state-push}
 use Rattle.std.proofs.Common.{refl}
 use Rattle.folder_core.proofs.laws.histories.legal_histories_grow.Goals as goal
 

@@ -1,5 +1,5 @@
 use Rattle.std.proofs.Common.{refl}
-use Rattle.folder_core.proofs.HistoryLaws.{own-push, own-skip}
+use Rattle.folder_core.proofs.HistoryEntries.{own-push, own-skip}
 use Rattle.folder_core.proofs.laws.histories.own_entries_are_those_of_the_pass.Goals as goal
 
 pub returns-clause-none : goal.returns-clause-none

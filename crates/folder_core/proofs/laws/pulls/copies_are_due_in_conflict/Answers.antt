@@ -1,4 +1,4 @@
-use Rattle.folder_core.proofs.CopyLaws.{copy-due}
+use Rattle.folder_core.proofs.PullCopies.{copy-due}
 use Rattle.folder_core.proofs.laws.pulls.copies_are_due_in_conflict.Goals as goal
 
 pub returns : goal.returns

@@ -1,4 +1,4 @@
-use Rattle.folder_core.proofs.RecordLaws.{finish-tells}
+use Rattle.folder_core.proofs.ScanRecords.{finish-tells}
 use Rattle.folder_core.proofs.laws.pulls.finish_records_the_target.Goals as goal
 
 pub returns-clause-recorded : goal.returns-clause-recorded

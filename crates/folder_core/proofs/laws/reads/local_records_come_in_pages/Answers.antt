@@ -2,7 +2,7 @@ use Rattle.std.proofs.Common.{◌⊎◌, ◌≤◌, length, sym, subst}
 use Rattle.std.specs.Prelude.{Contains, map}
 use Rattle.std.specs.Ordering.{nat_cmp}
 use Rattle.std.specs.List.Sorted.{IsStrictlySortedBy}
-use Rattle.folder_core.proofs.PageLaws.{blocks_of, Stops, page-rises, page-fits, page-of, page-has}
+use Rattle.folder_core.proofs.ReadPages.{blocks_of, Stops, page-rises, page-fits, page-of, page-has}
 use Rattle.folder_core.proofs.laws.reads.local_records_come_in_pages.Goals as goal
 
 pub returns-clause-rise : goal.returns-clause-rise

@@ -4,7 +4,7 @@ use Rattle.std.specs.List.Sorted.{IsStrictlySortedBy}
 use Rattle.std.specs.declared.cmp.Ordering.TheVariants.{Less}
 use Rattle.sync_record.specs.Devices.{bytes_cmp}
 use Rattle.sync_record.specs.Records.{Name}
-use Rattle.folder_core.proofs.ReadLaws.{need-page_rises, need-page_fits, need-page_of, need-page_has}
+use Rattle.folder_core.proofs.ReadAnswers.{need-page_rises, need-page_fits, need-page_of, need-page_has}
 use Rattle.folder_core.proofs.laws.reads.needed_names_come_in_pages.Goals as goal
 
 pub returns-clause-rise : goal.returns-clause-rise

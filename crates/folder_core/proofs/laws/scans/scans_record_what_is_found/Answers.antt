@@ -1,4 +1,4 @@
-use Rattle.folder_core.proofs.RecordLaws.{found-number, found-elsewhere, file-recorded, directory-recorded}
+use Rattle.folder_core.proofs.ScanRecords.{found-number, found-elsewhere, file-recorded, directory-recorded}
 use Rattle.folder_core.proofs.laws.scans.scans_record_what_is_found.Goals as goal
 
 pub returns-clause-number : goal.returns-clause-number

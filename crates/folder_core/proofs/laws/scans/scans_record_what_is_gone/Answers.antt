@@ -1,4 +1,4 @@
-use Rattle.folder_core.proofs.RecordLaws.{gone-number, gone-elsewhere, gone-recorded}
+use Rattle.folder_core.proofs.ScanRecords.{gone-number, gone-elsewhere, gone-recorded}
 use Rattle.folder_core.proofs.laws.scans.scans_record_what_is_gone.Goals as goal
 
 pub returns-clause-number : goal.returns-clause-number

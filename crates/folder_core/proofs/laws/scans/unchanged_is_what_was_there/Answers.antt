@@ -1,5 +1,5 @@
 use Rattle.folder_core.specs.Steps.{FoundDirectory, FoundFile}
-use Rattle.folder_core.proofs.SameLaws.{unchanged-has, has-unchanged}
+use Rattle.folder_core.proofs.ScanUnchanged.{unchanged-has, has-unchanged}
 use Rattle.folder_core.proofs.laws.scans.unchanged_is_what_was_there.Goals as goal
 
 pub returns-clause-directory : goal.returns-clause-directory

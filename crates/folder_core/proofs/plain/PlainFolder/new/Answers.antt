@@ -1,6 +1,6 @@
 use Rattle.std.proofs.Common.{ap, ◌∙◌}
 use Rattle.std.specs.FinMap.{empty}
-use Rattle.folder_core.specs.Kept.{folder_of}
+use Rattle.folder_core.specs.Plain.{folder_of}
 use Rattle.folder_core.proofs.PlainChange.{nothing_announced}
 use Rattle.folder_core.proofs.plain.PlainFolder.new.Goals as goal
 

@@ -1,10 +1,10 @@
-use Rattle.std.proofs.Common.{◌≡◌, sym, ap, ◌∙◌}
+use Rattle.std.proofs.Common.{◌≡◌, ap, ◌∙◌}
 use Rattle.std.specs.Prelude.{filter}
 use Rattle.std.specs.FinMap.{empty}
-use Rattle.folder_core.specs.Kept.{group_best}
+use Rattle.folder_core.specs.Plain.{group_best}
 use Rattle.folder_core.proofs.PlainFound.{best_is_found}
 use Rattle.folder_core.proofs.PlainGroup.{is_named}
-use Rattle.folder_core.proofs.TestLemmas.{ok_then}
+use Rattle.folder_core.proofs.ListTests.{ok_then}
 use Rattle.folder_core.proofs.plain.PlainFolderFolderCore.best.Goals as goal
 
 pub returns-clause-found : goal.returns-clause-found

@@ -3,7 +3,7 @@ use Rattle.std.specs.Prelude.{filter, map, option_copied, take}
 use Rattle.std.proofs.lemmas.Bool.{true≢false}
 use Rattle.std.specs.FinMap.{empty}
 use Rattle.folder_core.specs.declared.plain.entry.Entry.{Entry}
-use Rattle.folder_core.specs.Kept.{Rises, listed_bests}
+use Rattle.folder_core.specs.Plain.{Rises, listed_bests}
 use Rattle.folder_core.specs.Reads.{is_after}
 use Rattle.folder_core.proofs.PlainFound.{after_rises, listed_after}
 use Rattle.folder_core.proofs.plain.PlainFolderFolderCore.bests.Goals as goal

@@ -3,7 +3,7 @@ use Rattle.std.specs.FinMap.{empty}
 use Rattle.std.specs.Prelude.{filter}
 use Rattle.std.proofs.lemmas.Fn.{filter_same}
 use Rattle.folder_core.specs.declared.plain.entry.Entry.{Entry}
-use Rattle.folder_core.specs.Kept.{IsLastOfEach, Rises, filed, filed_by, put_all}
+use Rattle.folder_core.specs.Plain.{IsLastOfEach, Rises, filed, filed_by, put_all}
 use Rattle.folder_core.proofs.PlainChange.{full_rises, full_step, is_of_another, others-rise}
 use Rattle.folder_core.proofs.plain.PlainFolderFolderCore.index_full.Goals as goal
 

@@ -1,7 +1,7 @@
 use Rattle.std.proofs.Common.{List, map, subst, ap, ◌∙◌}
 use Rattle.std.specs.FinMap.{empty}
 use Rattle.folder_core.specs.declared.plain.entry.Entry.{Entry}
-use Rattle.folder_core.specs.Kept.{IsLastOfEach, filed, filed_by, put_all}
+use Rattle.folder_core.specs.Plain.{IsLastOfEach, filed, filed_by, put_all}
 use Rattle.folder_core.proofs.PlainChange.{more_rises, more_step}
 use Rattle.folder_core.proofs.plain.PlainFolderFolderCore.index_more.Goals as goal
 

@@ -1,6 +1,6 @@
 use Rattle.std.proofs.Common.{Some, sym, ap, ◌∙◌}
 use Rattle.std.specs.Prelude.{option_copied}
-use Rattle.folder_core.specs.Kept.{better_of, is_undominated}
+use Rattle.folder_core.specs.Plain.{better_of, is_undominated}
 use Rattle.folder_core.proofs.PlainFound.{taken, left}
 use Rattle.folder_core.proofs.plain.group.best_of.Goals as goal
 use Rattle.folder_core.proofs.plain.group.best_of.Goals.{then-is_undominated, else-is_undominated}

@@ -1,4 +1,4 @@
-use Rattle.std.proofs.Common.{◌≡◌, ◌<◌, ◌++◌, ◌∷◌, ◌-◌, ◌+◌, [], List, Some, None, length, map, take, vec_len, sym, ap, subst, ◌∙◌, arith}
+use Rattle.std.proofs.Common.{◌≡◌, ◌<◌, ◌++◌, ◌∷◌, ◌-◌, ◌+◌, [], Some, None, length, map, take, vec_len, sym, ap, subst, ◌∙◌, arith}
 use Rattle.std.specs.Prelude.{option_map}
 use Rattle.std.specs.List.{prefix_len}
 use Rattle.std.specs.Option.{option_to_list}
@@ -6,11 +6,11 @@ use Rattle.std.proofs.lemmas.Bool.{true≢false}
 use Rattle.std.proofs.lemmas.List.{map-append}
 use Rattle.std.proofs.lemmas.List.Sums.{prefix_len-le-length}
 use Rattle.folder_core.specs.declared.best.Best.{Best}
-use Rattle.folder_core.specs.Kept.{Rises, group_best, listed_bests}
+use Rattle.folder_core.specs.Plain.{Rises, group_best, listed_bests}
 use Rattle.folder_core.specs.Reads.{Found}
 use Rattle.folder_core.proofs.PlainFound.{IsFirstStep, first_step, page_more, page_not_empty, page_same}
 use Rattle.folder_core.proofs.PlainGroup.{is_named}
-use Rattle.folder_core.proofs.TestLemmas.{none_some}
+use Rattle.folder_core.proofs.ListTests.{none_some}
 use Rattle.folder_core.proofs.plain.group.bests_of.Goals as goal
 
 abbrev told : Best → Found
@@ -56,12 +56,11 @@ loop-first-preserved-in_ok-push c =
     let some : group_best c.split_at.result.0.now ≡ Some (told c.in-Some-2.best) = sym c.in_ok-best.ensures.found ∙ ap (option_map told) c.in-Some-2.is in
     let items : map told c.push.new.self.items ≡ map told c.loop-first.page.items ++ told c.in-Some-2.best ∷ [] =
     ap (map told) c.in_ok-push.ensures.items ∙ map-append told c.loop-first.page.items (c.in-Some-2.best ∷ []) in
-    let len : vec_len c.push.new.self ≡ vec_len c.loop-first.page + 1 = c.in_ok-push.ensures.len in
-    (
+    let len : vec_len c.push.new.self ≡ vec_len c.loop-first.page + 1 = c.in_ok-push.ensures.len in (
       (λ i. items i ++ take (c.args.limit - len i) (listed_bests c.split_at.result.1.now))
-      ∙ sym (page_more (map told c.loop-first.page.items) (listed_bests rest) (listed_bests c.split_at.result.1.now) (vec_len c.loop-first.page) c.args.limit (told c.in-Some-2.best)
-      (listed ∙ ap (λ o. option_to_list o ++ listed_bests c.split_at.result.1.now) some) short)
-      ∙ c.loop-first.invariant.0,
+          ∙ sym (page_more (map told c.loop-first.page.items) (listed_bests rest) (listed_bests c.split_at.result.1.now) (vec_len c.loop-first.page) c.args.limit (told c.in-Some-2.best)
+          (listed ∙ ap (λ o. option_to_list o ++ listed_bests c.split_at.result.1.now) some) short)
+          ∙ c.loop-first.invariant.0,
       omega arith,
       subst Rises (sym c.split_at.ensures.back) step.rises,
     )
@@ -82,11 +81,10 @@ loop-first-preserved c =
     let step : IsFirstStep rest e c.count_of.result = subst (IsFirstStep rest e) (sym count) (first_step rest e c.loop-first.invariant.2 (sym c.in-Some.ensures.value)) in
     let listed : listed_bests rest ≡ option_to_list (group_best c.split_at.result.0.now) ++ listed_bests c.split_at.result.1.now =
     step.listed ∙ (λ i. option_to_list (group_best (sym c.split_at.ensures.front i)) ++ listed_bests (sym c.split_at.ensures.back i)) in
-    let none : group_best c.split_at.result.0.now ≡ None = sym c.in_ok-best.ensures.found ∙ ap (option_map told) c.in_default-2.is in
-    (
+    let none : group_best c.split_at.result.0.now ≡ None = sym c.in_ok-best.ensures.found ∙ ap (option_map told) c.in_default-2.is in (
       sym (page_same (map told c.loop-first.page.items) (listed_bests rest) (listed_bests c.split_at.result.1.now) (vec_len c.loop-first.page) c.args.limit
-      (listed ∙ ap (λ o. option_to_list o ++ listed_bests c.split_at.result.1.now) none))
-      ∙ c.loop-first.invariant.0,
+          (listed ∙ ap (λ o. option_to_list o ++ listed_bests c.split_at.result.1.now) none))
+          ∙ c.loop-first.invariant.0,
       c.loop-first.invariant.1,
       subst Rises (sym c.split_at.ensures.back) step.rises,
     )

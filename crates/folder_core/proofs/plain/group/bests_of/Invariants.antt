@@ -1,5 +1,5 @@
 use Rattle.std.proofs.Common.{◌≡◌, ◌++◌, ◌-◌, ◌≤◌, length, map, take, vec_len}
-use Rattle.folder_core.specs.Kept.{Rises, listed_bests}
+use Rattle.folder_core.specs.Plain.{Rises, listed_bests}
 use Rattle.folder_core.proofs.plain.group.bests_of.Given as goal
 
 abbrev pub invariant-loop-first : goal.invariant-loop-first

@@ -1,5 +1,5 @@
 use Rattle.std.proofs.Common.{◌≡◌, ◌-◌, length, take, drop, sym, ap, ◌∙◌, arith, rules}
-use Rattle.std.specs.Prelude.{filter, not, option_copied}
+use Rattle.std.specs.Prelude.{filter, option_copied}
 use Rattle.std.proofs.lemmas.List.{take_all, length-drop}
 use Rattle.std.proofs.lemmas.List.Sorted.{IsPartitionPoint-from_clause}
 use Rattle.folder_core.specs.declared.plain.entry.Entry.{Entry}

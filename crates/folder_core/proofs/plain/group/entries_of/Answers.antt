@@ -2,11 +2,10 @@ use Rattle.std.proofs.Common.{◌≡◌, ◌-◌, false, length, take, drop, sym
 use Rattle.std.specs.Prelude.{filter, not}
 use Rattle.std.proofs.lemmas.List.{take_all, length-drop}
 use Rattle.std.proofs.lemmas.List.Sorted.{IsPartitionPoint-from_clause}
-use Rattle.folder_core.specs.Announced.{In}
-use Rattle.folder_core.specs.Kept.{Rises}
+use Rattle.folder_core.specs.Plain.{Rises}
 use Rattle.std.proofs.lemmas.Bool.{not-true}
-use Rattle.folder_core.proofs.PlainTests.{filter_filter}
-use Rattle.folder_core.proofs.TestLemmas.{of_filter}
+use Rattle.folder_core.proofs.ListFilters.{filter_filter}
+use Rattle.folder_core.proofs.ListTests.{of_filter, In}
 use Rattle.folder_core.proofs.PlainGroup.{is_before, is_named, partitioned, before_down, named_down, drop_rises, prefix_passes, back_is, named_is_late}
 use Rattle.folder_core.proofs.plain.group.entries_of.Goals as goal
 

@@ -2,7 +2,7 @@ use Rattle.std.proofs.Common.{◌-◌, length, sym, ap, subst, ◌∙◌, arith}
 use Rattle.std.specs.List.{slice_get}
 use Rattle.std.specs.Option.{option_copied}
 use Rattle.std.specs.declared.cmp.Ordering.TheVariants.{Less, Equal, Greater}
-use Rattle.folder_core.specs.Kept.{NamesRise}
+use Rattle.folder_core.specs.Plain.{NamesRise}
 use Rattle.folder_core.proofs.PlainMerge.{Stands, entry_step, front_rises, last_popped, names_push, record_step, replace_step, same_last}
 use Rattle.folder_core.proofs.plain.merge.last_entry.Goals as goal
 use Rattle.folder_core.proofs.plain.merge.last_entry.Goals.{in-Equal, in-Less}

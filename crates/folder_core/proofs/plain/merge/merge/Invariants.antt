@@ -1,6 +1,6 @@
 use Rattle.std.proofs.Common.{◌≡◌, ◌+◌, ◌<◌, ◌≤◌, ◌++◌, reverse, vec_len, vec_capacity}
 use Rattle.std.specs.Prelude.{map}
-use Rattle.folder_core.specs.Kept.{NamesRise, Rises, filed, filed_by, put_all}
+use Rattle.folder_core.specs.Plain.{NamesRise, Rises, filed, filed_by, put_all}
 use Rattle.folder_core.proofs.plain.merge.merge.Given as goal
 
 abbrev pub invariant-loop-entry : goal.invariant-loop-entry

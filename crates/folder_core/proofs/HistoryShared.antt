@@ -1,0 +1,88 @@
+-- What the calls of a shared folder tell: one history grows, and each change stands in it once.
+use Rattle.std.proofs.Common.{◌≡◌, ℕ, ◌≤◌, Bool, true, false, List, [], ◌∷◌, ◌++◌, length, refl, sym, ap, subst, ◌∙◌, append_assoc}
+use Rattle.std.specs.Prelude.{cond, Some, MatchBool}
+use Rattle.std.proofs.lemmas.Bool.{true≢false}
+use mathlib.Core.List.{IsPrefix}
+use Rattle.folder_core.specs.States.{FolderState}
+use Rattle.folder_core.specs.Steps.{Answer, Change, MayChange, is_accepted, step, HistoryFull}
+use Rattle.folder_core.specs.Histories.{Entry, IsLegal, state_after, is_over, shared_answer, own_entries}
+use Rattle.folder_core.specs.Shared.{View, Sees, Makes, Declines, Tells}
+use Rattle.folder_core.proofs.HistoryEntries.{own-push, legal-push}
+
+-- the view is of the same caller and the same folder
+abbrev pub OfOneCaller : View → View → Type 0
+OfOneCaller old new = (new.opening ≡ old.opening) × (new.limit ≡ old.limit) × (new.pass ≡ old.pass)
+
+abbrev pub entry_of : View → Change → Answer → Entry
+entry_of v c a = record { pass = v.pass; change = c; answer = a }
+
+sees-one : (old new : View) → Sees old new → OfOneCaller old new
+sees-one old new s = (ap (λ (v : View). v.opening) s.same, ap (λ (v : View). v.limit) s.same, ap (λ (v : View). v.pass) s.same)
+
+module _ (old new : View) (c : Change) (a : Answer) where
+  abbrev e : Entry
+  e = entry_of old c a
+
+  makes : Tells old c (Some a) new → is_accepted a ≡ true → Makes old new c a
+  makes told accepted = subst (λ b. MatchBool b (Makes old new c a) (Declines old new c a)) accepted told
+
+  declines : Tells old c (Some a) new → is_accepted a ≡ false → Declines old new c a
+  declines told refused = subst (λ b. MatchBool b (Makes old new c a) (Declines old new c a)) refused told
+
+  module _ (m : Makes old new c a) where
+    made-seen : new.seen ≡ m.point.seen ++ e ∷ []
+    made-seen = ap (λ (v : View). v.seen) m.entered
+
+    made-longer : IsPrefix old.seen new.seen
+    made-longer =
+        let l = m.sees.longer in
+        (l.0 ++ e ∷ [], sym (append_assoc old.seen l.0 (e ∷ [])) ∙ ap (λ xs. xs ++ e ∷ []) l.1 ∙ sym made-seen)
+
+    made-one : OfOneCaller old new
+    made-one =
+        let s = sees-one old m.point m.sees in
+        (ap (λ (v : View). v.opening) m.entered ∙ s.0, ap (λ (v : View). v.limit) m.entered ∙ s.1, ap (λ (v : View). v.pass) m.entered ∙ s.2)
+
+    made-once : own_entries old.pass new.seen ≡ own_entries old.pass old.seen ++ e ∷ []
+    made-once = ap (own_entries old.pass) made-seen ∙ own-push old.pass m.point.seen e refl ∙ ap (λ xs. xs ++ e ∷ []) m.sees.own
+
+  pub tells-longer : Tells old c (Some a) new → IsPrefix old.seen new.seen × OfOneCaller old new
+  tells-longer told =
+      elim (is_accepted a) as (λ b. MatchBool b (Makes old new c a) (Declines old new c a) → IsPrefix old.seen new.seen × OfOneCaller old new) [
+        | true ↦ λ m. (made-longer m, made-one m)
+        | false ↦ λ d. (d.sees.longer, sees-one old new d.sees)
+      ] told
+
+  -- an accepted change is the last entry, behind a front that the caller then saw
+  abbrev pub Entered : Type 0
+  Entered =
+      (own_entries old.pass new.seen ≡ own_entries old.pass old.seen ++ e ∷ [])
+      × (front : List Entry) × (new.seen ≡ front ++ e ∷ []) × IsPrefix old.seen front × (a ≡ shared_answer old.limit old.opening front c)
+
+  pub tells-entered : Tells old c (Some a) new → is_accepted a ≡ true → Entered
+  tells-entered told accepted = let m = makes told accepted in (made-once m, m.point.seen, made-seen m, m.sees.longer, m.told)
+
+  pub tells-refused : Tells old c (Some a) new → is_accepted a ≡ false → (own_entries old.pass new.seen ≡ own_entries old.pass old.seen) × (a ≡ shared_answer old.limit old.opening new.seen c)
+  tells-refused told refused = let d = declines told refused in (d.sees.own, d.told)
+
+-- an accepted shared answer is the step's
+accepted-answer : (limit : ℕ) (s : FolderState) (es : List Entry) (c : Change) → is_accepted (shared_answer limit s es c) ≡ true → shared_answer limit s es c ≡ (step (state_after s es) c).0
+accepted-answer limit s es c accepted = by (is_over limit (length es) (step (state_after s es) c)) accepted
+  where
+    answer : Bool → Answer
+    answer b = (cond b (HistoryFull, state_after s es) (step (state_after s es) c)).0
+
+    by : (b : Bool) → is_accepted (answer b) ≡ true → answer b ≡ (step (state_after s es) c).0
+    by true e = absurd (true≢false (sym e))
+    by false e = refl
+
+-- an accepted change that its caller may make keeps a legal history legal
+pub shared-legal : (passes limit : ℕ) (s : FolderState) (es : List Entry) (e : Entry) → IsLegal passes s es → (1 ≤ e.pass) × (e.pass ≤ passes) → MayChange (state_after s es) e.change
+    → is_accepted e.answer ≡ true → e.answer ≡ shared_answer limit s es e.change → IsLegal passes s (es ++ e ∷ [])
+shared-legal passes limit s es e legal given may accepted told =
+    legal-push passes s es e legal (record {
+      given = given;
+      allowed = may;
+      answered = sym (told ∙ accepted-answer limit s es e.change (ap is_accepted (sym told) ∙ accepted));
+      accepted = accepted;
+    })

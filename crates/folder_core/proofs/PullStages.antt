@@ -1,0 +1,78 @@
+-- The open pull of a name after a change of it.
+use Rattle.std.proofs.Common.{◌≡◌, false, sym, ap, ◌∙◌}
+use Rattle.std.specs.Prelude.{cond, Some, None, option_map, ⊤}
+use Rattle.std.specs.Cmp.{tied_itself}
+use Rattle.std.specs.FinMap.{get, insert, remove, get-insert, get-remove}
+use Rattle.std.specs.Ordering.{is_eq}
+use Rattle.std.proofs.lemmas.Bool.{true≢false}
+use Rattle.sync_record.specs.Records.{Name}
+use Rattle.folder_core.specs.declared.stage.Stage.TheVariants.{Pulling, Committing}
+use Rattle.folder_core.specs.States.{FolderState, Pull}
+use Rattle.folder_core.specs.Steps.{Answer, Change, Token, ScanFound, ScanGone, IndexFull, IndexMore, Forget, BeginPull, EnterCommit, Finish, GiveUp, Abort, Begun, Entered, Closed, is_accepted, step, next_ticket}
+use Rattle.folder_core.proofs.Orders.{bytes_total}
+use Rattle.folder_core.proofs.PullOpen.{pull_of-is}
+use Rattle.folder_core.proofs.ChangeCases.{step-cases}
+use Rattle.folder_core.proofs.ListTests.{inside}
+
+inserted : (s : FolderState) (n : Name) (p : Pull) → get (insert s.pulls n p) n ≡ Some p
+inserted s n p = get-insert bytes_total s.pulls n p n ∙ ap (λ o. cond (is_eq o) (Some p) (get s.pulls n)) (tied_itself bytes_total n)
+
+removed : (s : FolderState) (n : Name) → get (remove s.pulls n) n ≡ None
+removed s n = get-remove bytes_total s.pulls n n ∙ ap (λ o. cond (is_eq o) None (get s.pulls n)) (tied_itself bytes_total n)
+
+-- the pull that a ticket begins
+abbrev pub begun_pull : Token → Pull
+begun_pull t = record { number = t.number; base = option_map (λ r. r.version) t.base; target = t.target; stage = Pulling }
+
+abbrev ticket_in : Token → Answer → Token
+ticket_in t (Begun u) = u
+ticket_in t _ = t
+
+abbrev Opens : FolderState → Change → Answer × FolderState → Type 0
+Opens s (BeginPull n) d = (t : Token) → d.0 ≡ Begun t → get d.1.pulls n ≡ Some (begun_pull t)
+Opens s (EnterCommit t) d = (p : Pull) → get s.pulls t.name ≡ Some p → d.0 ≡ Entered t → get d.1.pulls t.name ≡ Some (record p { stage = Committing })
+Opens s (GiveUp t) d = d.0 ≡ Closed → get d.1.pulls t.name ≡ None
+Opens s (Abort t) d = d.0 ≡ Closed → get d.1.pulls t.name ≡ None
+Opens s _ d = ⊤
+
+no-pull : (s : FolderState) (c : Change) (a : Answer) → is_accepted a ≡ false → Opens s c (a, s)
+no-pull s (BeginPull n) a unmade = λ t is. absurd (true≢false (ap is_accepted (sym is) ∙ unmade))
+no-pull s (EnterCommit t) a unmade = λ p g is. absurd (true≢false (ap is_accepted (sym is) ∙ unmade))
+no-pull s (GiveUp t) a unmade = λ is. absurd (true≢false (ap is_accepted (sym is) ∙ unmade))
+no-pull s (Abort t) a unmade = λ is. absurd (true≢false (ap is_accepted (sym is) ∙ unmade))
+no-pull s (ScanFound n expected f moment) a unmade = tt
+no-pull s (ScanGone n expected moment) a unmade = tt
+no-pull s (IndexFull d rs) a unmade = tt
+no-pull s (IndexMore d rs) a unmade = tt
+no-pull s (Forget d) a unmade = tt
+no-pull s (Finish t r) a unmade = tt
+
+opens : (s : FolderState) (c : Change) → Opens s c (step s c)
+opens s = step-cases s (Opens s) (record {
+  refused = no-pull s;
+  found = λ n expected f moment _. tt;
+  gone = λ n expected moment r _ _. tt;
+  full = λ d rs. tt;
+  more = λ d rs. tt;
+  forgotten = λ d. tt;
+  begun = λ n b _ _ t is. inserted s n (begun_pull (next_ticket s n b.1)) ∙ ap (λ a. Some (begun_pull (ticket_in t a))) is;
+  entered = λ t p found _ q g _.
+      inserted s t.name (record p { stage = Committing })
+      ∙ ap (λ (x : Pull). Some (record x { stage = Committing })) (inside p q (sym (pull_of-is s t Pulling p found).0 ∙ g));
+  finished = λ t assembled p _. tt;
+  given_up = λ t p _ _. removed s t.name;
+  aborted = λ t p _ _. removed s t.name;
+})
+
+pub begin-opens : (s : FolderState) (n : Name) (t : Token) → (step s (BeginPull n)).0 ≡ Begun t → get (step s (BeginPull n)).1.pulls n ≡ Some (begun_pull t)
+begin-opens s n t is = opens s (BeginPull n) t is
+
+pub enter-commits : (s : FolderState) (t : Token) (p : Pull) → get s.pulls t.name ≡ Some p → (step s (EnterCommit t)).0 ≡ Entered t
+    → get (step s (EnterCommit t)).1.pulls t.name ≡ Some (record p { stage = Committing })
+enter-commits s t p g is = opens s (EnterCommit t) p g is
+
+pub give_up-closes : (s : FolderState) (t : Token) → (step s (GiveUp t)).0 ≡ Closed → get (step s (GiveUp t)).1.pulls t.name ≡ None
+give_up-closes s t is = opens s (GiveUp t) is
+
+pub abort-closes : (s : FolderState) (t : Token) → (step s (Abort t)).0 ≡ Closed → get (step s (Abort t)).1.pulls t.name ≡ None
+abort-closes s t is = opens s (Abort t) is

@@ -1,9 +1,0 @@
-use Rattle.std.proofs.Common.{refl}
-use Rattle.folder_core.proofs.ReadLaws.{place-read, no_place-read}
-use Rattle.folder_core.proofs.laws.reads.blocks_are_found_where_they_stand.Goals as goal
-
-pub returns-clause-place : goal.returns-clause-place
-returns-clause-place c = place-read
-
-pub returns-clause-no_place : goal.returns-clause-no_place
-returns-clause-no_place c = λ s hash n r b none g file listed same. (no_place-read s hash).0 none _ (n, r, b, g, file, listed, same, refl)
