@@ -8,8 +8,7 @@ use Rattle.std.specs.Io.KnownBytes.{Appends, Consumes}
 use Rattle.bep_frames.specs.declared.fault.FrameFault.{FrameFault}
 use Rattle.bep_frames.specs.Stream.{Stream, stream}
 use Rattle.folder_core.specs.Announced.{Key, key_cmp}
-use Rattle.folder_core.specs.Kept.{empty_folder}
-use Rattle.folder_core.specs.States.{FolderState}
+use Rattle.folder_core.specs.States.{FolderState, empty_folder}
 use Rattle.sync_record.specs.Records.{FileRecord}
 use Rattle.bepd.specs.declared.ending.Ending.{Ending}
 use Rattle.bepd.specs.declared.ending.Ending.TheVariants.{Done, Rest, Fault, Failed}

@@ -17,8 +17,7 @@ use Rattle.bep_frames.specs.Stream.{ended}
 use Rattle.bep_frames.proofs.Lemmas.{front_push, given_fault, given_frame, given_none, given_shorter, index_records_few, update_records_few}
 use Rattle.bep_messages.specs.declared.file_info.FileInfo.{FileInfo}
 use Rattle.folder_core.specs.Announced.{IsNamed, Key}
-use Rattle.folder_core.specs.Kept.{empty_folder}
-use Rattle.folder_core.specs.States.{FolderState}
+use Rattle.folder_core.specs.States.{FolderState, empty_folder}
 use Rattle.folder_core.specs.Steps.{Answer, Change, IndexFull, IndexMore, step}
 use Rattle.folder_core.proofs.Lemmas.{IsOneOrWas, full-names, more-names}
 use Rattle.sync_record.specs.Records.{FileRecord}

@@ -5,8 +5,7 @@ use Rattle.bep_frames.specs.declared.frame.Frame.{Frame}
 use Rattle.bep_frames.specs.declared.frame.Frame.TheVariants.{Message as MessageFrame}
 use Rattle.bep_frames.specs.declared.frame.Message.{Message}
 use Rattle.bep_frames.specs.declared.frame.Message.TheVariants.{Index, IndexUpdate}
-use Rattle.folder_core.specs.Kept.{empty_folder}
-use Rattle.folder_core.specs.States.{FolderState}
+use Rattle.folder_core.specs.States.{FolderState, empty_folder}
 use Rattle.folder_core.specs.Steps.{Change, IndexFull, IndexMore, step}
 use Rattle.sync_names.specs.Refusal.{refusal}
 use Rattle.sync_record.specs.Devices.{Identity}

@@ -2,7 +2,7 @@
 ghost use Rattle.std.specs.Prelude.{◌≡◌, ℕ, List, IfSome, false};
 ghost use Rattle.std.specs.Io.KnownBytes.{Appends, Consumes};
 ghost use Rattle.bep_frames.specs.Stream.{stream};
-ghost use Rattle.folder_core.specs.Kept.{empty_folder};
+ghost use Rattle.folder_core.specs.States.{empty_folder};
 ghost use Rattle.bepd.specs.Endings.{IsEndOf, IsListed};
 ghost use Rattle.bepd.specs.Received.{own_device};
 ghost use Rattle.bepd.specs.Listing.{listing, Answers};
