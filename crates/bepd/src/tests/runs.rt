@@ -50,23 +50,20 @@ fn status(
 #[test]
 fn runs_lines(rt: HostRuntime) -> Result<(), Fail> {
     let bytes = both(rt.alloc(), FILE, COMPRESSED)?;
-    let whole = bytes.len() - 6;
+    let faulty = bytes.len();
+    let whole = faulty.saturating_sub(6);
+    let partial = faulty.saturating_sub(5);
     for (line, count, output, errors, wanted) in [
         ("bepd best f", whole, LISTING, "", 0),
-        (
-            "bepd best f",
-            whole + 6,
-            LISTING,
-            "fault 12 Compressed\n",
-            2,
-        ),
-        ("bepd best f", whole + 1, LISTING, "rest 1\n", 3),
+        ("bepd best f", faulty, LISTING, "fault 12 Compressed\n", 2),
+        ("bepd best f", partial, LISTING, "rest 1\n", 3),
         ("bepd best g", whole, "skipped 0\n", "", 0),
         ("bepd", whole, "", "error: a command is required\n", 1),
         ("bepd --help", 0, "Lists", "", 0),
         ("bepd --version", 0, "bepd 0.1.0\n", "", 0),
     ] {
-        let answer = status(&rt, line, &bytes.as_slice()[..count], output, errors)?;
+        let input = &bytes.as_slice()[..count.min(bytes.len())];
+        let answer = status(&rt, line, input, output, errors)?;
         if let Some(status) = answer {
             assert_eq!(rt; status, wanted, "{line}");
         }
