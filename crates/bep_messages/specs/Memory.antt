@@ -8,7 +8,7 @@ use Rattle.bep_messages.specs.declared.octets.TheConstants.{DIGEST_LEN}
 use Rattle.bep_messages.specs.Tables.{Scalar, Int32, Int64, Uint32, Uint64, Enum, Boolean, Words, Octets, Digest, Table, End, One, Message, Texts, Messages}
 use Rattle.bep_messages.specs.Faults.{item_fault, message_fault}
 
--- a field that holds bytes with this property; what is under another wire type is skipped and takes no memory
+-- a field that holds bytes with this property; what is under another wire type is skipped, and needs no memory
 abbrev pub HoldsBytes : (List ℕ → Type 0) → Content → Type 0
 HoldsBytes property (Number n) = ⊥
 HoldsBytes property (Eight bytes) = ⊥
