@@ -1,9 +1,9 @@
 -- Each change of a folder leaves a folder.
-use Rattle.std.proofs.Common.{◌≡◌, ◌≢◌, ℕ, ◌+◌, ◌-◌, ◌≤◌, Bool, true, false, List, [], ◌∷◌, refl, sym, ap, ◌∙◌, arith, ◌⊎◌, inl, inr}
-use Rattle.std.specs.Prelude.{bytes_eq, cond, not, Option, Some, None, option_map, IsTrue}
+use Rattle.std.proofs.Common.{◌≡◌, ◌≢◌, ℕ, ◌+◌, ◌-◌, ◌^◌, ◌≤◌, Bool, true, false, List, [], ◌∷◌, refl, sym, ap, ◌∙◌, arith, ◌⊎◌, inl, inr}
+use Rattle.std.specs.Prelude.{bytes_eq, cond, not, nat_lt, Option, Some, None, option_map, IsTrue}
 use Rattle.std.specs.Option.{option_map_or}
 use Rattle.std.specs.FinMap.{get, insert, entries, empty, len-entries, len-empty, get-empty}
-use Rattle.std.proofs.lemmas.Bool.{leb-false, not-false, true≢false}
+use Rattle.std.proofs.lemmas.Bool.{leb-false, not-false, and_parts, true≢false}
 use Rattle.sync_version.proofs.Lemmas.{same_version_tells}
 use Rattle.sync_version.specs.Versions.{Vector}
 use Rattle.sync_record.specs.Devices.{Identity, bytes_cmp}
@@ -81,7 +81,7 @@ module _ (s : FolderState) (old : IsFolder s) (r : FileRecord) (valid : is_valid
 -- what is found makes a valid record
 pub found-valid : (s : FolderState) (n : Name) (v : Vector) (f : Finding) (c : FoundContent) → is_found c ≡ true → is_valid (found_record s n v (record f { content = c })) ≡ true
 found-valid s n v f FoundDirectory e = refl
-found-valid s n v f (FoundFile size block_size blocks) e = e
+found-valid s n v f (FoundFile size block_size blocks) e = (and_parts (nat_lt size (2 ^ 63)) _ e).1
 
 pub found-name : (s : FolderState) (n : Name) (v : Vector) (f : Finding) (c : FoundContent) → (found_record s n v (record f { content = c })).name ≡ n
 found-name s n v f FoundDirectory = refl
@@ -142,8 +142,8 @@ named-without d a old k r e = by (not (bytes_eq k.device d)) (sym (get-without d
     by true f = old k r f
     by false f = absurd (let g : None ≡ Some r = f in cc)
 
-pub step-folder : (s : FolderState) (c : Change) → IsFolder s → MayChange s c → IsFolder (step s c).1
-step-folder s c old = step-cases s (λ x d. MayChange s x → IsFolder d.1) (record {
+pub step-folder : (s : FolderState) (c : Change) → IsFolder s → MayChange s.me c → IsFolder (step s c).1
+step-folder s c old = step-cases s (λ x d. MayChange s.me x → IsFolder d.1) (record {
   tested = λ _ a _ _. old;
   found = λ n expected f moment fail may.
       let r = found_now s n f moment in

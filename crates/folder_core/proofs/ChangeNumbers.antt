@@ -54,8 +54,8 @@ same-numbered s old a same = record {
   distinct = λ m n q r e f. old.distinct m n q r (sym (same m) ∙ e) (sym (same n) ∙ f);
 }
 
-pub step-numbered : (s : FolderState) (c : Change) → IsNumbered s → MayChange s c → IsNumbered (step s c).1
-step-numbered s c old = step-cases s (λ x d. MayChange s x → IsNumbered d.1) (record {
+pub step-numbered : (s : FolderState) (c : Change) → IsNumbered s → MayChange s.me c → IsNumbered (step s c).1
+step-numbered s c old = step-cases s (λ x d. MayChange s.me x → IsNumbered d.1) (record {
   tested = λ _ a _ _. old;
   found = λ n expected f moment _ _. with_local-numbered s old (found_now s n f moment);
   gone = λ n expected moment r _ _ _. with_local-numbered s old (gone_now s n r moment);
@@ -82,8 +82,8 @@ local-new s r n q e = by (local-split s r n q e)
     by (inr x) = inl x
 
 -- a local record that wasn't there before has a greater sequence than any before
-pub step-new : (s : FolderState) (c : Change) → MayChange s c → IsNew s (step s c).1
-step-new s = step-cases s (λ x d. MayChange s x → IsNew s d.1) (record {
+pub step-new : (s : FolderState) (c : Change) → MayChange s.me c → IsNew s (step s c).1
+step-new s = step-cases s (λ x d. MayChange s.me x → IsNew s d.1) (record {
   tested = λ _ a _ _ n r e. inl e;
   found = λ n expected f moment _ _. local-new s (found_now s n f moment);
   gone = λ n expected moment r _ _ _. local-new s (gone_now s n r moment);

@@ -101,8 +101,8 @@ LocalAt c n =
     ⊎ ((t : Token) × (r : FileRecord) × (t.name ≡ n) × (c ≡ Finish t r)))
 
 -- local records change by scans and finishes of their names alone
-pub step-locals : (s : FolderState) → IsFolder s → (c : Change) (n : Name) → MayChange s c → (local (step s c).1 n ≡ local s n) ⊎ LocalAt c n
-step-locals s folder = step-cases s (λ x o. (n : Name) → MayChange s x → (local o.1 n ≡ local s n) ⊎ LocalAt x n) (record {
+pub step-locals : (s : FolderState) → IsFolder s → (c : Change) (n : Name) → MayChange s.me c → (local (step s c).1 n ≡ local s n) ⊎ LocalAt c n
+step-locals s folder = step-cases s (λ x o. (n : Name) → MayChange s.me x → (local o.1 n ≡ local s n) ⊎ LocalAt x n) (record {
   tested = λ _ a _ n _. inl refl;
   found = λ m expected f moment _ n _. same_or_not m n (λ same. inr (inl (expected, f, moment, ap (λ x. ScanFound x expected f moment) same)))
       (λ apart. inl (local-elsewhere s (found_now s m f moment) m n (found-name s m (next_version s m moment) f f.content) (λ e. apart (sym e))));

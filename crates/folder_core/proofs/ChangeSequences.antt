@@ -64,7 +64,7 @@ step-kept s = step-cases s (λ _ d. (d.1.last ≡ s.last) ⊎ ((k : ℕ) × Take
   aborted = λ t p _. inl refl;
 })
 
-pub step-fits : (s : FolderState) (c : Change) (k : ℕ) → IsFolder s → MayChange s c → Takes (step s c).0 k → k ≤ 2 ^ 63 - 1
+pub step-fits : (s : FolderState) (c : Change) (k : ℕ) → IsFolder s → MayChange s.me c → Takes (step s c).0 k → k ≤ 2 ^ 63 - 1
 step-fits s c k folder may takes =
     let room = (step-folder s c folder may).room in
     let e = (step-taken s c k takes).1 in

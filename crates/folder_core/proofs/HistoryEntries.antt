@@ -1,5 +1,5 @@
 -- Histories grow by one entry at a time, and keep room for the entries of the open pulls.
-use Rattle.std.proofs.Common.{◌≡◌, ◌≢◌, ℕ, ◌+◌, ◌-◌, ◌<◌, ◌≤◌, Bool, true, false, List, [], ◌∷◌, ◌++◌, length, refl, sym, ap, ◌∙◌, arith, ◌⊎◌, inl, inr, append-nil}
+use Rattle.std.proofs.Common.{◌≡◌, ◌≢◌, ℕ, ◌+◌, ◌-◌, ◌<◌, ◌≤◌, Bool, true, false, List, [], ◌∷◌, ◌++◌, length, refl, sym, ap, subst, ◌∙◌, arith, ◌⊎◌, inl, inr, append-nil}
 use Rattle.std.specs.Prelude.{cond, ◌==◌, nat_lt, nat_le, Some, is_some}
 use Rattle.std.specs.FinMap.{get, remove, len, len-remove, empty_of_len, get-empty}
 use Rattle.std.proofs.lemmas.Bool.{cond-true, cond-false, and_from, and_left, and_right, true≢false, lt-ltb, ltb-true, leb-true, leb-false, eq-eqb, ne_eqb, false_from_ne_true}
@@ -9,11 +9,12 @@ use Rattle.sync_record.specs.Records.{Name, FileRecord}
 use Rattle.sync_version.proofs.Lists.{zero_or_above}
 use Rattle.folder_core.specs.declared.stage.Stage.TheVariants.{Pulling, Committing}
 use Rattle.folder_core.specs.States.{FolderState, Pull}
-use Rattle.folder_core.specs.Steps.{Answer, Change, Token, HistoryFull, Finish, GiveUp, Abort, is_accepted, step}
+use Rattle.folder_core.specs.Steps.{Answer, Change, Token, HistoryFull, Finish, GiveUp, Abort, MayChange, is_accepted, step}
 use Rattle.folder_core.specs.Histories.{Entry, MayFollow, IsLegal, after, state_after, is_over, shared_answer, own_entries}
 use Rattle.folder_core.proofs.Orders.{bytes_total}
 use Rattle.folder_core.proofs.PullOpen.{pull_of-is}
 use Rattle.folder_core.proofs.ChangeCases.{step-cases}
+use Rattle.folder_core.proofs.ChangeRest.{step-me}
 use Rattle.folder_core.proofs.ListTests.{none_some}
 
 -- ---- one more entry
@@ -29,6 +30,17 @@ legal-push passes s (f ∷ es) e legal may = (legal.0, legal-push passes (after 
 pub state-push : (s : FolderState) (es : List Entry) (e : Entry) → state_after s (es ++ e ∷ []) ≡ (step (state_after s es) e.change).1
 state-push s [] e = refl
 state-push s (f ∷ es) e = state-push (after s f) es e
+
+-- a folder keeps its device, and so what its callers have to ensure
+pub state-me : (s : FolderState) (es : List Entry) → (state_after s es).me ≡ s.me
+state-me s [] = refl
+state-me s (e ∷ es) = state-me (after s e) es ∙ step-me s e.change
+
+pub allowed-after : (s : FolderState) (es : List Entry) (c : Change) → MayChange s.me c → MayChange (state_after s es).me c
+allowed-after s es c = subst (λ d. MayChange d c) (sym (state-me s es))
+
+pub allowed-before : (s : FolderState) (es : List Entry) (c : Change) → MayChange (state_after s es).me c → MayChange s.me c
+allowed-before s es c = subst (λ d. MayChange d c) (state-me s es)
 
 -- ---- the entries of a pass
 

@@ -7,7 +7,7 @@ use Rattle.folder_core.specs.States.{FolderState}
 use Rattle.folder_core.specs.Steps.{Answer, Change, MayChange, is_accepted, step, HistoryFull}
 use Rattle.folder_core.specs.Histories.{Entry, IsLegal, state_after, is_over, shared_answer, own_entries}
 use Rattle.folder_core.specs.Shared.{View, Sees, Makes, Declines, IsAnswered}
-use Rattle.folder_core.proofs.HistoryEntries.{own-push, legal-push}
+use Rattle.folder_core.proofs.HistoryEntries.{allowed-after, own-push, legal-push}
 
 -- the view is of the same caller and the same folder
 abbrev pub OfOneCaller : View → View → Type 0
@@ -77,12 +77,12 @@ accepted-answer limit s es c accepted = by (is_over limit (length es) (step (sta
     by false e = refl
 
 -- an accepted change that its caller may make keeps a legal history legal
-pub shared-legal : (passes limit : ℕ) (s : FolderState) (es : List Entry) (e : Entry) → IsLegal passes s es → (1 ≤ e.pass) × (e.pass ≤ passes) → MayChange (state_after s es) e.change
+pub shared-legal : (passes limit : ℕ) (s : FolderState) (es : List Entry) (e : Entry) → IsLegal passes s es → (1 ≤ e.pass) × (e.pass ≤ passes) → MayChange s.me e.change
     → is_accepted e.answer ≡ true → e.answer ≡ shared_answer limit s es e.change → IsLegal passes s (es ++ e ∷ [])
 shared-legal passes limit s es e legal given may accepted answer_is =
     legal-push passes s es e legal (record {
       given = given;
-      allowed = may;
+      allowed = allowed-after s es e.change may;
       answered = sym (answer_is ∙ accepted-answer limit s es e.change (ap is_accepted (sym answer_is) ∙ accepted));
       accepted = accepted;
     })

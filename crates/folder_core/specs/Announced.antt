@@ -1,5 +1,5 @@
 -- The records that devices announce, and the best of each name (Syncthing, "Understanding Synchronization").
-use Rattle.std.specs.Prelude.{bytes_eq, ◌≡◌, ◌≢◌, Bool, not, ◌&&◌, ◌||◌, List, map, filter, find, fold, reverse, Option, Some, IsTrue, Contains}
+use Rattle.std.specs.Prelude.{bytes_eq, ◌≡◌, ◌≢◌, Bool, not, ◌&&◌, ◌||◌, List, map, filter, find, fold, reverse, Option, Some, IsTrue}
 use Rattle.std.specs.List.{list_all, list_any}
 use Rattle.std.specs.Ordering.{on, then_cmp}
 use Rattle.std.specs.declared.cmp.Ordering.{Ordering}
@@ -90,8 +90,3 @@ pub record IsCandidate (a : Announced) (n : Name) (d : Identity) (r : FileRecord
 pub record IsBest (a : Announced) (n : Name) (d : Identity) (r : FileRecord) : Type 0 where
   pub candidate : IsCandidate a n d r
   pub preferred : (e : Identity) (q : FileRecord) → IsCandidate a n e q → e ≢ d → IsTrue (is_preferred (d, r) (e, q))
-
--- the list has what is announced and nothing else, in any order
-pub record Lists (a : Announced) (es : List Announcement) : Type 0 where
-  pub has : (k : Key) (r : FileRecord) → get a k ≡ Some r → Contains es (k, r)
-  pub only : (e : Announcement) → Contains es e → get a e.0 ≡ Some e.1

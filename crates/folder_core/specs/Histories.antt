@@ -1,15 +1,11 @@
 -- A folder that several callers share: the history of its changes.
 use Rattle.std.specs.Prelude.{bytes_eq, false, ◌++◌, count_by, Contains, option_map, ◌≡◌, ℕ, ◌+◌, ◌≤◌, Bool, ◌&&◌, ◌==◌, nat_lt, if◌then◌else◌, List, [], ◌∷◌, length, filter, fold, IsTrue, ⊤}
 use Rattle.std.specs.FinMap.{len}
+pub use Rattle.folder_core.specs.declared.history.Entry.{Entry}
+use Rattle.sync_record.specs.Assemblies.{IsAssembled}
 use Rattle.sync_record.specs.Records.{Name, FileRecord}
 use Rattle.folder_core.specs.States.{FolderState, IsFolder, local, local_version}
-use Rattle.folder_core.specs.Steps.{Change, Answer, Token, Begun, Entered, Finish, HistoryFull, is_accepted, step, MayChange}
-
--- an accepted change: whose it was, what was asked, and what was answered
-pub record Entry : Type 0 where
-  pub pass : ℕ
-  pub change : Change
-  pub answer : Answer
+use Rattle.folder_core.specs.Steps.{Change, Answer, Token, Begun, Entered, Finish, GiveUp, Abort, HistoryFull, is_accepted, step, MayChange}
 
 abbrev pub after : FolderState → Entry → FolderState
 after s e = (step s e.change).1
@@ -21,7 +17,7 @@ state_after s es = fold after s es
 -- and it was accepted with this answer
 pub record MayFollow (passes : ℕ) (s : FolderState) (e : Entry) : Type 0 where
   pub given : (1 ≤ e.pass) × (e.pass ≤ passes)
-  pub allowed : MayChange s e.change
+  pub allowed : MayChange s.me e.change
   pub answered : (step s e.change).0 ≡ e.answer
   pub accepted : IsTrue (is_accepted e.answer)
 
@@ -30,9 +26,9 @@ abbrev pub IsLegal : ℕ → FolderState → List Entry → Type 0
 IsLegal passes s [] = ⊤
 IsLegal passes s (e ∷ es) = MayFollow passes s e × IsLegal passes (after s e) es
 
--- the history leads from one state to another
+-- the history leads from an opening state, which has no open pull, to this one
 abbrev pub IsReplay : ℕ → FolderState → List Entry → FolderState → Type 0
-IsReplay passes opening es end = IsLegal passes opening es × (state_after opening es ≡ end)
+IsReplay passes opening es end = (len opening.pulls ≡ 0) × IsLegal passes opening es × (state_after opening es ≡ end)
 
 -- with the entries that the open pulls will add, the history has no room for what was done
 abbrev pub is_over : ℕ → ℕ → Answer × FolderState → Bool
@@ -50,6 +46,13 @@ shared_answer limit opening es change = (shared_step limit (length es) (state_af
 abbrev pub own_entries : ℕ → List Entry → List Entry
 own_entries pass es = filter (λ e. e.pass == pass) es
 
+-- the change is to end a pull of the name
+abbrev pub ends_pull_of : Name → Change → Bool
+ends_pull_of n (Finish c assembled) = bytes_eq c.name n
+ends_pull_of n (GiveUp t) = bytes_eq t.name n
+ends_pull_of n (Abort c) = bytes_eq c.name n
+ends_pull_of n _ = false
+
 -- the entry begins a pull of the name, or enters its commit
 abbrev pub is_begin_of : Name → Answer → Bool
 is_begin_of n (Begun t) = bytes_eq t.name n
@@ -59,8 +62,13 @@ abbrev pub is_enter_of : Name → Answer → Bool
 is_enter_of n (Entered t) = bytes_eq t.name n
 is_enter_of n _ = false
 
+-- the entry ends a pull of the name: by a finish, by giving it up, or by an abort of its commit
+abbrev pub is_end_of : Name → Entry → Bool
+is_end_of n e = is_accepted e.answer && ends_pull_of n e.change
+
 -- A finish after some entries ends the pull that was begun there over the local record, and entered: over
--- the version of that record, which is the local one still, with its target assembled.
+-- the version of that record, which is the local one still, with its target, of each of whose blocks some bytes have the
+-- size and the digest. Nothing else ended it before.
 pub record EndsPull (opening : FolderState) (front : List Entry) (commit : Token) (assembled : FileRecord) : Type 0 where
   pub before : List Entry
   pub begun : Entry
@@ -76,8 +84,10 @@ pub record EndsPull (opening : FolderState) (front : List Entry) (commit : Token
   pub same_entrance : (entrance.number ≡ commit.number) × (entrance.name ≡ commit.name) × (entrance.target ≡ commit.target)
   pub no_other_begin : count_by (λ e. is_begin_of commit.name e.answer) between ≡ 0
   pub one_enter : count_by (λ e. is_enter_of commit.name e.answer) between ≡ 1
+  pub no_end : count_by (is_end_of commit.name) between ≡ 0
   pub unmoved : local_version (state_after opening front) commit.name ≡ option_map (λ r. r.version) ticket.base
   pub target : assembled ≡ commit.target
+  pub blocks : IsAssembled assembled
 
 -- in a legal history each finish ends a pull
 abbrev pub CommitsAreLegal : Type 0
@@ -88,4 +98,4 @@ CommitsAreLegal =
 
 -- each state that a folder comes to is a folder's
 abbrev pub ChangesKeepFolders : Type 0
-ChangesKeepFolders = (s : FolderState) (c : Change) → IsFolder s → MayChange s c → IsFolder (step s c).1
+ChangesKeepFolders = (s : FolderState) (c : Change) → IsFolder s → MayChange s.me c → IsFolder (step s c).1

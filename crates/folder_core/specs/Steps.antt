@@ -1,12 +1,22 @@
 -- What each change of a folder answers, and the state that it leaves.
-use Rattle.std.specs.Prelude.{◌≡◌, ◌≢◌, ⊤, IsTrue, ◌||◌, option_and_then, ℕ, ◌+◌, Bool, true, false, not, ◌&&◌, ◌==◌, ℤ, pos, if◌then◌else◌, List, [], ◌∷◌, length, map, find, Option, Some, None, is_some, option_map, unwrap_or}
+use Rattle.std.specs.Prelude.{◌≡◌, ◌≢◌, ⊤, IsTrue, ◌||◌, option_and_then, ℕ, ◌+◌, ◌^◌, nat_lt, Bool, true, false, not, ◌&&◌, ◌==◌, ℤ, pos, if◌then◌else◌, List, [], ◌∷◌, length, map, find, Option, Some, None, is_some, option_map, unwrap_or}
 use Rattle.std.specs.List.{list_any, range_with_len}
 use Rattle.std.specs.Option.{option_map_or}
+use Rattle.std.specs.Ordering.{int_eq}
 use Rattle.std.specs.FinMap.{get, insert, remove, entries}
 use Rattle.folder_core.specs.declared.stage.Stage.{Stage}
 use Rattle.folder_core.specs.declared.stage.Stage.TheVariants.{Pulling, Committing}
-use Rattle.sync_blocks.specs.declared.block.Block.{Block}
+pub use Rattle.folder_core.specs.declared.answer.Answer.{Answer}
+pub use Rattle.folder_core.specs.declared.answer.Answer.TheVariants.{Busy, Unchanged, CounterFull, SequenceFull, HistoryFull, NotNeeded, Unsupported, Stray, LocalMoved, Superseded, Applied, Closed, Moved, Recorded, Done, Begun, Entered}
+pub use Rattle.folder_core.specs.declared.change.Change.{Change}
+pub use Rattle.folder_core.specs.declared.change.Change.TheVariants.{ScanFound, ScanGone, IndexFull, IndexMore, Forget, BeginPull, EnterCommit, Finish, GiveUp, Abort}
+pub use Rattle.folder_core.specs.declared.finding.Finding.{Finding}
+pub use Rattle.folder_core.specs.declared.finding.FoundContent.{FoundContent}
+pub use Rattle.folder_core.specs.declared.finding.FoundContent.TheVariants.{Directory as FoundDirectory, File as FoundFile}
+pub use Rattle.folder_core.specs.declared.token.Token.{Token}
+use Rattle.sync_record.specs.Assemblies.{IsAssembled}
 use Rattle.sync_record.specs.Contents.{same_content}
+use Rattle.sync_blocks.specs.declared.block.Block.{Block}
 use Rattle.sync_record.specs.Devices.{Identity, short_id}
 use Rattle.sync_record.specs.Records.{Name, FileRecord, is_live, is_file, is_directory}
 use Rattle.sync_record.specs.Same.{same_record}
@@ -16,42 +26,10 @@ use Rattle.sync_version.specs.Versions.{Vector}
 use Rattle.folder_core.specs.Announced.{Announcement, key, announce, without, best}
 use Rattle.folder_core.specs.States.{same_stage, Pull, FolderState, local, local_version, same_local_version, is_needed, is_committing, is_sequence_full}
 
--- what a scan finds at a name
-pub data FoundContent : Type 0 where
-  FoundDirectory : FoundContent
-  FoundFile : ℕ → ℕ → List Block → FoundContent
-
-pub record Finding : Type 0 where
-  pub content : FoundContent
-  pub modified_s : ℤ
-  pub modified_ns : ℤ
-
--- a directory, or a file as a well formed record describes one
+-- a directory, or a file as the record of a valid file describes one, whose size fits a record
 abbrev pub is_found : FoundContent → Bool
 is_found FoundDirectory = true
-is_found (FoundFile size block_size blocks) = describes_file (pos size) (pos block_size) blocks
-
--- what a caller holds of an open pull, as a ticket or, from Entered on, as a commit
-pub record Token : Type 0 where
-  pub number : ℕ
-  pub name : Name
-  pub base : Option FileRecord
-  pub target : FileRecord
-
-pub data Change : Type 0 where
-  ScanFound : Name → Option Vector → Finding → ℕ → Change
-  ScanGone : Name → Option Vector → ℕ → Change
-  IndexFull IndexMore : Identity → List FileRecord → Change
-  Forget : Identity → Change
-  BeginPull : Name → Change
-  EnterCommit GiveUp Abort : Token → Change
-  Finish : Token → FileRecord → Change
-
-pub data Answer : Type 0 where
-  Busy Unchanged CounterFull SequenceFull HistoryFull NotNeeded Unsupported Stray LocalMoved Superseded Applied Closed : Answer
-  Moved : Option Vector → Answer
-  Recorded Done : ℕ → Answer
-  Begun Entered : Token → Answer
+is_found (FoundFile size block_size blocks) = nat_lt size (2 ^ 63) && describes_file (pos size) (pos block_size) blocks
 
 -- these answers say that the change was made; every other leaves the state
 abbrev pub is_accepted : Answer → Bool
@@ -234,20 +212,21 @@ step s (Finish c assembled) = finish s c (pull_of s c Committing)
 step s (GiveUp t) = close_pull s t (pull_of s t Pulling)
 step s (Abort c) = close_pull s c (pull_of s c Committing)
 
--- what a caller has to ensure: an index is another device's, what was found is a file's or a directory's, the commit's target was assembled
-abbrev pub MayChange : FolderState → Change → Type 0
-MayChange s (IndexFull d records) = d ≢ s.me
-MayChange s (IndexMore d records) = d ≢ s.me
-MayChange s (Forget d) = d ≢ s.me
-MayChange s (ScanFound n expected found moment) = IsTrue (is_found found.content)
-MayChange s (Finish c assembled) = assembled ≡ c.target
-MayChange s _ = ⊤
+-- What a caller of this device's folder has to ensure: an index is another device's; what was found is a directory or a
+-- file; what is committed is the commit's target, and of each of its blocks some bytes have the size and the digest.
+abbrev pub MayChange : Identity → Change → Type 0
+MayChange me (IndexFull d records) = d ≢ me
+MayChange me (IndexMore d records) = d ≢ me
+MayChange me (Forget d) = d ≢ me
+MayChange me (ScanFound n expected found moment) = IsTrue (is_found found.content)
+MayChange me (Finish c assembled) = (assembled ≡ c.target) × IsAssembled assembled
+MayChange me _ = ⊤
 
--- The local file is kept under another name where both are live, the base is a file, neither version
--- covers the other, and the contents differ.
-abbrev pub is_copy_due : Option FileRecord → FileRecord → Bool
-is_copy_due None target = false
-is_copy_due (Some base) target =
-    is_live target && is_live base && is_file base
+-- The local file is kept under another name where copies are kept at all, both are live, the base is a file, neither
+-- version covers the other, and the contents differ. Of most copies -1 says that there may be any number.
+abbrev pub is_copy_due : ℤ → Option FileRecord → FileRecord → Bool
+is_copy_due most_copies None target = false
+is_copy_due most_copies (Some base) target =
+    not (int_eq most_copies (pos 0)) && is_live target && is_live base && is_file base
     && not (covers base.version target.version) && not (covers target.version base.version)
     && not (same_content base target)

@@ -4,19 +4,29 @@
 //! [`PlainFolder`] is its first body.
 #![tactic(auto)]
 
+mod answer;
 mod best;
+mod change;
 mod counts;
+mod finding;
 mod folder;
+mod history;
 pub mod laws;
 mod place;
 mod plain;
 mod stage;
 #[cfg(test)]
 mod tests;
+mod token;
 
+pub use answer::Answer;
 pub use best::Best;
+pub use change::Change;
 pub use counts::Counts;
+pub use finding::{Finding, FoundContent};
 pub use folder::FolderCore;
+pub use history::Entry;
 pub use place::Place;
 pub use plain::PlainFolder;
 pub use stage::Stage;
+pub use token::Token;

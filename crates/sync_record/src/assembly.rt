@@ -101,7 +101,7 @@ fn try_block(block: &Block, bytes: &[u8]) -> Put
 
 /// A target that may be committed: a file of which every block was put, a directory or a deletion. Of each block some
 /// bytes have the size and the digest. It can't be copied, and must be used up.
-#[derive(Debug)]
+#[derive(Debug, Drop)]
 pub struct Assembled {
     target: Record,
 }

@@ -7,7 +7,7 @@ ghost use Rattle.sync_record.specs.Devices.{Identity, bytes_cmp};
 ghost use Rattle.sync_record.specs.Records.{Name, FileRecord};
 ghost use Rattle.sync_record.specs.Contents.{same_content};
 ghost use Rattle.sync_record.specs.Validity.{is_valid};
-ghost use Rattle.folder_core.specs.Announced.{Announced, Announcement, Lists, key, announce, best, bests, devices_of, IsBest};
+ghost use Rattle.folder_core.specs.Announced.{Announced, Announcement, Key, key, announce, best, bests, devices_of, IsBest};
 
 /// The best that is found is the candidate preferred to every other, and there is exactly one wherever a
 /// valid record of the name is announced. No valid record of the name dominates it.
@@ -38,11 +38,12 @@ pub fn bests_are_listed_once_in_order()
         filter_map (λ n. best (entries a) n) names ≡ bests (entries a) }
 {}
 
-/// In whatever order the announced records are listed, and in whatever order two devices announced theirs,
-/// the best of each name is the same.
+/// In whatever order the announced records are listed, as long as all of them are and nothing else is, and in whatever order
+/// two devices announced theirs, the best of each name is the same.
 pub fn best_in_any_order()
     ensures listed { (a : Announced) (es : List Announcement) (n : Name) →
-        Lists a es → best es n ≡ best (entries a) n }
+        ((k : Key) (r : FileRecord) → get a k ≡ Some r → Contains es (k, r)) →
+        ((e : Announcement) → Contains es e → get a e.0 ≡ Some e.1) → best es n ≡ best (entries a) n }
     ensures announced { (a : Announced) (d e : Identity) (xs ys : List FileRecord) (n : Name) → d ≢ e →
         best (entries (announce d xs (announce e ys a))) n ≡ best (entries (announce e ys (announce d xs a))) n }
 {}

@@ -2,6 +2,7 @@
 ghost use Rattle.std.specs.Prelude.{◌≡◌, ◌≢◌, ◌↔◌, ◌⊎◌, ◌<◌, ◌≤◌, ◌+◌, ◌-◌, ◌^◌, ℕ, pos, Option, List, Ok, Err, Some, None, IsTrue, false};
 ghost use Rattle.std.specs.FinMap.{empty, get};
 ghost use Rattle.sync_version.specs.Versions.{Vector};
+ghost use Rattle.sync_record.specs.Assemblies.{IsAssembled};
 ghost use Rattle.sync_record.specs.Devices.{Identity};
 ghost use Rattle.sync_record.specs.Records.{Name, FileRecord, is_live_file};
 ghost use Rattle.sync_record.specs.Validity.{is_valid};
@@ -36,18 +37,20 @@ pub fn changes_keep_folders()
 {}
 
 /// What a caller of a change need not ensure: any index of another device may come, whatever it says; a directory may be found,
-/// and a file with what a valid live file has; and all else may be asked at any state, a finish with the commit's target.
+/// and a file with what a valid live file has, of a size that fits a record; the commit's target may be finished once each
+/// of its blocks has bytes; and all else may be asked at any state.
 pub fn callers_ensure_no_more()
     ensures indexes { (s : FolderState) (d : Identity) (records : List FileRecord) → d ≢ s.me →
-        MayChange s (IndexFull d records) × MayChange s (IndexMore d records) × MayChange s (Forget d) }
+        MayChange s.me (IndexFull d records) × MayChange s.me (IndexMore d records) × MayChange s.me (Forget d) }
     ensures directory { (s : FolderState) (n : Name) (expected : Option Vector) (f : Finding) (moment : ℕ) →
-        f.content ≡ FoundDirectory → MayChange s (ScanFound n expected f moment) }
+        f.content ≡ FoundDirectory → MayChange s.me (ScanFound n expected f moment) }
     ensures file { (s : FolderState) (n : Name) (expected : Option Vector) (f : Finding) (moment size block_size : ℕ)
-        (r : FileRecord) → IsTrue (is_valid r) → IsTrue (is_live_file r) → r.size ≡ pos size → r.block_size ≡ pos block_size →
-        f.content ≡ FoundFile size block_size r.blocks → MayChange s (ScanFound n expected f moment) }
+        (r : FileRecord) → IsTrue (is_valid r) → IsTrue (is_live_file r) → r.size ≡ pos size → size < 2 ^ 63 → r.block_size ≡ pos block_size →
+        f.content ≡ FoundFile size block_size r.blocks → MayChange s.me (ScanFound n expected f moment) }
     ensures rest { (s : FolderState) (n : Name) (expected : Option Vector) (moment : ℕ) (t : Token) →
-        MayChange s (ScanGone n expected moment) × MayChange s (BeginPull n) × MayChange s (EnterCommit t)
-        × MayChange s (Finish t t.target) × MayChange s (GiveUp t) × MayChange s (Abort t) }
+        MayChange s.me (ScanGone n expected moment) × MayChange s.me (BeginPull n) × MayChange s.me (EnterCommit t)
+        × MayChange s.me (GiveUp t) × MayChange s.me (Abort t) }
+    ensures finish { (s : FolderState) (t : Token) → IsAssembled t.target → MayChange s.me (Finish t t.target) }
 {}
 
 /// A folder keeps its device. A record of another device changes only by an index of that device or when it is
@@ -59,7 +62,7 @@ pub fn changes_leave_the_rest()
         (get (step s c).1.announced (key n d) ≡ get s.announced (key n d))
         ⊎ (((records : List FileRecord) × (c ≡ IndexFull d records))
         ⊎ (((records : List FileRecord) × (c ≡ IndexMore d records)) ⊎ (c ≡ Forget d))) }
-    ensures locals { (s : FolderState) (c : Change) (n : Name) → IsFolder s → MayChange s c →
+    ensures locals { (s : FolderState) (c : Change) (n : Name) → IsFolder s → MayChange s.me c →
         (local (step s c).1 n ≡ local s n)
         ⊎ (((expected : Option Vector) × (f : Finding) × (moment : ℕ) × (c ≡ ScanFound n expected f moment))
         ⊎ (((expected : Option Vector) × (moment : ℕ) × (c ≡ ScanGone n expected moment))
@@ -73,14 +76,14 @@ pub fn changes_leave_the_rest()
 /// Local sequences stay distinct and at most the last one given; a local record that is new has a greater sequence than
 /// all before. Each recorded scan and each finish takes the next sequence, which fits, and nothing else takes one.
 pub fn sequences_stay_distinct()
-    ensures numbered { (s : FolderState) (c : Change) → IsNumbered s → MayChange s c → IsNumbered (step s c).1 }
+    ensures numbered { (s : FolderState) (c : Change) → IsNumbered s → MayChange s.me c → IsNumbered (step s c).1 }
     ensures taken { (s : FolderState) (c : Change) (k : ℕ) → ((step s c).0 ≡ Recorded k) ⊎ ((step s c).0 ≡ Done k) →
         (k ≡ s.last + 1) × ((step s c).1.last ≡ k) }
     ensures kept { (s : FolderState) (c : Change) →
         ((step s c).1.last ≡ s.last) ⊎ ((k : ℕ) × (((step s c).0 ≡ Recorded k) ⊎ ((step s c).0 ≡ Done k))) }
-    ensures fits { (s : FolderState) (c : Change) (k : ℕ) → IsFolder s → MayChange s c →
+    ensures fits { (s : FolderState) (c : Change) (k : ℕ) → IsFolder s → MayChange s.me c →
         ((step s c).0 ≡ Recorded k) ⊎ ((step s c).0 ≡ Done k) → k ≤ 2 ^ 63 - 1 }
-    ensures new { (s : FolderState) (c : Change) (n : Name) (r : FileRecord) → MayChange s c →
+    ensures new { (s : FolderState) (c : Change) (n : Name) (r : FileRecord) → MayChange s.me c →
         local (step s c).1 n ≡ Some r → (local s n ≡ Some r) ⊎ (s.last < r.sequence) }
 {}
 

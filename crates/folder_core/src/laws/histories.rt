@@ -12,8 +12,9 @@ ghost use Rattle.folder_core.specs.Steps.{Begun};
 ghost use Rattle.folder_core.specs.Steps.{Answer, HistoryFull, Token, MayChange, step, is_accepted};
 ghost use mathlib.Core.List.{IsPrefix};
 
-/// In a legal history each finish ends one pull that was begun over the local record and entered there, over the local
-/// version of its begin, with its target assembled; and each pull is begun over the local record, for the best.
+/// In a legal history each finish ends one pull that was begun over the local record and entered there, and not ended
+/// before, over the local version of its begin, with its target, of each of whose blocks some bytes have the size and the
+/// digest; and each pull is begun over the local record, for the best.
 pub fn commits_are_legal()
     ensures finish { CommitsAreLegal }
     ensures begin { (passes : ℕ) (opening : FolderState) (front rest : List Entry) (e : Entry) (t : Token) →
@@ -27,12 +28,12 @@ pub fn commits_are_legal()
 pub fn legal_histories_grow()
     ensures none { (passes : ℕ) (s : FolderState) → IsLegal passes s [] × (state_after s [] ≡ s) }
     ensures one_more { (passes : ℕ) (s : FolderState) (es : List Entry) (e : Entry) → IsLegal passes s (es ++ e ∷ []) ↔
-        (IsLegal passes s es × (1 ≤ e.pass) × (e.pass ≤ passes) × MayChange (state_after s es) e.change
+        (IsLegal passes s es × (1 ≤ e.pass) × (e.pass ≤ passes) × MayChange s.me e.change
         × ((step (state_after s es) e.change).0 ≡ e.answer) × IsTrue (is_accepted e.answer)) }
     ensures leads { (s : FolderState) (es : List Entry) (e : Entry) →
         state_after s (es ++ e ∷ []) ≡ (step (state_after s es) e.change).1 }
     ensures replays { (passes : ℕ) (s t : FolderState) (es : List Entry) →
-        IsReplay passes s es t ↔ (IsLegal passes s es × (state_after s es ≡ t)) }
+        IsReplay passes s es t ↔ ((len s.pulls ≡ 0) × IsLegal passes s es × (state_after s es ≡ t)) }
 {}
 
 /// After a history a change is answered as the step answers, except with HistoryFull where it would be accepted and its
@@ -79,7 +80,7 @@ pub fn calls_share_one_history()
         × (front : List Entry) × (new.seen ≡ front ++ (record { pass = old.pass; change = c; answer = a }) ∷ [])
         × IsPrefix old.seen front × (a ≡ shared_answer old.limit old.opening front c) }
     ensures legal { (passes limit : ℕ) (s : FolderState) (es : List Entry) (e : Entry) → IsLegal passes s es →
-        1 ≤ e.pass → e.pass ≤ passes → MayChange (state_after s es) e.change → is_accepted e.answer ≡ true →
+        1 ≤ e.pass → e.pass ≤ passes → MayChange s.me e.change → is_accepted e.answer ≡ true →
         e.answer ≡ shared_answer limit s es e.change → IsLegal passes s (es ++ e ∷ []) }
     ensures not_accepted { (old new : View) (c : Change) (a : Answer) → IsAnswered old c (Some a) new → is_accepted a ≡ false →
         (own_entries old.pass new.seen ≡ own_entries old.pass old.seen)

@@ -1,5 +1,5 @@
 //! What is needed, and what pulls answer and record.
-ghost use Rattle.std.specs.Prelude.{[], ◌≡◌, ◌≢◌, ◌↔◌, ◌⊎◌, ◌<◌, ◌≤◌, ◌+◌, ◌-◌, ◌^◌, ℕ, unwrap_or, option_map, Option, Some, None, IsTrue, true, false, Contains};
+ghost use Rattle.std.specs.Prelude.{[], ◌≡◌, ◌≢◌, ◌↔◌, ◌⊎◌, ◌<◌, ◌≤◌, ◌+◌, ◌-◌, ◌^◌, ℕ, ℤ, pos, unwrap_or, option_map, Option, Some, None, IsTrue, true, false, Contains};
 ghost use Rattle.std.specs.List.Sorted.{IsStrictlySortedBy};
 ghost use Rattle.std.specs.FinMap.{get, entries};
 ghost use Rattle.sync_version.specs.Versions.{Covers};
@@ -126,11 +126,12 @@ pub fn finish_records_the_target()
         local (step s (Finish c assembled)).1 m ≡ local s m }
 {}
 
-/// A conflict copy is due exactly where a live file would be replaced by a live target of another content, and neither of
-/// their versions has seen the other.
+/// A conflict copy is due exactly where copies are kept, a live file would be replaced by a live target of another content,
+/// and neither of their versions has seen the other.
 pub fn copies_are_due_in_conflict()
-    ensures { (base : Option FileRecord) (target : FileRecord) → IsTrue (is_copy_due base target) ↔
-        ((b : FileRecord) × (base ≡ Some b) × (b.deleted ≡ false) × IsTrue (is_file b) × (target.deleted ≡ false)
-        × ¬ (Covers b.version target.version) × ¬ (Covers target.version b.version)
+    ensures { (most_copies : ℤ) (base : Option FileRecord) (target : FileRecord) →
+        IsTrue (is_copy_due most_copies base target) ↔
+        ((b : FileRecord) × (base ≡ Some b) × (most_copies ≢ pos 0) × (b.deleted ≡ false) × IsTrue (is_file b)
+        × (target.deleted ≡ false) × ¬ (Covers b.version target.version) × ¬ (Covers target.version b.version)
         × (same_content b target ≡ false)) }
 {}

@@ -7,7 +7,7 @@ use Rattle.folder_core.proofs.AnnouncedIndexes.{either_order, announce-only}
 use Rattle.folder_core.proofs.laws.best.best_in_any_order.Goals as goal
 
 pub returns-clause-listed : goal.returns-clause-listed
-returns-clause-listed c = λ a es n l. best_any_order a es (listed_so a es l) n
+returns-clause-listed c = λ a es n has only. best_any_order a es (listed_so a es has only) n
 
 pub returns-clause-announced : goal.returns-clause-announced
 returns-clause-announced c = λ a d e xs ys n apart.

@@ -1,6 +1,6 @@
-use Rattle.std.proofs.Common.{◌≡◌, true, refl, sym, ap, ◌∙◌, ◌⊎◌, inl, inr}
+use Rattle.std.proofs.Common.{◌≡◌, true, refl, sym, ap, ◌∙◌, ◌⊎◌, inl, inr, ◌^◌}
 use Rattle.std.specs.Prelude.{not}
-use Rattle.std.proofs.lemmas.Bool.{true≢false, and_parts, or_cases, not-true}
+use Rattle.std.proofs.lemmas.Bool.{true≢false, and_parts, and_from, or_cases, not-true, lt-ltb}
 use Rattle.sync_record.specs.Records.{FileRecord, is_live_file}
 use Rattle.sync_record.specs.Validity.{is_valid, describes_file}
 use Rattle.folder_core.specs.Steps.{is_found}
@@ -20,8 +20,11 @@ pub returns-clause-directory : goal.returns-clause-directory
 returns-clause-directory c = λ s n expected f moment is. ap is_found is
 
 pub returns-clause-file : goal.returns-clause-file
-returns-clause-file c = λ s n expected f moment size block_size r valid live shown blocks is.
-    ap is_found is ∙ (λ i. describes_file (sym shown i) (sym blocks i) r.blocks) ∙ described r valid live
+returns-clause-file c = λ s n expected f moment size block_size r valid live shown fits blocks is.
+    ap is_found is ∙ and_from _ _ (lt-ltb size (2 ^ 63) fits) ((λ i. describes_file (sym shown i) (sym blocks i) r.blocks) ∙ described r valid live)
 
 pub returns-clause-rest : goal.returns-clause-rest
-returns-clause-rest c = λ s n expected moment t. (tt, tt, tt, refl, tt, tt)
+returns-clause-rest c = λ s n expected moment t. (tt, tt, tt, tt, tt)
+
+pub returns-clause-finish : goal.returns-clause-finish
+returns-clause-finish c = λ s t assembled. (refl, assembled)
