@@ -38,4 +38,5 @@ pub mod PlainGroup
 pub mod PlainFound
 pub mod PlainMerge
 pub mod PlainMessage
+pub mod PlainPulls
 pub mod PlainChange

@@ -1,5 +1,5 @@
 -- What the merge with a message makes of a folder is the message's step.
-use Rattle.std.proofs.Common.{◌≡◌, ℕ, Bool, true, false, List, [], ◌∷◌, refl, sym, ap, subst, ◌∙◌}
+use Rattle.std.proofs.Common.{◌≡◌, ℕ, ◌+◌, ◌<◌, ◌≤◌, Bool, true, false, List, [], ◌∷◌, length, refl, sym, ap, subst, ◌∙◌, arith}
 use Rattle.std.proofs.lemmas.Bool.{true≢false}
 use Rattle.std.specs.Prelude.{bytes_eq, ◌&&◌, not, cond, T, Option, Some, None, filter, map, find as first_where}
 use Rattle.std.specs.Bool.{passes}
@@ -16,10 +16,13 @@ use Rattle.sync_record.specs.Records.{Name, FileRecord}
 use Rattle.folder_core.specs.declared.plain.entry.Entry.{Entry}
 use Rattle.folder_core.specs.Announced.{Announced, Announcement, Key, announce, key, key_cmp, without, last_of}
 use Rattle.folder_core.specs.Codes.{Pulls}
-use Rattle.folder_core.specs.Plain.{IsLastOfEach, Rises, filed, filed_by, folder_of, put_all}
-use Rattle.folder_core.specs.Steps.{Applied, IndexFull, IndexMore, step}
+use Rattle.folder_core.specs.Plain.{IsLastOfEach, IsPlain, Rises, commits, filed, filed_by, folder_of, pulls_of, put_all}
+use Rattle.folder_core.specs.declared.plain.pull.OpenPull.{OpenPull}
+use Rattle.folder_core.specs.States.{FolderState, IsFolder}
+use Rattle.folder_core.specs.Steps.{Answer, Applied, Change, IndexFull, IndexMore, MayChange, step}
 use Rattle.folder_core.proofs.AnnouncedIndexes.{get-announce, get-announce_own, same_key}
-use Rattle.folder_core.proofs.Orders.{exact_keys, is_true, keys_total, retain_listed}
+use Rattle.folder_core.proofs.ChangeFolders.{step-folder, empty-folder}
+use Rattle.folder_core.proofs.Orders.{bytes_total, exact_keys, exact_names, is_true, keys_total, retain_listed}
 use Rattle.folder_core.proofs.PlainMerge.{keys_rise}
 use Rattle.folder_core.proofs.ListFilters.{filter_map}
 use Rattle.folder_core.proofs.ListTests.{alike_bytes, by_or, is_less, parts, same_bytes}
@@ -128,3 +131,41 @@ pub nothing_announced : (me : Identity) (pulls : Pulls) → folder_of me [] 0 pu
 nothing_announced me pulls =
     ap (λ (a : Announced). record { me = me; announced = a; last = 0; pulls = pulls })
     (same_map keys_total exact_keys _ _ (λ q. get-from_sorted key_cmp [] q tt ∙ sym (get-empty key_cmp q)))
+
+pub no_pulls : pulls_of [] ≡ empty
+no_pulls = same_map bytes_total exact_names _ _ (λ n. get-from_sorted bytes_cmp [] n tt ∙ sym (get-empty bytes_cmp n))
+
+-- ---- the lists stay a plain folder's
+
+-- with other records, of which there are not more than there is room for
+pub plain_with : (me : Identity) (es new : List Entry) (old_capacity capacity last : ℕ) (ps : List OpenPull) (c : Change) → IsPlain me es old_capacity last ps → MayChange me c → Rises new
+    → step (folder_of me es last (pulls_of ps)) c ≡ (Applied, folder_of me new last (pulls_of ps)) → length new + commits ps ≤ capacity → IsPlain me new capacity last ps
+plain_with me es new old_capacity capacity last ps c old may rises is room = record {
+  rises = rises;
+  pulls_rise = old.pulls_rise;
+  folder = subst IsFolder (ap (λ (d : Answer × FolderState). d.1) is) (step-folder (folder_of me es last (pulls_of ps)) c old.folder may);
+  ready = old.ready;
+  room = room;
+}
+
+-- with more room
+pub plain_roomy : (me : Identity) (es new : List Entry) (old_capacity capacity last : ℕ) (ps : List OpenPull) → IsPlain me es old_capacity last ps → new ≡ es → length new + commits ps ≤ capacity → IsPlain me new capacity last ps
+plain_roomy me es new old_capacity capacity last ps old same room = record {
+  rises = subst Rises (sym same) old.rises;
+  pulls_rise = old.pulls_rise;
+  folder = subst (λ xs. IsFolder (folder_of me xs last (pulls_of ps))) (sym same) old.folder;
+  ready = old.ready;
+  room = room;
+}
+
+pub plain_new : (me : Identity) (capacity : ℕ) → IsPlain me [] capacity 0 []
+plain_new me capacity = record {
+  rises = refl;
+  pulls_rise = refl;
+  folder = subst IsFolder (sym (nothing_announced me (pulls_of []) ∙ ap (λ ps. record { me = me; announced = empty; last = 0; pulls = ps }) no_pulls)) (empty-folder me);
+  ready = λ i p below. absurd (let none : i < 0 = below in omega arith);
+  room = leq_zero capacity;
+}
+  where
+    leq_zero : (n : ℕ) → 0 + 0 ≤ n
+    leq_zero n = omega arith

@@ -1,8 +1,12 @@
--- How `PlainFolder` keeps a folder: one list of what is announced, by name and then by device.
-use Rattle.std.specs.Prelude.{◌≡◌, ℕ, Bool, not, ◌&&◌, if◌then◌else◌, List, fold, map, filter, option_map, find, bytes_eq, Option, Some, None, IsTrue}
+-- How `PlainFolder` keeps a folder: one list of what is announced, by name and then by device, and one of the open pulls,
+-- by name.
+use Rattle.std.specs.Prelude.{◌≡◌, ℕ, ◌+◌, ◌≤◌, All, length, is_some, Bool, not, ◌&&◌, if◌then◌else◌, List, fold, map, filter, option_map, find, bytes_eq, Option, Some, None, IsTrue}
 use Rattle.std.specs.List.{list_any, reduce}
 use Rattle.std.specs.FinMap as map
 use Rattle.folder_core.specs.declared.plain.entry.Entry.{Entry}
+use Rattle.folder_core.specs.declared.plain.pull.OpenPull.{OpenPull}
+use Rattle.folder_core.specs.declared.stage.Stage.{Stage}
+use Rattle.folder_core.specs.declared.stage.Stage.TheVariants.{Pulling, Committing}
 use Rattle.sync_record.specs.Contents.{same_content}
 use Rattle.sync_record.specs.Devices.{Identity, bytes_cmp}
 use Rattle.sync_record.specs.Preference.{is_preferred}
@@ -12,7 +16,8 @@ use Rattle.sync_version.specs.Computed.{dominates, same_version}
 use Rattle.folder_core.specs.Announced.{Announcement, bests, key, key_cmp, last_of}
 use Rattle.folder_core.specs.Codes.{Pulls}
 use Rattle.folder_core.specs.Reads.{Found, with_devices}
-use Rattle.folder_core.specs.States.{FolderState}
+use Rattle.folder_core.specs.States.{FolderState, IsFolder, Pull}
+use Rattle.folder_core.specs.Steps.{committed_record}
 
 -- what a device announces, under its key
 abbrev pub filed : Entry → Announcement
@@ -30,8 +35,44 @@ Rises es = IsTrue (map.is_sorted key_cmp (map filed es))
 abbrev pub listed_bests : List Entry → List Found
 listed_bests es = map (with_devices (map filed es)) (bests (map filed es))
 
+-- a pull commits from when on the record that it will announce stands ready
+abbrev pub stage_of : Option FileRecord → Stage
+stage_of None = Pulling
+stage_of (Some r) = Committing
+
+abbrev pub opened : OpenPull → Pull
+opened p = record { number = p.number; base = option_map (λ r. r.version) p.base; target = p.target; stage = stage_of p.ready }
+
+-- an open pull, under its name
+abbrev pub pulled : OpenPull → Name × Pull
+pulled p = (p.target.name, opened p)
+
+-- no two pulls are of one name, and they rise by name
+abbrev pub PullsRise : List OpenPull → Type 0
+PullsRise ps = IsTrue (map.is_sorted bytes_cmp (map pulled ps))
+
+abbrev pub pulls_of : List OpenPull → Pulls
+pulls_of ps = map.from_sorted (map pulled ps)
+
+-- what stands ready is the record that the commit announces
+abbrev pub IsReady : OpenPull → Type 0
+IsReady p = (r : FileRecord) → p.ready ≡ Some r → r ≡ committed_record (opened p).base p.target
+
+-- how many commits are open
+abbrev pub commits : List OpenPull → ℕ
+commits ps = length (filter (λ p. is_some p.ready) ps)
+
 abbrev pub folder_of : Identity → List Entry → ℕ → Pulls → FolderState
 folder_of me es last pulls = record { me = me; announced = map.from_sorted (map filed es); last = last; pulls = pulls }
+
+-- What holds of a plain folder's lists: they rise, they make up a folder, and each open commit has its record ready and a
+-- place for it in the memory of the list.
+pub record IsPlain (me : Identity) (es : List Entry) (capacity last : ℕ) (ps : List OpenPull) : Type 0 where
+  pub rises : Rises es
+  pub pulls_rise : PullsRise ps
+  pub folder : IsFolder (folder_of me es last (pulls_of ps))
+  pub ready : All IsReady ps
+  pub room : length es + commits ps ≤ capacity
 
 -- the list with these, each in its place or in place of what has its key
 abbrev pub put_all : List Announcement → List Announcement → List Announcement

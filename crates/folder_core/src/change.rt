@@ -31,15 +31,28 @@ pub enum Change {
         records: Items<Record>,
     },
     /// The device announces nothing.
-    Forget { device: DeviceId },
+    Forget {
+        device: DeviceId,
+    },
     /// A pull of the name begins.
-    BeginPull { name: SafeName },
+    BeginPull {
+        name: SafeName,
+    },
     /// The ticket's pull enters its commit.
-    EnterCommit { ticket: Token },
+    EnterCommit {
+        ticket: Token,
+    },
     /// The commit's pull ends, and this is what was put in place.
-    Finish { commit: Token, assembled: Assembled },
+    Finish {
+        commit: Token,
+        assembled: Assembled,
+    },
     /// The ticket's pull ends, with nothing put in place.
-    GiveUp { ticket: Token },
+    GiveUp {
+        ticket: Token,
+    },
     /// The commit's pull ends, with nothing put in place.
-    Abort { commit: Token },
+    Abort {
+        commit: Token,
+    },
 }

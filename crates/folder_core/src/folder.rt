@@ -1,5 +1,5 @@
 ghost use Rattle.std.specs.Prelude.{◌≡◌, ◌≢◌, IfOk, map, option_copied, option_map};
-ghost use Rattle.folder_core.specs.States.{FolderState};
+ghost use Rattle.folder_core.specs.States.{FolderState, IsFolder};
 ghost use Rattle.folder_core.specs.Steps.{IndexFull, IndexMore};
 ghost use Rattle.folder_core.specs.Reads.{best_found, bests_page};
 ghost use Rattle.folder_core.specs.Calls.{Changes, index_answer};
@@ -18,9 +18,10 @@ pub trait FolderCore {
     /// What it keeps.
     ghost state: { Self → FolderState };
 
-    /// This device.
+    /// This device. What it keeps is the state of a folder.
     fn me(&self) -> DeviceId
-        ensures { result ≡ (state self.now).me };
+        ensures me { result ≡ (state self.now).me }
+        ensures folder { IsFolder (state self.now) };
 
     /// The device announces these records and no others; of several under one name the last counts. Returns `Err` only
     /// if out of memory.

@@ -2,6 +2,7 @@
 ghost use Rattle.std.specs.Prelude.{◌≡◌, ◌≢◌, ◌+◌, ◌<◌, ◌≤◌, [], IfOk, IsOk, None, map, option_copied, option_map, vec_len, vec_capacity};
 ghost use Rattle.folder_core.specs.Calls.{Changes, index_answer};
 ghost use Rattle.folder_core.specs.Reads.{best_found, bests_page};
+ghost use Rattle.folder_core.specs.Plain.{commits};
 ghost use Rattle.folder_core.specs.States.{empty_folder};
 ghost use Rattle.folder_core.specs.Steps.{IndexFull, IndexMore};
 
@@ -9,6 +10,7 @@ mod entry;
 mod group;
 mod merge;
 mod message;
+mod pull;
 
 use crate::{Best, FolderCore};
 use bep_messages::Items;
@@ -16,6 +18,7 @@ use entry::Entry;
 use group::{best_with_devices, bests_of, entries_after, entries_of};
 use merge::merge;
 use message::last_of_each_name;
+use pull::OpenPull;
 use std::alloc::{AllocError, Global};
 use std::marker::Model;
 use sync_names::SafeName;
@@ -28,6 +31,8 @@ use sync_record::{DeviceId, Record};
 pub struct PlainFolder {
     me: DeviceId,
     entries: Vec<Entry>,
+    last: u64,
+    pulls: Vec<OpenPull>,
 }
 
 impl Model for PlainFolder {
@@ -39,12 +44,12 @@ impl Model for PlainFolder {
 
     ghost coded = { coded_folder };
 
-    ghost use Rattle.std.specs.FinMap as map;
-    ghost use Rattle.folder_core.specs.Plain.{Rises, folder_of};
+    ghost use Rattle.folder_core.specs.Plain.{IsPlain, folder_of, pulls_of};
+    ghost use Rattle.std.specs.Prelude.{vec_capacity};
 
-    ghost view = { λ f. folder_of f.me f.entries.items 0 map.empty };
+    ghost view = { λ f. folder_of f.me f.entries.items f.last (pulls_of f.pulls.items) };
 
-    ghost invariant = { λ f. Rises f.entries.items };
+    ghost invariant = { λ f. IsPlain f.me f.entries.items (vec_capacity f.entries) f.last f.pulls.items };
 }
 
 impl PlainFolder {
@@ -55,6 +60,8 @@ impl PlainFolder {
         PlainFolder {
             me,
             entries: Vec::new(alloc),
+            last: 0,
+            pulls: Vec::new(alloc),
         }
     }
 }
@@ -75,7 +82,7 @@ impl FolderCore for PlainFolder {
         ensures nothing { records ≡ [] → IsOk result }
     {
         let records = last_of_each_name(records.into_vec())?;
-        let room = room_for(&mut self.entries, &records)?;
+        let room = room_for(&mut self.entries, records.len(), open_commits(&self.pulls))?;
         self.entries.retain(|entry| entry.device != device);
         merge(&mut self.entries, device, records, room);
         Ok(())
@@ -90,7 +97,7 @@ impl FolderCore for PlainFolder {
         ensures nothing { records ≡ [] → IsOk result }
     {
         let latest = last_of_each_name(records.into_vec())?;
-        let room = room_for(&mut self.entries, &latest)?;
+        let room = room_for(&mut self.entries, latest.len(), open_commits(&self.pulls))?;
         merge(&mut self.entries, device, latest, room);
         Ok(())
     }
@@ -117,18 +124,30 @@ impl FolderCore for PlainFolder {
     }
 }
 
-/// Makes room in the entries for the records too, and an empty list, with room for just both where there is a record.
-/// The entries stay as they are. Without a record it does not allocate.
-fn room_for(entries: &mut Vec<Entry>, records: &Vec<Record>) -> Result<Vec<Entry>, AllocError>
+/// Makes room in the entries for this many more, and for what the open commits will add, and an empty list, with room for
+/// just the entries and the new ones where there are new ones. The entries stay as they are. It does not allocate if there
+/// are no new ones.
+fn room_for(entries: &mut Vec<Entry>, new: usize, promised: usize) -> Result<Vec<Entry>, AllocError>
+    requires { vec_len entries.old + promised ≤ vec_capacity entries.old }
     ensures entries_stay { entries.new.items ≡ entries.old.items }
-    ensures entries_fit { IfOk result (λ _. vec_len entries.new + vec_len records.now ≤ vec_capacity entries.new) }
+    ensures len { vec_len entries.new ≡ vec_len entries.old }
+    ensures grown { vec_len entries.new + promised ≤ vec_capacity entries.new }
+    ensures entries_fit { IfOk result (λ _. vec_len entries.new + new + promised ≤ vec_capacity entries.new) }
     ensures is_empty { IfOk result (λ room. room.items ≡ []) }
-    ensures room_fits { IfOk result (λ room. 0 < vec_len records.now → vec_capacity room ≡ vec_len entries.new + vec_len records.now) }
-    ensures nothing { vec_len records.now ≡ 0 → IsOk result }
+    ensures room_fits { IfOk result (λ room. 0 < new → vec_capacity room ≡ vec_len entries.new + new) }
+    ensures nothing { new ≡ 0 → IsOk result }
 {
-    entries.reserve(records.len())?;
-    if records.is_empty() {
+    if new == 0 {
         return Ok(Vec::new(*entries.allocator()));
     }
-    Vec::with_capacity(*entries.allocator(), entries.len() + records.len())
+    let more = new.checked_add(promised).ok_or(AllocError)?;
+    entries.reserve(more)?;
+    Vec::with_capacity(*entries.allocator(), entries.len() + new)
+}
+
+/// How many commits are open. O(k) for k open pulls.
+fn open_commits(pulls: &[OpenPull]) -> usize
+    ensures { result ≡ commits pulls.now }
+{
+    pulls.iter().filter(|pull| pull.ready.is_some()).count()
 }

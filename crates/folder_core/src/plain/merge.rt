@@ -23,7 +23,9 @@ pub(super) fn merge(
     requires is_empty { room.items ≡ [] }
     requires entries_fit { vec_len entries.old + vec_len records ≤ vec_capacity entries.old }
     requires room_fits { 0 < vec_len records → vec_len entries.old + vec_len records ≤ vec_capacity room }
-    ensures { map filed entries.new.items ≡ put_all (map filed entries.old.items) (map (filed_by device) records.items) }
+    ensures merged { map filed entries.new.items ≡ put_all (map filed entries.old.items) (map (filed_by device) records.items) }
+    ensures len { vec_len entries.new ≤ vec_len entries.old + vec_len records }
+    ensures capacity { vec_capacity entries.new ≡ vec_capacity entries.old }
 {
     move_greater(entries, device, records.as_slice(), &mut room);
     while let Some(entry) = last_entry(entries, device, &mut records) {
@@ -114,7 +116,9 @@ fn order(entry: Option<&Entry>, device: DeviceId, announced: &Record) -> Orderin
 /// Puts back after the entries what was taken from them, the last of it first.
 fn put_back(entries: &mut Vec<Entry>, mut taken: Vec<Entry>)
     requires { vec_len entries.old + vec_len taken ≤ vec_capacity entries.old }
-    ensures { entries.new.items ≡ entries.old.items ++ reverse taken.items }
+    ensures items { entries.new.items ≡ entries.old.items ++ reverse taken.items }
+    ensures len { vec_len entries.new ≡ vec_len entries.old + vec_len taken }
+    ensures capacity { vec_capacity entries.new ≡ vec_capacity entries.old }
 {
     while let Some(entry) = taken.pop() {
         entries.push_reserved(entry);

@@ -9,6 +9,8 @@ invariant-loop-entry l = record {
   rises : Rises l.entries.items;
   names_rise : NamesRise l.records.items;
   entries_fit : vec_len l.entries + vec_len l.records + vec_len l.room ≤ vec_capacity l.entries;
+  capacity : vec_capacity l.entries ≡ vec_capacity l.fn.entries;
+  len : vec_len l.entries + vec_len l.records + vec_len l.room ≤ vec_len l.fn.entries + vec_len l.fn.records;
   room_fits : 0 < vec_len l.records → vec_len l.entries + vec_len l.records + vec_len l.room ≤ vec_capacity l.room;
 }
 
