@@ -71,17 +71,16 @@ record_with info invalid blocks = record {
 -- the numbers and flags of the record with the message's own mark
 abbrev pub plain_of : FileInfo → Plain
 plain_of info = record {
-  size = info.size;
-  modified_s = info.modified_s;
-  modified_by = info.modified_by;
-  sequence = natural info.sequence;
   type_number = info.kind;
-  modified_ns = info.modified_ns;
-  block_size = block_size_of info.block_size;
+  size = info.size;
   permissions = info.permissions;
+  modified_s = info.modified_s;
+  modified_ns = info.modified_ns;
+  modified_by = info.modified_by;
   deleted = info.deleted;
   invalid = info.invalid;
   no_permissions = info.no_permissions;
+  block_size = block_size_of info.block_size;
 }
 
 -- those numbers and flags with the mark that the blocks leave, and the blocks that are kept

@@ -1,7 +1,6 @@
 ghost use Rattle.std.specs.Prelude.{◌≡◌};
 ghost use Rattle.sync_record.specs.Contents.{same_content, same_file, same_other};
 
-use crate::fields::Fields;
 use crate::{Kind, Record};
 
 /// Whether two records are of the same content: both are deleted, or both are live directories, live files of equal
@@ -15,24 +14,22 @@ pub fn same_content(a: &Record, b: &Record) -> bool
     }
     match (a.kind(), b.kind()) {
         (Kind::Directory, Kind::Directory) => true,
-        (Kind::File, Kind::File) => same_file(a.fields(), b.fields()),
-        (Kind::Other, Kind::Other) => same_other(a.fields(), b.fields()),
+        (Kind::File, Kind::File) => same_file(a, b),
+        (Kind::Other, Kind::Other) => same_other(a, b),
         _ => false,
     }
 }
 
-fn same_file(a: &Fields, b: &Fields) -> bool
+fn same_file(a: &Record, b: &Record) -> bool
     ensures { result ≡ same_file a.now b.now }
 {
-    a.plain.size == b.plain.size
-        && (a.plain.size == 0
-            || (a.plain.block_size == b.plain.block_size
-                && a.blocks.as_slice() == b.blocks.as_slice()))
+    a.size() == b.size()
+        && (a.size() == 0 || (a.block_size() == b.block_size() && a.blocks() == b.blocks()))
 }
 
-fn same_other(a: &Fields, b: &Fields) -> bool
+fn same_other(a: &Record, b: &Record) -> bool
     ensures { result ≡ same_other a.now b.now }
 {
-    a.plain.type_number == b.plain.type_number
-        && a.symlink_target.as_slice() == b.symlink_target.as_slice()
+    a.fields.plain.type_number == b.fields.plain.type_number
+        && a.fields.symlink_target.as_slice() == b.fields.symlink_target.as_slice()
 }

@@ -4,7 +4,8 @@ use sync_blocks::Block;
 use sync_names::SafeName;
 use sync_version::Version;
 
-/// The fields of a record, of any values.
+/// The fields of a record that its copies share, of any values: all except the sequence. Contracts see a record of
+/// sequence 0.
 #[derive(Debug, Drop)]
 pub(crate) struct Fields {
     pub name: SafeName,
@@ -17,17 +18,16 @@ pub(crate) struct Fields {
 /// Those of them that are numbers and flags.
 #[derive(Clone, Copy, Debug)]
 pub(crate) struct Plain {
-    pub size: i64,
-    pub modified_s: i64,
-    pub modified_by: u64,
-    pub sequence: u64,
     pub type_number: i32,
-    pub modified_ns: i32,
-    pub block_size: i32,
+    pub size: i64,
     pub permissions: u32,
+    pub modified_s: i64,
+    pub modified_ns: i32,
+    pub modified_by: u64,
     pub deleted: bool,
     pub invalid: bool,
     pub no_permissions: bool,
+    pub block_size: i32,
 }
 
 impl Model for Fields {
@@ -47,7 +47,7 @@ impl Model for Fields {
       invalid = f.plain.invalid;
       no_permissions = f.plain.no_permissions;
       version = f.version;
-      sequence = f.plain.sequence;
+      sequence = 0;
       block_size = f.plain.block_size;
       blocks = f.blocks.items;
       symlink_target = f.symlink_target;

@@ -72,31 +72,29 @@ fn read_block_size(announced: i32) -> i32
     }
 }
 
-// A natural number of a message.
-fn read_natural(announced: i64) -> u64
-    ensures value { result ≡ natural announced }
+// The sequence of a message.
+fn read_sequence(info: &FileInfo) -> u64
+    ensures value { result ≡ natural info.now.sequence }
     ensures fits { result < 2 ^ 63 }
 {
-    u64::try_from(announced).unwrap_or(0)
+    u64::try_from(info.sequence).unwrap_or(0)
 }
 
 // The numbers and flags of a message's record, with the message's own mark.
 fn read_plain(info: &FileInfo) -> Plain
-    ensures value { result ≡ plain_of info.now }
-    ensures fits { result.sequence < 2 ^ 63 }
+    ensures { result ≡ plain_of info.now }
 {
     Plain {
-        size: info.size,
-        modified_s: info.modified_s,
-        modified_by: info.modified_by,
-        sequence: read_natural(info.sequence),
         type_number: info.kind,
-        modified_ns: info.modified_ns,
-        block_size: read_block_size(info.block_size),
+        size: info.size,
         permissions: info.permissions,
+        modified_s: info.modified_s,
+        modified_ns: info.modified_ns,
+        modified_by: info.modified_by,
         deleted: info.deleted,
         invalid: info.invalid,
         no_permissions: info.no_permissions,
+        block_size: read_block_size(info.block_size),
     }
 }
 
@@ -108,7 +106,6 @@ fn read_content(
     infos: &[BlockInfo],
 ) -> Result<(Plain, Vec<Block>), AllocError>
     ensures value { IfOk result (λ read. (read.0, read.1.items) ≡ content_of plain infos.now) }
-    ensures sequence { IfOk result (λ read. read.0.sequence ≡ plain.sequence) }
     ensures fit { IfOk result (λ read. All FitsBlockInfo read.1.items) }
     ensures no_file { (not plain.deleted && int_eq plain.type_number (pos 0)) ≡ false → IsOk result }
     ensures no_blocks { infos.now ≡ [] → IsOk result }
@@ -176,6 +173,7 @@ impl Record {
         ensures quick { IsQuick info.name → IfSome (refusal info.name) (λ fault. result ≡ Err fault) }
     {
         let plain = read_plain(&info);
+        let sequence = read_sequence(&info);
         let FileInfo {
             name,
             version,
@@ -193,7 +191,7 @@ impl Record {
             symlink_target,
             plain,
         };
-        Ok(Record::from_fields(alloc, fields)?)
+        Ok(Record::from_fields(alloc, sequence, fields)?)
     }
 
     /// The message of the record, in memory of its own; its record is this one again. Returns `Err` if it could not be
@@ -202,14 +200,15 @@ impl Record {
         ensures value { IfOk result (λ info. info ≡ info_of self.now) }
         ensures again { IfOk result (λ info. (refusal info.name ≡ None) × (record_of info ≡ self.now)) }
     {
-        write_info(self.fields())
+        self.is_kept();
+        write_info(self)
     }
 }
 
-fn write_info(fields: &Fields) -> Result<FileInfo, AllocError>
-    requires fits { FitsFileInfo fields.now }
-    ensures { IfOk result (λ info. info ≡ info_of fields.now) }
+fn write_info(record: &Record) -> Result<FileInfo, AllocError>
+    ensures { IfOk result (λ info. info ≡ info_of record.now) }
 {
+    let fields: &Fields = &record.fields;
     let alloc = *fields.blocks.allocator();
     let plain = fields.plain;
     Ok(FileInfo {
@@ -224,7 +223,7 @@ fn write_info(fields: &Fields) -> Result<FileInfo, AllocError>
         version: Vector {
             counters: write_counters(alloc, fields.version.counters())?,
         },
-        sequence: plain.sequence as i64,
+        sequence: record.sequence as i64,
         modified_ns: plain.modified_ns,
         modified_by: plain.modified_by,
         block_size: plain.block_size,

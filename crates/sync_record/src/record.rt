@@ -1,4 +1,4 @@
-ghost use Rattle.std.specs.Prelude.{◌≡◌, IfOk};
+ghost use Rattle.std.specs.Prelude.{◌≡◌, ◌<◌, ◌^◌, IfOk};
 ghost use Rattle.sync_record.specs.Records.{kind_of};
 ghost use Rattle.sync_record.specs.Validity.{IsKept, FitsFileInfo, is_valid};
 
@@ -15,9 +15,11 @@ use sync_version::Version;
 /// v1, "Fields of the FileInfo message").
 ///
 /// A record that isn't well formed is invalid, and only a well formed live file has blocks. It never changes, and its
-/// copies share its memory, in any thread.
+/// copies share its memory, in any thread. The sequence stands beside what is shared, so that a record may be given one
+/// without allocating.
 #[derive(Debug, Drop)]
 pub struct Record {
+    pub(crate) sequence: u64,
     pub(crate) fields: Arc<Fields, Global>,
 }
 
@@ -28,19 +30,25 @@ impl Model for Record {
 
     ghost Value = { FileRecord };
 
-    ghost view = { λ r. arc_value r.fields };
+    ghost view = { λ r. record (arc_value r.fields) { sequence = r.sequence } };
 
-    ghost invariant = { λ r. IsKept (arc_value r.fields) × FitsFileInfo (arc_value r.fields) };
+    ghost invariant = { λ r. IsKept (record (arc_value r.fields) { sequence = r.sequence })
+        × FitsFileInfo (record (arc_value r.fields) { sequence = r.sequence }) };
 }
 
 impl Record {
-    // The record of these fields, in memory that its copies share.
-    pub(crate) fn from_fields(alloc: Global, fields: Fields) -> Result<Record, AllocError>
-        requires kept { IsKept fields }
-        requires fits { FitsFileInfo fields }
-        ensures { IfOk result (λ r. r ≡ fields) }
+    // The record of this sequence and these fields, in memory that its copies share.
+    pub(crate) fn from_fields(
+        alloc: Global,
+        sequence: u64,
+        fields: Fields,
+    ) -> Result<Record, AllocError>
+        requires kept { IsKept (record fields { sequence = sequence }) }
+        requires fits { FitsFileInfo (record fields { sequence = sequence }) }
+        ensures { IfOk result (λ r. r ≡ record fields { sequence = sequence }) }
     {
         Ok(Record {
+            sequence,
             fields: Arc::new(alloc, fields)?,
         })
     }
@@ -98,6 +106,31 @@ impl Record {
         self.fields.plain.modified_by
     }
 
+    /// The number under which its device announces it, which grows with each of the device's changes. Below 2^63. O(1).
+    pub fn sequence(&self) -> u64
+        ensures value { result ≡ self.now.sequence }
+        ensures fits { result < 2 ^ 63 }
+    {
+        self.sequence
+    }
+
+    /// The same record with this sequence. Does not allocate. O(1).
+    pub fn with_sequence(self, sequence: u64) -> Record
+        requires { sequence < 2 ^ 63 }
+        ensures { result ≡ record self { sequence = sequence } }
+    {
+        let mut record = self;
+        record.sequence = sequence;
+        record
+    }
+
+    /// The block size in bytes, as it was announced; 128 KiB where none was. O(1).
+    pub fn block_size(&self) -> i32
+        ensures { result ≡ self.now.block_size }
+    {
+        self.fields.plain.block_size
+    }
+
     /// Its blocks in the order of the file. O(1).
     pub fn blocks(&self) -> &[Block]
         ensures { result.now ≡ self.now.blocks }
@@ -118,16 +151,16 @@ impl Record {
         ensures { IfOk result (λ r. r ≡ self.now) }
     {
         Ok(Record {
+            sequence: self.sequence,
             fields: Arc::try_clone(&self.fields)?,
         })
     }
 
-    // The fields.
-    pub(crate) fn fields(&self) -> &Fields
-        ensures value { result.now ≡ self.now }
+    // What holds of every record.
+    pub(crate) fn is_kept(&self)
         ensures kept { IsKept self.now }
         ensures fits { FitsFileInfo self.now }
     {
-        &self.fields
+        let _ = &self.fields;
     }
 }

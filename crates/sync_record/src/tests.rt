@@ -169,6 +169,20 @@ fn a_record_has_the_values_of_its_message(rt: HostRuntime) -> Result<(), Fail> {
     assert_eq!(rt; record.modified(), (-1, 6));
     assert_eq!(rt; record.modified_by(), u64::MAX);
     assert_eq!(rt; record.kind(), Kind::File);
+    assert_eq!(rt; record.sequence(), 7);
+    assert_eq!(rt; record.block_size(), 131_072);
+    Ok(())
+}
+
+#[test]
+fn a_record_is_given_a_sequence(rt: HostRuntime) -> Result<(), Fail> {
+    let record = read(rt.alloc(), FIELDS, &[(THREE, &ABC)])?;
+    let copied = record.copy()?;
+    let numbered = record.with_sequence(0x7fff_ffff_ffff_ffff);
+    assert_eq!(rt; copied.sequence(), 7);
+    assert_eq!(rt; numbered.sequence(), 0x7fff_ffff_ffff_ffff);
+    assert_eq!(rt; numbered.modified(), (-1, 6));
+    assert_eq!(rt; numbered.blocks().len(), 1);
     Ok(())
 }
 
