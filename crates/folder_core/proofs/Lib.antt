@@ -38,5 +38,6 @@ pub mod PlainGroup
 pub mod PlainFound
 pub mod PlainMerge
 pub mod PlainMessage
+pub mod PlainPut
 pub mod PlainPulls
 pub mod PlainChange
