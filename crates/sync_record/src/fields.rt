@@ -16,7 +16,7 @@ pub(crate) struct Fields {
 }
 
 /// Those of them that are numbers and flags.
-#[derive(Clone, Copy, Debug)]
+#[derive(Clone, Copy, Debug, PartialEq, Eq)]
 pub(crate) struct Plain {
     pub type_number: i32,
     pub size: i64,

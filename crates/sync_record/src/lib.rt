@@ -12,6 +12,7 @@ pub mod laws;
 mod preference;
 mod put;
 mod record;
+mod same;
 #[cfg(test)]
 mod tests;
 

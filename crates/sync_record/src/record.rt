@@ -4,6 +4,7 @@ ghost use Rattle.sync_record.specs.Validity.{IsKept, FitsFileInfo, is_valid};
 
 use crate::Kind;
 use crate::fields::Fields;
+use crate::same::same_numbers;
 use std::alloc::{AllocError, Global};
 use std::marker::Model;
 use std::sync::Arc;
@@ -156,6 +157,13 @@ impl Record {
         })
     }
 
+    // Where a symlink leads, as it was announced.
+    pub(crate) fn symlink_target(&self) -> &[u8]
+        ensures { result.now ≡ self.now.symlink_target }
+    {
+        self.fields.symlink_target.as_slice()
+    }
+
     // What holds of every record.
     pub(crate) fn is_kept(&self)
         ensures kept { IsKept self.now }
@@ -163,4 +171,29 @@ impl Record {
     {
         let _ = &self.fields;
     }
+}
+
+impl PartialEq for Record {
+    ghost use Rattle.std.specs.Cmp.{partial_equiv_from_equiv};
+    ghost use Rattle.sync_record.specs.Same.{same_record, same_record_equiv};
+
+    ghost eq = { same_record };
+
+    ghost laws = { partial_equiv_from_equiv same_record_equiv };
+
+    /// Whether both have the same value in every field. Does not allocate. O(n) for n bytes of names and symlink targets,
+    /// counters and blocks; the numbers and flags are compared first.
+    fn eq(&self, other: &Record) -> bool {
+        same_numbers(self, other)
+            && self.name() == other.name()
+            && self.version() == other.version()
+            && self.symlink_target() == other.symlink_target()
+            && self.blocks() == other.blocks()
+    }
+}
+
+impl Eq for Record {
+    ghost use Rattle.sync_record.specs.Same.{same_record_equiv};
+
+    ghost laws = { same_record_equiv };
 }

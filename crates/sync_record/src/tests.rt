@@ -280,6 +280,51 @@ fn blocks_tell_files_apart(rt: HostRuntime) -> Result<(), Fail> {
 }
 
 #[test]
+fn records_are_the_same_if_each_field_is(rt: HostRuntime) -> Result<(), Fail> {
+    // the name, the type, the permissions, the second, deleted, invalid, no_permissions, the version, the sequence, the
+    // nanosecond, modified_by, the block size, the symlink target
+    let table: [&[u8]; 13] = [
+        &[0x0a, 1, b'y'],
+        &[0x10, 1],
+        &[0x20, 5],
+        minus_one!(0x28),
+        &[0x30, 1],
+        &[0x38, 1],
+        &[0x40, 1],
+        &[0x4a, 6, 0x0a, 4, 0x08, 1, 0x10, 1],
+        &[0x50, 1],
+        &[0x58, 1],
+        &[0x60, 1],
+        &[0x68, 0x80, 0x80, 0x10],
+        &[0x8a, 1, 1, 1],
+    ];
+    let empty = read(rt.alloc(), &[], &[])?;
+    for fields in table {
+        let other = read(rt.alloc(), fields, &[])?;
+        let again = read(rt.alloc(), fields, &[])?;
+        assert!(rt; empty != other, "of {fields:?}");
+        assert!(rt; other != empty, "of {fields:?}");
+        assert!(rt; other == again, "of {fields:?}");
+    }
+    let deleted = read(rt.alloc(), &[0x30, 1], &[])?;
+    let of_size_3 = read(rt.alloc(), &[0x30, 1, 0x18, 3], &[])?;
+    assert!(rt; deleted != of_size_3);
+    Ok(())
+}
+
+#[test]
+fn the_same_records_have_the_same_blocks(rt: HostRuntime) -> Result<(), Fail> {
+    let record = read(rt.alloc(), FIELDS, &[(THREE, &ABC)])?;
+    let again = read(rt.alloc(), FIELDS, &[(THREE, &ABC)])?;
+    let other = read(rt.alloc(), FIELDS, &[(THREE, &ZEROS)])?;
+    assert!(rt; record == again);
+    assert!(rt; record == record.copy()?);
+    assert!(rt; record != other);
+    assert!(rt; record != again.with_sequence(8));
+    Ok(())
+}
+
+#[test]
 fn the_first_difference_decides(rt: HostRuntime) -> Result<(), Fail> {
     // the first of each pair is of device 2, the second of device 1, but in the last one
     let table: [(&[u8], &[u8], u8); 11] = [
@@ -404,8 +449,12 @@ fn plain_targets_need_no_blocks(rt: HostRuntime) -> Result<(), Fail> {
         let target = read(rt.alloc(), fields, &[])?;
         if target.is_deleted() || target.kind() == Kind::Directory {
             let plain = Assembled::plain(target);
-            let name = plain.target().name() == plain.target().name();
-            assert_eq!(rt; plain.into_target().name().as_str() == "x", name);
+            let copied = plain.copy()?;
+            assert!(rt; copied == plain);
+            drop(plain);
+            assert_eq!(rt; copied.target().name().as_str(), "x");
+            assert!(rt; copied != Assembled::plain(copied.target().copy()?.with_sequence(1)));
+            assert_eq!(rt; copied.into_target().sequence(), 0);
         } else {
             return Err(Fail::from("it is neither"));
         }
