@@ -7,6 +7,7 @@ pub mod Histories
 pub mod Shared
 -- how calls say the rules, and how a proof compares states
 pub mod Calls
+pub mod Faults
 pub mod Codes
 -- the plain folder's own words
 pub mod Plain
