@@ -1,6 +1,6 @@
-ghost use Rattle.std.specs.Prelude.{◌≡◌, ◌<◌, ◌^◌, IfOk};
+ghost use Rattle.std.specs.Prelude.{◌≡◌, ◌<◌, ◌^◌, All, IfOk};
 ghost use Rattle.sync_record.specs.Records.{kind_of};
-ghost use Rattle.sync_record.specs.Validity.{IsKept, FitsFileInfo, is_valid};
+ghost use Rattle.sync_record.specs.Validity.{IsKept, FitsBlockInfo, FitsFileInfo, is_valid};
 
 use crate::Kind;
 use crate::fields::Fields;
@@ -44,10 +44,12 @@ impl Record {
         sequence: u64,
         fields: Fields,
     ) -> Result<Record, AllocError>
-        requires kept { IsKept (record fields { sequence = sequence }) }
-        requires fits { FitsFileInfo (record fields { sequence = sequence }) }
+        requires sequence { sequence < 2 ^ 63 }
+        requires kept { IsKept fields }
+        requires blocks { All FitsBlockInfo fields.blocks }
         ensures { IfOk result (λ r. r ≡ record fields { sequence = sequence }) }
     {
+        fields.is_named();
         Ok(Record {
             sequence,
             fields: Arc::new(alloc, fields)?,
