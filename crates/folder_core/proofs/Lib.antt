@@ -40,3 +40,4 @@ pub mod PlainMerge
 pub mod PlainMessage
 pub mod PlainPulls
 pub mod PlainChange
+pub mod PlainOwn

@@ -10,5 +10,6 @@ pub mod Calls
 pub mod Codes
 -- the plain folder's own words
 pub mod Plain
+pub mod PlainReads
 -- worked rows
 pub mod Samples
