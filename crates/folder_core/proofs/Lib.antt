@@ -41,3 +41,4 @@ pub mod PlainMessage
 pub mod PlainPulls
 pub mod PlainChange
 pub mod PlainOwn
+pub mod PlainPlaces
