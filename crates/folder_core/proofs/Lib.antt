@@ -41,3 +41,5 @@ pub mod PlainMessage
 pub mod PlainPut
 pub mod PlainPulls
 pub mod PlainChange
+pub mod PlainOwn
+pub mod PlainPlaces

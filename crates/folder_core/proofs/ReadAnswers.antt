@@ -180,7 +180,7 @@ module _ {A : Type 0} where
       by (inr j) = inr j
 
 module _ {A B : Type 0} (f : A → List B) where
-  in_flat_map : (xs : List A) (x : A) (y : B) → In x xs → In y (f x) → In y (flat_map f xs)
+  pub in_flat_map : (xs : List A) (x : A) (y : B) → In x xs → In y (f x) → In y (flat_map f xs)
   in_flat_map [] x y i j = absurd i
   in_flat_map (z ∷ zs) x y (inl e) j = subst (In y) (sym (flat_map-cons f z zs)) (in_left (f z) (flat_map f zs) y (subst (λ w. In y (f w)) e j))
   in_flat_map (z ∷ zs) x y (inr i) j = subst (In y) (sym (flat_map-cons f z zs)) (in_right (f z) (flat_map f zs) y (in_flat_map zs x y i j))

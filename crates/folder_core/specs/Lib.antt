@@ -11,5 +11,6 @@ pub mod Faults
 pub mod Codes
 -- the plain folder's own words
 pub mod Plain
+pub mod PlainReads
 -- worked rows
 pub mod Samples

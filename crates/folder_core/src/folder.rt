@@ -1,10 +1,10 @@
 ghost use Rattle.std.specs.Prelude.{◌≡◌, ◌≢◌, IfOk, map, option_copied, option_map};
-ghost use Rattle.folder_core.specs.States.{FolderState, IsFolder};
+ghost use Rattle.folder_core.specs.States.{FolderState, IsFolder, local};
 ghost use Rattle.folder_core.specs.Steps.{IndexFull, IndexMore};
-ghost use Rattle.folder_core.specs.Reads.{best_found, bests_page};
+ghost use Rattle.folder_core.specs.Reads.{IsPlaceFound, best_found, bests_page, known};
 ghost use Rattle.folder_core.specs.Calls.{Changes, index_answer};
 
-use crate::Best;
+use crate::{Best, Place};
 use bep_messages::Items;
 use std::alloc::AllocError;
 use sync_names::SafeName;
@@ -44,4 +44,18 @@ pub trait FolderCore {
     /// first `limit` of them, or all where there are fewer. Returns `Err` only if out of memory.
     fn bests(&self, after: Option<&SafeName>, limit: usize) -> Result<Items<Best>, AllocError>
         ensures { IfOk result (λ page. map (λ b. (b.record, b.devices)) page ≡ bests_page (state self.now) (option_copied after.entry) limit) };
+
+    /// The record that this device announces of a name, if there is one. Returns `Err` only if out of memory.
+    fn local(&self, name: &SafeName) -> Result<Option<Record>, AllocError>
+        ensures { IfOk result (λ r. r ≡ local (state self.now) name.now) };
+
+    /// A place of the block with this SHA-256 digest in a live local file, if there is one. Returns `Err` only if out of
+    /// memory.
+    fn find_block(&self, hash: &[u8; 32]) -> Result<Option<Place>, AllocError>
+        ensures { IfOk result (λ place. IsPlaceFound (state self.now) hash.now place) };
+
+    /// The greatest sequence that the device announced, 0 without any; of this device the last one that it gave. Does not
+    /// allocate.
+    fn known(&self, device: DeviceId) -> u64
+        ensures { result ≡ known (state self.now) device };
 }

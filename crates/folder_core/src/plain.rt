@@ -1,23 +1,27 @@
 //! A folder as one list in order.
 ghost use Rattle.std.specs.Prelude.{◌≡◌, ◌≢◌, ◌+◌, ◌<◌, ◌≤◌, [], IfOk, IsOk, None, map, option_copied, option_map, vec_len, vec_capacity};
 ghost use Rattle.folder_core.specs.Calls.{Changes, index_answer};
-ghost use Rattle.folder_core.specs.Reads.{best_found, bests_page};
+ghost use Rattle.folder_core.specs.Reads.{IsPlaceFound, best_found, bests_page, known, places};
 ghost use Rattle.folder_core.specs.Plain.{commits};
-ghost use Rattle.folder_core.specs.States.{empty_folder};
+ghost use Rattle.folder_core.specs.States.{empty_folder, local};
 ghost use Rattle.folder_core.specs.Steps.{IndexFull, IndexMore};
 
 mod entry;
+mod find;
 mod group;
 mod merge;
 mod message;
+mod own;
 mod pull;
 
-use crate::{Best, FolderCore};
+use crate::{Best, FolderCore, Place};
 use bep_messages::Items;
 use entry::Entry;
+use find::place_of;
 use group::{best_with_devices, bests_of, entries_after, entries_of};
 use merge::merge;
 use message::last_of_each_name;
+use own::{copy_from, greatest_sequence};
 use pull::OpenPull;
 use std::alloc::{AllocError, Global};
 use std::marker::Model;
@@ -121,6 +125,34 @@ impl FolderCore for PlainFolder {
         let rest = entries_after(self.entries.as_slice(), after);
         let page = bests_of(*self.entries.allocator(), rest, limit)?;
         Ok(Items::from_vec(page))
+    }
+
+    /// O(log n + k) for n records kept and k devices that announce the name. The record is not copied but shared. A name
+    /// without a local record does not allocate.
+    fn local(&self, name: &SafeName) -> Result<Option<Record>, AllocError>
+        ensures found { IfOk result (λ r. r ≡ local self.now name.now) }
+        ensures none { local self.now name.now ≡ None → IsOk result }
+    {
+        copy_from(entries_of(self.entries.as_slice(), name), self.me)
+    }
+
+    /// O(n + b) for n records kept, up to the file that is found, and b blocks of the local files up to it, and the copy of
+    /// the name. Of several places it returns the first by name. It does not allocate where there is none.
+    fn find_block(&self, hash: &[u8; 32]) -> Result<Option<Place>, AllocError>
+        ensures found { IfOk result (λ place. IsPlaceFound self.now hash.now place) }
+        ensures none { places self.now hash.now ≡ [] → IsOk result }
+    {
+        place_of(self.entries.as_slice(), self.me, hash)
+    }
+
+    /// O(n) for n records kept, O(1) for this device.
+    fn known(&self, device: DeviceId) -> u64
+        ensures { result ≡ known self.now device }
+    {
+        if device == self.me {
+            return self.last;
+        }
+        greatest_sequence(self.entries.as_slice(), device)
     }
 }
 
