@@ -28,7 +28,7 @@ pub use pulls::{
 };
 pub use reads::{
     bests_come_in_pages, blocks_are_found_where_they_are, local_records_come_in_pages,
-    needed_names_come_in_pages, reads_follow_the_state,
+    needed_names_come_in_pages, queries_have_replies, reads_follow_the_state,
 };
 pub use rows::{best_in_rows, changes_in_rows, histories_in_rows, reads_in_rows};
 pub use scans::{

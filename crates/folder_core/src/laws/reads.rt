@@ -13,31 +13,40 @@ ghost use Rattle.sync_record.specs.Contents.{same_content};
 ghost use Rattle.sync_record.specs.Validity.{is_valid};
 ghost use Rattle.folder_core.specs.Announced.{key, bests, IsBest};
 ghost use Rattle.folder_core.specs.States.{FolderState, IsFolder, local, need};
-ghost use Rattle.folder_core.specs.Reads.{Found, with_devices, ArePages, Reads, Local, Best, Bests, Need, LocalSince, FindBlock, Known, CountAll, max_page_blocks};
+ghost use Rattle.folder_core.specs.Reads.{Found, with_devices, ArePages, IsCounted, Query, Reply, Reads, Local, Best, Bests, Need, LocalSince, FindBlock, Known, CountAll, max_page_blocks};
+
+/// Every query has a reply, and only one, except that a block may be found in several places.
+pub fn queries_have_replies()
+    ensures some { (s : FolderState) (q : Query) → (r : Reply q) × Reads s q r }
+    ensures one { (s : FolderState) (q : Query) (r t : Reply q) → Reads s q r → Reads s q t →
+        (r ≡ t) ⊎ ((hash : List ℕ) × (q ≡ FindBlock hash)) }
+{}
 
 /// Reads of single records and of numbers: the local record of a name, which has that name, is valid and has a sequence
 /// from 1 to the last; the best of a name with the devices that have it, which rise, and none only where no valid record
 /// is announced; of this device the last sequence, and of another device the greatest of its records' sequences, 0
-/// without any; how many names are needed, how many pulls are open.
+/// without any; and the counts, which are the numbers of what they count. Where all that is said of a reply holds, it is the
+/// reply.
 pub fn reads_follow_the_state()
     ensures local { (s : FolderState) (n : Name) (r : Option FileRecord) →
         Reads s (Local n) r ↔ (r ≡ get s.announced (key n s.me)) }
     ensures best { (s : FolderState) (n : Name) (r : FileRecord) (devices : List Identity) →
-        Reads s (Best n) (Some (r, devices)) →
-        (d : Identity) × IsBest s.announced n d r × IsStrictlySortedBy bytes_cmp devices
+        Reads s (Best n) (Some (r, devices)) ↔
+        ((d : Identity) × IsBest s.announced n d r × IsStrictlySortedBy bytes_cmp devices
         × ((e : Identity) → Contains devices e ↔ ((q : FileRecord) × (get s.announced (key n e) ≡ Some q)
-        × IsTrue (is_valid q) × (q.version ≡ r.version) × IsTrue (same_content q r))) }
-    ensures no_best { (s : FolderState) (n : Name) (d : Identity) (r : FileRecord) →
-        Reads s (Best n) None → get s.announced (key n d) ≡ Some r → is_valid r ≡ false }
+        × IsTrue (is_valid q) × (q.version ≡ r.version) × IsTrue (same_content q r)))) }
+    ensures no_best { (s : FolderState) (n : Name) → Reads s (Best n) None ↔
+        ((d : Identity) (r : FileRecord) → get s.announced (key n d) ≡ Some r → is_valid r ≡ false) }
     ensures known { (s : FolderState) (k : ℕ) → Reads s (Known s.me) k ↔ (k ≡ s.last) }
     ensures sound { (s : FolderState) (n : Name) (r : FileRecord) (k : ℕ) → IsFolder s →
         Reads s (Local n) (Some r) → Reads s (Known s.me) k →
         (r.name ≡ n) × IsTrue (is_valid r) × (1 ≤ r.sequence) × (r.sequence ≤ k) }
-    ensures known_of_others { (s : FolderState) (d : Identity) (k : ℕ) → d ≢ s.me → Reads s (Known d) k →
-        ((n : Name) (r : FileRecord) → get s.announced (key n d) ≡ Some r → r.sequence ≤ k)
-        × ((k ≡ 0) ⊎ ((n : Name) × (r : FileRecord) × (get s.announced (key n d) ≡ Some r) × (r.sequence ≡ k))) }
+    ensures known_of_others { (s : FolderState) (d : Identity) (k : ℕ) → d ≢ s.me →
+        Reads s (Known d) k ↔ (((n : Name) (r : FileRecord) → get s.announced (key n d) ≡ Some r → r.sequence ≤ k)
+        × ((k ≡ 0) ⊎ ((n : Name) × (r : FileRecord) × (get s.announced (key n d) ≡ Some r) × (r.sequence ≡ k)))) }
     ensures counts { (s : FolderState) (c : Counts) → Reads s CountAll c →
         (c.needed ≡ length (need s)) × (c.pulls ≡ len s.pulls) × (c.last ≡ s.last) }
+    ensures counted { (s : FolderState) (c : Counts) → Reads s CountAll c ↔ IsCounted s c }
 {}
 
 /// A page of needed names rises and has no more than asked for; all of it is needed and after the given name, and what is
@@ -106,7 +115,7 @@ pub fn blocks_are_found_where_they_are()
         ((n : Name) × (r : FileRecord) × (b : Block) × (local s n ≡ Some r) × IsTrue (is_live_file r)
         × Contains r.blocks b × (b.hash ≡ hash)
         × (p ≡ record { name = r.name; offset = b.offset; size = b.size })) }
-    ensures no_place { (s : FolderState) (hash : List ℕ) (n : Name) (r : FileRecord) (b : Block) →
-        Reads s (FindBlock hash) None → local s n ≡ Some r → IsTrue (is_live_file r) → Contains r.blocks b →
-        b.hash ≢ hash }
+    ensures no_place { (s : FolderState) (hash : List ℕ) → Reads s (FindBlock hash) None ↔
+        ((n : Name) (r : FileRecord) (b : Block) → local s n ≡ Some r → IsTrue (is_live_file r) →
+        Contains r.blocks b → b.hash ≢ hash) }
 {}
