@@ -33,6 +33,8 @@ pub mod ReadPages
 pub mod ReadLists
 pub mod ReadReplies
 pub mod ReadNumbers
+pub mod RestoreFolders
+pub mod RestoreRows
 pub mod Rows
 pub mod RowsListed
 pub mod Lemmas

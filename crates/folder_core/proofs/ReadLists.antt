@@ -18,7 +18,7 @@ Apart [] = ⊤
 Apart (x ∷ xs) = ¬ (In x xs) × Apart xs
 
 module _ {A : Type 0} where
-  at_in : (xs : List A) (k : ℕ) (d : A) → k < length xs → In (get_or xs k d) xs
+  pub at_in : (xs : List A) (k : ℕ) (d : A) → k < length xs → In (get_or xs k d) xs
   at_in [] k d below = absurd (omega arith)
   at_in (x ∷ xs) zero d below = inl refl
   at_in (x ∷ xs) (suc k) d below = inr (at_in xs k d (omega arith))

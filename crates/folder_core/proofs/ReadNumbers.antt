@@ -36,8 +36,8 @@ number-of f es P apart one holds found = record {
   listed = map f es;
   once = apart-pairs (map f es) (apart-map f es apart one);
   each = λ x. (
-      λ c. let m = of_map f es x (contains_in (map f es) x c) in subst P m.2 (holds m.0 m.1),
-      λ p. let m = found x p in in_contains (map f es) x (subst (λ y. In y (map f es)) m.2 (in_map f es m.0 m.1)),
+    λ c. let m = of_map f es x (contains_in (map f es) x c) in subst P m.2 (holds m.0 m.1),
+    λ p. let m = found x p in in_contains (map f es) x (subst (λ y. In y (map f es)) m.2 (in_map f es m.0 m.1)),
   );
   many = length-map es f;
 }
@@ -51,7 +51,7 @@ module _ {K X : Type 0} {R : K → K → Ordering} (o : IsTotalOrder R) (same : 
   entries-apart m = sorted-apart (entries m) (entries_sorted m)
 
   -- a map has one entry at most under a key
-  one-entry : (m : FinMap R X) (d e : K × X) → In d (entries m) → In e (entries m) → d.0 ≡ e.0 → d ≡ e
+  pub one-entry : (m : FinMap R X) (d e : K × X) → In d (entries m) → In e (entries m) → d.0 ≡ e.0 → d ≡ e
   one-entry m d e i j key =
       let value : d.1 ≡ e.1 = inside d.1 e.1 (sym (in_get o same m d i) ∙ ap (get m) key ∙ in_get o same m e j) in
       λ k. (key k, value k)
@@ -79,15 +79,15 @@ module _ (s : FolderState) where
       (number-of (λ (e : Announcement). e.0.name) kept (HasLocal p)
       (apart-filter passes own (apart-filter (is_by s.me) es (entries-apart keys_total exact_keys s.announced)))
       (λ d e i j named.
-          let k = (of_filter passes own d i).0 in
-          let l = (of_filter passes own e j).0 in
-          one-entry keys_total exact_keys s.announced d e (of_filter (is_by s.me) es d k).0 (of_filter (is_by s.me) es e l).0
-          (own-key d k ∙ ap (λ n. key n s.me) named ∙ sym (own-key e l)))
+      let k = (of_filter passes own d i).0 in
+      let l = (of_filter passes own e j).0 in
+      one-entry keys_total exact_keys s.announced d e (of_filter (is_by s.me) es d k).0 (of_filter (is_by s.me) es e l).0
+      (own-key d k ∙ ap (λ n. key n s.me) named ∙ sym (own-key e l)))
       (λ e i. let t = of_filter passes own e i in (e.1, own-local e t.0, t.1))
       (λ n h.
-          let e : Announcement = (key n s.me, h.0) in
-          let i = in_filter (is_by s.me) es e (get_in keys_total exact_keys s.announced (key n s.me) h.0 h.1) ((bytes_eq-Decides s.me s.me).1 refl) in
-          (e, in_filter passes own e i h.2, refl)))
+      let e : Announcement = (key n s.me, h.0) in
+      let i = in_filter (is_by s.me) es e (get_in keys_total exact_keys s.announced (key n s.me) h.0 h.1) ((bytes_eq-Decides s.me s.me).1 refl) in
+      (e, in_filter passes own e i h.2, refl)))
     where
       passes : Announcement → Bool
       passes e = p e.1
@@ -108,12 +108,12 @@ module _ (s : FolderState) where
       (apart-filter foreign es (entries-apart keys_total exact_keys s.announced))
       (λ d e i j. one-entry keys_total exact_keys s.announced d e (of_filter foreign es d i).0 (of_filter foreign es e j).0)
       (λ e i.
-          let t = of_filter foreign es e i in
-          (e.1, in_get keys_total exact_keys s.announced e t.0, λ same. true≢false (sym ((bytes_eq-Decides e.0.device s.me).1 same) ∙ not-true _ t.1)))
+      let t = of_filter foreign es e i in
+      (e.1, in_get keys_total exact_keys s.announced e t.0, λ same. true≢false (sym ((bytes_eq-Decides e.0.device s.me).1 same) ∙ not-true _ t.1)))
       (λ k h.
-          let e : Announcement = (k, h.0) in
-          let other = false_from_ne_true (is_by s.me e) (λ t. h.2 ((bytes_eq-Decides k.device s.me).0 t)) in
-          (e, in_filter foreign es e (get_in keys_total exact_keys s.announced k h.0 h.1) (not_from_false _ other), refl)))
+      let e : Announcement = (k, h.0) in
+      let other = false_from_ne_true (is_by s.me e) (λ t. h.2 ((bytes_eq-Decides k.device s.me).0 t)) in
+      (e, in_filter foreign es e (get_in keys_total exact_keys s.announced k h.0 h.1) (not_from_false _ other), refl)))
 
   abbrev HasPull : Name → Type 0
   HasPull n = (p : Pull) × (get s.pulls n ≡ Some p)
@@ -141,8 +141,8 @@ module _ (s : FolderState) where
         listed = n.listed;
         once = n.once;
         each = λ x. (
-            λ c. let h = (n.each x).0 c in (h.0, h.1, (and_parts _ _ h.2).0, (and_parts _ _ h.2).1),
-            λ h. (n.each x).1 (h.0, h.1, and_from _ _ h.2 h.3),
+          λ c. let h = (n.each x).0 c in (h.0, h.1, (and_parts _ _ h.2).0, (and_parts _ _ h.2).1),
+          λ h. (n.each x).1 (h.0, h.1, and_from _ _ h.2 h.3),
         );
         many = n.many;
       }
