@@ -33,6 +33,7 @@ pub mod ReadPages
 pub mod ReadLists
 pub mod ReadReplies
 pub mod ReadNumbers
+pub mod ReadWhole
 pub mod RestoreFolders
 pub mod RestoreRows
 pub mod Rows

@@ -50,7 +50,7 @@ pub fn reads_follow_the_state()
 {}
 
 /// A page of needed names rises and has no more than asked for; all of it is needed and after the given name, and what is
-/// needed and after that name is in the page, or after a full page.
+/// needed and after that name is in the page, or after a full page. A list of which all this holds is the page.
 pub fn needed_names_come_in_pages()
     ensures rise { (s : FolderState) (after : Option Name) (limit : ℕ) (names : List Name) →
         Reads s (Need after limit) names → IsStrictlySortedBy bytes_cmp names × (length names ≤ limit) }
@@ -62,12 +62,20 @@ pub fn needed_names_come_in_pages()
         ((a : Name) → after ≡ Some a → bytes_cmp n a ≡ Greater) →
         Contains names n
         ⊎ ((length names ≡ limit) × ((m : Name) → Contains names m → bytes_cmp m n ≡ Less)) }
+    ensures whole { (s : FolderState) (after : Option Name) (limit : ℕ) (names : List Name) →
+        IsStrictlySortedBy bytes_cmp names → length names ≤ limit →
+        ((n : Name) → Contains names n → Contains (need s) n × ((a : Name) → after ≡ Some a → bytes_cmp n a ≡ Greater)) →
+        ((n : Name) → Contains (need s) n → ((a : Name) → after ≡ Some a → bytes_cmp n a ≡ Greater) →
+        Contains names n
+        ⊎ ((length names ≡ limit) × ((m : Name) → Contains names m → bytes_cmp m n ≡ Less))) →
+        Reads s (Need after limit) names }
 {}
 
 /// A page of bests rises and has no more than asked for; each of it is the best of its name, with the devices that have
 /// it, and after the given name. The best of a name after that one is in the page, or after a full page; so an empty page
-/// comes only where no name after the given one has a best. Pages one after the other, each read after the last name of
-/// the one before, have the best of each name once, in byte order, with its devices.
+/// comes only where no name after the given one has a best. A list of which all this holds is the page. Of at least one best
+/// a page, there are pages one after the other, each read after the last name of the one before, up to one that isn't full;
+/// and together such pages have the best of each name once, in byte order, with its devices.
 pub fn bests_come_in_pages()
     ensures rise { (s : FolderState) (after : Option Name) (limit : ℕ) (page : List Found) → IsFolder s →
         Reads s (Bests after limit) page →
@@ -83,6 +91,17 @@ pub fn bests_come_in_pages()
     ensures end { (s : FolderState) (after : Option Name) (limit : ℕ) (n : Name) → 1 ≤ limit →
         Reads s (Bests after limit) [] → ((a : Name) → after ≡ Some a → bytes_cmp n a ≡ Greater) →
         Reads s (Best n) None }
+    ensures whole { (s : FolderState) (after : Option Name) (limit : ℕ) (page : List Found) → IsFolder s →
+        IsStrictlySortedBy bytes_cmp (map (λ b. b.0.name) page) → length page ≤ limit →
+        ((b : Found) → Contains page b →
+        Reads s (Best b.0.name) (Some b) × ((a : Name) → after ≡ Some a → bytes_cmp b.0.name a ≡ Greater)) →
+        ((n : Name) (b : Found) → Reads s (Best n) (Some b) →
+        ((a : Name) → after ≡ Some a → bytes_cmp n a ≡ Greater) →
+        Contains page b
+        ⊎ ((length page ≡ limit) × ((c : Found) → Contains page c → bytes_cmp c.0.name n ≡ Less))) →
+        Reads s (Bests after limit) page }
+    ensures pages { (s : FolderState) (limit : ℕ) → IsFolder s → 1 ≤ limit →
+        (pages : List (List Found)) × ArePages s limit None pages }
     ensures together { (s : FolderState) (limit : ℕ) (pages : List (List Found)) → IsFolder s →
         ArePages s limit None pages →
         flat_map (λ page. page) pages ≡ map (with_devices (entries s.announced)) (bests (entries s.announced)) }
@@ -90,7 +109,8 @@ pub fn bests_come_in_pages()
 
 /// A page of local records rises by sequence, has no more records than asked for, and no more than the most blocks or
 /// one record; all of it is local and above the given sequence. A local record above that sequence is in the page, or
-/// the page stops before it, at a record with which it would have too many records or blocks.
+/// the page stops before it, at a record with which it would have too many records or blocks. A list of which all this holds
+/// is the page.
 pub fn local_records_come_in_pages()
     ensures rise { (s : FolderState) (after limit : ℕ) (page : List FileRecord) → IsFolder s →
         Reads s (LocalSince after limit) page →
@@ -106,6 +126,17 @@ pub fn local_records_come_in_pages()
         × ((p : FileRecord) → Contains page p → p.sequence < q.sequence)
         × ((length page ≡ limit)
         ⊎ ((1 ≤ length page) × (max_page_blocks < sum_by (λ r. length r.blocks) page + length q.blocks)))) }
+    ensures whole { (s : FolderState) (after limit : ℕ) (page : List FileRecord) → IsFolder s →
+        IsStrictlySortedBy nat_cmp (map (λ r. r.sequence) page) → length page ≤ limit →
+        (sum_by (λ r. length r.blocks) page ≤ max_page_blocks) ⊎ (length page ≤ 1) →
+        ((r : FileRecord) → Contains page r → (n : Name) × (local s n ≡ Some r) × (after < r.sequence)) →
+        ((n : Name) (r : FileRecord) → local s n ≡ Some r → after < r.sequence →
+        Contains page r
+        ⊎ ((m : Name) × (q : FileRecord) × (local s m ≡ Some q) × (q.sequence ≤ r.sequence)
+        × ((p : FileRecord) → Contains page p → p.sequence < q.sequence)
+        × ((length page ≡ limit)
+        ⊎ ((1 ≤ length page) × (max_page_blocks < sum_by (λ r. length r.blocks) page + length q.blocks))))) →
+        Reads s (LocalSince after limit) page }
 {}
 
 /// A place that is found is one of a block with the digest in a live local file, and none is found only where no live local
