@@ -3,6 +3,7 @@ pub mod Announced
 pub mod States
 pub mod Steps
 pub mod Reads
+pub mod Restores
 pub mod Histories
 pub mod Shared
 -- how calls say the rules, and how a proof compares states
