@@ -13,5 +13,6 @@ pub mod Codes
 -- the plain folder's own words
 pub mod Plain
 pub mod PlainReads
+pub mod PlainScans
 -- worked rows
 pub mod Samples

@@ -13,6 +13,7 @@ mod merge;
 mod message;
 mod own;
 mod pull;
+mod scan;
 
 use crate::{Best, FolderCore, Place};
 use bep_messages::Items;
