@@ -84,7 +84,7 @@ put_all-rises : (es rs : List Announcement) → T (is_sorted key_cmp es) → T (
 put_all-rises es [] h = h
 put_all-rises es (r ∷ rs) h = put_all-rises (put key_cmp r.0 r.1 es) rs (is_sorted-put key_cmp keys_total r.0 r.1 es h)
 
-announce-sorted : (d : Identity) (records kept : List FileRecord) (es : List Announcement) → IsLastOfEach records kept → T (is_sorted key_cmp es) →
+pub announce-sorted : (d : Identity) (records kept : List FileRecord) (es : List Announcement) → IsLastOfEach records kept → T (is_sorted key_cmp es) →
     announce d records (from_sorted es) ≡ from_sorted (put_all es (map (filed_by d) kept))
 announce-sorted d records kept es l h = same_map keys_total exact_keys _ _ (λ q.
     get-announce_at q d records (from_sorted es)

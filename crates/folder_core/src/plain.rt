@@ -1,10 +1,10 @@
 //! A folder as one list in order.
-ghost use Rattle.std.specs.Prelude.{◌≡◌, ◌≢◌, ◌+◌, ◌<◌, ◌≤◌, [], IfOk, IsOk, None, map, option_copied, option_map, vec_len, vec_capacity};
-ghost use Rattle.folder_core.specs.Calls.{Changes, index_answer};
+ghost use Rattle.std.specs.Prelude.{◌≡◌, ◌≢◌, ◌+◌, ◌<◌, ◌≤◌, [], IfOk, IsOk, IsTrue, None, map, option_copied, option_map, vec_len, vec_capacity};
+ghost use Rattle.folder_core.specs.Calls.{Changes, index_answer, scan_answer};
 ghost use Rattle.folder_core.specs.Reads.{IsPlaceFound, best_found, bests_page, known, places};
 ghost use Rattle.folder_core.specs.Plain.{commits};
 ghost use Rattle.folder_core.specs.States.{empty_folder, local};
-ghost use Rattle.folder_core.specs.Steps.{IndexFull, IndexMore};
+ghost use Rattle.folder_core.specs.Steps.{Forget, IndexFull, IndexMore, ScanFound, ScanGone, is_found};
 
 mod entry;
 mod find;
@@ -15,19 +15,24 @@ mod own;
 mod pull;
 mod scan;
 
-use crate::{Best, FolderCore, Place};
+use crate::{Best, Finding, FolderCore, Place, ScanAnswer, ScanFault};
 use bep_messages::Items;
 use entry::Entry;
 use find::place_of;
 use group::{best_with_devices, bests_of, entries_after, entries_of};
 use merge::merge;
 use message::last_of_each_name;
-use own::{copy_from, greatest_sequence};
+use own::{copy_from, greatest_sequence, record_from};
 use pull::OpenPull;
+use scan::{
+    found_record, gone_record, is_gone, is_same, next_version, put_next, scan_answer,
+    scan_obstacle, version_of,
+};
 use std::alloc::{AllocError, Global};
 use std::marker::Model;
 use sync_names::SafeName;
 use sync_record::{DeviceId, Record};
+use sync_version::{Moment, Version};
 
 /// A folder as one list of records, by name and then by device. A look-up takes O(log n) for n records; a message of m
 /// records is sorted and merged with the list from its end, in O(t + m log m) for t records that are after the place of
@@ -79,6 +84,81 @@ impl FolderCore for PlainFolder {
         self.me
     }
 
+    /// O(log n + k + t) for n records kept, k devices that announce the name and t records after its place, which are moved,
+    /// and the copies of the name, the version and the blocks, beside the open pulls. It allocates for them, and only where it
+    /// is recorded or a version is told.
+    fn scan_found(
+        &mut self,
+        name: &SafeName,
+        expected: Option<&Version>,
+        found: &Finding,
+        moment: Moment,
+    ) -> Result<ScanAnswer, ScanFault>
+        requires { IsTrue (is_found found.now.content) }
+        ensures changes { Changes self.old (ScanFound name.now (option_copied expected.entry) found.now moment) (scan_answer result) self.new }
+    {
+        let alloc = *self.entries.allocator();
+        let group = entries_of(self.entries.as_slice(), name);
+        let local = record_from(group, self.me);
+        let is_unchanged = is_same(local, &found.content);
+        let obstacle = scan_obstacle(
+            self.me,
+            &self.pulls,
+            self.last,
+            name,
+            local,
+            expected,
+            is_unchanged,
+        );
+        if let Some(obstacle) = obstacle {
+            return scan_answer(obstacle, version_of(local));
+        }
+        let id = self.me.short_id();
+        let version = next_version(alloc, version_of(local), id, moment)?;
+        let record = found_record(alloc, name, found, version, id)?;
+        let promised = open_commits(&self.pulls);
+        let sequence = put_next(&mut self.entries, self.me, record, self.last, promised)?;
+        self.last = sequence;
+        Ok(ScanAnswer::Recorded(sequence))
+    }
+
+    /// O(log n + k + t) for n records kept, k devices that announce the name and t records after its place, which are moved,
+    /// and the copies of the name and the version, beside the open pulls. It allocates for them, and only where it is recorded
+    /// or a version is told.
+    fn scan_gone(
+        &mut self,
+        name: &SafeName,
+        expected: Option<&Version>,
+        moment: Moment,
+    ) -> Result<ScanAnswer, ScanFault>
+        ensures changes { Changes self.old (ScanGone name.now (option_copied expected.entry) moment) (scan_answer result) self.new }
+    {
+        let alloc = *self.entries.allocator();
+        let group = entries_of(self.entries.as_slice(), name);
+        let local = record_from(group, self.me);
+        let is_unchanged = is_gone(local);
+        let obstacle = scan_obstacle(
+            self.me,
+            &self.pulls,
+            self.last,
+            name,
+            local,
+            expected,
+            is_unchanged,
+        );
+        if let Some(obstacle) = obstacle {
+            return scan_answer(obstacle, version_of(local));
+        }
+        let Some(local) = local else { unreachable!() };
+        let id = self.me.short_id();
+        let version = next_version(alloc, Some(local.version()), id, moment)?;
+        let record = gone_record(local, version, id, moment)?;
+        let promised = open_commits(&self.pulls);
+        let sequence = put_next(&mut self.entries, self.me, record, self.last, promised)?;
+        self.last = sequence;
+        Ok(ScanAnswer::Recorded(sequence))
+    }
+
     /// O(n + m log m) for n records kept and m given, and O(n + m) where the names given are in order. None is copied;
     /// it allocates for n + m of them. A message without records does not allocate.
     fn index_full(&mut self, device: DeviceId, records: Items<Record>) -> Result<(), AllocError>
@@ -104,6 +184,16 @@ impl FolderCore for PlainFolder {
         let latest = last_of_each_name(records.into_vec())?;
         let room = room_for(&mut self.entries, latest.len(), open_commits(&self.pulls))?;
         merge(&mut self.entries, device, latest, room);
+        Ok(())
+    }
+
+    /// O(n) for n records kept. Does not allocate.
+    fn forget(&mut self, device: DeviceId) -> Result<(), AllocError>
+        requires { device ≢ self.old.me }
+        ensures changes { Changes self.old (Forget device) (index_answer result) self.new }
+        ensures free { IsOk result }
+    {
+        self.entries.retain(|entry| entry.device != device);
         Ok(())
     }
 
