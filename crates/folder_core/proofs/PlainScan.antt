@@ -13,6 +13,7 @@ use Rattle.std.specs.FinMap.Entries.{below_all}
 use Rattle.std.proofs.lemmas.Bool.{true≢false, false_from_ne_true}
 use Rattle.sync_record.specs.Contents.{same_content}
 use Rattle.sync_record.specs.Devices.{Identity, bytes_cmp, short_id}
+use Rattle.sync_record.specs.Own.{deletion_of}
 use Rattle.sync_record.specs.declared.own.Edit.{Edit}
 use Rattle.sync_record.specs.Records.{Name, FileRecord}
 use Rattle.sync_version.specs.Computed.{raised}
@@ -25,9 +26,9 @@ use Rattle.folder_core.specs.Codes.{Pulls}
 use Rattle.folder_core.specs.Calls.{Changes}
 use Rattle.folder_core.specs.Plain.{IsLastOfEach, IsPlain, Rises, commits, filed, folder_of, opened, pulled, pulls_of}
 use Rattle.folder_core.specs.PlainReads.{record_from}
-use Rattle.folder_core.specs.PlainScans.{content_record, edit_of, first_of, has_commit, is_full, obstacle_answer, tests_of}
+use Rattle.folder_core.specs.PlainScans.{content_record, deletion_edit, edit_of, first_of, is_gone, has_commit, is_full, obstacle_answer, tests_of}
 use Rattle.folder_core.specs.States.{FolderState, IsFolder, is_committing, local, local_version, max_sequence}
-use Rattle.folder_core.specs.Steps.{Answer, Change, Finding, FoundContent, FoundDirectory, FoundFile, MayChange, ScanFound, ScanGone, found_record, next_version, Recorded, first_answer, is_pull_committing, scan_tests, step, with_local}
+use Rattle.folder_core.specs.Steps.{Answer, Change, Finding, FoundContent, FoundDirectory, FoundFile, MayChange, ScanFound, ScanGone, Unchanged, found_record, gone_record, scan_gone, next_version, Recorded, first_answer, is_pull_committing, scan_tests, step, with_local}
 use Rattle.folder_core.proofs.ChangeFolders.{step-folder}
 use Rattle.folder_core.proofs.ListTests.{alike_bytes, by_or, inside, is_less, parts, same_bytes}
 use Rattle.folder_core.proofs.PlainChange.{announce-sorted, more_rises}
@@ -235,3 +236,31 @@ module _ (me : Identity) (es : List Entry) (capacity last : ℕ) (ps : List Open
         is
         ∙ (λ i. content_record n (edit_of ((vis ∙ (λ j. raised (unwrap_or (option_map (λ r. r.version) (found_local j)) []) (idis j) moment)) i) (idis i) f) f.content)
         ∙ found-is s n (next_version s n moment) f
+
+  -- ---- of a name that is gone
+  module _ (moment : ℕ) (unchanged : u ≡ is_gone found) where
+    pub gone-told : (o : Obstacle) (version : Option Vector) (answer : Option Answer) → first ≡ Some o → version ≡ option_map (λ r. r.version) found → IfSome answer (λ a. a ≡ obstacle_answer version o) → Changes s (ScanGone n expected moment) answer s
+    gone-told o version answer is v h =
+        changes-told s (ScanGone n expected moment) (obstacle_answer (own_version me es capacity last ps kept n) o) answer
+        (by (local s n) (unchanged ∙ ap is_gone found_local)) (if-so o version answer v h)
+      where
+        by : (l : Option FileRecord) → u ≡ is_gone l → scan_gone s n expected moment l ≡ (obstacle_answer (own_version me es capacity last ps kept n) o, s)
+        by None same =
+            ap (λ b. first_answer s (scan_tests s n expected b) (Unchanged, s)) (sym same)
+            ∙ answered-so me es capacity last ps kept n found found_own qs qs-is expected u first told o (Unchanged, s) is
+        by (Some r) same =
+            ap (λ b. first_answer s (scan_tests s n expected b) (Recorded (last + 1), with_local s (gone_record s r (next_version s n moment) moment))) (sym same)
+            ∙ answered-so me es capacity last ps kept n found found_own qs qs-is expected u first told o (Recorded (last + 1), with_local s (gone_record s r (next_version s n moment) moment)) is
+
+    pub gone-made : (r : FileRecord) → found ≡ Some r → first ≡ None → step s (ScanGone n expected moment) ≡ (Recorded (last + 1), with_local s (gone_record s r (next_version s n moment) moment))
+    gone-made r there is =
+        ap (scan_gone s n expected moment) (sym found_local ∙ there)
+        ∙ ap (λ b. first_answer s (scan_tests s n expected b) (Recorded (last + 1), with_local s (gone_record s r (next_version s n moment) moment))) (sym (unchanged ∙ ap is_gone there))
+        ∙ recorded-so me es capacity last ps kept n found found_own qs qs-is expected u first told (Recorded (last + 1), with_local s (gone_record s r (next_version s n moment) moment)) is
+
+    -- the record that the code makes
+    pub gone-record : (r : FileRecord) (v : Vector) (id : ℕ) (made : FileRecord) → found ≡ Some r → v ≡ raised r.version id moment → id ≡ short_id me → made ≡ deletion_of r (deletion_edit v id moment)
+        → made ≡ gone_record s r (next_version s n moment) moment
+    gone-record r v id made there vis idis is =
+        is
+        ∙ (λ i. deletion_of r (deletion_edit ((vis ∙ (λ j. raised (unwrap_or (option_map (λ r. r.version) ((sym there ∙ found_local) j)) []) (idis j) moment)) i) (idis i) moment))
