@@ -23,7 +23,7 @@ use Rattle.folder_core.specs.declared.plain.pull.OpenPull.{OpenPull}
 use Rattle.folder_core.specs.declared.plain.scan.Obstacle.{Obstacle}
 use Rattle.folder_core.specs.Announced.{Announced, key, key_cmp}
 use Rattle.folder_core.specs.Codes.{Pulls}
-use Rattle.folder_core.specs.Calls.{Changes}
+use Rattle.folder_core.specs.Calls.{Changes, may_allocate}
 use Rattle.folder_core.specs.Plain.{IsLastOfEach, IsPlain, Rises, commits, filed, folder_of, opened, pulled, pulls_of}
 use Rattle.folder_core.specs.PlainReads.{record_from}
 use Rattle.folder_core.specs.PlainScans.{content_record, deletion_edit, edit_of, first_of, is_gone, has_commit, is_full, obstacle_answer, tests_of}
@@ -217,12 +217,17 @@ module _ (me : Identity) (es : List Entry) (capacity last : ℕ) (ps : List Open
     u-is : u ≡ option_map_or (same_content r) (local s n) false
     u-is = same-so s n (next_version s n moment) f u found found_local same
 
+    found-step : (o : Obstacle) → first ≡ Some o → step s (ScanFound n expected f moment) ≡ (obstacle_answer (own_version me es capacity last ps kept n) o, s)
+    found-step o is =
+        ap (λ b. first_answer s (scan_tests s n expected b) (Recorded (last + 1), with_local s r)) (sym u-is)
+        ∙ answered-so me es capacity last ps kept n found found_own qs qs-is expected u first told o (Recorded (last + 1), with_local s r) is
+
     pub found-told : (o : Obstacle) (version : Option Vector) (answer : Option Answer) → first ≡ Some o → version ≡ option_map (λ r. r.version) found → IfSome answer (λ a. a ≡ obstacle_answer version o) → Changes s (ScanFound n expected f moment) answer s
     found-told o version answer is v h =
-        changes-told s (ScanFound n expected f moment) (obstacle_answer (own_version me es capacity last ps kept n) o) answer
-        (ap (λ b. first_answer s (scan_tests s n expected b) (Recorded (last + 1), with_local s r)) (sym u-is)
-        ∙ answered-so me es capacity last ps kept n found found_own qs qs-is expected u first told o (Recorded (last + 1), with_local s r) is)
-        (if-so o version answer v h)
+        changes-told s (ScanFound n expected f moment) (obstacle_answer (own_version me es capacity last ps kept n) o) answer (found-step o is) (if-so o version answer v h)
+
+    pub found-memory : (o : Obstacle) (version : Option Vector) → first ≡ Some o → version ≡ option_map (λ r. r.version) found → IsTrue (may_allocate (obstacle_answer version o)) → IsTrue (may_allocate (step s (ScanFound n expected f moment)).0)
+    found-memory o version is v h = ap (λ (d : Answer × FolderState). may_allocate d.0) (found-step o is) ∙ ap may_allocate (sym (answer-so o version _ v refl)) ∙ h
 
     pub found-made : first ≡ None → step s (ScanFound n expected f moment) ≡ (Recorded (last + 1), with_local s r)
     found-made is =
@@ -239,10 +244,8 @@ module _ (me : Identity) (es : List Entry) (capacity last : ℕ) (ps : List Open
 
   -- ---- of a name that is gone
   module _ (moment : ℕ) (unchanged : u ≡ is_gone found) where
-    pub gone-told : (o : Obstacle) (version : Option Vector) (answer : Option Answer) → first ≡ Some o → version ≡ option_map (λ r. r.version) found → IfSome answer (λ a. a ≡ obstacle_answer version o) → Changes s (ScanGone n expected moment) answer s
-    gone-told o version answer is v h =
-        changes-told s (ScanGone n expected moment) (obstacle_answer (own_version me es capacity last ps kept n) o) answer
-        (by (local s n) (unchanged ∙ ap is_gone found_local)) (if-so o version answer v h)
+    gone-step : (o : Obstacle) → first ≡ Some o → step s (ScanGone n expected moment) ≡ (obstacle_answer (own_version me es capacity last ps kept n) o, s)
+    gone-step o is = by (local s n) (unchanged ∙ ap is_gone found_local)
       where
         by : (l : Option FileRecord) → u ≡ is_gone l → scan_gone s n expected moment l ≡ (obstacle_answer (own_version me es capacity last ps kept n) o, s)
         by None same =
@@ -251,6 +254,13 @@ module _ (me : Identity) (es : List Entry) (capacity last : ℕ) (ps : List Open
         by (Some r) same =
             ap (λ b. first_answer s (scan_tests s n expected b) (Recorded (last + 1), with_local s (gone_record s r (next_version s n moment) moment))) (sym same)
             ∙ answered-so me es capacity last ps kept n found found_own qs qs-is expected u first told o (Recorded (last + 1), with_local s (gone_record s r (next_version s n moment) moment)) is
+
+    pub gone-told : (o : Obstacle) (version : Option Vector) (answer : Option Answer) → first ≡ Some o → version ≡ option_map (λ r. r.version) found → IfSome answer (λ a. a ≡ obstacle_answer version o) → Changes s (ScanGone n expected moment) answer s
+    gone-told o version answer is v h =
+        changes-told s (ScanGone n expected moment) (obstacle_answer (own_version me es capacity last ps kept n) o) answer (gone-step o is) (if-so o version answer v h)
+
+    pub gone-memory : (o : Obstacle) (version : Option Vector) → first ≡ Some o → version ≡ option_map (λ r. r.version) found → IsTrue (may_allocate (obstacle_answer version o)) → IsTrue (may_allocate (step s (ScanGone n expected moment)).0)
+    gone-memory o version is v h = ap (λ (d : Answer × FolderState). may_allocate d.0) (gone-step o is) ∙ ap may_allocate (sym (answer-so o version _ v refl)) ∙ h
 
     pub gone-made : (r : FileRecord) → found ≡ Some r → first ≡ None → step s (ScanGone n expected moment) ≡ (Recorded (last + 1), with_local s (gone_record s r (next_version s n moment) moment))
     gone-made r there is =

@@ -1,10 +1,10 @@
 //! A folder as one list in order.
 ghost use Rattle.std.specs.Prelude.{◌≡◌, ◌≢◌, ◌+◌, ◌<◌, ◌≤◌, [], IfOk, IsOk, IsTrue, None, map, option_copied, option_map, vec_len, vec_capacity};
-ghost use Rattle.folder_core.specs.Calls.{Changes, index_answer, scan_answer};
+ghost use Rattle.folder_core.specs.Calls.{Changes, index_answer, may_allocate, scan_answer};
 ghost use Rattle.folder_core.specs.Reads.{IsPlaceFound, best_found, bests_page, known, places};
 ghost use Rattle.folder_core.specs.Plain.{commits};
 ghost use Rattle.folder_core.specs.States.{empty_folder, local};
-ghost use Rattle.folder_core.specs.Steps.{Forget, IndexFull, IndexMore, ScanFound, ScanGone, is_found};
+ghost use Rattle.folder_core.specs.Steps.{Forget, IndexFull, IndexMore, ScanFound, ScanGone, is_found, step};
 
 mod entry;
 mod find;
@@ -96,6 +96,7 @@ impl FolderCore for PlainFolder {
     ) -> Result<ScanAnswer, ScanFault>
         requires { IsTrue (is_found found.now.content) }
         ensures changes { Changes self.old (ScanFound name.now (option_copied expected.entry) found.now moment) (scan_answer result) self.new }
+        ensures memory { scan_answer result ≡ None → IsTrue (may_allocate (step self.old (ScanFound name.now (option_copied expected.entry) found.now moment)).0) }
     {
         let alloc = *self.entries.allocator();
         let group = entries_of(self.entries.as_slice(), name);
@@ -132,6 +133,7 @@ impl FolderCore for PlainFolder {
         moment: Moment,
     ) -> Result<ScanAnswer, ScanFault>
         ensures changes { Changes self.old (ScanGone name.now (option_copied expected.entry) moment) (scan_answer result) self.new }
+        ensures memory { scan_answer result ≡ None → IsTrue (may_allocate (step self.old (ScanGone name.now (option_copied expected.entry) moment)).0) }
     {
         let alloc = *self.entries.allocator();
         let group = entries_of(self.entries.as_slice(), name);

@@ -8,8 +8,7 @@ ghost use Rattle.sync_blocks.specs.Tiling.{same_block};
 ghost use Rattle.sync_record.specs.Own.{deletion_of};
 ghost use Rattle.sync_record.specs.Records.{Name};
 ghost use Rattle.sync_record.specs.declared.own.Edit.{Edit};
-ghost use Rattle.folder_core.specs.Calls.{scan_answer};
-ghost use Rattle.folder_core.specs.declared.plain.scan.Obstacle.TheVariants as Obstacle;
+ghost use Rattle.folder_core.specs.Calls.{may_allocate, scan_answer};
 ghost use Rattle.sync_record.specs.Contents.{same_content};
 ghost use Rattle.sync_version.specs.Computed.{is_counter_full, raised};
 ghost use Rattle.folder_core.specs.Announced.{key, key_cmp};
@@ -85,7 +84,7 @@ pub(super) fn scan_answer(
     version: Option<&Version>,
 ) -> Result<ScanAnswer, ScanFault>
     ensures told { IfSome (scan_answer result) (λ answer. answer ≡ obstacle_answer (option_copied version.entry) obstacle) }
-    ensures free { scan_answer result ≡ None → obstacle ≡ Obstacle.Moved }
+    ensures memory { scan_answer result ≡ None → IsTrue (may_allocate (obstacle_answer (option_copied version.entry) obstacle)) }
 {
     match obstacle {
         Obstacle::Busy => Ok(ScanAnswer::Busy),
@@ -97,7 +96,8 @@ pub(super) fn scan_answer(
 }
 
 fn copied_version(version: Option<&Version>) -> Result<Option<Version>, AllocError>
-    ensures { IfOk result (λ v. v ≡ option_copied version.entry) }
+    ensures value { IfOk result (λ v. v ≡ option_copied version.entry) }
+    ensures none { option_copied version.entry ≡ None → IsOk result }
 {
     match version {
         Some(version) => Ok(Some(version.copy()?)),
