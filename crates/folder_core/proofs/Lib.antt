@@ -42,3 +42,5 @@ pub mod PlainPulls
 pub mod PlainChange
 pub mod PlainOwn
 pub mod PlainPlaces
+pub mod PlainNeed
+pub mod PlainCounts

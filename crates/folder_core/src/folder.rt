@@ -1,10 +1,10 @@
 ghost use Rattle.std.specs.Prelude.{◌≡◌, ◌≢◌, IfOk, map, option_copied, option_map};
 ghost use Rattle.folder_core.specs.States.{FolderState, IsFolder, local};
 ghost use Rattle.folder_core.specs.Steps.{IndexFull, IndexMore};
-ghost use Rattle.folder_core.specs.Reads.{IsPlaceFound, best_found, bests_page, known};
+ghost use Rattle.folder_core.specs.Reads.{IsPlaceFound, best_found, bests_page, counts, known, need_page};
 ghost use Rattle.folder_core.specs.Calls.{Changes, index_answer};
 
-use crate::{Best, Place};
+use crate::{Best, Counts, Place};
 use bep_messages::Items;
 use std::alloc::AllocError;
 use sync_names::SafeName;
@@ -49,6 +49,12 @@ pub trait FolderCore {
     fn local(&self, name: &SafeName) -> Result<Option<Record>, AllocError>
         ensures { IfOk result (λ r. r ≡ local (state self.now) name.now) };
 
+    /// The names greater than `after`, or all names where it is `None`, that this device needs, in byte order: those whose
+    /// best is of another version than the local record, and those without a local record unless the best is deleted. The
+    /// first `limit` of them, or all where there are fewer. Returns `Err` only if out of memory.
+    fn need(&self, after: Option<&SafeName>, limit: usize) -> Result<Items<SafeName>, AllocError>
+        ensures { IfOk result (λ names. names ≡ need_page (state self.now) (option_copied after.entry) limit) };
+
     /// A place of the block with this SHA-256 digest in a live local file, if there is one. Returns `Err` only if out of
     /// memory.
     fn find_block(&self, hash: &[u8; 32]) -> Result<Option<Place>, AllocError>
@@ -58,4 +64,8 @@ pub trait FolderCore {
     /// allocate.
     fn known(&self, device: DeviceId) -> u64
         ensures { result ≡ known (state self.now) device };
+
+    /// How much the folder has. Does not allocate.
+    fn counts(&self) -> Counts
+        ensures { result ≡ counts (state self.now) };
 }

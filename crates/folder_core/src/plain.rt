@@ -1,26 +1,30 @@
 //! A folder as one list in order.
 ghost use Rattle.std.specs.Prelude.{◌≡◌, ◌≢◌, ◌+◌, ◌<◌, ◌≤◌, [], IfOk, IsOk, None, map, option_copied, option_map, vec_len, vec_capacity};
 ghost use Rattle.folder_core.specs.Calls.{Changes, index_answer};
-ghost use Rattle.folder_core.specs.Reads.{IsPlaceFound, best_found, bests_page, known, places};
+ghost use Rattle.folder_core.specs.Reads.{IsPlaceFound, best_found, bests_page, counts, known, need_page, places};
 ghost use Rattle.folder_core.specs.Plain.{commits};
 ghost use Rattle.folder_core.specs.States.{empty_folder, local};
 ghost use Rattle.folder_core.specs.Steps.{IndexFull, IndexMore};
 
+mod count;
 mod entry;
 mod find;
 mod group;
 mod merge;
 mod message;
+mod need;
 mod own;
 mod pull;
 
-use crate::{Best, FolderCore, Place};
+use crate::{Best, Counts, FolderCore, Place};
 use bep_messages::Items;
+use count::{deletions, live_directories, live_files, records_of_others};
 use entry::Entry;
 use find::place_of;
 use group::{best_with_devices, bests_of, entries_after, entries_of};
 use merge::merge;
 use message::last_of_each_name;
+use need::{count_needed, needed_names};
 use own::{copy_from, greatest_sequence};
 use pull::OpenPull;
 use std::alloc::{AllocError, Global};
@@ -136,6 +140,17 @@ impl FolderCore for PlainFolder {
         copy_from(entries_of(self.entries.as_slice(), name), self.me)
     }
 
+    /// O(log n) for n records kept, and O(k^2) for each name up to the last one of the page, with k devices that announce
+    /// it, and the copies of the names. An empty page does not allocate.
+    fn need(&self, after: Option<&SafeName>, limit: usize) -> Result<Items<SafeName>, AllocError>
+        ensures page { IfOk result (λ names. names ≡ need_page self.now (option_copied after.entry) limit) }
+        ensures none { need_page self.now (option_copied after.entry) limit ≡ [] → IsOk result }
+    {
+        let rest = entries_after(self.entries.as_slice(), after);
+        let names = needed_names(*self.entries.allocator(), rest, self.me, limit)?;
+        Ok(Items::from_vec(names))
+    }
+
     /// O(n + b) for n records kept, up to the file that is found, and b blocks of the local files up to it, and the copy of
     /// the name. Of several places it returns the first by name. It does not allocate where there is none.
     fn find_block(&self, hash: &[u8; 32]) -> Result<Option<Place>, AllocError>
@@ -153,6 +168,22 @@ impl FolderCore for PlainFolder {
             return self.last;
         }
         greatest_sequence(self.entries.as_slice(), device)
+    }
+
+    /// O(n) for n records kept, and O(k^2) for each name, with k devices that announce it.
+    fn counts(&self) -> Counts
+        ensures { result ≡ counts self.now }
+    {
+        let entries = self.entries.as_slice();
+        Counts {
+            files: live_files(entries, self.me) as u64,
+            directories: live_directories(entries, self.me) as u64,
+            deletions: deletions(entries, self.me) as u64,
+            needed: count_needed(entries, self.me) as u64,
+            others: records_of_others(entries, self.me) as u64,
+            pulls: self.pulls.len() as u64,
+            last: self.last,
+        }
     }
 }
 
