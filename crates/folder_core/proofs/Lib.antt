@@ -44,3 +44,4 @@ pub mod PlainOwn
 pub mod PlainPlaces
 pub mod PlainNeed
 pub mod PlainCounts
+pub mod PlainSince

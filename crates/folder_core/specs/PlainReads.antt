@@ -1,5 +1,5 @@
 -- What the reads of `PlainFolder` find in its list of entries.
-use Rattle.std.specs.Prelude.{bytes_eq, ℕ, Bool, ◌&&◌, ◌||◌, not, if◌then◌else◌, List, map, filter, find, flat_map, fold, max, Option, Some, None, is_some, option_and_then, option_map}
+use Rattle.std.specs.Prelude.{bytes_eq, ℕ, Bool, ◌&&◌, ◌||◌, not, nat_lt, if◌then◌else◌, List, map, filter, find, flat_map, fold, max, Option, Some, None, is_some, option_and_then, option_map}
 use Rattle.std.specs.List.{reduce}
 use Rattle.folder_core.specs.declared.plain.entry.Entry.{Entry}
 use Rattle.folder_core.specs.declared.place.Place.{Place}
@@ -55,3 +55,7 @@ record_of d es n = record_from d (filter (λ e. bytes_eq e.record.name n) es)
 abbrev pub needed_names : Identity → List Entry → List Name
 needed_names d es =
     map (λ b. b.0.name) (filter (λ b. is_needed_over (record_of d es b.0.name) b.1) (bests (map filed es)))
+
+-- the device's records of greater sequence
+abbrev pub later_from : Identity → ℕ → List Entry → List FileRecord
+later_from d sequence es = filter (λ r. nat_lt sequence r.sequence) (records_from d es)

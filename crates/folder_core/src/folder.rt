@@ -1,7 +1,7 @@
 ghost use Rattle.std.specs.Prelude.{◌≡◌, ◌≢◌, IfOk, map, option_copied, option_map};
 ghost use Rattle.folder_core.specs.States.{FolderState, IsFolder, local};
 ghost use Rattle.folder_core.specs.Steps.{IndexFull, IndexMore};
-ghost use Rattle.folder_core.specs.Reads.{IsPlaceFound, best_found, bests_page, counts, known, need_page};
+ghost use Rattle.folder_core.specs.Reads.{IsPlaceFound, best_found, bests_page, counts, known, local_since, need_page};
 ghost use Rattle.folder_core.specs.Calls.{Changes, index_answer};
 
 use crate::{Best, Counts, Place};
@@ -54,6 +54,12 @@ pub trait FolderCore {
     /// first `limit` of them, or all where there are fewer. Returns `Err` only if out of memory.
     fn need(&self, after: Option<&SafeName>, limit: usize) -> Result<Items<SafeName>, AllocError>
         ensures { IfOk result (λ names. names ≡ need_page (state self.now) (option_copied after.entry) limit) };
+
+    /// The local records of greater sequence, in rising sequence: the first `limit` of them, but no more than have
+    /// 1,000,000 blocks together, except that one record may have any number; or all where there are fewer. Returns `Err`
+    /// only if out of memory.
+    fn local_since(&self, sequence: u64, limit: usize) -> Result<Items<Record>, AllocError>
+        ensures { IfOk result (λ page. page ≡ local_since (state self.now) sequence limit) };
 
     /// A place of the block with this SHA-256 digest in a live local file, if there is one. Returns `Err` only if out of
     /// memory.

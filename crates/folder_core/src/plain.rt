@@ -1,7 +1,7 @@
 //! A folder as one list in order.
 ghost use Rattle.std.specs.Prelude.{◌≡◌, ◌≢◌, ◌+◌, ◌<◌, ◌≤◌, [], IfOk, IsOk, None, map, option_copied, option_map, vec_len, vec_capacity};
 ghost use Rattle.folder_core.specs.Calls.{Changes, index_answer};
-ghost use Rattle.folder_core.specs.Reads.{IsPlaceFound, best_found, bests_page, counts, known, need_page, places};
+ghost use Rattle.folder_core.specs.Reads.{IsPlaceFound, best_found, bests_page, counts, known, local_since, need_page, places};
 ghost use Rattle.folder_core.specs.Plain.{commits};
 ghost use Rattle.folder_core.specs.States.{empty_folder, local};
 ghost use Rattle.folder_core.specs.Steps.{IndexFull, IndexMore};
@@ -15,6 +15,7 @@ mod message;
 mod need;
 mod own;
 mod pull;
+mod since;
 
 use crate::{Best, Counts, FolderCore, Place};
 use bep_messages::Items;
@@ -27,6 +28,7 @@ use message::last_of_each_name;
 use need::{count_needed, needed_names};
 use own::{copy_from, greatest_sequence};
 use pull::OpenPull;
+use since::records_since;
 use std::alloc::{AllocError, Global};
 use std::marker::Model;
 use sync_names::SafeName;
@@ -149,6 +151,17 @@ impl FolderCore for PlainFolder {
         let rest = entries_after(self.entries.as_slice(), after);
         let names = needed_names(*self.entries.allocator(), rest, self.me, limit)?;
         Ok(Items::from_vec(names))
+    }
+
+    /// O(n + m log m) for n records kept and m local ones of greater sequence. Those of the page are not copied but shared.
+    /// An empty page does not allocate.
+    fn local_since(&self, sequence: u64, limit: usize) -> Result<Items<Record>, AllocError>
+        ensures page { IfOk result (λ page. page ≡ local_since self.now sequence limit) }
+        ensures none { local_since self.now sequence limit ≡ [] → IsOk result }
+    {
+        let alloc = *self.entries.allocator();
+        let page = records_since(alloc, self.entries.as_slice(), self.me, sequence, limit)?;
+        Ok(Items::from_vec(page))
     }
 
     /// O(n + b) for n records kept, up to the file that is found, and b blocks of the local files up to it, and the copy of
