@@ -30,6 +30,12 @@ pub mod HistoryCommits
 pub mod HistoryShared
 pub mod ReadAnswers
 pub mod ReadPages
+pub mod ReadLists
+pub mod ReadReplies
+pub mod ReadNumbers
+pub mod ReadWhole
+pub mod RestoreFolders
+pub mod RestoreRows
 pub mod Rows
 pub mod RowsListed
 pub mod Lemmas
@@ -38,6 +44,7 @@ pub mod PlainGroup
 pub mod PlainFound
 pub mod PlainMerge
 pub mod PlainMessage
+pub mod PlainPut
 pub mod PlainPulls
 pub mod PlainChange
 pub mod PlainOwn

@@ -62,7 +62,7 @@ put_before r e (x ∷ es) less =
       | Greater ↦ ap (λ ys. x ∷ ys) (put_before r e es less)
     ]
 
-put_over : (x r : Announcement) (es : List Announcement) → key_cmp x.0 r.0 ≡ Less → put key_cmp r.0 r.1 (x ∷ es) ≡ x ∷ put key_cmp r.0 r.1 es
+pub put_over : (x r : Announcement) (es : List Announcement) → key_cmp x.0 r.0 ≡ Less → put key_cmp r.0 r.1 (x ∷ es) ≡ x ∷ put key_cmp r.0 r.1 es
 put_over x r es less =
     ap (λ o. by_order o (r ∷ x ∷ es) ((x.0, r.1) ∷ es) (x ∷ put key_cmp r.0 r.1 es)) (keys_total.antisymm r.0 x.0 ∙ ap ordering_reverse less)
 

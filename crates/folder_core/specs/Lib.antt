@@ -3,13 +3,16 @@ pub mod Announced
 pub mod States
 pub mod Steps
 pub mod Reads
+pub mod Restores
 pub mod Histories
 pub mod Shared
 -- how calls say the rules, and how a proof compares states
 pub mod Calls
+pub mod Faults
 pub mod Codes
 -- the plain folder's own words
 pub mod Plain
 pub mod PlainReads
+pub mod PlainScans
 -- worked rows
 pub mod Samples

@@ -1,15 +1,15 @@
 -- What each read of a folder answers.
-use Rattle.std.specs.Prelude.{bytes_eq, ◌≡◌, ℕ, ◌+◌, ◌<◌, ◌++◌, Bool, true, if◌then◌else◌, unwrap_or, not, ◌&&◌, ◌||◌, nat_lt, nat_le, max, List, [], ◌∷◌, length, map, filter, take, sum_by, count_by, flat_map, fold, Option, Some, None, option_map, MatchOption, Contains}
+use Rattle.std.specs.Prelude.{bytes_eq, ◌≡◌, ◌≢◌, ◌↔◌, ℕ, ◌+◌, ◌<◌, ◌++◌, Bool, true, if◌then◌else◌, unwrap_or, not, ◌&&◌, ◌||◌, nat_lt, nat_le, max, List, [], ◌∷◌, length, map, filter, take, sum_by, count_by, flat_map, fold, Option, Some, None, option_map, MatchOption, Contains, AllPairs, IsTrue}
 use Rattle.std.specs.List.{last_or, range_with_len}
 use Rattle.std.specs.Option.{option_map_or}
 use Rattle.std.specs.Ordering.{nat_cmp, is_gt}
-use Rattle.std.specs.FinMap.{entries, len, put}
+use Rattle.std.specs.FinMap.{entries, get, len, put}
 use Rattle.folder_core.specs.declared.place.Place.{Place}
 use Rattle.folder_core.specs.declared.counts.Counts.{Counts}
 use Rattle.sync_record.specs.Devices.{Identity, bytes_cmp}
 use Rattle.sync_record.specs.Records.{Name, FileRecord, is_live, is_live_file, is_directory}
-use Rattle.folder_core.specs.Announced.{Announcement, is_by, best, bests, devices_of}
-use Rattle.folder_core.specs.States.{FolderState, local, need}
+use Rattle.folder_core.specs.Announced.{Announcement, Key, is_by, best, bests, devices_of}
+use Rattle.folder_core.specs.States.{FolderState, Pull, local, need}
 
 -- this device's records, in byte order of their names
 abbrev pub locals : FolderState → List FileRecord
@@ -133,3 +133,21 @@ pub data ArePages (s : FolderState) (limit : ℕ) : Option Name → List (List F
   last_page : (after : Option Name) (page : List Found) → Reads s (Bests after limit) page → length page < limit → ArePages s limit after (page ∷ [])
   next_page : (after : Option Name) (front : List Found) (b : Found) (pages : List (List Found)) →
       Reads s (Bests after limit) (front ++ b ∷ []) → ArePages s limit (Some b.0.name) pages → ArePages s limit after ((front ++ b ∷ []) ∷ pages)
+
+-- There are n of them: they can be listed, each once.
+pub record IsNumberOf {X : Type 0} (P : X → Type 0) (n : ℕ) : Type 0 where
+  pub listed : List X
+  pub once : AllPairs (λ x y. x ≢ y) listed
+  pub each : (x : X) → Contains listed x ↔ P x
+  pub many : length listed ≡ n
+
+-- The counts in the words of the rules. Of names: whose local record is a live file, a live directory, and deleted, of
+-- whatever kind; that are needed; and that have an open pull. Of records: of other devices, whether valid or not.
+pub record IsCounted (s : FolderState) (c : Counts) : Type 0 where
+  pub files : IsNumberOf (λ n. (r : FileRecord) × (local s n ≡ Some r) × IsTrue (is_live_file r)) c.files
+  pub directories : IsNumberOf (λ n. (r : FileRecord) × (local s n ≡ Some r) × IsTrue (is_live r) × IsTrue (is_directory r)) c.directories
+  pub deletions : IsNumberOf (λ n. (r : FileRecord) × (local s n ≡ Some r) × IsTrue r.deleted) c.deletions
+  pub needed : IsNumberOf (Contains (need s)) c.needed
+  pub others : IsNumberOf (λ (k : Key). (r : FileRecord) × (get s.announced k ≡ Some r) × (k.device ≢ s.me)) c.others
+  pub pulls : IsNumberOf (λ n. (p : Pull) × (get s.pulls n ≡ Some p)) c.pulls
+  pub last : c.last ≡ s.last

@@ -7,6 +7,7 @@ mod changes;
 mod histories;
 mod pulls;
 mod reads;
+mod restores;
 mod rows;
 mod scans;
 
@@ -28,8 +29,9 @@ pub use pulls::{
 };
 pub use reads::{
     bests_come_in_pages, blocks_are_found_where_they_are, local_records_come_in_pages,
-    needed_names_come_in_pages, reads_follow_the_state,
+    needed_names_come_in_pages, queries_have_replies, reads_follow_the_state,
 };
+pub use restores::{restored_folders_are_folders, restores_in_rows};
 pub use rows::{best_in_rows, changes_in_rows, histories_in_rows, reads_in_rows};
 pub use scans::{
     findings_are_tested_in_order, losses_are_tested_in_order, scans_record_what_is_found,

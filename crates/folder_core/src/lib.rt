@@ -14,6 +14,8 @@ mod history;
 pub mod laws;
 mod place;
 mod plain;
+mod pull;
+mod scan;
 mod stage;
 #[cfg(test)]
 mod tests;
@@ -28,5 +30,7 @@ pub use folder::FolderCore;
 pub use history::Entry;
 pub use place::Place;
 pub use plain::PlainFolder;
+pub use pull::{BeginAnswer, Commit, NotEntered, Stray, Ticket};
+pub use scan::{ScanAnswer, ScanFault};
 pub use stage::Stage;
 pub use token::Token;

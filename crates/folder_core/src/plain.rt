@@ -15,6 +15,7 @@ mod message;
 mod need;
 mod own;
 mod pull;
+mod scan;
 mod since;
 
 use crate::{Best, Counts, FolderCore, Place};

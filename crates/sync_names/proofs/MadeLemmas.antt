@@ -6,7 +6,7 @@ use Rattle.std.proofs.lemmas.Slice.Eq.{bytes_eq-Decides}
 use Rattle.sync_names.specs.Base32.{short_base32}
 use Rattle.sync_names.specs.Components.{folder_of, last_component}
 use Rattle.sync_names.specs.Extension.{stem_of, extension_of}
-use Rattle.sync_names.specs.Made.{conflict_mark, conflict_text}
+use Rattle.sync_names.specs.Made.{conflict_text}
 use Rattle.sync_names.specs.declared.utc.UtcTime.{UtcTime}
 use Rattle.sync_names.specs.Utc.{utc_time, date_digits, time_digits}
 

@@ -1,5 +1,6 @@
 pub mod Again
 pub mod FirstDifference
+pub mod Fitting
 pub mod Kept
 pub mod Lemmas
 pub mod Placed

@@ -12,7 +12,7 @@ use Rattle.sync_version.proofs.Lemmas.{same_version_tells}
 use Rattle.sync_blocks.specs.declared.block.Block.{Block}
 use Rattle.sync_blocks.specs.Tiling.{same_block}
 use Rattle.sync_record.specs.Records.{FileRecord}
-use Rattle.sync_record.specs.Same.{same_record}
+use Rattle.sync_record.specs.Same.{same_record, same_record_equiv}
 
 pub ints : (x y : ℤ) → int_eq x y ≡ true → x ≡ y
 ints x y e = int_cmp-IsAntisymmetric x y ((Equal-is (int_cmp x y)).0 e)
@@ -35,12 +35,13 @@ block-Decides a b = (
 -- records that pass the test are one
 pub same_record-is : (a b : FileRecord) → same_record a b ≡ true → a ≡ b
 same_record-is a b e =
-    let symlink_target = and_parts _ _ e in
-    let blocks = and_parts _ _ symlink_target.0 in
-    let block_size = and_parts _ _ blocks.0 in
-    let sequence = and_parts _ _ block_size.0 in
-    let version = and_parts _ _ sequence.0 in
-    let no_permissions = and_parts _ _ version.0 in
+    let blocks = and_parts _ _ e in
+    let symlink_target = and_parts _ _ blocks.0 in
+    let version = and_parts _ _ symlink_target.0 in
+    let name = and_parts _ _ version.0 in
+    let sequence = and_parts _ _ name.0 in
+    let block_size = and_parts _ _ sequence.0 in
+    let no_permissions = and_parts _ _ block_size.0 in
     let invalid = and_parts _ _ no_permissions.0 in
     let deleted = and_parts _ _ invalid.0 in
     let modified_by = and_parts _ _ deleted.0 in
@@ -48,10 +49,9 @@ same_record-is a b e =
     let modified_s = and_parts _ _ modified_ns.0 in
     let permissions = and_parts _ _ modified_s.0 in
     let size = and_parts _ _ permissions.0 in
-    let type_number = and_parts _ _ size.0 in
     λ i. record {
-      name = bytes a.name b.name type_number.0 i;
-      type_number = ints a.type_number b.type_number type_number.1 i;
+      name = bytes a.name b.name name.1 i;
+      type_number = ints a.type_number b.type_number size.0 i;
       size = ints a.size b.size size.1 i;
       permissions = eqb-true a.permissions b.permissions permissions.1 i;
       modified_s = ints a.modified_s b.modified_s modified_s.1 i;
@@ -68,12 +68,4 @@ same_record-is a b e =
     }
 
 pub same_record-own : (r : FileRecord) → same_record r r ≡ true
-same_record-own r =
-    and_from _ _ (and_from _ _ (and_from _ _ (and_from _ _ (and_from _ _ (and_from _ _ (and_from _ _ (and_from _ _ (and_from _ _
-    (and_from _ _ (and_from _ _ (and_from _ _ (and_from _ _ (and_from _ _
-    ((bytes_eq-Decides r.name r.name).1 refl)
-    (ints-own r.type_number)) (ints-own r.size)) (eq-eqb r.permissions r.permissions refl)) (ints-own r.modified_s)) (ints-own r.modified_ns))
-    (eq-eqb r.modified_by r.modified_by refl)) ((booleans_Decides r.deleted r.deleted).1 refl)) ((booleans_Decides r.invalid r.invalid).1 refl))
-    ((booleans_Decides r.no_permissions r.no_permissions).1 refl)) ((same_version_tells r.version r.version).1 refl))
-    (eq-eqb r.sequence r.sequence refl)) (ints-own r.block_size)) ((pointwise_decides block-Decides r.blocks r.blocks).1 refl))
-    ((bytes_eq-Decides r.symlink_target r.symlink_target).1 refl)
+same_record-own r = same_record_equiv.refl r

@@ -6,3 +6,4 @@ pub mod Preference
 pub mod Same
 pub mod Infos
 pub mod Assemblies
+pub mod Own

@@ -100,7 +100,8 @@ fn try_block(block: &Block, bytes: &[u8]) -> Put
 }
 
 /// A target that may be committed: a file of which every block was put, a directory or a deletion. Of each block some
-/// bytes have the size and the digest. It can't be copied, and must be used up.
+/// bytes have the size and the digest. Only [`Assembly::done`] and [`Assembled::plain`] make one; it may be copied and
+/// kept, and one that is dropped commits nothing.
 #[derive(Debug, Drop)]
 pub struct Assembled {
     target: Record,
@@ -134,6 +135,16 @@ impl Assembled {
         &self.target
     }
 
+    /// The same once more, in the memory of this one. Does not allocate. Returns `Err` only if the target already has
+    /// 2^63 - 1 copies. O(1).
+    pub fn copy(&self) -> Result<Assembled, AllocError>
+        ensures { IfOk result (λ a. a ≡ self.now) }
+    {
+        Ok(Assembled {
+            target: self.target.copy()?,
+        })
+    }
+
     /// Uses it up, and gives the target. O(1).
     pub fn into_target(self) -> Record
         ensures { result ≡ self }
@@ -141,4 +152,24 @@ impl Assembled {
         let Assembled { target } = self;
         target
     }
+}
+
+impl PartialEq for Assembled {
+    ghost use Rattle.std.specs.Cmp.{partial_equiv_from_equiv};
+    ghost use Rattle.sync_record.specs.Same.{same_record, same_record_equiv};
+
+    ghost eq = { same_record };
+
+    ghost laws = { partial_equiv_from_equiv same_record_equiv };
+
+    /// Whether both have the same target. Does not allocate. O(n), as the comparison of records.
+    fn eq(&self, other: &Assembled) -> bool {
+        self.target == other.target
+    }
+}
+
+impl Eq for Assembled {
+    ghost use Rattle.sync_record.specs.Same.{same_record_equiv};
+
+    ghost laws = { same_record_equiv };
 }

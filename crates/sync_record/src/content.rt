@@ -31,5 +31,5 @@ fn same_other(a: &Record, b: &Record) -> bool
     ensures { result ≡ same_other a.now b.now }
 {
     a.fields.plain.type_number == b.fields.plain.type_number
-        && a.fields.symlink_target.as_slice() == b.fields.symlink_target.as_slice()
+        && a.symlink_target() == b.symlink_target()
 }

@@ -1,3 +1,6 @@
+ghost use Rattle.sync_names.specs.Safe.{IsSafe};
+ghost use Rattle.sync_version.specs.Versions.{IsCanonical};
+
 use bep_messages::Octets;
 use std::marker::Model;
 use sync_blocks::Block;
@@ -16,7 +19,7 @@ pub(crate) struct Fields {
 }
 
 /// Those of them that are numbers and flags.
-#[derive(Clone, Copy, Debug)]
+#[derive(Clone, Copy, Debug, PartialEq, Eq)]
 pub(crate) struct Plain {
     pub type_number: i32,
     pub size: i64,
@@ -28,6 +31,17 @@ pub(crate) struct Plain {
     pub invalid: bool,
     pub no_permissions: bool,
     pub block_size: i32,
+}
+
+impl Fields {
+    /// What holds of the name and the version.
+    pub fn is_named(&self)
+        ensures name { IsSafe self.now.name }
+        ensures version { IsCanonical self.now.version }
+    {
+        let _ = self.name.as_str();
+        let _ = self.version.counters();
+    }
 }
 
 impl Model for Fields {

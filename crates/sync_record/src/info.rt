@@ -205,10 +205,10 @@ impl Record {
     }
 }
 
-fn write_info(record: &Record) -> Result<FileInfo, AllocError>
-    ensures { IfOk result (λ info. info ≡ info_of record.now) }
+fn write_info(source: &Record) -> Result<FileInfo, AllocError>
+    ensures { IfOk result (λ info. info ≡ info_of source.now) }
 {
-    let fields: &Fields = &record.fields;
+    let fields: &Fields = &source.fields;
     let alloc = *fields.blocks.allocator();
     let plain = fields.plain;
     Ok(FileInfo {
@@ -223,7 +223,7 @@ fn write_info(record: &Record) -> Result<FileInfo, AllocError>
         version: Vector {
             counters: write_counters(alloc, fields.version.counters())?,
         },
-        sequence: record.sequence as i64,
+        sequence: source.sequence as i64,
         modified_ns: plain.modified_ns,
         modified_by: plain.modified_by,
         block_size: plain.block_size,

@@ -9,9 +9,11 @@ mod file;
 mod info;
 mod kind;
 pub mod laws;
+mod own;
 mod preference;
 mod put;
 mod record;
+mod same;
 #[cfg(test)]
 mod tests;
 
@@ -19,6 +21,7 @@ pub use assembly::{Assembled, Assembly};
 pub use content::same_content;
 pub use device::DeviceId;
 pub use kind::Kind;
+pub use own::Edit;
 pub use preference::preferred;
 pub use put::Put;
 pub use record::Record;

@@ -1,9 +1,10 @@
-ghost use Rattle.std.specs.Prelude.{◌≡◌, ◌<◌, ◌^◌, IfOk};
+ghost use Rattle.std.specs.Prelude.{◌≡◌, ◌<◌, ◌^◌, All, IfOk};
 ghost use Rattle.sync_record.specs.Records.{kind_of};
-ghost use Rattle.sync_record.specs.Validity.{IsKept, FitsFileInfo, is_valid};
+ghost use Rattle.sync_record.specs.Validity.{IsKept, FitsBlockInfo, FitsFileInfo, is_valid};
 
 use crate::Kind;
 use crate::fields::Fields;
+use crate::same::same_numbers;
 use std::alloc::{AllocError, Global};
 use std::marker::Model;
 use std::sync::Arc;
@@ -43,10 +44,12 @@ impl Record {
         sequence: u64,
         fields: Fields,
     ) -> Result<Record, AllocError>
-        requires kept { IsKept (record fields { sequence = sequence }) }
-        requires fits { FitsFileInfo (record fields { sequence = sequence }) }
+        requires sequence { sequence < 2 ^ 63 }
+        requires kept { IsKept fields }
+        requires blocks { All FitsBlockInfo fields.blocks }
         ensures { IfOk result (λ r. r ≡ record fields { sequence = sequence }) }
     {
+        fields.is_named();
         Ok(Record {
             sequence,
             fields: Arc::new(alloc, fields)?,
@@ -156,6 +159,13 @@ impl Record {
         })
     }
 
+    // Where a symlink leads, as it was announced.
+    pub(crate) fn symlink_target(&self) -> &[u8]
+        ensures { result.now ≡ self.now.symlink_target }
+    {
+        self.fields.symlink_target.as_slice()
+    }
+
     // What holds of every record.
     pub(crate) fn is_kept(&self)
         ensures kept { IsKept self.now }
@@ -163,4 +173,29 @@ impl Record {
     {
         let _ = &self.fields;
     }
+}
+
+impl PartialEq for Record {
+    ghost use Rattle.std.specs.Cmp.{partial_equiv_from_equiv};
+    ghost use Rattle.sync_record.specs.Same.{same_record, same_record_equiv};
+
+    ghost eq = { same_record };
+
+    ghost laws = { partial_equiv_from_equiv same_record_equiv };
+
+    /// Whether both have the same value in every field. Does not allocate. O(n) for n bytes of names and symlink targets,
+    /// counters and blocks; the numbers and flags are compared first.
+    fn eq(&self, other: &Record) -> bool {
+        same_numbers(self, other)
+            && self.name() == other.name()
+            && self.version() == other.version()
+            && self.symlink_target() == other.symlink_target()
+            && self.blocks() == other.blocks()
+    }
+}
+
+impl Eq for Record {
+    ghost use Rattle.sync_record.specs.Same.{same_record_equiv};
+
+    ghost laws = { same_record_equiv };
 }

@@ -1,12 +1,17 @@
 //! Records of messages, ranked and put together. The messages are bytes by the protocol's table of FileInfo; digests are
 //! FIPS 180-4's example and that of `sha256sum`. Each allocation may fail once (`tools/refusals`): then the call is
 //! made again.
-use crate::{Assembled, Assembly, DeviceId, Kind, Put, Record, preferred, same_content};
-use bep_messages::{FileInfo, ProtoMessage};
+use crate::file::describes_file;
+use crate::{
+    Assembled, Assembly, Block, DeviceId, Edit, Kind, Put, Record, SafeName, preferred,
+    same_content,
+};
+use bep_messages::{FileInfo, Items, ProtoMessage};
 use std::alloc::{AllocError, Global};
 use std::process::Abort;
 use std::test::Fail;
 use sync_names::NameFault;
+use sync_version::Version;
 
 /// SHA-256 of "abc".
 const ABC: [u8; 32] = [
@@ -280,6 +285,152 @@ fn blocks_tell_files_apart(rt: HostRuntime) -> Result<(), Fail> {
 }
 
 #[test]
+fn records_are_the_same_if_each_field_is(rt: HostRuntime) -> Result<(), Fail> {
+    // the name, the type, the permissions, the second, deleted, invalid, no_permissions, the version, the sequence, the
+    // nanosecond, modified_by, the block size, the symlink target
+    let table: [&[u8]; 13] = [
+        &[0x0a, 1, b'y'],
+        &[0x10, 1],
+        &[0x20, 5],
+        minus_one!(0x28),
+        &[0x30, 1],
+        &[0x38, 1],
+        &[0x40, 1],
+        &[0x4a, 6, 0x0a, 4, 0x08, 1, 0x10, 1],
+        &[0x50, 1],
+        &[0x58, 1],
+        &[0x60, 1],
+        &[0x68, 0x80, 0x80, 0x10],
+        &[0x8a, 1, 1, 1],
+    ];
+    let empty = read(rt.alloc(), &[], &[])?;
+    for fields in table {
+        let other = read(rt.alloc(), fields, &[])?;
+        let again = read(rt.alloc(), fields, &[])?;
+        assert!(rt; empty != other, "of {fields:?}");
+        assert!(rt; other != empty, "of {fields:?}");
+        assert!(rt; other == again, "of {fields:?}");
+    }
+    let deleted = read(rt.alloc(), &[0x30, 1], &[])?;
+    let of_size_3 = read(rt.alloc(), &[0x30, 1, 0x18, 3], &[])?;
+    assert!(rt; deleted != of_size_3);
+    Ok(())
+}
+
+#[test]
+fn the_same_records_have_the_same_blocks(rt: HostRuntime) -> Result<(), Fail> {
+    let record = read(rt.alloc(), FIELDS, &[(THREE, &ABC)])?;
+    let again = read(rt.alloc(), FIELDS, &[(THREE, &ABC)])?;
+    let other = read(rt.alloc(), FIELDS, &[(THREE, &ZEROS)])?;
+    assert!(rt; record == again);
+    assert!(rt; record == record.copy()?);
+    assert!(rt; record != other);
+    assert!(rt; record != again.with_sequence(8));
+    Ok(())
+}
+
+/// Device 7's edit at 5 s and 6 ns, after which the version is 7:2.
+fn edit(alloc: Global) -> Result<Edit, AllocError> {
+    Ok(Edit {
+        version: Version::from_counters(alloc, &[(7, 2)])?,
+        modified_s: 5,
+        modified_by: 7,
+        modified_ns: 6,
+    })
+}
+
+fn directory_once(alloc: Global) -> Result<Record, NameFault> {
+    let name = SafeName::parse(alloc, "d")?;
+    Ok(Record::directory(alloc, name, edit(alloc)?)?)
+}
+
+#[test]
+fn a_directory_is_announced(rt: HostRuntime) -> Result<(), Fail> {
+    let alloc = rt.alloc();
+    let made = match directory_once(alloc) {
+        Err(_) => directory_once(alloc)?,
+        Ok(made) => made,
+    };
+    let want = [
+        0x0a, 1, b'd', 0x10, 1, 0x28, 5, 0x40, 1, 0x4a, 6, 0x0a, 4, 0x08, 7, 0x10, 2, 0x58, 6,
+        0x60, 7, 0x68, 0x80, 0x80, 0x08,
+    ];
+    assert_eq!(rt; written(alloc, &made)?.as_slice(), want.as_slice());
+    Ok(())
+}
+
+/// A file of the 3 bytes "abc", of block size 262,144.
+fn file_once(alloc: Global) -> Result<Option<Record>, NameFault> {
+    let name = SafeName::parse(alloc, "f")?;
+    let block = Block {
+        offset: 0,
+        size: 3,
+        hash: ABC,
+    };
+    let mut blocks = Items::new(alloc);
+    blocks.push(block)?;
+    if !describes_file(3, 262_144, blocks.as_slice()) {
+        return Ok(None);
+    }
+    let edit = edit(alloc)?;
+    Ok(Some(Record::file(alloc, name, 3, 262_144, blocks, edit)?))
+}
+
+#[test]
+fn a_file_is_announced(rt: HostRuntime) -> Result<(), Fail> {
+    let alloc = rt.alloc();
+    let made = match file_once(alloc) {
+        Err(_) => file_once(alloc)?,
+        Ok(made) => made,
+    };
+    let made = made.expect(&rt, "the block makes up the file");
+    let fields = [
+        0x0a, 1, b'f', 0x18, 3, 0x28, 5, 0x40, 1, 0x4a, 6, 0x0a, 4, 0x08, 7, 0x10, 2, 0x58, 6,
+        0x60, 7, 0x68, 0x80, 0x80, 0x10,
+    ];
+    assert!(rt; made == read(alloc, &fields, &[(THREE, &ABC)])?);
+    assert!(rt; made.is_valid());
+    Ok(())
+}
+
+#[test]
+fn a_deletion_is_announced(rt: HostRuntime) -> Result<(), Fail> {
+    let alloc = rt.alloc();
+    // permissions 420, invalid, sequence 9, modified by another device at -1 s, the symlink target 1
+    let fields = [
+        0x18, 3, 0x20, 0xa4, 0x03, 0x28, 0xff, 0xff, 0xff, 0xff, 0xff, 0xff, 0xff, 0xff, 0xff,
+        0x01, 0x38, 1, 0x50, 9, 0x60, 4, 0x68, 0x80, 0x80, 0x10, 0x8a, 1, 1, 1,
+    ];
+    let record = read(alloc, &fields, &[(THREE, &ABC)])?;
+    let deletion = match record.deletion(edit(alloc)?) {
+        Err(_) => record.deletion(edit(alloc)?)?,
+        Ok(deletion) => deletion,
+    };
+    let want = [
+        0x28, 5, 0x30, 1, 0x40, 1, 0x4a, 6, 0x0a, 4, 0x08, 7, 0x10, 2, 0x50, 9, 0x58, 6, 0x60, 7,
+        0x68, 0x80, 0x80, 0x10, 0x8a, 1, 1, 1,
+    ];
+    assert!(rt; deletion == read(alloc, &want, &[])?);
+    assert!(rt; deletion.is_valid());
+    Ok(())
+}
+
+#[test]
+fn a_record_is_given_a_version(rt: HostRuntime) -> Result<(), Fail> {
+    let alloc = rt.alloc();
+    let record = read(alloc, FIELDS, &[(THREE, &ABC)])?;
+    let given = match record.with_version(edit(alloc)?.version) {
+        Err(_) => record.with_version(edit(alloc)?.version)?,
+        Ok(given) => given,
+    };
+    assert_eq!(rt; given.version().counters(), [(7, 2)].as_slice());
+    assert_eq!(rt; record.version().counters(), [(1, 3), (2, 7)].as_slice());
+    let back = given.with_version(record.version().copy()?)?;
+    assert!(rt; back == record);
+    Ok(())
+}
+
+#[test]
 fn the_first_difference_decides(rt: HostRuntime) -> Result<(), Fail> {
     // the first of each pair is of device 2, the second of device 1, but in the last one
     let table: [(&[u8], &[u8], u8); 11] = [
@@ -404,8 +555,12 @@ fn plain_targets_need_no_blocks(rt: HostRuntime) -> Result<(), Fail> {
         let target = read(rt.alloc(), fields, &[])?;
         if target.is_deleted() || target.kind() == Kind::Directory {
             let plain = Assembled::plain(target);
-            let name = plain.target().name() == plain.target().name();
-            assert_eq!(rt; plain.into_target().name().as_str() == "x", name);
+            let copied = plain.copy()?;
+            assert!(rt; copied == plain);
+            drop(plain);
+            assert_eq!(rt; copied.target().name().as_str(), "x");
+            assert!(rt; copied != Assembled::plain(copied.target().copy()?.with_sequence(1)));
+            assert_eq!(rt; copied.into_target().sequence(), 0);
         } else {
             return Err(Fail::from("it is neither"));
         }

@@ -1,6 +1,8 @@
 //! The merge of a message with the list of a folder.
 ghost use Rattle.std.specs.Prelude.{◌≡◌, ◌+◌, ◌<◌, ◌≤◌, [], ◌∷◌, ◌++◌, length, map, reverse, option_copied, MatchOption, IfSome, vec_len, vec_capacity};
-ghost use Rattle.std.specs.Ordering.{is_gt};
+ghost use Rattle.std.specs.FinMap.{put};
+ghost use Rattle.std.specs.List.{insert};
+ghost use Rattle.std.specs.Ordering.{is_gt, is_lt};
 ghost use Rattle.std.specs.declared.cmp.Ordering.TheVariants.{Less};
 ghost use Rattle.folder_core.specs.Announced.{key, key_cmp};
 ghost use Rattle.folder_core.specs.Plain.{filed, filed_by, put_all, NamesRise, Rises};
@@ -69,6 +71,48 @@ fn move_greater(
             room.push_reserved(entry);
         }
     }
+}
+
+/// Puts a device's record among the entries, in its place and in place of the device's record of its name. Does not
+/// allocate. O(log n + t) for n entries, t of them after the place.
+pub(super) fn put(entries: &mut Vec<Entry>, device: DeviceId, announced: Record)
+    requires rises { Rises entries.old.items }
+    requires fits { vec_len entries.old < vec_capacity entries.old }
+    ensures placed { map filed entries.new.items ≡ put key_cmp (key announced.name device) announced (map filed entries.old.items) }
+    ensures len { vec_len entries.new ≤ vec_len entries.old + 1 }
+    ensures capacity { vec_capacity entries.new ≡ vec_capacity entries.old }
+{
+    let place = entries.partition_point(|entry| is_less(entry, device, &announced));
+    let order = order(entries.get(place), device, &announced);
+    let entry = Entry {
+        device,
+        record: announced,
+    };
+    match order {
+        Ordering::Less => insert_reserved(entries, place, entry),
+        Ordering::Equal => entries[place] = entry,
+        Ordering::Greater => insert_reserved(entries, place, entry),
+    }
+}
+
+/// Inserts an entry at a place, where there is room for it. Does not allocate.
+fn insert_reserved(entries: &mut Vec<Entry>, place: usize, entry: Entry)
+    requires place { place ≤ vec_len entries.old }
+    requires fits { vec_len entries.old < vec_capacity entries.old }
+    ensures items { entries.new.items ≡ insert entries.old.items place entry }
+    ensures len { vec_len entries.new ≡ vec_len entries.old + 1 }
+    ensures capacity { vec_capacity entries.new ≡ vec_capacity entries.old }
+{
+    if entries.insert(place, entry).is_err() {
+        unreachable!()
+    }
+}
+
+/// Whether an entry is before what the device announces, by name and then by device.
+fn is_less(entry: &Entry, device: DeviceId, announced: &Record) -> bool
+    ensures { result ≡ is_lt (key_cmp (filed entry.now).0 (key announced.now.name device)) }
+{
+    order(Some(entry), device, announced) == Ordering::Less
 }
 
 /// Whether an entry is after what the device announces, by name and then by device.

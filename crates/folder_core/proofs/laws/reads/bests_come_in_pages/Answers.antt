@@ -6,6 +6,7 @@ use Rattle.std.proofs.lemmas.List.{length-take}
 use Rattle.sync_record.specs.Devices.{bytes_cmp}
 use Rattle.folder_core.specs.Reads.{Found, bests_after}
 use Rattle.folder_core.proofs.BestPages.{bests_after-none, bests-page_end, bests-page_has, bests-page_of, bests-page_rises, pages-together}
+use Rattle.folder_core.proofs.ReadWhole.{bests-whole, some-pages}
 use Rattle.folder_core.proofs.laws.reads.bests_come_in_pages.Goals as goal
 
 pub returns-clause-rise : goal.returns-clause-rise
@@ -27,3 +28,11 @@ returns-clause-end c = λ s after limit n one e after_it. bests-page_end s after
 
 pub returns-clause-together : goal.returns-clause-together
 returns-clause-together c = λ s limit pages folder read. pages-together s folder.named limit _ pages read ∙ bests_after-none s
+
+pub returns-clause-whole : goal.returns-clause-whole
+returns-clause-whole c = λ s after limit page folder rise few.
+    let cut = length-take limit (bests_after s after) in
+    bests-whole s after limit page folder.named rise few (omega arith)
+
+pub returns-clause-pages : goal.returns-clause-pages
+returns-clause-pages c = λ s limit folder one. some-pages s folder.named limit one

@@ -5,6 +5,7 @@ use Rattle.std.specs.declared.cmp.Ordering.TheVariants.{Less}
 use Rattle.sync_record.specs.Devices.{bytes_cmp}
 use Rattle.sync_record.specs.Records.{Name}
 use Rattle.folder_core.proofs.ReadAnswers.{need-page_rises, need-page_fits, need-page_of, need-page_has}
+use Rattle.folder_core.proofs.ReadWhole.{need-whole}
 use Rattle.folder_core.proofs.laws.reads.needed_names_come_in_pages.Goals as goal
 
 pub returns-clause-rise : goal.returns-clause-rise
@@ -17,3 +18,6 @@ returns-clause-only c = λ s after limit names n e listed. need-page_of s after 
 pub returns-clause-all : goal.returns-clause-all
 returns-clause-all c = λ s after limit names n e needed after_it.
     subst (λ ns. Contains ns n ⊎ ((length ns ≡ limit) × ((m : Name) → Contains ns m → bytes_cmp m n ≡ Less))) (sym e) (need-page_has s after limit n needed after_it)
+
+pub returns-clause-whole : goal.returns-clause-whole
+returns-clause-whole c = need-whole

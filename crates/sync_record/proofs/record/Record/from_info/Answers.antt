@@ -1,7 +1,6 @@
 use Rattle.std.proofs.Common.{◌≡◌, ◌∙◌, ℕ, Bool, true, false, List, [], map, if◌then◌else◌, Option, Some, None, Result, Ok, Err, IfSome, ap, refl, sym, subst}
 use Rattle.sync_names.specs.declared.fault.NameFault.{NameFault}
 use Rattle.sync_names.specs.Refusal.{refusal, shape_refusal}
-use Rattle.sync_names.specs.Safe.{IsSafe}
 use Rattle.sync_version.specs.Versions.{Vector}
 use Rattle.sync_blocks.specs.declared.block.Block.{Block}
 use Rattle.bep_messages.specs.declared.block_info.BlockInfo.{BlockInfo}
@@ -72,18 +71,18 @@ made info name text version counters content plain infos sequence p =
     let kept : content ≡ content_of (plain_of info) info.blocks = p.content_is ∙ (λ i. content_of (p.plain_is i) (p.infos_are i)) in
     (λ i. with_content (named i) (counted i) info.symlink_target (p.sequence_is i) (kept i)) ∙ content_is info
 
+-- no fact of what is kept is of the sequence
+unnumbered : (r : FileRecord) → IsKept r → IsKept (record r { sequence = 0 })
+unnumbered r k = record { marked = k.marked; blocks = k.blocks; block_size = k.block_size }
+
 pub from_fields-requires : goal.from_fields-requires
 from_fields-requires c = record {
+  sequence = c.read_sequence-sequence.ensures.fits;
   kept =
-      subst IsKept (sym (made c.args.info _ _ _ _ _ _ _ _
-      (record { name_is = c.in_ok-name.ensures.answer.1; text_is = c.into_string.ensures; version_is = c.in_ok-version.ensures.value; counters_are = c.as_slice.ensures; content_is = c.in_ok-plain.ensures.value; plain_is = c.read_plain-plain.ensures; infos_are = c.as_slice-2.ensures; sequence_is = c.read_sequence-sequence.ensures.value })))
-      (kept c.args.info);
-  fits = record {
-    name = subst IsSafe (sym c.in_ok-name.ensures.answer.1) c.in_ok-name.ensures.safe;
-    version = c.in_ok-version.ensures.canonical;
-    sequence = c.read_sequence-sequence.ensures.fits;
-    blocks = c.in_ok-plain.ensures.fit;
-  };
+      let value = made c.args.info _ _ _ _ _ _ _ _
+      (record { name_is = c.in_ok-name.ensures.answer.1; text_is = c.into_string.ensures; version_is = c.in_ok-version.ensures.value; counters_are = c.as_slice.ensures; content_is = c.in_ok-plain.ensures.value; plain_is = c.read_plain-plain.ensures; infos_are = c.as_slice-2.ensures; sequence_is = c.read_sequence-sequence.ensures.value }) in
+      subst IsKept (sym (ap (λ (r : FileRecord). record r { sequence = 0 }) value)) (unnumbered (record_of c.args.info) (kept c.args.info));
+  blocks = c.in_ok-plain.ensures.fit;
 }
 
 pub returns-clause-answer : goal.returns-clause-answer
