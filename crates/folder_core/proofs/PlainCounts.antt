@@ -1,5 +1,5 @@
 -- What the plain folder counts is what the folder has.
-use Rattle.std.proofs.Common.{◌≡◌, ℕ, Bool, List, [], ◌∷◌, length, refl, sym, ap, ◌∙◌}
+use Rattle.std.proofs.Common.{◌≡◌, ℕ, Bool, List, length, refl, sym, ap, ◌∙◌}
 use Rattle.std.specs.Prelude.{◌&&◌, count_by, filter, map, not}
 use Rattle.std.specs.Bool.{passes}
 use Rattle.std.specs.FinMap.{entries, entries-from_sorted, len, len-entries}

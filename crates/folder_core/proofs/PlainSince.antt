@@ -1,11 +1,10 @@
 -- Pages of local records, as the plain folder finds them.
-use Rattle.std.proofs.Common.{◌≡◌, ℕ, zero, suc, ◌+◌, ◌-◌, ◌^◌, ◌<◌, ◌≤◌, min, Bool, true, false, List, [], ◌∷◌, ◌++◌, length, take, drop, get_or, append-nil, refl, sym, ap, subst, ◌∙◌, arith, ◌⊎◌, inl, inr, Bor}
-use Rattle.std.specs.Prelude.{◌&&◌, ◌||◌, cond, filter, fold, map, nat_le, nat_lt, sum_by}
+use Rattle.std.proofs.Common.{◌≡◌, ℕ, zero, suc, ◌+◌, ◌-◌, ◌^◌, ◌<◌, ◌≤◌, min, Bool, true, false, List, [], ◌∷◌, ◌++◌, length, take, get_or, append-nil, refl, sym, ap, subst, ◌∙◌, arith, ◌⊎◌, inl, inr, Bor}
+use Rattle.std.specs.Prelude.{◌&&◌, ◌||◌, cond, filter, fold, map, nat_le, nat_lt}
 use Rattle.std.specs.BTreeMap.{insert_entry}
 use Rattle.std.specs.FinMap.{put}
 use Rattle.std.specs.FinMap.Entries.{by_order}
 use Rattle.std.specs.Ordering.{match_ordering, nat_cmp}
-use Rattle.std.specs.declared.cmp.Ordering.{Ordering}
 use Rattle.std.specs.declared.cmp.Ordering.TheVariants.{Less, Equal, Greater}
 use Rattle.std.proofs.lemmas.Bool.{and_from, leb-false, leb-true, le-leb, true≢false}
 use Rattle.std.proofs.lemmas.List.{append_assoc, length-append, length-take, map-append, take_all, take_more, take-append-le}
@@ -20,7 +19,7 @@ use Rattle.folder_core.specs.PlainReads.{is_from, later_from, records_from}
 use Rattle.folder_core.specs.Reads.{by_sequence, fits_page, local_since, page_of}
 use Rattle.folder_core.proofs.ListTests.{In, in_filter, in_map}
 use Rattle.folder_core.proofs.PlainOwn.{locals_are, same_tests}
-use Rattle.folder_core.proofs.ReadPages.{blocks_of, fits-is, longest, page-is, Last}
+use Rattle.folder_core.proofs.ReadPages.{blocks_of, fits-is, longest, page-is}
 
 -- ---- the records under their sequences
 
@@ -126,9 +125,9 @@ page_at limit xs k le fits none =
     let same : k ≡ l.at =
     elim (nat_le l.at k) as (λ b. nat_le l.at k ≡ b → k ≡ l.at) [
       | true ↦ λ e. elim (nat_le k l.at) as (λ b. nat_le k l.at ≡ b → k ≡ l.at) [
-          | true ↦ λ f. (let a = leb-true l.at k e in let b = leb-true k l.at f in omega arith)
-          | false ↦ λ f. absurd (true≢false (sym fits ∙ l.rest k (leb-false k l.at f) (omega arith)))
-        ] refl
+        | true ↦ λ f. (let a = leb-true l.at k e in let b = leb-true k l.at f in omega arith)
+        | false ↦ λ f. absurd (true≢false (sym fits ∙ l.rest k (leb-false k l.at f) (omega arith)))
+      ] refl
       | false ↦ λ e. absurd (none l.at (leb-false l.at k e) (let b = l.below in omega arith) l.passes)
     ] refl in
     ap (λ n. take n xs) same ∙ sym (page-is limit xs)

@@ -29,6 +29,7 @@ greatest_sequence d es = fold max 0 (map (λ e. e.record.sequence) (filter (is_f
 abbrev pub block_from : Identity → List ℕ → Entry → Option Block
 block_from d hash e = if is_from d e && is_live_file e.record then find (λ b. bytes_eq b.hash hash) e.record.blocks else None
 
+-- where the block of the file is
 abbrev pub place : FileRecord → Block → Place
 place r b = record { name = r.name; offset = b.offset; size = b.size }
 
@@ -48,6 +49,7 @@ needed_of d es =
     option_and_then (λ b. if is_needed_over (record_from d es) b.record then Some b else None)
     (reduce better (filter (is_undominated es) es))
 
+-- the device's record of a name
 abbrev pub record_of : Identity → List Entry → Name → Option FileRecord
 record_of d es n = record_from d (filter (λ e. bytes_eq e.record.name n) es)
 

@@ -17,6 +17,8 @@ mod own;
 mod pull;
 mod scan;
 mod since;
+#[cfg(test)]
+mod tests;
 
 use crate::{Best, Counts, FolderCore, Place};
 use bep_messages::Items;

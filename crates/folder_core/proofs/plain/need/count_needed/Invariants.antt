@@ -7,7 +7,7 @@ abbrev pub invariant-loop-others : goal.invariant-loop-others
 invariant-loop-others l = record {
   counted : l.count + length (needed_names l.device l.rest) ≡ length (needed_names l.device l.fn.entries);
   rises : Rises l.rest;
-  fits : l.count + length l.rest ≤ length l.fn.entries
+  fits : l.count + length l.rest ≤ length l.fn.entries;
 }
 
 abbrev pub decreases-loop-others : goal.decreases-loop-others

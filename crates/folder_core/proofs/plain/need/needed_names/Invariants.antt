@@ -7,7 +7,7 @@ abbrev pub invariant-loop-rest : goal.invariant-loop-rest
 invariant-loop-rest l = record {
   page : l.names.items ++ take (l.limit - vec_len l.names) (needed_names l.device l.rest) ≡ take l.limit (needed_names l.device l.fn.entries);
   fits : vec_len l.names ≤ l.limit;
-  rises : Rises l.rest
+  rises : Rises l.rest;
 }
 
 abbrev pub decreases-loop-rest : goal.decreases-loop-rest

@@ -7,7 +7,7 @@ abbrev pub invariant-loop-first : goal.invariant-loop-first
 invariant-loop-first l = record {
   needed : needed_names l.device l.rest ≡ needed_names l.device l.fn.entries;
   rises : Rises l.rest;
-  no_more : length l.rest ≤ length l.fn.entries
+  no_more : length l.rest ≤ length l.fn.entries;
 }
 
 abbrev pub decreases-loop-first : goal.decreases-loop-first

@@ -1,14 +1,13 @@
-use Rattle.std.proofs.Common.{◌≡◌, ◌<◌, List, length, map, take, sym, ap, subst, ◌∙◌, arith}
+use Rattle.std.proofs.Common.{◌≡◌, List, map, take, sym, ap, subst, ◌∙◌, arith}
 use Rattle.std.specs.FinMap.{put}
 use Rattle.std.specs.Ordering.{nat_cmp}
 use Rattle.std.proofs.lemmas.Bool.{and_parts}
 use Rattle.std.proofs.lemmas.List.{take_all}
-use Rattle.sync_record.specs.Records.{FileRecord}
 use Rattle.folder_core.specs.declared.plain.entry.Entry.{Entry}
 use Rattle.folder_core.specs.PlainReads.{later_from}
 use Rattle.folder_core.specs.Reads.{by_sequence}
 use Rattle.folder_core.proofs.ListTests.{contains_in, In}
-use Rattle.folder_core.proofs.PlainSince.{inserted, later_in, later_more, later_same, sequenced, shown, values_shown}
+use Rattle.folder_core.proofs.PlainSince.{inserted, later_in, later_more, later_same, shown, values_shown}
 use Rattle.folder_core.proofs.plain.since.later_by_sequence.Goals as goal
 use Rattle.folder_core.proofs.plain.since.later_by_sequence.Goals.{then-is_later+in_ok-insert, else-is_later}
 

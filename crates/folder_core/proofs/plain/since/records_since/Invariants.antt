@@ -9,5 +9,5 @@ abbrev pub invariant-loop-record : goal.invariant-loop-record
 invariant-loop-record l = record {
   all : l.page.items ++ map seen l.record-iterator ≡ by_sequence (later_from l.fn.device l.fn.sequence l.fn.entries);
   fits : fits_page l.limit l.page.items ≡ true;
-  total : l.total ≡ blocks_of l.page.items
+  total : l.total ≡ blocks_of l.page.items;
 }
