@@ -50,3 +50,6 @@ pub mod PlainScan
 pub mod PlainChange
 pub mod PlainOwn
 pub mod PlainPlaces
+pub mod PlainNeed
+pub mod PlainCounts
+pub mod PlainSince

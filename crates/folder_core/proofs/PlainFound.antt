@@ -77,7 +77,7 @@ module _ (n : Name) (es : List Entry) (rises : Rises es) where
   abbrev pub named_entries : List Entry
   named_entries = filter (is_named n) es
 
-  group_is : filter (is_of n) (map filed es) ≡ map filed named_entries
+  pub group_is : filter (is_of n) (map filed es) ≡ map filed named_entries
   group_is = filter_map filed (is_of n) es
 
   sorted : T (is_sorted key_cmp (map filed named_entries))
@@ -86,7 +86,7 @@ module _ (n : Name) (es : List Entry) (rises : Rises es) where
   named : (e : Announcement) → In e (map filed named_entries) → e.0.name ≡ n
   named e i = same_bytes e.0.name n (of_filter (is_of n) (map filed es) e (subst (In e) (sym group_is) i)).1
 
-  best_is : best (map filed es) n ≡ option_map filed (reduce better (filter (is_undominated named_entries) named_entries))
+  pub best_is : best (map filed es) n ≡ option_map filed (reduce better (filter (is_undominated named_entries) named_entries))
   best_is =
       sym (best_in_group n (map filed es))
       ∙ ap (λ g. best g n) group_is
@@ -161,7 +161,7 @@ alone_best e valid =
 -- ---- the bests of a list, name by name
 
 -- of rising names one at most is this one
-only_of : (n : Name) (bs : List Announcement) → Rising bs → filter (is_of n) bs ≡ option_to_list (find (is_of n) bs)
+pub only_of : (n : Name) (bs : List Announcement) → Rising bs → filter (is_of n) bs ≡ option_to_list (find (is_of n) bs)
 only_of n [] rise = refl
 only_of n (b ∷ bs) rise =
     elim (is_of n b) as (λ t. is_of n b ≡ t → cond t (b ∷ filter (is_of n) bs) (filter (is_of n) bs) ≡ option_to_list (cond t (Some b) (find (is_of n) bs))) [
@@ -171,7 +171,7 @@ only_of n (b ∷ bs) rise =
     ] refl
 
 module _ (es : List Entry) (rises : Rises es) where
-  rising : Rising (bests (map filed es))
+  pub rising : Rising (bests (map filed es))
   rising = subst (λ xs. Rising (bests xs)) (entries-from_sorted key_cmp (map filed es) (passes _ rises)) (bests-rising (from_sorted (map filed es)))
 
   pub listed_group : (n : Name) → listed_bests (filter (is_named n) es) ≡ option_to_list (group_best (filter (is_named n) es))
@@ -234,13 +234,13 @@ module _ (e : Entry) (es : List Entry) (rises : Rises (e ∷ es)) where
       late Equal is l = ap is_lt (nat_list_cmp_total.antisymm x.record.name e.record.name ∙ ap ordering_reverse is)
       late Greater is l = absurd (true≢false (sym (ap is_lt l)))
 
-  parted : IsPartitionedBy (is_named e.record.name) (e ∷ es)
+  pub parted : IsPartitionedBy (is_named e.record.name) (e ∷ es)
   parted = partitioned (λ x. is_before e.record.name x ≡ false) (is_named e.record.name) (λ x y. named_down e.record.name x y) (e ∷ es) rises not_before
 
   pub group_front : take count (e ∷ es) ≡ filter (is_named e.record.name) (e ∷ es)
   group_front = prefix_passes (is_named e.record.name) (e ∷ es) parted
 
-  others_after : drop count (e ∷ es) ≡ filter (λ x. not (is_named e.record.name x)) (e ∷ es)
+  pub others_after : drop count (e ∷ es) ≡ filter (λ x. not (is_named e.record.name x)) (e ∷ es)
   others_after = after_prefix (is_named e.record.name) (e ∷ es) parted
 
   pub first_listed : listed_bests (e ∷ es) ≡ option_to_list (group_best (take count (e ∷ es))) ++ listed_bests (drop count (e ∷ es))

@@ -30,11 +30,11 @@ module _ {X : Type 0} (p : X → Bool) (f : ℕ → X) where
   passing n = filter p (map f (range_with_len 0 n))
 
   pub record Last (n : ℕ) : Type 0 where
-    at : ℕ
-    below : at < n
-    last : last_or None (passing n) ≡ Some (f at)
-    passes : p (f at) ≡ true
-    rest : (j : ℕ) → at < j → j < n → p (f j) ≡ false
+    pub at : ℕ
+    pub below : at < n
+    pub last : last_or None (passing n) ≡ Some (f at)
+    pub passes : p (f at) ≡ true
+    pub rest : (j : ℕ) → at < j → j < n → p (f j) ≡ false
 
   one-more : (n : ℕ) → passing (n + 1) ≡ passing n ++ cond (p (f n)) (f n ∷ []) []
   one-more n = filter_of_map_range_with_len_more p f 0 n n (omega arith)
@@ -97,7 +97,7 @@ module _ (limit : ℕ) (xs : List FileRecord) where
   pub page-is : page_of limit xs ≡ take longest.at xs
   page-is = ap (λ o. unwrap_or o []) longest.last
 
-fits-is : (limit : ℕ) (rs : List FileRecord) → fits_page limit rs ≡ true → (length rs ≤ limit) × ((blocks_of rs ≤ 1000000) ⊎ (length rs ≤ 1))
+pub fits-is : (limit : ℕ) (rs : List FileRecord) → fits_page limit rs ≡ true → (length rs ≤ limit) × ((blocks_of rs ≤ 1000000) ⊎ (length rs ≤ 1))
 fits-is limit rs e = let t = and_parts _ _ e in (leb-true (length rs) limit t.0, by (or_cases _ _ t.1))
   where
     by : (nat_le (blocks_of rs) 1000000 ≡ true) ⊎ (nat_le (length rs) 1 ≡ true) → (blocks_of rs ≤ 1000000) ⊎ (length rs ≤ 1)

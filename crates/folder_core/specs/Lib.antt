@@ -8,6 +8,7 @@ pub mod Histories
 pub mod Shared
 -- how calls say the rules, and how a proof compares states
 pub mod Calls
+pub mod Runs
 pub mod Faults
 pub mod Codes
 -- the plain folder's own words

@@ -1,10 +1,14 @@
 -- What the reads of `PlainFolder` find in its list of entries.
-use Rattle.std.specs.Prelude.{bytes_eq, ℕ, Bool, ◌&&◌, if◌then◌else◌, List, map, filter, find, flat_map, fold, max, Option, None, option_map}
+use Rattle.std.specs.Prelude.{bytes_eq, ℕ, Bool, ◌&&◌, ◌||◌, not, nat_lt, if◌then◌else◌, List, map, filter, find, flat_map, fold, max, Option, Some, None, is_some, option_and_then, option_map}
+use Rattle.std.specs.List.{reduce}
 use Rattle.folder_core.specs.declared.plain.entry.Entry.{Entry}
 use Rattle.folder_core.specs.declared.place.Place.{Place}
 use Rattle.sync_blocks.specs.declared.block.Block.{Block}
 use Rattle.sync_record.specs.Devices.{Identity}
-use Rattle.sync_record.specs.Records.{FileRecord, is_live_file}
+use Rattle.sync_record.specs.Records.{Name, FileRecord, is_live, is_live_file}
+use Rattle.folder_core.specs.Announced.{bests}
+use Rattle.folder_core.specs.Plain.{better, filed, is_undominated}
+use Rattle.folder_core.specs.States.{same_local_version}
 
 abbrev pub is_from : Identity → Entry → Bool
 is_from d e = bytes_eq e.device d
@@ -25,6 +29,7 @@ greatest_sequence d es = fold max 0 (map (λ e. e.record.sequence) (filter (is_f
 abbrev pub block_from : Identity → List ℕ → Entry → Option Block
 block_from d hash e = if is_from d e && is_live_file e.record then find (λ b. bytes_eq b.hash hash) e.record.blocks else None
 
+-- where the block of the file is
 abbrev pub place : FileRecord → Block → Place
 place r b = record { name = r.name; offset = b.offset; size = b.size }
 
@@ -32,3 +37,27 @@ place r b = record { name = r.name; offset = b.offset; size = b.size }
 abbrev pub places_from : Identity → List ℕ → List Entry → List Place
 places_from d hash es =
     flat_map (λ r. map (place r) (filter (λ b. bytes_eq b.hash hash) r.blocks)) (filter is_live_file (records_from d es))
+
+-- whether a best is needed by a device of which this is the own record
+abbrev pub is_needed_over : Option FileRecord → FileRecord → Bool
+is_needed_over own b =
+    not (same_local_version (option_map (λ r. r.version) own) (Some b.version)) && (is_live b || is_some own)
+
+-- of entries of one name: the best, if the device needs it
+abbrev pub needed_of : Identity → List Entry → Option Entry
+needed_of d es =
+    option_and_then (λ b. if is_needed_over (record_from d es) b.record then Some b else None)
+    (reduce better (filter (is_undominated es) es))
+
+-- the device's record of a name
+abbrev pub record_of : Identity → List Entry → Name → Option FileRecord
+record_of d es n = record_from d (filter (λ e. bytes_eq e.record.name n) es)
+
+-- the names whose best the device needs, in byte order
+abbrev pub needed_names : Identity → List Entry → List Name
+needed_names d es =
+    map (λ b. b.0.name) (filter (λ b. is_needed_over (record_of d es b.0.name) b.1) (bests (map filed es)))
+
+-- the device's records of greater sequence
+abbrev pub later_from : Identity → ℕ → List Entry → List FileRecord
+later_from d sequence es = filter (λ r. nat_lt sequence r.sequence) (records_from d es)

@@ -1,10 +1,10 @@
 ghost use Rattle.std.specs.Prelude.{◌≡◌, ◌≢◌, IfOk, IsTrue, map, option_copied, option_map};
 ghost use Rattle.folder_core.specs.States.{FolderState, IsFolder, local};
 ghost use Rattle.folder_core.specs.Steps.{Forget, IndexFull, IndexMore, ScanFound, ScanGone, is_found};
-ghost use Rattle.folder_core.specs.Reads.{IsPlaceFound, best_found, bests_page, known};
+ghost use Rattle.folder_core.specs.Reads.{IsPlaceFound, best_found, bests_page, counts, known, local_since, need_page};
 ghost use Rattle.folder_core.specs.Calls.{Changes, index_answer, scan_answer};
 
-use crate::{Best, Finding, Place, ScanAnswer, ScanFault};
+use crate::{Best, Counts, Finding, Place, ScanAnswer, ScanFault};
 use bep_messages::Items;
 use std::alloc::AllocError;
 use sync_names::SafeName;
@@ -78,6 +78,18 @@ pub trait FolderCore {
     fn local(&self, name: &SafeName) -> Result<Option<Record>, AllocError>
         ensures { IfOk result (λ r. r ≡ local (state self.now) name.now) };
 
+    /// The names greater than `after`, or all names where it is `None`, that this device needs, in byte order: those whose
+    /// best is of another version than the local record, and those without a local record unless the best is deleted. The
+    /// first `limit` of them, or all where there are fewer. Returns `Err` only if out of memory.
+    fn need(&self, after: Option<&SafeName>, limit: usize) -> Result<Items<SafeName>, AllocError>
+        ensures { IfOk result (λ names. names ≡ need_page (state self.now) (option_copied after.entry) limit) };
+
+    /// The local records of greater sequence, in rising sequence: the first `limit` of them, but no more than have
+    /// 1,000,000 blocks together, except that one record may have any number; or all where there are fewer. Returns `Err`
+    /// only if out of memory.
+    fn local_since(&self, sequence: u64, limit: usize) -> Result<Items<Record>, AllocError>
+        ensures { IfOk result (λ page. page ≡ local_since (state self.now) sequence limit) };
+
     /// A place of the block with this SHA-256 digest in a live local file, if there is one. Returns `Err` only if out of
     /// memory.
     fn find_block(&self, hash: &[u8; 32]) -> Result<Option<Place>, AllocError>
@@ -87,4 +99,8 @@ pub trait FolderCore {
     /// allocate.
     fn known(&self, device: DeviceId) -> u64
         ensures { result ≡ known (state self.now) device };
+
+    /// How much the folder has. Does not allocate.
+    fn counts(&self) -> Counts
+        ensures { result ≡ counts (state self.now) };
 }

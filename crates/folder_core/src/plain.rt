@@ -1,33 +1,41 @@
 //! A folder as one list in order.
 ghost use Rattle.std.specs.Prelude.{◌≡◌, ◌≢◌, ◌+◌, ◌<◌, ◌≤◌, [], IfOk, IsOk, IsTrue, None, map, option_copied, option_map, vec_len, vec_capacity};
 ghost use Rattle.folder_core.specs.Calls.{Changes, index_answer, may_allocate, scan_answer};
-ghost use Rattle.folder_core.specs.Reads.{IsPlaceFound, best_found, bests_page, known, places};
+ghost use Rattle.folder_core.specs.Reads.{IsPlaceFound, best_found, bests_page, counts, known, local_since, need_page, places};
 ghost use Rattle.folder_core.specs.Plain.{commits};
 ghost use Rattle.folder_core.specs.States.{empty_folder, local};
 ghost use Rattle.folder_core.specs.Steps.{Forget, IndexFull, IndexMore, ScanFound, ScanGone, is_found, step};
 
+mod count;
 mod entry;
 mod find;
 mod group;
 mod merge;
 mod message;
+mod need;
 mod own;
 mod pull;
 mod scan;
+mod since;
+#[cfg(test)]
+mod tests;
 
-use crate::{Best, Finding, FolderCore, Place, ScanAnswer, ScanFault};
+use crate::{Best, Counts, Finding, FolderCore, Place, ScanAnswer, ScanFault};
 use bep_messages::Items;
+use count::{deletions, live_directories, live_files, records_of_others};
 use entry::Entry;
 use find::place_of;
 use group::{best_with_devices, bests_of, entries_after, entries_of};
 use merge::merge;
 use message::last_of_each_name;
+use need::{count_needed, needed_names};
 use own::{copy_from, greatest_sequence, record_from};
 use pull::OpenPull;
 use scan::{
     found_record, gone_record, is_gone, is_same, next_version, put_next, scan_answer,
     scan_obstacle, version_of,
 };
+use since::records_since;
 use std::alloc::{AllocError, Global};
 use std::marker::Model;
 use sync_names::SafeName;
@@ -229,6 +237,28 @@ impl FolderCore for PlainFolder {
         copy_from(entries_of(self.entries.as_slice(), name), self.me)
     }
 
+    /// O(log n) for n records kept, and O(k^2) for each name up to the last one of the page, with k devices that announce
+    /// it, and the copies of the names. An empty page does not allocate.
+    fn need(&self, after: Option<&SafeName>, limit: usize) -> Result<Items<SafeName>, AllocError>
+        ensures page { IfOk result (λ names. names ≡ need_page self.now (option_copied after.entry) limit) }
+        ensures none { need_page self.now (option_copied after.entry) limit ≡ [] → IsOk result }
+    {
+        let rest = entries_after(self.entries.as_slice(), after);
+        let names = needed_names(*self.entries.allocator(), rest, self.me, limit)?;
+        Ok(Items::from_vec(names))
+    }
+
+    /// O(n + m log m) for n records kept and m local ones of greater sequence. Those of the page are not copied but shared.
+    /// An empty page does not allocate.
+    fn local_since(&self, sequence: u64, limit: usize) -> Result<Items<Record>, AllocError>
+        ensures page { IfOk result (λ page. page ≡ local_since self.now sequence limit) }
+        ensures none { local_since self.now sequence limit ≡ [] → IsOk result }
+    {
+        let alloc = *self.entries.allocator();
+        let page = records_since(alloc, self.entries.as_slice(), self.me, sequence, limit)?;
+        Ok(Items::from_vec(page))
+    }
+
     /// O(n + b) for n records kept, up to the file that is found, and b blocks of the local files up to it, and the copy of
     /// the name. Of several places it returns the first by name. It does not allocate where there is none.
     fn find_block(&self, hash: &[u8; 32]) -> Result<Option<Place>, AllocError>
@@ -246,6 +276,22 @@ impl FolderCore for PlainFolder {
             return self.last;
         }
         greatest_sequence(self.entries.as_slice(), device)
+    }
+
+    /// O(n) for n records kept, and O(k^2) for each name, with k devices that announce it.
+    fn counts(&self) -> Counts
+        ensures { result ≡ counts self.now }
+    {
+        let entries = self.entries.as_slice();
+        Counts {
+            files: live_files(entries, self.me) as u64,
+            directories: live_directories(entries, self.me) as u64,
+            deletions: deletions(entries, self.me) as u64,
+            needed: count_needed(entries, self.me) as u64,
+            others: records_of_others(entries, self.me) as u64,
+            pulls: self.pulls.len() as u64,
+            last: self.last,
+        }
     }
 }
 

@@ -5,6 +5,8 @@ use std::process::Abort;
 use sync_names::{NameFault, SafeName};
 use sync_record::{DeviceId, Record};
 
+mod reads;
+
 /// The device of which each byte is this number. The folder's own is 9.
 fn device(number: u8) -> DeviceId {
     DeviceId::new([number; 32])

@@ -6,7 +6,7 @@ ghost use Rattle.folder_core.specs.PlainReads.{block_from, places_from};
 use super::entry::Entry;
 use crate::Place;
 use std::alloc::AllocError;
-use sync_record::{Block, DeviceId, Kind, Record};
+use sync_record::{Block, DeviceId, Kind};
 
 /// Where the device's live files have a block with this digest: in the first of them by name, its first such block. O(n + b)
 /// for n entries, up to that file, and b blocks of the device's files, and the copy of the name. Does not allocate where
@@ -33,7 +33,7 @@ pub(super) fn place_of(
 fn block_from<'a>(entry: &'a Entry, device: DeviceId, hash: &[u8; 32]) -> Option<&'a Block>
     ensures { option_copied result ≡ block_from device hash.now entry.now }
 {
-    if entry.device == device && is_live_file(&entry.record) {
+    if entry.device == device && is_live_file(entry) {
         block_with(entry.record.blocks(), hash)
     } else {
         None
@@ -47,9 +47,9 @@ fn block_with<'a>(blocks: &'a [Block], hash: &[u8; 32]) -> Option<&'a Block>
     blocks.iter().find(|block| block.hash == *hash)
 }
 
-/// Whether the record is of a file that isn't deleted.
-pub(super) fn is_live_file(record: &Record) -> bool
-    ensures { result ≡ is_live_file «record».now }
+/// Whether the entry is of a file that isn't deleted.
+pub(super) fn is_live_file(entry: &Entry) -> bool
+    ensures { result ≡ is_live_file entry.now.record }
 {
-    !record.is_deleted() && record.kind() == Kind::File
+    !entry.record.is_deleted() && entry.record.kind() == Kind::File
 }

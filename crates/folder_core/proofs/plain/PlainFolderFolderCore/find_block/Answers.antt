@@ -1,9 +1,8 @@
-use Rattle.std.proofs.Common.{◌≡◌, List, [], sym, ap, subst, ◌∙◌}
+use Rattle.std.proofs.Common.{◌≡◌, List, [], ap, subst, ◌∙◌}
 use Rattle.std.specs.Prelude.{Contains, MatchOption}
 use Rattle.folder_core.specs.declared.place.Place.{Place}
-use Rattle.folder_core.specs.Plain.{folder_of, pulls_of}
+use Rattle.folder_core.specs.Plain.{pulls_of}
 use Rattle.folder_core.specs.PlainReads.{places_from}
-use Rattle.folder_core.specs.Reads.{places}
 use Rattle.folder_core.proofs.PlainPlaces.{places_are}
 use Rattle.folder_core.proofs.ListTests.{ok_then}
 use Rattle.folder_core.proofs.plain.PlainFolderFolderCore.find_block.Goals as goal

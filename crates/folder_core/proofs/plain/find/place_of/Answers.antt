@@ -1,6 +1,5 @@
-use Rattle.std.proofs.Common.{◌≡◌, [], sym, subst, ◌∙◌}
+use Rattle.std.proofs.Common.{◌≡◌, sym, subst, ◌∙◌}
 use Rattle.std.specs.Prelude.{Contains}
-use Rattle.folder_core.specs.declared.place.Place.{Place}
 use Rattle.folder_core.specs.PlainReads.{place, places_from}
 use Rattle.folder_core.proofs.PlainPlaces.{none_more, place_here}
 use Rattle.folder_core.proofs.ListTests.{contains_in, in_contains, In}

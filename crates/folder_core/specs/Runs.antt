@@ -1,0 +1,22 @@
+-- Changes that are made one after the other.
+use Rattle.std.specs.Prelude.{◌≡◌, List, [], ◌∷◌, ◌++◌, Option, Some, None, Result, Ok, Err}
+use Rattle.std.specs.declared.alloc.AllocError.{AllocError}
+use Rattle.folder_core.specs.States.{FolderState}
+use Rattle.folder_core.specs.Steps.{Answer, Change, step}
+
+-- the answers of the changes, and the state after them
+abbrev pub run : FolderState → List Change → List Answer × FolderState
+run s [] = ([], s)
+run s (c ∷ cs) = ((step s c).0 ∷ (run (step s c).1 cs).0, (run (step s c).1 cs).1)
+
+-- what a call of a change by its value answers; without an answer it is out of memory
+abbrev pub made_answer : Result Answer AllocError → Option Answer
+made_answer (Ok answer) = Some answer
+made_answer (Err fault) = None
+
+-- the state is that after some of the changes, from the first on
+pub record IsPartway (s : FolderState) (changes : List Change) (t : FolderState) : Type 0 where
+  pub made : List Change
+  pub rest : List Change
+  pub divided : changes ≡ made ++ rest
+  pub state : t ≡ (run s made).1
