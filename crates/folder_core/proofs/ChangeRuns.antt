@@ -1,0 +1,52 @@
+-- Changes that are made one after the other.
+use Rattle.std.proofs.Common.{◌≡◌, ℕ, ◌<◌, List, [], ◌∷◌, ◌++◌, length, refl, sym, ap, subst, ◌∙◌, arith, append_assoc, append-nil}
+use Rattle.std.specs.List.{All}
+use Rattle.std.specs.Prelude.{IfErr, Result, Ok, Err}
+use Rattle.folder_core.specs.Runs.{IsPartway, run}
+use Rattle.folder_core.specs.States.{FolderState}
+use Rattle.folder_core.specs.Steps.{Answer, Change, MayChange, step}
+use Rattle.folder_core.proofs.ChangeRest.{step-me}
+
+-- some of the changes were made, and these are left
+pub record Ran (start now : FolderState) (all rest : List Change) (answers : List Answer) : Type 0 where
+  pub made : List Change
+  pub divided : all ≡ made ++ rest
+  pub answered : run start made ≡ (answers, now)
+  pub may : All (MayChange start.me) rest
+  pub me : now.me ≡ start.me
+
+run-push : (s : FolderState) (cs : List Change) (c : Change) → run s (cs ++ c ∷ []) ≡ ((run s cs).0 ++ (step (run s cs).1 c).0 ∷ [], (step (run s cs).1 c).1)
+run-push s [] c = refl
+run-push s (d ∷ cs) c = ap (λ (r : List Answer × FolderState). ((step s d).0 ∷ r.0, r.1)) (run-push (step s d).1 cs c)
+
+pub ran-none : (s : FolderState) (all : List Change) → All (MayChange s.me) all → Ran s s all all []
+ran-none s all may = record { made = []; divided = refl; answered = refl; may = may; me = refl }
+
+All-tail : (P : Change → Type 0) (x : Change) (xs : List Change) → All P (x ∷ xs) → All P xs
+All-tail P x xs all k d short = all (ℕ.suc k) d (omega arith)
+
+-- one more
+pub ran-more : (start now next : FolderState) (all rest : List Change) (answers : List Answer) (c : Change) (a : Answer) → Ran start now all (c ∷ rest) answers → step now c ≡ (a, next) → Ran start next all rest (answers ++ a ∷ [])
+ran-more start now next all rest answers c a r is = record {
+  made = r.made ++ c ∷ [];
+  divided = r.divided ∙ sym (append_assoc r.made (c ∷ []) rest);
+  answered =
+      run-push start r.made c
+      ∙ ap (λ (d : List Answer × FolderState). (d.0 ++ (step d.1 c).0 ∷ [], (step d.1 c).1)) r.answered
+      ∙ ap (λ (d : Answer × FolderState). (answers ++ d.0 ∷ [], d.1)) is;
+  may = All-tail (MayChange start.me) c rest r.may;
+  me = ap (λ (d : Answer × FolderState). d.1.me) (sym is) ∙ step-me now c ∙ r.me;
+}
+
+pub ran-may : (start now : FolderState) (all rest : List Change) (answers : List Answer) (c : Change) → Ran start now all (c ∷ rest) answers → MayChange now.me c
+ran-may start now all rest answers c r = subst (λ d. MayChange d c) (sym r.me) (r.may 0 c (omega arith))
+
+pub ran-all : (start now : FolderState) (all rest : List Change) (answers : List Answer) → Ran start now all rest answers → rest ≡ [] → (answers, now) ≡ run start all
+ran-all start now all rest answers r none = sym r.answered ∙ ap (run start) (sym (r.divided ∙ ap (λ cs. r.made ++ cs) none ∙ append-nil r.made))
+
+pub ran-partway : (start now : FolderState) (all rest : List Change) (answers : List Answer) → Ran start now all rest answers → IsPartway start all now
+ran-partway start now all rest answers r = record { made = r.made; rest = rest; divided = r.divided; state = ap (λ (d : List Answer × FolderState). d.1) (sym r.answered) }
+
+pub if_err : {A E P : Type 0} → (r : Result A E) → P → IfErr r (λ _. P)
+if_err (Ok x) p = tt
+if_err (Err e) p = p
