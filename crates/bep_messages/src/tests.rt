@@ -27,16 +27,12 @@ fn expect_form<R: Abort + AllocGlobal, M: ProtoMessage>(
         out.push(7)?;
     }
     if message.encode(&mut out).is_err() {
-        assert_eq!(rt;
-            out.as_slice(),
-            [7].as_slice(),
-            "a failed allocation changed the vector"
-        );
+        expect_octets(rt, out.as_slice(), &[7]);
         message.encode(&mut out)?;
     }
     let (front, written) = out.as_slice().split_at(out.len().min(1));
-    assert_eq!(rt; front, [7].as_slice());
-    assert_eq!(rt; written, form);
+    expect_octets(rt, front, &[7]);
+    expect_octets(rt, written, form);
     Ok(())
 }
 
@@ -194,9 +190,14 @@ fn hello(rt: HostRuntime) -> Result<(), Fail> {
 }
 
 #[test]
-fn headers(rt: HostRuntime) -> Result<(), Fail> {
+fn header(rt: HostRuntime) -> Result<(), Fail> {
     let header: Header = both_ways(&rt, &[0x08, 0x03, 0x10, 0x01])?;
     assert_eq!(rt; (header.kind, header.compression), (3, 1));
+    Ok(())
+}
+
+#[test]
+fn header_with_a_negative_type(rt: HostRuntime) -> Result<(), Fail> {
     // An enum keeps any number, also a negative one, which is written in ten bytes.
     let mut bytes = [0x08u8; 11];
     bytes[1..].copy_from_slice(&ALL_ONES);
@@ -304,13 +305,20 @@ fn expect_addresses(rt: &impl Abort, addresses: &[Text]) {
     expect_text(rt, &addresses[1], "");
 }
 
+/// Folder "f", and two files.
+const TWO_FILES: [u8; 10] = [0x0a, 0x01, 0x66, 0x12, 0x03, 0x0a, 0x01, 0x61, 0x12, 0x00];
+
 #[test]
-fn indexes(rt: HostRuntime) -> Result<(), Fail> {
-    let bytes = [0x0a, 0x01, 0x66, 0x12, 0x03, 0x0a, 0x01, 0x61, 0x12, 0x00];
-    let index: Index = both_ways(&rt, &bytes)?;
+fn index(rt: HostRuntime) -> Result<(), Fail> {
+    let index: Index = both_ways(&rt, &TWO_FILES)?;
     expect_text(&rt, &index.folder, "f");
     assert_eq!(rt; index.files.as_slice().len(), 2);
-    let update: IndexUpdate = both_ways(&rt, &bytes)?;
+    Ok(())
+}
+
+#[test]
+fn index_update(rt: HostRuntime) -> Result<(), Fail> {
+    let update: IndexUpdate = both_ways(&rt, &TWO_FILES)?;
     expect_text(&rt, &update.folder, "f");
     assert_eq!(rt; update.files.as_slice().len(), 2);
     Ok(())
@@ -390,17 +398,23 @@ fn faults_of_files(rt: HostRuntime) {
 
 #[test]
 fn names_of_faults(rt: HostRuntime) -> Result<(), Fail> {
-    for (fault, number, name) in [
-        (MessageFault::Wire(WireFault::LongVarint), 2, "LongVarint"),
-        (MessageFault::NotUtf8, 5, "NotUtf8"),
-        (MessageFault::OutOfMemory, 33, "OutOfMemory"),
-    ] {
-        assert_eq!(rt; fault.number(), number);
-        let shown = match fault.to_string(rt.alloc()) {
-            Err(_) => fault.to_string(rt.alloc())?,
-            Ok(shown) => shown,
-        };
-        assert_eq!(rt; shown.as_str(), name);
-    }
+    let fault = MessageFault::Wire(WireFault::LongVarint);
+    expect_name(&rt, fault, 2, "LongVarint")?;
+    expect_name(&rt, MessageFault::NotUtf8, 5, "NotUtf8")?;
+    expect_name(&rt, MessageFault::OutOfMemory, 33, "OutOfMemory")
+}
+
+fn expect_name<R: Abort + AllocGlobal>(
+    rt: &R,
+    fault: MessageFault,
+    number: u8,
+    name: &str,
+) -> Result<(), Fail> {
+    assert_eq!(rt; fault.number(), number);
+    let shown = match fault.to_string(rt.alloc()) {
+        Err(_) => fault.to_string(rt.alloc())?,
+        Ok(shown) => shown,
+    };
+    assert_eq!(rt; shown.as_str(), name);
     Ok(())
 }
