@@ -87,7 +87,6 @@ impl ProtoMessage for FileInfo {
         fields!(take_field self, alloc, source, field)
     }
 
-    #[tactic(auto, using(crate::proofs::Written::row_steps))]
     fn write(&self, out: &mut Writer) -> Result<(), AllocError> {
         fields!(write_rows self, out);
         Ok(())

@@ -7,7 +7,7 @@ ghost use Rattle.bep_messages.specs.Memory.{ItemTakes, TakesMemory};
 ghost use Rattle.bep_messages.specs.declared.fault.MessageFault.TheVariants.{OutOfMemory};
 ghost use Rattle.bep_messages.specs.Values.{empty, values, decoded};
 ghost use Rattle.bep_messages.specs.Forms.{form, Fits};
-ghost use Rattle.bep_messages.specs.Writing.{Adds, len};
+ghost use Rattle.bep_messages.specs.Writing.{Adds, Lacks};
 
 use crate::fault::MessageFault;
 use crate::writer::Writer;
@@ -41,12 +41,9 @@ pub trait ProtoMessage: Drop {
 
     /// Writes the fields that aren't their defaults. If it fails, any bytes may have been written.
     fn write(&self, out: &mut Writer) -> Result<(), AllocError>
-        ensures ok { OnOk result (Adds out.old.written (form table (parts self.now)) out.new.written) }
+        ensures ok { OnOk result (Adds out.old (form table (parts self.now)) out.new) }
         ensures fits { OnOk result (Fits table (parts self.now)) }
-        ensures kept { out.new.kept ≡ out.old.kept }
-        ensures longer { OnOk result (len out.new ≡ len out.old + length (form table (parts self.now))) }
-        ensures full { OnErr result (out.old.capacity < len out.old + length (form table (parts self.now))) }
-        ensures capacity { out.old.capacity ≤ out.new.capacity };
+        ensures err { OnErr result (Lacks out.old (form table (parts self.now)) out.new) };
 
     ghost table_rises: { rises 0 table ≡ true };
 

@@ -1,10 +1,10 @@
 //! One row of a message, written by its kind, unless it has its default.
-ghost use Rattle.std.specs.Prelude.{◌≡◌, ◌≤◌, ◌<◌, ◌+◌, length, map, OnOk, OnErr};
+ghost use Rattle.std.specs.Prelude.{◌≤◌, ◌<◌, map, OnOk, OnErr};
 ghost use Rattle.std.specs.List.{AllByRecursion};
 ghost use Rattle.bep_wire.specs.Written.{bytes_field};
 ghost use Rattle.bep_messages.specs.Tables.{Int32, Int64, Uint32, Uint64, Enum, Boolean, Words, Octets, Digest};
 ghost use Rattle.bep_messages.specs.Forms.{number_form, bytes_form, list_form, scalar_form, form, ScalarFits, Fits, IsShort, IsText};
-ghost use Rattle.bep_messages.specs.Writing.{Adds, len};
+ghost use Rattle.bep_messages.specs.Writing.{Adds, Lacks};
 
 use crate::items::Items;
 use crate::message::ProtoMessage;
@@ -16,11 +16,8 @@ use std::alloc::AllocError;
 
 #[tactic(auto, unfolding(crate::specs::Forms::number_form))]
 fn varint(out: &mut Writer, number: u32, value: u64) -> Result<(), AllocError>
-    ensures ok { OnOk result (Adds out.old.written (number_form number value) out.new.written) }
-    ensures kept { out.new.kept ≡ out.old.kept }
-    ensures longer { OnOk result (len out.new ≡ len out.old + length (number_form number value)) }
-    ensures full { OnErr result (out.old.capacity < len out.old + length (number_form number value)) }
-    ensures capacity { out.old.capacity ≤ out.new.capacity }
+    ensures ok { OnOk result (Adds out.old (number_form number value) out.new) }
+    ensures err { OnErr result (Lacks out.old (number_form number value) out.new) }
 {
     if value == 0 {
         return Ok(());
@@ -29,67 +26,49 @@ fn varint(out: &mut Writer, number: u32, value: u64) -> Result<(), AllocError>
 }
 
 pub fn uint64(out: &mut Writer, number: u32, value: &u64) -> Result<(), AllocError>
-    ensures ok { OnOk result (Adds out.old.written (scalar_form number Uint64 value.now) out.new.written) }
+    ensures ok { OnOk result (Adds out.old (scalar_form number Uint64 value.now) out.new) }
     ensures fits { ScalarFits Uint64 value.now }
-    ensures kept { out.new.kept ≡ out.old.kept }
-    ensures longer { OnOk result (len out.new ≡ len out.old + length (scalar_form number Uint64 value.now)) }
-    ensures full { OnErr result (out.old.capacity < len out.old + length (scalar_form number Uint64 value.now)) }
-    ensures capacity { out.old.capacity ≤ out.new.capacity }
+    ensures err { OnErr result (Lacks out.old (scalar_form number Uint64 value.now) out.new) }
 {
     varint(out, number, *value)
 }
 
 pub fn uint32(out: &mut Writer, number: u32, value: &u32) -> Result<(), AllocError>
-    ensures ok { OnOk result (Adds out.old.written (scalar_form number Uint32 value.now) out.new.written) }
+    ensures ok { OnOk result (Adds out.old (scalar_form number Uint32 value.now) out.new) }
     ensures fits { ScalarFits Uint32 value.now }
-    ensures kept { out.new.kept ≡ out.old.kept }
-    ensures longer { OnOk result (len out.new ≡ len out.old + length (scalar_form number Uint32 value.now)) }
-    ensures full { OnErr result (out.old.capacity < len out.old + length (scalar_form number Uint32 value.now)) }
-    ensures capacity { out.old.capacity ≤ out.new.capacity }
+    ensures err { OnErr result (Lacks out.old (scalar_form number Uint32 value.now) out.new) }
 {
     varint(out, number, *value as u64)
 }
 
 pub fn int64(out: &mut Writer, number: u32, value: &i64) -> Result<(), AllocError>
-    ensures ok { OnOk result (Adds out.old.written (scalar_form number Int64 value.now) out.new.written) }
+    ensures ok { OnOk result (Adds out.old (scalar_form number Int64 value.now) out.new) }
     ensures fits { ScalarFits Int64 value.now }
-    ensures kept { out.new.kept ≡ out.old.kept }
-    ensures longer { OnOk result (len out.new ≡ len out.old + length (scalar_form number Int64 value.now)) }
-    ensures full { OnErr result (out.old.capacity < len out.old + length (scalar_form number Int64 value.now)) }
-    ensures capacity { out.old.capacity ≤ out.new.capacity }
+    ensures err { OnErr result (Lacks out.old (scalar_form number Int64 value.now) out.new) }
 {
     varint(out, number, value.cast_unsigned())
 }
 
 pub fn int32(out: &mut Writer, number: u32, value: &i32) -> Result<(), AllocError>
-    ensures ok { OnOk result (Adds out.old.written (scalar_form number Int32 value.now) out.new.written) }
+    ensures ok { OnOk result (Adds out.old (scalar_form number Int32 value.now) out.new) }
     ensures fits { ScalarFits Int32 value.now }
-    ensures kept { out.new.kept ≡ out.old.kept }
-    ensures longer { OnOk result (len out.new ≡ len out.old + length (scalar_form number Int32 value.now)) }
-    ensures full { OnErr result (out.old.capacity < len out.old + length (scalar_form number Int32 value.now)) }
-    ensures capacity { out.old.capacity ≤ out.new.capacity }
+    ensures err { OnErr result (Lacks out.old (scalar_form number Int32 value.now) out.new) }
 {
     let wide = *value as i64;
     varint(out, number, wide.cast_unsigned())
 }
 
 pub fn enumeration(out: &mut Writer, number: u32, value: &i32) -> Result<(), AllocError>
-    ensures ok { OnOk result (Adds out.old.written (scalar_form number Enum value.now) out.new.written) }
+    ensures ok { OnOk result (Adds out.old (scalar_form number Enum value.now) out.new) }
     ensures fits { ScalarFits Enum value.now }
-    ensures kept { out.new.kept ≡ out.old.kept }
-    ensures longer { OnOk result (len out.new ≡ len out.old + length (scalar_form number Enum value.now)) }
-    ensures full { OnErr result (out.old.capacity < len out.old + length (scalar_form number Enum value.now)) }
-    ensures capacity { out.old.capacity ≤ out.new.capacity }
+    ensures err { OnErr result (Lacks out.old (scalar_form number Enum value.now) out.new) }
 {
     int32(out, number, value)
 }
 
 pub fn boolean(out: &mut Writer, number: u32, value: &bool) -> Result<(), AllocError>
-    ensures ok { OnOk result (Adds out.old.written (scalar_form number Boolean value.now) out.new.written) }
-    ensures kept { out.new.kept ≡ out.old.kept }
-    ensures longer { OnOk result (len out.new ≡ len out.old + length (scalar_form number Boolean value.now)) }
-    ensures full { OnErr result (out.old.capacity < len out.old + length (scalar_form number Boolean value.now)) }
-    ensures capacity { out.old.capacity ≤ out.new.capacity }
+    ensures ok { OnOk result (Adds out.old (scalar_form number Boolean value.now) out.new) }
+    ensures err { OnErr result (Lacks out.old (scalar_form number Boolean value.now) out.new) }
 {
     varint(out, number, if *value { 1 } else { 0 })
 }
@@ -98,12 +77,9 @@ pub fn boolean(out: &mut Writer, number: u32, value: &bool) -> Result<(), AllocE
 fn bytes(out: &mut Writer, number: u32, bytes: &[u8]) -> Result<(), AllocError>
     requires low { 0 < number }
     requires high { number ≤ MAX_FIELD_NUMBER }
-    ensures ok { OnOk result (Adds out.old.written (bytes_form number bytes.now) out.new.written) }
+    ensures ok { OnOk result (Adds out.old (bytes_form number bytes.now) out.new) }
     ensures short { IsShort bytes.now }
-    ensures kept { out.new.kept ≡ out.old.kept }
-    ensures longer { OnOk result (len out.new ≡ len out.old + length (bytes_form number bytes.now)) }
-    ensures full { OnErr result (out.old.capacity < len out.old + length (bytes_form number bytes.now)) }
-    ensures capacity { out.old.capacity ≤ out.new.capacity }
+    ensures err { OnErr result (Lacks out.old (bytes_form number bytes.now) out.new) }
 {
     if bytes.is_empty() {
         return Ok(());
@@ -114,12 +90,9 @@ fn bytes(out: &mut Writer, number: u32, bytes: &[u8]) -> Result<(), AllocError>
 pub fn octets(out: &mut Writer, number: u32, value: &octets::Octets) -> Result<(), AllocError>
     requires low { 0 < number }
     requires high { number ≤ MAX_FIELD_NUMBER }
-    ensures ok { OnOk result (Adds out.old.written (scalar_form number Octets value.now) out.new.written) }
+    ensures ok { OnOk result (Adds out.old (scalar_form number Octets value.now) out.new) }
     ensures fits { ScalarFits Octets value.now }
-    ensures kept { out.new.kept ≡ out.old.kept }
-    ensures longer { OnOk result (len out.new ≡ len out.old + length (scalar_form number Octets value.now)) }
-    ensures full { OnErr result (out.old.capacity < len out.old + length (scalar_form number Octets value.now)) }
-    ensures capacity { out.old.capacity ≤ out.new.capacity }
+    ensures err { OnErr result (Lacks out.old (scalar_form number Octets value.now) out.new) }
 {
     bytes(out, number, value.as_slice())
 }
@@ -127,12 +100,9 @@ pub fn octets(out: &mut Writer, number: u32, value: &octets::Octets) -> Result<(
 pub fn digest(out: &mut Writer, number: u32, hash: &octets::ShortOctets) -> Result<(), AllocError>
     requires low { 0 < number }
     requires high { number ≤ MAX_FIELD_NUMBER }
-    ensures ok { OnOk result (Adds out.old.written (scalar_form number Digest hash.now) out.new.written) }
+    ensures ok { OnOk result (Adds out.old (scalar_form number Digest hash.now) out.new) }
     ensures fits { ScalarFits Digest hash.now }
-    ensures kept { out.new.kept ≡ out.old.kept }
-    ensures longer { OnOk result (len out.new ≡ len out.old + length (scalar_form number Digest hash.now)) }
-    ensures full { OnErr result (out.old.capacity < len out.old + length (scalar_form number Digest hash.now)) }
-    ensures capacity { out.old.capacity ≤ out.new.capacity }
+    ensures err { OnErr result (Lacks out.old (scalar_form number Digest hash.now) out.new) }
 {
     bytes(out, number, hash.as_slice())
 }
@@ -140,12 +110,9 @@ pub fn digest(out: &mut Writer, number: u32, hash: &octets::ShortOctets) -> Resu
 pub fn words(out: &mut Writer, number: u32, value: &Text) -> Result<(), AllocError>
     requires low { 0 < number }
     requires high { number ≤ MAX_FIELD_NUMBER }
-    ensures ok { OnOk result (Adds out.old.written (scalar_form number Words value.now) out.new.written) }
+    ensures ok { OnOk result (Adds out.old (scalar_form number Words value.now) out.new) }
     ensures fits { ScalarFits Words value.now }
-    ensures kept { out.new.kept ≡ out.old.kept }
-    ensures longer { OnOk result (len out.new ≡ len out.old + length (scalar_form number Words value.now)) }
-    ensures full { OnErr result (out.old.capacity < len out.old + length (scalar_form number Words value.now)) }
-    ensures capacity { out.old.capacity ≤ out.new.capacity }
+    ensures err { OnErr result (Lacks out.old (scalar_form number Words value.now) out.new) }
 {
     bytes(out, number, value.as_str().as_bytes())
 }
@@ -153,14 +120,10 @@ pub fn words(out: &mut Writer, number: u32, value: &Text) -> Result<(), AllocErr
 pub fn one<M: ProtoMessage>(out: &mut Writer, number: u32, value: &M) -> Result<(), AllocError>
     requires low { 0 < number }
     requires high { number ≤ MAX_FIELD_NUMBER }
-    ensures ok { OnOk result
-        (Adds out.old.written (bytes_form number (form M.table (M.parts value.now))) out.new.written) }
+    ensures ok { OnOk result (Adds out.old (bytes_form number (form M.table (M.parts value.now))) out.new) }
     ensures fits { OnOk result
         (Fits M.table (M.parts value.now) × IsShort (form M.table (M.parts value.now))) }
-    ensures kept { out.new.kept ≡ out.old.kept }
-    ensures longer { OnOk result (len out.new ≡ len out.old + length (bytes_form number (form M.table (M.parts value.now)))) }
-    ensures full { OnErr result (out.old.capacity < len out.old + length (bytes_form number (form M.table (M.parts value.now)))) }
-    ensures capacity { out.old.capacity ≤ out.new.capacity }
+    ensures err { OnErr result (Lacks out.old (bytes_form number (form M.table (M.parts value.now))) out.new) }
 {
     let from = out.len();
     value.write(out)?;
@@ -174,14 +137,10 @@ pub fn one<M: ProtoMessage>(out: &mut Writer, number: u32, value: &M) -> Result<
 fn element<M: ProtoMessage>(out: &mut Writer, number: u32, value: &M) -> Result<(), AllocError>
     requires low { 0 < number }
     requires high { number ≤ MAX_FIELD_NUMBER }
-    ensures ok { OnOk result
-        (Adds out.old.written (bytes_field number (form M.table (M.parts value.now))) out.new.written) }
+    ensures ok { OnOk result (Adds out.old (bytes_field number (form M.table (M.parts value.now))) out.new) }
     ensures fits { OnOk result
         (Fits M.table (M.parts value.now) × IsShort (form M.table (M.parts value.now))) }
-    ensures kept { out.new.kept ≡ out.old.kept }
-    ensures longer { OnOk result (len out.new ≡ len out.old + length (bytes_field number (form M.table (M.parts value.now)))) }
-    ensures full { OnErr result (out.old.capacity < len out.old + length (bytes_field number (form M.table (M.parts value.now)))) }
-    ensures capacity { out.old.capacity ≤ out.new.capacity }
+    ensures err { OnErr result (Lacks out.old (bytes_field number (form M.table (M.parts value.now))) out.new) }
 {
     let from = out.len();
     value.write(out)?;
@@ -195,14 +154,10 @@ pub fn list<M: ProtoMessage>(
 ) -> Result<(), AllocError>
     requires low { 0 < number }
     requires high { number ≤ MAX_FIELD_NUMBER }
-    ensures ok { OnOk result
-        (Adds out.old.written (list_form number (form M.table) (map M.parts values.now)) out.new.written) }
+    ensures ok { OnOk result (Adds out.old (list_form number (form M.table) (map M.parts values.now)) out.new) }
     ensures fits { OnOk result
         (AllByRecursion (λ m. Fits M.table m × IsShort (form M.table m)) (map M.parts values.now)) }
-    ensures kept { out.new.kept ≡ out.old.kept }
-    ensures longer { OnOk result (len out.new ≡ len out.old + length (list_form number (form M.table) (map M.parts values.now))) }
-    ensures full { OnErr result (out.old.capacity < len out.old + length (list_form number (form M.table) (map M.parts values.now))) }
-    ensures capacity { out.old.capacity ≤ out.new.capacity }
+    ensures err { OnErr result (Lacks out.old (list_form number (form M.table) (map M.parts values.now)) out.new) }
 {
     for value in values.as_slice() {
         element(out, number, value)?;
@@ -213,12 +168,9 @@ pub fn list<M: ProtoMessage>(
 pub fn texts(out: &mut Writer, number: u32, values: &Items<Text>) -> Result<(), AllocError>
     requires low { 0 < number }
     requires high { number ≤ MAX_FIELD_NUMBER }
-    ensures ok { OnOk result (Adds out.old.written (list_form number (λ t. t) values.now) out.new.written) }
+    ensures ok { OnOk result (Adds out.old (list_form number (λ t. t) values.now) out.new) }
     ensures fits { OnOk result (AllByRecursion IsText values.now) }
-    ensures kept { out.new.kept ≡ out.old.kept }
-    ensures longer { OnOk result (len out.new ≡ len out.old + length (list_form number (λ t. t) values.now)) }
-    ensures full { OnErr result (out.old.capacity < len out.old + length (list_form number (λ t. t) values.now)) }
-    ensures capacity { out.old.capacity ≤ out.new.capacity }
+    ensures err { OnErr result (Lacks out.old (list_form number (λ t. t) values.now) out.new) }
 {
     for value in values.as_slice() {
         text(out, number, value)?;
@@ -230,12 +182,9 @@ pub fn texts(out: &mut Writer, number: u32, values: &Items<Text>) -> Result<(), 
 fn text(out: &mut Writer, number: u32, value: &Text) -> Result<(), AllocError>
     requires low { 0 < number }
     requires high { number ≤ MAX_FIELD_NUMBER }
-    ensures ok { OnOk result (Adds out.old.written (bytes_field number value.now) out.new.written) }
+    ensures ok { OnOk result (Adds out.old (bytes_field number value.now) out.new) }
     ensures fits { IsText value.now }
-    ensures kept { out.new.kept ≡ out.old.kept }
-    ensures longer { OnOk result (len out.new ≡ len out.old + length (bytes_field number value.now)) }
-    ensures full { OnErr result (out.old.capacity < len out.old + length (bytes_field number value.now)) }
-    ensures capacity { out.old.capacity ≤ out.new.capacity }
+    ensures err { OnErr result (Lacks out.old (bytes_field number value.now) out.new) }
 {
     out.put_bytes(number, value.as_str().as_bytes())
 }

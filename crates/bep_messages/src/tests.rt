@@ -2,7 +2,8 @@
 //! then the same call is made again.
 use crate::{
     BlockInfo, Close, ClusterConfig, Copied, Counter, Device, DownloadProgress, FileInfo, Folder,
-    Header, Hello, Index, IndexUpdate, MessageFault, Ping, ProtoMessage, Request, Response, Vector,
+    Header, Hello, Index, IndexUpdate, MessageFault, Ping, ProtoMessage, Request, Response, Text,
+    Vector,
 };
 use bep_wire::WireFault;
 use std::process::Abort;
@@ -26,16 +27,12 @@ fn expect_form<R: Abort + AllocGlobal, M: ProtoMessage>(
         out.push(7)?;
     }
     if message.encode(&mut out).is_err() {
-        assert_eq!(rt;
-            out.as_slice(),
-            [7].as_slice(),
-            "a failed allocation changed the vector"
-        );
+        expect_octets(rt, out.as_slice(), &[7]);
         message.encode(&mut out)?;
     }
     let (front, written) = out.as_slice().split_at(out.len().min(1));
-    assert_eq!(rt; front, [7].as_slice());
-    assert_eq!(rt; written, form);
+    expect_octets(rt, front, &[7]);
+    expect_octets(rt, written, form);
     Ok(())
 }
 
@@ -63,11 +60,28 @@ fn both_ways<R: Abort + AllocGlobal, M: ProtoMessage + Copied>(
     written_as(rt, bytes, bytes)
 }
 
-fn expect_fault<R: Abort + AllocGlobal, M: ProtoMessage>(
+/// As `written_as`, of a message whose values don't matter.
+fn expect_written<M: ProtoMessage + Copied, R: Abort + AllocGlobal>(
+    rt: &R,
+    bytes: &[u8],
+    form: &[u8],
+) -> Result<(), Fail> {
+    let _: M = written_as(rt, bytes, form)?;
+    Ok(())
+}
+
+fn expect_text(rt: &impl Abort, found: &Text, expected: &str) {
+    assert_eq!(rt; found.as_str(), expected);
+}
+
+fn expect_octets(rt: &impl Abort, found: &[u8], expected: &[u8]) {
+    assert_eq!(rt; found, expected);
+}
+
+fn expect_fault<M: ProtoMessage, R: Abort + AllocGlobal>(
     rt: &R,
     bytes: &[u8],
     fault: MessageFault,
-    _like: &M,
 ) {
     assert!(rt;
         matches!(decode::<M>(rt, bytes), Err(found) if found == fault),
@@ -78,20 +92,30 @@ fn expect_fault<R: Abort + AllocGlobal, M: ProtoMessage>(
 const ALL_ONES: [u8; 10] = [0xff, 0xff, 0xff, 0xff, 0xff, 0xff, 0xff, 0xff, 0xff, 0x01];
 
 #[test]
-fn files(rt: HostRuntime) -> Result<(), Fail> {
+fn file_with_another_name(rt: HostRuntime) -> Result<(), Fail> {
     // Name "b" takes the place of "a", and field 30 is skipped.
     let bytes = [
         0x0a, 0x01, 0x61, 0xf0, 0x01, 0x05, 0x0a, 0x01, 0x62, 0x18, 0x03,
     ];
     let file: FileInfo = written_as(&rt, &bytes, &[0x0a, 0x01, 0x62, 0x18, 0x03])?;
-    assert_eq!(rt; file.name.as_str(), "b");
+    expect_text(&rt, &file.name, "b");
     assert_eq!(rt; file.size, 3);
+    Ok(())
+}
+
+#[test]
+fn file_with_a_negative_sequence(rt: HostRuntime) -> Result<(), Fail> {
     let bytes = [
         0x50, 0xff, 0xff, 0xff, 0xff, 0xff, 0xff, 0xff, 0xff, 0xff, 0x01,
     ];
     let file: FileInfo = both_ways(&rt, &bytes)?;
     assert_eq!(rt; file.sequence, -1);
-    // A version that occurs twice has the counters of both; one without counters isn't written.
+    Ok(())
+}
+
+#[test]
+fn file_with_two_versions(rt: HostRuntime) -> Result<(), Fail> {
+    // A version that occurs twice has the counters of both.
     let bytes = [
         0x4a, 0x06, 0x0a, 0x04, 0x08, 1, 0x10, 2, 0x4a, 0x04, 0x0a, 0x02, 0x08, 3,
     ];
@@ -100,17 +124,19 @@ fn files(rt: HostRuntime) -> Result<(), Fail> {
     ];
     let file: FileInfo = written_as(&rt, &bytes, &form)?;
     assert_eq!(rt; file.version.counters.as_slice().len(), 2);
-    let _: FileInfo = written_as(&rt, &[0x4a, 0x00], &[])?;
+    Ok(())
+}
+
+#[test]
+fn files(rt: HostRuntime) -> Result<(), Fail> {
+    // A version without counters isn't written.
+    expect_written::<FileInfo, _>(&rt, &[0x4a, 0x00], &[])?;
     // A size under wire type 2 and a name under wire type 0 are unknown fields.
-    let _: FileInfo = written_as(
-        &rt,
-        &[0x1a, 0x01, 0x05, 0x08, 0x07, 0x18, 0x02],
-        &[0x18, 0x02],
-    )?;
+    let bytes = [0x1a, 0x01, 0x05, 0x08, 0x07, 0x18, 0x02];
+    expect_written::<FileInfo, _>(&rt, &bytes, &[0x18, 0x02])?;
     // Any nonzero varint is true, and 32 bits are kept of a greater number.
     let bytes = [0x30, 0x02, 0x20, 0x81, 0x80, 0x80, 0x80, 0x10];
-    let _: FileInfo = written_as(&rt, &bytes, &[0x20, 0x01, 0x30, 0x01])?;
-    Ok(())
+    expect_written::<FileInfo, _>(&rt, &bytes, &[0x20, 0x01, 0x30, 0x01])
 }
 
 #[test]
@@ -123,7 +149,12 @@ fn file_with_every_field(rt: HostRuntime) -> Result<(), Fail> {
         0x01, 0x00, 0x8a, 0x01, 0x01, 0x74,
     ];
     let file: FileInfo = both_ways(&rt, &bytes)?;
-    assert_eq!(rt; file.name.as_str(), "a");
+    expect_every_field(&rt, &file);
+    Ok(())
+}
+
+fn expect_every_field(rt: &impl Abort, file: &FileInfo) {
+    expect_text(rt, &file.name, "a");
     assert_eq!(rt; (file.kind, file.size, file.permissions), (4, 3, 0o644));
     assert_eq!(rt;
         (file.modified_s, file.modified_ns, file.modified_by),
@@ -131,27 +162,42 @@ fn file_with_every_field(rt: HostRuntime) -> Result<(), Fail> {
     );
     assert!(rt; file.deleted && file.invalid && file.no_permissions);
     assert_eq!(rt; (file.sequence, file.block_size), (5, 131_072));
-    let counters = file.version.counters.as_slice();
+    expect_counters(rt, file.version.counters.as_slice());
+    expect_blocks(rt, file.blocks.as_slice());
+    expect_octets(rt, file.symlink_target.as_slice(), b"t");
+}
+
+fn expect_counters(rt: &impl Abort, counters: &[Counter]) {
     assert_eq!(rt; counters.len(), 1);
     assert_eq!(rt; (counters[0].id, counters[0].value), (1, 2));
-    let blocks = file.blocks.as_slice();
+}
+
+fn expect_blocks(rt: &impl Abort, blocks: &[BlockInfo]) {
     assert_eq!(rt; blocks.len(), 2);
     assert_eq!(rt;
         (blocks[0].offset, blocks[0].size, blocks[1].size),
         (0, 3, 0)
     );
-    assert_eq!(rt; file.symlink_target.as_slice(), b"t".as_slice());
+}
+
+#[test]
+fn hello(rt: HostRuntime) -> Result<(), Fail> {
+    let hello: Hello = both_ways(&rt, b"\x0a\x01a\x12\x04bepd\x1a\x02v1")?;
+    expect_text(&rt, &hello.device_name, "a");
+    expect_text(&rt, &hello.client_name, "bepd");
+    expect_text(&rt, &hello.client_version, "v1");
     Ok(())
 }
 
 #[test]
-fn small_messages(rt: HostRuntime) -> Result<(), Fail> {
-    let hello: Hello = both_ways(&rt, b"\x0a\x01a\x12\x04bepd\x1a\x02v1")?;
-    assert_eq!(rt; hello.device_name.as_str(), "a");
-    assert_eq!(rt; hello.client_name.as_str(), "bepd");
-    assert_eq!(rt; hello.client_version.as_str(), "v1");
+fn header(rt: HostRuntime) -> Result<(), Fail> {
     let header: Header = both_ways(&rt, &[0x08, 0x03, 0x10, 0x01])?;
     assert_eq!(rt; (header.kind, header.compression), (3, 1));
+    Ok(())
+}
+
+#[test]
+fn header_with_a_negative_type(rt: HostRuntime) -> Result<(), Fail> {
     // An enum keeps any number, also a negative one, which is written in ten bytes.
     let mut bytes = [0x08u8; 11];
     bytes[1..].copy_from_slice(&ALL_ONES);
@@ -159,18 +205,37 @@ fn small_messages(rt: HostRuntime) -> Result<(), Fail> {
     assert_eq!(rt; header.kind, -1);
     let header: Header = written_as(&rt, &[0x08, 0xff, 0xff, 0xff, 0xff, 0x0f], &bytes)?;
     assert_eq!(rt; header.kind, -1);
+    Ok(())
+}
+
+#[test]
+fn counter(rt: HostRuntime) -> Result<(), Fail> {
     let bytes = [
         0x08, 0x01, 0x10, 0x80, 0x80, 0x80, 0x80, 0x80, 0x80, 0x80, 0x80, 0x80, 0x01,
     ];
     let counter: Counter = both_ways(&rt, &bytes)?;
     assert_eq!(rt; (counter.id, counter.value), (1, 1 << 63));
+    Ok(())
+}
+
+#[test]
+fn vector(rt: HostRuntime) -> Result<(), Fail> {
     let vector: Vector = both_ways(&rt, &[0x0a, 0x04, 0x08, 0x01, 0x10, 0x02, 0x0a, 0x00])?;
     assert_eq!(rt; vector.counters.as_slice().len(), 2);
-    let close: Close = both_ways(&rt, b"\x0a\x01x")?;
-    assert_eq!(rt; close.reason.as_str(), "x");
-    let _: Ping = written_as(&rt, &[0x08, 0x01], &[])?;
-    let _: DownloadProgress = written_as(&rt, b"\x0a\x01f\x12\x02\x08\x01", &[])?;
     Ok(())
+}
+
+#[test]
+fn close(rt: HostRuntime) -> Result<(), Fail> {
+    let close: Close = both_ways(&rt, b"\x0a\x01x")?;
+    expect_text(&rt, &close.reason, "x");
+    Ok(())
+}
+
+#[test]
+fn messages_without_fields(rt: HostRuntime) -> Result<(), Fail> {
+    expect_written::<Ping, _>(&rt, &[0x08, 0x01], &[])?;
+    expect_written::<DownloadProgress, _>(&rt, b"\x0a\x01f\x12\x02\x08\x01", &[])
 }
 
 #[test]
@@ -187,38 +252,45 @@ fn blocks(rt: HostRuntime) -> Result<(), Fail> {
 }
 
 #[test]
-fn configurations(rt: HostRuntime) -> Result<(), Fail> {
+fn cluster_config(rt: HostRuntime) -> Result<(), Fail> {
     // Folder "f" with one device that has no id, and index_id 1.
     let bytes = [0x0a, 0x08, 0x0a, 0x01, 0x66, 0x82, 0x01, 0x02, 0x40, 0x01];
     let config: ClusterConfig = both_ways(&rt, &bytes)?;
     assert_eq!(rt; config.folders.as_slice().len(), 1);
     let folder = &config.folders.as_slice()[0];
-    assert_eq!(rt; folder.id.as_str(), "f");
+    expect_text(&rt, &folder.id, "f");
     assert_eq!(rt; folder.devices.as_slice().len(), 1);
     let device = &folder.devices.as_slice()[0];
     assert_eq!(rt; (device.id.as_slice().len(), device.index_id), (0, 1));
-    let _: ClusterConfig = both_ways(&rt, &[0x0a, 0x03, 0x0a, 0x01, 0x66, 0x0a, 0x00])?;
+    let bytes = [0x0a, 0x03, 0x0a, 0x01, 0x66, 0x0a, 0x00];
+    expect_written::<ClusterConfig, _>(&rt, &bytes, &bytes)
+}
+
+#[test]
+fn folder(rt: HostRuntime) -> Result<(), Fail> {
     let bytes = [
         0x0a, 0x01, 0x66, 0x12, 0x01, 0x6c, 0x18, 0x01, 0x20, 0x01, 0x28, 0x01, 0x30, 0x01, 0x38,
         0x01, 0x82, 0x01, 0x03, 0x12, 0x01, 0x6e,
     ];
     let folder: Folder = both_ways(&rt, &bytes)?;
-    assert_eq!(rt; folder.label.as_str(), "l");
+    expect_text(&rt, &folder.label, "l");
     assert!(rt; folder.read_only && folder.ignore_permissions && folder.ignore_delete);
     assert!(rt; folder.disable_temp_indexes && folder.paused);
+    Ok(())
+}
+
+#[test]
+fn device(rt: HostRuntime) -> Result<(), Fail> {
     let bytes = [
         0x0a, 0x02, 0x01, 0x02, 0x12, 0x01, 0x6e, 0x1a, 0x01, 0x78, 0x1a, 0x00, 0x20, 0x01, 0x2a,
         0x01, 0x63, 0x30, 0xac, 0x02, 0x38, 0x01, 0x40, 0xff, 0xff, 0xff, 0xff, 0xff, 0xff, 0xff,
         0xff, 0xff, 0x01, 0x48, 0x01,
     ];
     let device: Device = both_ways(&rt, &bytes)?;
-    assert_eq!(rt; device.id.as_slice(), [1, 2].as_slice());
-    assert_eq!(rt; device.name.as_str(), "n");
-    let addresses = device.addresses.as_slice();
-    assert_eq!(rt; addresses.len(), 2);
-    assert_eq!(rt; addresses[0].as_str(), "x");
-    assert_eq!(rt; addresses[1].as_str(), "");
-    assert_eq!(rt; device.cert_name.as_str(), "c");
+    expect_octets(&rt, device.id.as_slice(), &[1, 2]);
+    expect_text(&rt, &device.name, "n");
+    expect_addresses(&rt, device.addresses.as_slice());
+    expect_text(&rt, &device.cert_name, "c");
     assert_eq!(rt;
         (device.compression, device.max_sequence, device.index_id),
         (1, 300, u64::MAX)
@@ -227,124 +299,122 @@ fn configurations(rt: HostRuntime) -> Result<(), Fail> {
     Ok(())
 }
 
+fn expect_addresses(rt: &impl Abort, addresses: &[Text]) {
+    assert_eq!(rt; addresses.len(), 2);
+    expect_text(rt, &addresses[0], "x");
+    expect_text(rt, &addresses[1], "");
+}
+
+/// Folder "f", and two files.
+const TWO_FILES: [u8; 10] = [0x0a, 0x01, 0x66, 0x12, 0x03, 0x0a, 0x01, 0x61, 0x12, 0x00];
+
 #[test]
-fn indexes_and_requests(rt: HostRuntime) -> Result<(), Fail> {
-    let bytes = [0x0a, 0x01, 0x66, 0x12, 0x03, 0x0a, 0x01, 0x61, 0x12, 0x00];
-    let index: Index = both_ways(&rt, &bytes)?;
-    assert_eq!(rt; index.folder.as_str(), "f");
+fn index(rt: HostRuntime) -> Result<(), Fail> {
+    let index: Index = both_ways(&rt, &TWO_FILES)?;
+    expect_text(&rt, &index.folder, "f");
     assert_eq!(rt; index.files.as_slice().len(), 2);
-    let update: IndexUpdate = both_ways(&rt, &bytes)?;
-    assert_eq!(rt; update.folder.as_str(), "f");
+    Ok(())
+}
+
+#[test]
+fn index_update(rt: HostRuntime) -> Result<(), Fail> {
+    let update: IndexUpdate = both_ways(&rt, &TWO_FILES)?;
+    expect_text(&rt, &update.folder, "f");
     assert_eq!(rt; update.files.as_slice().len(), 2);
+    Ok(())
+}
+
+#[test]
+fn request(rt: HostRuntime) -> Result<(), Fail> {
     let bytes = [
         0x08, 0x01, 0x12, 0x01, 0x66, 0x1a, 0x01, 0x61, 0x20, 0x80, 0x80, 0x08, 0x28, 0x03, 0x32,
         0x01, 0x09, 0x38, 0x01,
     ];
     let request: Request = both_ways(&rt, &bytes)?;
     assert_eq!(rt; (request.id, request.offset, request.size), (1, 131_072, 3));
-    assert_eq!(rt; request.folder.as_str(), "f");
-    assert_eq!(rt; request.name.as_str(), "a");
-    assert_eq!(rt; request.hash.as_slice(), [9].as_slice());
+    expect_text(&rt, &request.folder, "f");
+    expect_text(&rt, &request.name, "a");
+    expect_octets(&rt, request.hash.as_slice(), &[9]);
     assert!(rt; request.from_temporary);
+    Ok(())
+}
+
+#[test]
+fn response(rt: HostRuntime) -> Result<(), Fail> {
     let response: Response = both_ways(&rt, b"\x08\x01\x12\x03abc\x18\x02")?;
     assert_eq!(rt; (response.id, response.code), (1, 2));
-    assert_eq!(rt; response.payload.as_slice(), b"abc".as_slice());
+    expect_octets(&rt, response.payload.as_slice(), b"abc");
     Ok(())
 }
 
 #[test]
 fn empty_messages(rt: HostRuntime) -> Result<(), Fail> {
-    let _: Hello = both_ways(&rt, &[])?;
-    let _: Header = both_ways(&rt, &[])?;
-    let _: ClusterConfig = both_ways(&rt, &[])?;
-    let _: Folder = both_ways(&rt, &[])?;
-    let _: Device = both_ways(&rt, &[])?;
-    let _: Index = both_ways(&rt, &[])?;
-    let _: IndexUpdate = both_ways(&rt, &[])?;
-    let _: FileInfo = both_ways(&rt, &[])?;
-    let _: BlockInfo = both_ways(&rt, &[])?;
-    let _: Vector = both_ways(&rt, &[])?;
-    let _: Counter = both_ways(&rt, &[])?;
-    let _: Request = both_ways(&rt, &[])?;
-    let _: Response = both_ways(&rt, &[])?;
-    let _: DownloadProgress = both_ways(&rt, &[])?;
-    let _: Ping = both_ways(&rt, &[])?;
-    let _: Close = both_ways(&rt, &[])?;
-    Ok(())
+    expect_written::<Hello, _>(&rt, &[], &[])?;
+    expect_written::<Header, _>(&rt, &[], &[])?;
+    expect_written::<ClusterConfig, _>(&rt, &[], &[])?;
+    expect_written::<Folder, _>(&rt, &[], &[])?;
+    expect_written::<Device, _>(&rt, &[], &[])?;
+    expect_written::<Index, _>(&rt, &[], &[])?;
+    expect_written::<IndexUpdate, _>(&rt, &[], &[])?;
+    expect_written::<FileInfo, _>(&rt, &[], &[])?;
+    expect_written::<BlockInfo, _>(&rt, &[], &[])?;
+    expect_written::<Vector, _>(&rt, &[], &[])?;
+    expect_written::<Counter, _>(&rt, &[], &[])?;
+    expect_written::<Request, _>(&rt, &[], &[])?;
+    expect_written::<Response, _>(&rt, &[], &[])?;
+    expect_written::<DownloadProgress, _>(&rt, &[], &[])?;
+    expect_written::<Ping, _>(&rt, &[], &[])?;
+    expect_written::<Close, _>(&rt, &[], &[])
 }
 
 #[test]
-fn faults(rt: HostRuntime) -> Result<(), Fail> {
-    let hello: Hello = decode(&rt, &[])?;
-    expect_fault(&rt, &[0x0a, 0x01, 0xff], MessageFault::NotUtf8, &hello);
+fn faults(rt: HostRuntime) {
+    let truncated = MessageFault::Wire(WireFault::Truncated);
+    let group = MessageFault::Wire(WireFault::Group);
+    expect_fault::<Hello, _>(&rt, &[0x0a, 0x01, 0xff], MessageFault::NotUtf8);
     // The bytes of a field that are missing come before what is wrong with those that are there.
-    expect_fault(
-        &rt,
-        &[0x0a, 0x05, 0x61, 0xff],
-        MessageFault::Wire(WireFault::Truncated),
-        &hello,
-    );
-    let file: FileInfo = decode(&rt, &[])?;
+    expect_fault::<Hello, _>(&rt, &[0x0a, 0x05, 0x61, 0xff], truncated);
+    // An unknown field must be readable too.
+    expect_fault::<DownloadProgress, _>(&rt, &[0x0b], group);
+    expect_fault::<DownloadProgress, _>(&rt, &[0x0a, 0x02, 0x61], truncated);
+    let bytes = [0x1a, 0x00, 0x1a, 0x01, 0xff];
+    expect_fault::<Device, _>(&rt, &bytes, MessageFault::NotUtf8);
+}
+
+#[test]
+fn faults_of_files(rt: HostRuntime) {
     // A name that isn't UTF-8 counts, though another one takes its place.
-    expect_fault(
-        &rt,
-        &[0x0a, 0x01, 0xff, 0x0a, 0x01, 0x62],
-        MessageFault::NotUtf8,
-        &file,
-    );
+    let bytes = [0x0a, 0x01, 0xff, 0x0a, 0x01, 0x62];
+    expect_fault::<FileInfo, _>(&rt, &bytes, MessageFault::NotUtf8);
     // A group within the version, and a bad key after it; and the other way round.
-    expect_fault(
-        &rt,
-        &[0x4a, 0x01, 0x0b, 0x0e],
-        MessageFault::Wire(WireFault::Group),
-        &file,
-    );
-    expect_fault(
-        &rt,
-        &[0x0e, 0x4a, 0x01, 0x0b],
-        MessageFault::Wire(WireFault::BadKey),
-        &file,
-    );
+    let bytes = [0x4a, 0x01, 0x0b, 0x0e];
+    expect_fault::<FileInfo, _>(&rt, &bytes, MessageFault::Wire(WireFault::Group));
+    let bytes = [0x0e, 0x4a, 0x01, 0x0b];
+    expect_fault::<FileInfo, _>(&rt, &bytes, MessageFault::Wire(WireFault::BadKey));
     // Each occurrence of a version must be readable by itself, also where the joined bytes are.
     let halves = [0x4a, 0x01, 0x0a, 0x4a, 0x01, 0x00];
-    expect_fault(
-        &rt,
-        &halves,
-        MessageFault::Wire(WireFault::Truncated),
-        &file,
-    );
-    // An unknown field must be readable too.
-    let progress: DownloadProgress = decode(&rt, &[])?;
-    expect_fault(
-        &rt,
-        &[0x0b],
-        MessageFault::Wire(WireFault::Group),
-        &progress,
-    );
-    expect_fault(
-        &rt,
-        &[0x0a, 0x02, 0x61],
-        MessageFault::Wire(WireFault::Truncated),
-        &progress,
-    );
-    let device: Device = decode(&rt, &[])?;
-    expect_fault(
-        &rt,
-        &[0x1a, 0x00, 0x1a, 0x01, 0xff],
-        MessageFault::NotUtf8,
-        &device,
-    );
-    for (fault, number, name) in [
-        (MessageFault::Wire(WireFault::LongVarint), 2, "LongVarint"),
-        (MessageFault::NotUtf8, 5, "NotUtf8"),
-        (MessageFault::OutOfMemory, 33, "OutOfMemory"),
-    ] {
-        assert_eq!(rt; fault.number(), number);
-        let shown = match fault.to_string(rt.alloc()) {
-            Err(_) => fault.to_string(rt.alloc())?,
-            Ok(shown) => shown,
-        };
-        assert_eq!(rt; shown.as_str(), name);
-    }
+    expect_fault::<FileInfo, _>(&rt, &halves, MessageFault::Wire(WireFault::Truncated));
+}
+
+#[test]
+fn names_of_faults(rt: HostRuntime) -> Result<(), Fail> {
+    let fault = MessageFault::Wire(WireFault::LongVarint);
+    expect_name(&rt, fault, 2, "LongVarint")?;
+    expect_name(&rt, MessageFault::NotUtf8, 5, "NotUtf8")?;
+    expect_name(&rt, MessageFault::OutOfMemory, 33, "OutOfMemory")
+}
+
+fn expect_name<R: Abort + AllocGlobal>(
+    rt: &R,
+    fault: MessageFault,
+    number: u8,
+    name: &str,
+) -> Result<(), Fail> {
+    assert_eq!(rt; fault.number(), number);
+    let shown = match fault.to_string(rt.alloc()) {
+        Err(_) => fault.to_string(rt.alloc())?,
+        Ok(shown) => shown,
+    };
+    assert_eq!(rt; shown.as_str(), name);
     Ok(())
 }

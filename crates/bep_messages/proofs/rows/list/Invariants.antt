@@ -1,7 +1,7 @@
-use Rattle.std.proofs.Common.{◌≡◌, ◌+◌, ◌≤◌, length, map, take}
+use Rattle.std.proofs.Common.{map, take}
 use Rattle.std.specs.List.{AllByRecursion}
 use Rattle.bep_messages.specs.Forms.{list_form, form, Fits, IsShort}
-use Rattle.bep_messages.specs.Writing.{Adds, len}
+use Rattle.bep_messages.specs.Writing.{Adds}
 use Rattle.bep_messages.proofs.rows.list.Given as goal
 
 abbrev pub invariant-loop-value : goal.invariant-loop-value
@@ -9,9 +9,6 @@ invariant-loop-value g l =
     let table = g.M.ProtoMessage.table in
     let front = map g.M.ProtoMessage.parts (take l.value-index l.value-items) in
     record {
-      ok : Adds l.fn.out.written (list_form l.number (form table) front) l.out.written;
+      ok : Adds l.fn.out (list_form l.number (form table) front) l.out;
       fits : AllByRecursion (λ m. Fits table m × IsShort (form table m)) front;
-      kept : l.out.kept ≡ l.fn.out.kept;
-      longer : len l.out ≡ len l.fn.out + length (list_form l.number (form table) front);
-      capacity : l.fn.out.capacity ≤ l.out.capacity;
     }

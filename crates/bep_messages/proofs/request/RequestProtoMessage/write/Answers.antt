@@ -1,0 +1,26 @@
+use Rattle.bep_messages.proofs.Written.{adds_none, ◌then◌, lacks_here, ◌until◌, on_err}
+use Rattle.bep_messages.proofs.request.RequestProtoMessage.write.Goals as goal
+
+pub returns-clause-ok : goal.returns-clause-ok
+returns-clause-ok c = c.in_ok-int32.ensures.ok then c.in_ok-words.ensures.ok then c.in_ok-words-2.ensures.ok then c.in_ok-int64.ensures.ok then c.in_ok-int32-2.ensures.ok then c.in_ok-digest.ensures.ok then c.in_ok-boolean.ensures.ok then adds_none _
+
+pub returns-in_err-int32-clause-err : goal.returns-in_err-int32-clause-err
+returns-in_err-int32-clause-err c = on_err _ (lacks_here _ c.in_err-int32.ensures.err)
+
+pub returns-in_err-words-clause-err : goal.returns-in_err-words-clause-err
+returns-in_err-words-clause-err c = on_err _ (c.in_ok-int32.ensures.ok until lacks_here _ c.in_err-words.ensures.err)
+
+pub returns-in_err-words-2-clause-err : goal.returns-in_err-words-2-clause-err
+returns-in_err-words-2-clause-err c = on_err _ (c.in_ok-int32.ensures.ok until c.in_ok-words.ensures.ok until lacks_here _ c.in_err-words-2.ensures.err)
+
+pub returns-in_err-int64-clause-err : goal.returns-in_err-int64-clause-err
+returns-in_err-int64-clause-err c = on_err _ (c.in_ok-int32.ensures.ok until c.in_ok-words.ensures.ok until c.in_ok-words-2.ensures.ok until lacks_here _ c.in_err-int64.ensures.err)
+
+pub returns-in_err-int32-2-clause-err : goal.returns-in_err-int32-2-clause-err
+returns-in_err-int32-2-clause-err c = on_err _ (c.in_ok-int32.ensures.ok until c.in_ok-words.ensures.ok until c.in_ok-words-2.ensures.ok until c.in_ok-int64.ensures.ok until lacks_here _ c.in_err-int32-2.ensures.err)
+
+pub returns-in_err-digest-clause-err : goal.returns-in_err-digest-clause-err
+returns-in_err-digest-clause-err c = on_err _ (c.in_ok-int32.ensures.ok until c.in_ok-words.ensures.ok until c.in_ok-words-2.ensures.ok until c.in_ok-int64.ensures.ok until c.in_ok-int32-2.ensures.ok until lacks_here _ c.in_err-digest.ensures.err)
+
+pub returns-in_err-boolean-clause-err : goal.returns-in_err-boolean-clause-err
+returns-in_err-boolean-clause-err c = on_err _ (c.in_ok-int32.ensures.ok until c.in_ok-words.ensures.ok until c.in_ok-words-2.ensures.ok until c.in_ok-int64.ensures.ok until c.in_ok-int32-2.ensures.ok until c.in_ok-digest.ensures.ok until lacks_here _ c.in_err-boolean.ensures.err)
