@@ -4,6 +4,7 @@
 //! [`PlainFolder`] is its first body.
 #![tactic(auto)]
 
+mod announcement;
 mod answer;
 mod best;
 mod change;
@@ -21,6 +22,7 @@ mod stage;
 mod tests;
 mod token;
 
+pub use announcement::Announcement;
 pub use answer::Answer;
 pub use best::Best;
 pub use change::Change;

@@ -6,7 +6,6 @@ ghost use Rattle.folder_core.specs.Plain.{commits};
 ghost use Rattle.folder_core.specs.States.{empty_folder, local};
 ghost use Rattle.folder_core.specs.Steps.{IndexFull, IndexMore};
 
-mod entry;
 mod find;
 mod group;
 mod merge;
@@ -15,9 +14,8 @@ mod own;
 mod pull;
 mod scan;
 
-use crate::{Best, FolderCore, Place};
+use crate::{Announcement, Best, FolderCore, Place};
 use bep_messages::Items;
-use entry::Entry;
 use find::place_of;
 use group::{best_with_devices, bests_of, entries_after, entries_of};
 use merge::merge;
@@ -35,7 +33,7 @@ use sync_record::{DeviceId, Record};
 #[derive(Debug, Drop)]
 pub struct PlainFolder {
     me: DeviceId,
-    entries: Vec<Entry>,
+    entries: Vec<Announcement>,
     last: u64,
     pulls: Vec<OpenPull>,
 }
@@ -160,7 +158,11 @@ impl FolderCore for PlainFolder {
 /// Makes room in the entries for this many more, and for what the open commits will add, and an empty list, with room for
 /// just the entries and the new ones where there are new ones. The entries stay as they are. It does not allocate if there
 /// are no new ones.
-fn room_for(entries: &mut Vec<Entry>, new: usize, promised: usize) -> Result<Vec<Entry>, AllocError>
+fn room_for(
+    entries: &mut Vec<Announcement>,
+    new: usize,
+    promised: usize,
+) -> Result<Vec<Announcement>, AllocError>
     requires { vec_len entries.old + promised ≤ vec_capacity entries.old }
     ensures entries_stay { entries.new.items ≡ entries.old.items }
     ensures len { vec_len entries.new ≡ vec_len entries.old }

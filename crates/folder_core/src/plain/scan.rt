@@ -8,9 +8,8 @@ ghost use Rattle.folder_core.specs.Plain.{Rises, filed};
 ghost use Rattle.folder_core.specs.PlainScans.{first_of, obstacle_answer, tests_of};
 ghost use Rattle.folder_core.specs.Steps.{is_found};
 
-use super::entry::Entry;
 use super::merge::put;
-use crate::{Finding, FoundContent, ScanAnswer, ScanFault};
+use crate::{Announcement, Finding, FoundContent, ScanAnswer, ScanFault};
 use bep_messages::Items;
 use std::alloc::{AllocError, Global};
 use sync_names::SafeName;

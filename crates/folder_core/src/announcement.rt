@@ -2,7 +2,7 @@ use sync_record::{DeviceId, Record};
 
 /// What a device announces of a name.
 #[derive(Debug, Drop)]
-pub(super) struct Entry {
+pub struct Announcement {
     pub device: DeviceId,
     pub record: Record,
 }
