@@ -49,3 +49,5 @@ pub mod PlainPulls
 pub mod PlainChange
 pub mod PlainOwn
 pub mod PlainPlaces
+pub mod PlainRestoreLists
+pub mod PlainRestore

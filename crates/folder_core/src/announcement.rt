@@ -1,7 +1,7 @@
 use sync_record::{DeviceId, Record};
 
 /// What a device announces of a name.
-#[derive(Debug, Drop)]
+#[derive(Debug, PartialEq, Eq, Drop)]
 pub struct Announcement {
     pub device: DeviceId,
     pub record: Record,

@@ -4,7 +4,7 @@ ghost use Rattle.folder_core.specs.Steps.{IndexFull, IndexMore};
 ghost use Rattle.folder_core.specs.Reads.{IsPlaceFound, best_found, bests_page, known};
 ghost use Rattle.folder_core.specs.Calls.{Changes, index_answer};
 
-use crate::{Best, Place};
+use crate::{Best, Place, PlainFolder};
 use bep_messages::Items;
 use std::alloc::AllocError;
 use sync_names::SafeName;
@@ -58,4 +58,9 @@ pub trait FolderCore {
     /// allocate.
     fn known(&self, device: DeviceId) -> u64
         ensures { result ≡ known (state self.now) device };
+
+    /// A plain folder of the same state, with the same open pulls; it shares the records. Later changes of the one leave the
+    /// other as it is. Returns `Err` only if out of memory.
+    fn plain_copy(&self) -> Result<PlainFolder, AllocError>
+        ensures { IfOk result (λ copy. copy ≡ state self.now) };
 }

@@ -16,6 +16,7 @@ pub mod laws;
 mod place;
 mod plain;
 mod pull;
+mod restore_fault;
 mod scan;
 mod stage;
 #[cfg(test)]
@@ -33,6 +34,7 @@ pub use history::Entry;
 pub use place::Place;
 pub use plain::PlainFolder;
 pub use pull::{BeginAnswer, Commit, NotEntered, Stray, Ticket};
+pub use restore_fault::RestoreFault;
 pub use scan::{ScanAnswer, ScanFault};
 pub use stage::Stage;
 pub use token::Token;
