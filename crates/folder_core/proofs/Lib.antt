@@ -51,3 +51,4 @@ pub mod PlainOwn
 pub mod PlainPlaces
 pub mod PlainRestoreLists
 pub mod PlainRestore
+pub mod PlainRestoreSame
