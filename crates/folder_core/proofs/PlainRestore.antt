@@ -1,7 +1,7 @@
 -- What is restored from records in order is the folder that the rules restore.
 use Rattle.std.proofs.Common.{◌≡◌, ◌≢◌, ◌↔◌, ℕ, zero, suc, ◌+◌, ◌<◌, ◌≤◌, ◌^◌, Bool, true, false, List, [], ◌∷◌, length, refl, sym, ap, subst, ◌∙◌, arith, inl, inr}
 use Rattle.std.proofs.lemmas.Bool.{and_from, and_parts, true≢false, leb-true, le-leb}
-use Rattle.std.proofs.lemmas.List.Sorted.{Contains-permutation, IsPermutation-sym}
+use Rattle.std.proofs.lemmas.List.Sorted.{Contains-permutation, IsPermutation-sym, length_permutation}
 use Rattle.std.specs.Bool.{passes}
 use Rattle.std.specs.FinMap.{empty, entries, entries-from_sorted, find, from_entries, from_sorted, get, get-from_sorted, is_sorted, same_map}
 use Rattle.std.specs.List.{list_all, find as first_where}
@@ -203,3 +203,11 @@ module _ (me : Identity) (records es : List Entry) (last : ℕ) where
       where
         roomy : (m n : ℕ) → m ≤ n → m + 0 ≤ n
         roomy m n le = omega arith
+
+-- no entries are none in any order
+pub none-permuted : (es fs : List Entry) → IsPermutation es fs → es ≡ [] → fs ≡ []
+none-permuted es fs p none = empty fs (length_permutation es fs p ∙ ap length none)
+  where
+    empty : (gs : List Entry) → length gs ≡ 0 → gs ≡ []
+    empty [] e = refl
+    empty (g ∷ gs) e = absurd (let n : suc (length gs) ≡ 0 = e in omega arith)

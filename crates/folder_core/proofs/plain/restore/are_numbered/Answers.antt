@@ -1,4 +1,4 @@
-use Rattle.std.proofs.Common.{◌≡◌, true, refl, ap, sym, subst, ◌∙◌, rules}
+use Rattle.std.proofs.Common.{refl, subst, rules}
 use Rattle.std.specs.Prelude.{AllPairs, ◌≢◌, ◌↔◌, IsTrue, filter}
 use Rattle.folder_core.specs.PlainReads.{is_from}
 use Rattle.folder_core.proofs.PlainRestore.{distinct-numbered, found-none, none-found, none-numbered}
