@@ -1,12 +1,12 @@
 -- What is restored from records in order is the folder that the rules restore.
-use Rattle.std.proofs.Common.{◌≡◌, ◌≢◌, ◌↔◌, ℕ, zero, suc, ◌+◌, ◌<◌, ◌≤◌, ◌^◌, Bool, true, false, List, [], ◌∷◌, length, refl, sym, ap, subst, ◌∙◌, arith, inl, inr}
-use Rattle.std.proofs.lemmas.Bool.{and_from, and_parts, true≢false, leb-true, le-leb}
+use Rattle.std.proofs.Common.{◌≡◌, ◌≢◌, ◌↔◌, ℕ, suc, ◌+◌, ◌<◌, ◌≤◌, ◌^◌, Bool, true, false, List, [], ◌∷◌, length, refl, sym, ap, subst, ◌∙◌, arith, inl, inr}
+use Rattle.std.proofs.lemmas.Bool.{and_from, and_parts, leb-true, le-leb}
 use Rattle.std.proofs.lemmas.List.Sorted.{Contains-permutation, IsPermutation-sym, length_permutation}
 use Rattle.std.specs.Bool.{passes}
-use Rattle.std.specs.FinMap.{empty, entries, entries-from_sorted, find, from_entries, from_sorted, get, get-from_sorted, is_sorted, same_map}
+use Rattle.std.specs.FinMap.{entries, entries-from_sorted, from_sorted, get, get-from_sorted, same_map}
 use Rattle.std.specs.List.{list_all, find as first_where}
 use Rattle.std.specs.List.Sorted.{IsPermutation}
-use Rattle.std.specs.Prelude.{AllPairs, Contains, IsTrue, Option, Some, None, ℤ, pos, cond, filter, map}
+use Rattle.std.specs.Prelude.{AllPairs, Contains, IsTrue, Option, Some, None, pos, cond, filter, map}
 use Rattle.sync_record.specs.Devices.{Identity}
 use Rattle.sync_record.specs.Records.{FileRecord}
 use Rattle.sync_record.specs.Validity.{is_valid}
@@ -16,9 +16,9 @@ use Rattle.folder_core.specs.Plain.{IsPlain, Rises, filed, folder_of, pulls_of}
 use Rattle.folder_core.specs.PlainReads.{is_from}
 use Rattle.folder_core.specs.PlainRestores.{AreNumbered, IsOnce, given, is_numbered}
 use Rattle.folder_core.specs.Restores.{MayRestore, key_of, restored_folder}
-use Rattle.folder_core.specs.States.{FolderState, IsFolder}
-use Rattle.folder_core.proofs.ListTests.{In, alike_bytes, all_in, contains_in, find_in, in_all, in_contains, in_filter, in_get, in_map, inside, none_some, of_filter, of_map, same_bytes}
-use Rattle.folder_core.proofs.Orders.{exact_keys, is_true, keys_total}
+use Rattle.folder_core.specs.States.{IsFolder}
+use Rattle.folder_core.proofs.ListTests.{In, alike_bytes, all_in, contains_in, find_in, in_all, in_contains, in_filter, in_get, in_map, none_some, of_filter, of_map, same_bytes}
+use Rattle.folder_core.proofs.Orders.{exact_keys, keys_total}
 use Rattle.folder_core.proofs.PlainChange.{no_pulls}
 use Rattle.folder_core.proofs.PlainRestoreLists.{key_at, keys-permuted, rising-keys}
 use Rattle.folder_core.proofs.ReadLists.{Apart, apart-filter, apart-map, apart-pairs, pairs-apart}

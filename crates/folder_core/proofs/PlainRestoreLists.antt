@@ -1,24 +1,23 @@
 -- Lists without repeats in another order, and entries that rise.
 use Rattle.std.proofs.Common.{◌≡◌, ◌≢◌, ◌↔◌, ℕ, zero, suc, ◌+◌, ◌<◌, ◌≤◌, Bool, true, false, List, [], ◌∷◌, length, get_or, refl, sym, ap, subst, ◌∙◌, arith, inl, inr}
-use Rattle.std.specs.Prelude.{AllPairs, map, sum_by, cond, T, slice_index_or, ◌==◌, nat_lt, IsTrue}
+use Rattle.std.specs.Prelude.{AllPairs, map, sum_by, cond, T, ◌==◌, nat_lt, IsTrue}
 use Rattle.std.specs.Bool.{Decides, passes}
 use Rattle.std.specs.Cmp.{IsStrictWeakOrder}
 use Rattle.std.specs.FinMap.{is_sorted}
 use Rattle.std.specs.FinMap.Entries.{below_all}
-use Rattle.std.specs.List.{AllAdjacentBelow, IsAllAdjacentAnswer}
+use Rattle.std.specs.List.{IsAllAdjacentAnswer}
 use Rattle.std.specs.List.Sorted.{IsPermutation, IsSorted, IsSortedBy}
 use Rattle.std.specs.Ordering.{eq_by_cmp, is_eq, is_lt, nat_cmp, ordering_reverse}
 use Rattle.std.specs.declared.cmp.Ordering.{Ordering}
 use Rattle.std.specs.declared.cmp.Ordering.TheVariants.{Less, Equal, Greater}
 use Rattle.std.proofs.lemmas.Bool.{eqb-true, eq-eqb, ltb-true, ltb-false, true≢false}
-use Rattle.std.proofs.lemmas.List.{get_or-map}
 use Rattle.std.proofs.lemmas.List.Kept.{AllPairs-from_increasing}
 use Rattle.std.proofs.lemmas.List.Sorted.{IsPermutation-map, IsPermutation-sym, ranks_by, sum_by-IsPermutation}
 use Rattle.std.proofs.lemmas.List.Sums.{sum_by-cons}
 use Rattle.std.proofs.lemmas.Map.Keys.{ge_from_not_lt}
 use Rattle.folder_core.specs.declared.announcement.Announcement.{Announcement as Entry}
 use Rattle.folder_core.specs.Announced.{Key, key_cmp}
-use Rattle.folder_core.specs.Plain.{Rises, filed}
+use Rattle.folder_core.specs.Plain.{filed}
 use Rattle.folder_core.specs.PlainRestores.{IsOnce}
 use Rattle.folder_core.proofs.ListFilters.{join, less_is}
 use Rattle.folder_core.proofs.ListTests.{In, below_in, by_or, in_map, is_less, of_map, parts}

@@ -1,11 +1,12 @@
 -- Two plain folders are the same state where their lists are.
-use Rattle.std.proofs.Common.{◌≡◌, ◌↔◌, ℕ, Bool, true, false, List, [], ◌∷◌, refl, sym, ap, ◌∙◌}
+use Rattle.std.proofs.Common.{◌≡◌, ◌↔◌, ℕ, suc, Bool, List, [], ◌∷◌, length, refl, sym, ap, ◌∙◌, arith}
+use Rattle.std.specs.declared.cmp.Ordering.{Ordering}
 use Rattle.std.proofs.lemmas.Bool.{and_from, and_parts, eqb-true, eq-eqb, true≢false}
 use Rattle.std.specs.Bool.{Decides, beq, passes}
 use Rattle.std.specs.Cmp.Lexicographic.{pointwise}
-use Rattle.std.specs.FinMap.{entries, entries-from_sorted, from_sorted}
+use Rattle.std.specs.FinMap.{FinMap, empty, entries, entries-from_sorted, from_sorted, len-empty, len-entries}
 use Rattle.std.specs.Option.{option_eq}
-use Rattle.std.specs.Prelude.{bytes_eq, ◌&&◌, ◌==◌, IsTrue, Option, Some, None, is_some, map, option_map}
+use Rattle.std.specs.Prelude.{bytes_eq, ◌&&◌, IsTrue, Option, Some, None, is_some, map, option_map}
 use Rattle.sync_record.specs.Devices.{Identity, bytes_cmp}
 use Rattle.sync_record.specs.Records.{FileRecord, Name}
 use Rattle.sync_record.specs.Same.{same_record}
@@ -13,10 +14,9 @@ use Rattle.sync_version.specs.Computed.{same_version}
 use Rattle.sync_version.specs.Versions.{Vector}
 use Rattle.folder_core.specs.declared.announcement.Announcement.{Announcement as Entry}
 use Rattle.folder_core.specs.declared.plain.pull.OpenPull.{OpenPull}
-use Rattle.folder_core.specs.declared.stage.Stage.{Stage}
-use Rattle.folder_core.specs.declared.stage.Stage.TheVariants.{Pulling, Committing}
+use Rattle.folder_core.specs.declared.stage.Stage.TheVariants.{Committing}
 use Rattle.folder_core.specs.Announced.{Announcement, key_cmp}
-use Rattle.folder_core.specs.Plain.{PullsRise, Rises, filed, folder_of, opened, pulled, pulls_of, stage_of}
+use Rattle.folder_core.specs.Plain.{PullsRise, Rises, filed, folder_of, pulled, pulls_of, stage_of}
 use Rattle.folder_core.specs.PlainRestores.{same_pull}
 use Rattle.folder_core.specs.States.{FolderState, Pull, same_stage}
 use Rattle.folder_core.proofs.ListTests.{alike_bytes, inside, none_some, same_bytes}
@@ -128,3 +128,30 @@ module _ (me her : Identity) (es fs : List Entry) (last final : ℕ) (ps qs : Li
     ∙ filed-back fs,
     sym (entries-from_sorted bytes_cmp (map pulled ps) (passes _ p)) ∙ ap (λ (x : FolderState). entries x.pulls) e ∙ entries-from_sorted bytes_cmp (map pulled qs) (passes _ q),
   )
+
+-- ---- folders without records and pulls
+
+none-empty : {K X : Type 0} (R : K → K → Ordering) (m : FinMap R X) → m ≡ empty → entries m ≡ []
+none-empty R m none = no_length (entries m) (ap (λ n. length (entries n)) none ∙ sym (len-entries empty) ∙ len-empty R _)
+  where
+    no_length : {A : Type 0} (xs : List A) → length xs ≡ 0 → xs ≡ []
+    no_length [] e = refl
+    no_length (x ∷ xs) e = absurd (let n : suc (length xs) ≡ 0 = e in omega arith)
+
+none-mapped : {A B : Type 0} (f : A → B) (xs : List A) → map f xs ≡ [] → xs ≡ []
+none-mapped f [] e = refl
+none-mapped f (x ∷ xs) e = absurd (not_empty (f x) (map f xs) e)
+  where
+    not_empty : {C : Type 0} (y : C) (ys : List C) → y ∷ ys ≡ [] → ⊥
+    not_empty y ys s = cc
+
+module _ (me : Identity) (es : List Entry) (last : ℕ) (ps : List OpenPull) (s : FolderState) (is : folder_of me es last (pulls_of ps) ≡ s) where
+  pub no-entries : Rises es → s.announced ≡ empty → es ≡ []
+  no-entries rises none =
+      none-mapped filed es
+      (sym (entries-from_sorted key_cmp (map filed es) (passes _ rises)) ∙ ap (λ (x : FolderState). entries x.announced) is ∙ none-empty key_cmp s.announced none)
+
+  pub no-open : PullsRise ps → s.pulls ≡ empty → ps ≡ []
+  no-open rise none =
+      none-mapped pulled ps
+      (sym (entries-from_sorted bytes_cmp (map pulled ps) (passes _ rise)) ∙ ap (λ (x : FolderState). entries x.pulls) is ∙ none-empty bytes_cmp s.pulls none)
