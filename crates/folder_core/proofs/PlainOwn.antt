@@ -1,6 +1,6 @@
 -- What the plain folder finds of one device is what the folder has of it.
 use Rattle.std.proofs.Common.{◌≡◌, ℕ, Bool, true, false, List, [], ◌∷◌, refl, sym, ap, ◌∙◌}
-use Rattle.std.specs.Prelude.{◌&&◌, cond, max, fold, Option, Some, filter, map, option_map}
+use Rattle.std.specs.Prelude.{◌&&◌, cond, max, fold, Option, Some, None, filter, map, option_map}
 use Rattle.std.specs.Bool.{passes}
 use Rattle.std.specs.Cmp.{Equal-is, tied_itself}
 use Rattle.std.specs.FinMap.{entries, entries-from_sorted, get-from_sorted, find}
@@ -8,7 +8,7 @@ use Rattle.std.specs.List.{find as first_where}
 use Rattle.std.specs.Ordering.{eq_by_cmp, is_eq}
 use Rattle.std.proofs.lemmas.Bool.{and_from, and_parts}
 use Rattle.sync_record.specs.Devices.{Identity}
-use Rattle.sync_record.specs.Records.{Name}
+use Rattle.sync_record.specs.Records.{Name, FileRecord}
 use Rattle.folder_core.specs.declared.announcement.Announcement.{Announcement as Entry}
 use Rattle.folder_core.specs.Announced.{is_by, key, key_cmp}
 use Rattle.folder_core.specs.Codes.{Pulls}

@@ -1,6 +1,6 @@
 -- Where the plain folder finds a block is one of its places.
 use Rattle.std.proofs.Common.{◌≡◌, ℕ, ◌+◌, ◌<◌, Bool, true, false, List, [], ◌∷◌, ◌++◌, length, take, get_or, refl, sym, ap, ◌∙◌}
-use Rattle.std.specs.Prelude.{bytes_eq, ◌&&◌, cond, Some, None, filter, find, flat_map, map}
+use Rattle.std.specs.Prelude.{bytes_eq, ◌&&◌, cond, Option, Some, None, filter, find, flat_map, map}
 use Rattle.std.proofs.lemmas.Bool.{and_parts}
 use Rattle.std.proofs.lemmas.Grind.{flat_map-append}
 use Rattle.std.proofs.lemmas.List.{map-append, take_more}

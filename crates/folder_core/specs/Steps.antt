@@ -16,6 +16,7 @@ pub use Rattle.folder_core.specs.declared.finding.FoundContent.TheVariants.{Dire
 pub use Rattle.folder_core.specs.declared.token.Token.{Token}
 use Rattle.sync_record.specs.Assemblies.{IsAssembled}
 use Rattle.sync_record.specs.Contents.{same_content}
+use Rattle.sync_blocks.specs.declared.block.Block.{Block}
 use Rattle.sync_record.specs.Devices.{Identity, short_id}
 use Rattle.sync_record.specs.Records.{Name, FileRecord, is_live, is_file, is_directory}
 use Rattle.sync_record.specs.Same.{same_record}
