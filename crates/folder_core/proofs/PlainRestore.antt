@@ -148,11 +148,11 @@ module _ (me : Identity) (records es : List Entry) (last : ℕ) where
       distinct = apart-pairs_by sequence_of own (apart-map sequence_of own
           (apart-filter (is_from me) es (apart-of key_at es keys-apart))
           (λ e f i j equal.
-              let c = own-record e i in
-              let d = own-record f j in
-              let value : e.record ≡ f.record = may.distinct e.record f.record c.0 d.0 equal in
-              let device : e.device ≡ f.device = c.1 ∙ sym d.1 in
-              (λ i. record { device = device i; «record» = value i })));
+          let c = own-record e i in
+          let d = own-record f j in
+          let value : e.record ≡ f.record = may.distinct e.record f.record c.0 d.0 equal in
+          let device : e.device ≡ f.device = c.1 ∙ sym d.1 in
+          (λ i. record { device = device i; «record» = value i })));
     }
 
     -- ---- what is announced

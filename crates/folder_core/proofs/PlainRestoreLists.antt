@@ -67,13 +67,13 @@ module _ {A : Type 0} (eq : A → A → Bool) (same : (x y : A) → Decides (eq 
       let whole = sum_by-cons (one x) y ys in
       by_or (eq x y) (sum_by (one x) (y ∷ ys) ≤ 1)
       (λ t.
-          let here = one-is x y true t in
-          let rest = none-there x ys (λ i. apart.0 (subst (λ z. In z ys) ((same x y).0 t) i)) in
-          omega arith)
+      let here = one-is x y true t in
+      let rest = none-there x ys (λ i. apart.0 (subst (λ z. In z ys) ((same x y).0 t) i)) in
+      omega arith)
       (λ f.
-          let here = one-is x y false f in
-          let rest = apart-once ys apart.1 x in
-          omega arith)
+      let here = one-is x y false f in
+      let rest = apart-once ys apart.1 x in
+      omega arith)
 
   once-apart : (xs : List A) → ((x : A) → times x xs ≤ 1) → Apart xs
   unfolding times
@@ -170,8 +170,8 @@ rises-tested es false found =
     let more : k + 1 ≡ suc k = omega arith in
     by_or (is_sorted key_cmp (map filed es)) (false ≡ is_sorted key_cmp (map filed es))
     (λ t. first es (λ d.
-        true≢false (sym (rises-in_order es (passes _ t) k d (let s = found.1 in omega arith))
-        ∙ ap (λ j. before (get_or es k d) (get_or es j d)) (sym more) ∙ sym (found.2 d))) (let s = found.1 in omega arith))
+    true≢false (sym (rises-in_order es (passes _ t) k d (let s = found.1 in omega arith))
+    ∙ ap (λ j. before (get_or es k d) (get_or es j d)) (sym more) ∙ sym (found.2 d))) (let s = found.1 in omega arith))
     (λ f. sym f)
   where
     first : {P : Type 0} (es : List Entry) → (Entry → ⊥) → 0 < length es → P

@@ -124,8 +124,8 @@ module _ (me her : Identity) (es fs : List Entry) (last final : ℕ) (ps qs : Li
     ap (λ (x : FolderState). x.me) e,
     ap (λ (x : FolderState). x.last) e,
     sym (filed-back es)
-    ∙ ap (map unfiled) (sym (entries-from_sorted key_cmp (map filed es) (passes _ r)) ∙ ap (λ (x : FolderState). entries x.announced) e ∙ entries-from_sorted key_cmp (map filed fs) (passes _ s))
-    ∙ filed-back fs,
+        ∙ ap (map unfiled) (sym (entries-from_sorted key_cmp (map filed es) (passes _ r)) ∙ ap (λ (x : FolderState). entries x.announced) e ∙ entries-from_sorted key_cmp (map filed fs) (passes _ s))
+        ∙ filed-back fs,
     sym (entries-from_sorted bytes_cmp (map pulled ps) (passes _ p)) ∙ ap (λ (x : FolderState). entries x.pulls) e ∙ entries-from_sorted bytes_cmp (map pulled qs) (passes _ q),
   )
 
