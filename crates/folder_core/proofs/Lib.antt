@@ -53,3 +53,7 @@ pub mod PlainPlaces
 pub mod PlainNeed
 pub mod PlainCounts
 pub mod PlainSince
+pub mod PlainRestoreLists
+pub mod PlainRestore
+pub mod PlainRestoreSame
+pub mod ChangeRuns

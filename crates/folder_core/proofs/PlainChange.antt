@@ -13,7 +13,7 @@ use Rattle.std.specs.FinMap.{empty, find, from_sorted, get, get-empty, get-from_
 use Rattle.std.specs.FinMap.Entries.{below_all, find-put, is_sorted-put, is_sorted-where_key}
 use Rattle.sync_record.specs.Devices.{Identity, bytes_cmp}
 use Rattle.sync_record.specs.Records.{Name, FileRecord}
-use Rattle.folder_core.specs.declared.plain.entry.Entry.{Entry}
+use Rattle.folder_core.specs.declared.announcement.Announcement.{Announcement as Entry}
 use Rattle.folder_core.specs.Announced.{Announced, Announcement, Key, announce, key, key_cmp, without, last_of}
 use Rattle.folder_core.specs.Codes.{Pulls}
 use Rattle.folder_core.specs.Plain.{IsLastOfEach, IsPlain, Rises, commits, filed, filed_by, folder_of, pulls_of, put_all}

@@ -7,7 +7,7 @@ use Rattle.std.proofs.lemmas.List.{length-map}
 use Rattle.std.proofs.lemmas.List.Sums.{length-filter}
 use Rattle.sync_record.specs.Devices.{Identity, bytes_cmp}
 use Rattle.sync_record.specs.Records.{FileRecord}
-use Rattle.folder_core.specs.declared.plain.entry.Entry.{Entry}
+use Rattle.folder_core.specs.declared.announcement.Announcement.{Announcement as Entry}
 use Rattle.folder_core.specs.declared.plain.pull.OpenPull.{OpenPull}
 use Rattle.folder_core.specs.Announced.{is_by, key_cmp}
 use Rattle.folder_core.specs.Codes.{Pulls}

@@ -22,7 +22,7 @@ use Rattle.sync_record.specs.Validity.{is_valid}
 use Rattle.sync_record.proofs.SameContent.{reflexive}
 use Rattle.sync_version.proofs.Lemmas.{dominates_itself, same_version_tells}
 use Rattle.sync_version.specs.Computed.{dominates, same_version}
-use Rattle.folder_core.specs.declared.plain.entry.Entry.{Entry}
+use Rattle.folder_core.specs.declared.announcement.Announcement.{Announcement as Entry}
 use Rattle.folder_core.specs.Announced.{Announcement, key_cmp, is_best, is_of, best, bests, devices_of}
 use Rattle.folder_core.proofs.BestList.{apart}
 use Rattle.folder_core.proofs.PullNeed.{Rising, bests-rising}

@@ -17,7 +17,7 @@ use Rattle.sync_record.specs.Devices.{bytes_cmp}
 use Rattle.sync_record.specs.Records.{Name}
 use Rattle.sync_record.specs.Validity.{is_valid}
 use Rattle.sync_version.specs.Computed.{dominates, same_version}
-use Rattle.folder_core.specs.declared.plain.entry.Entry.{Entry}
+use Rattle.folder_core.specs.declared.announcement.Announcement.{Announcement as Entry}
 use Rattle.folder_core.specs.Announced.{Announcement, Key, key_cmp, is_of, is_candidate, is_best, best, bests, devices_of, is_by}
 use Rattle.folder_core.specs.Reads.{is_after, with_devices}
 use Rattle.folder_core.proofs.BestPreferred.{is_preferred}

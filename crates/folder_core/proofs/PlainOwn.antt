@@ -9,7 +9,7 @@ use Rattle.std.specs.Ordering.{eq_by_cmp, is_eq}
 use Rattle.std.proofs.lemmas.Bool.{and_from, and_parts}
 use Rattle.sync_record.specs.Devices.{Identity}
 use Rattle.sync_record.specs.Records.{Name}
-use Rattle.folder_core.specs.declared.plain.entry.Entry.{Entry}
+use Rattle.folder_core.specs.declared.announcement.Announcement.{Announcement as Entry}
 use Rattle.folder_core.specs.Announced.{is_by, key, key_cmp}
 use Rattle.folder_core.specs.Codes.{Pulls}
 use Rattle.folder_core.specs.Plain.{Rises, filed, folder_of}

@@ -6,7 +6,7 @@ use Rattle.std.specs.FinMap.{entries, entries-from_sorted}
 use Rattle.std.proofs.lemmas.List.Sums.{sum_by-cons, length-filter}
 use Rattle.sync_record.specs.Devices.{Identity, bytes_cmp}
 use Rattle.sync_record.specs.Records.{FileRecord}
-use Rattle.folder_core.specs.declared.plain.entry.Entry.{Entry}
+use Rattle.folder_core.specs.declared.announcement.Announcement.{Announcement as Entry}
 use Rattle.folder_core.specs.declared.plain.pull.OpenPull.{OpenPull}
 use Rattle.folder_core.specs.States.{open_commits, is_committing, same_stage}
 use Rattle.folder_core.specs.Plain.{PullsRise, commits, folder_of, opened, pulled, pulls_of, stage_of}

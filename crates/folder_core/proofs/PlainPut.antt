@@ -10,7 +10,7 @@ use Rattle.std.specs.declared.cmp.Ordering.TheVariants.{Less, Equal, Greater}
 use Rattle.std.proofs.lemmas.Bool.{true≢false, ltb-true, ltb-false}
 use Rattle.std.specs.FinMap.{put}
 use Rattle.std.specs.FinMap.Entries.{by_order}
-use Rattle.folder_core.specs.declared.plain.entry.Entry.{Entry}
+use Rattle.folder_core.specs.declared.announcement.Announcement.{Announcement as Entry}
 use Rattle.folder_core.specs.Announced.{Key, key_cmp}
 use Rattle.folder_core.specs.Plain.{filed}
 use Rattle.folder_core.proofs.Orders.{keys_total, exact_keys}

@@ -18,7 +18,7 @@ use Rattle.sync_record.specs.declared.own.Edit.{Edit}
 use Rattle.sync_record.specs.Records.{Name, FileRecord}
 use Rattle.sync_version.specs.Computed.{raised}
 use Rattle.sync_version.specs.Versions.{Vector}
-use Rattle.folder_core.specs.declared.plain.entry.Entry.{Entry}
+use Rattle.folder_core.specs.declared.announcement.Announcement.{Announcement as Entry}
 use Rattle.folder_core.specs.declared.plain.pull.OpenPull.{OpenPull}
 use Rattle.folder_core.specs.declared.plain.scan.Obstacle.{Obstacle}
 use Rattle.folder_core.specs.Announced.{Announced, key, key_cmp}

@@ -12,7 +12,7 @@ use Rattle.std.proofs.lemmas.List.Elements.{filter-append}
 use Rattle.std.proofs.lemmas.List.Sums.{sum_by-take-le, sum_by_push}
 use Rattle.sync_record.specs.Devices.{Identity}
 use Rattle.sync_record.specs.Records.{FileRecord}
-use Rattle.folder_core.specs.declared.plain.entry.Entry.{Entry}
+use Rattle.folder_core.specs.declared.announcement.Announcement.{Announcement as Entry}
 use Rattle.folder_core.specs.Codes.{Pulls}
 use Rattle.folder_core.specs.Plain.{Rises, folder_of}
 use Rattle.folder_core.specs.PlainReads.{is_from, later_from, records_from}

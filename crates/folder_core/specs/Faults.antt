@@ -1,5 +1,7 @@
 -- The numbers and names under which programs report what a folder refuses (own rule).
 use Rattle.std.specs.Prelude.{ℕ, List, codes}
+use Rattle.folder_core.specs.declared.restore_fault.RestoreFault.{RestoreFault}
+use Rattle.folder_core.specs.declared.restore_fault.RestoreFault.TheVariants as restore
 use Rattle.folder_core.specs.declared.scan.ScanFault.{ScanFault}
 use Rattle.folder_core.specs.declared.scan.ScanFault.TheVariants.{CounterFull, SequenceFull, OutOfMemory}
 
@@ -18,3 +20,7 @@ stray_number = 34
 
 abbrev pub stray_name : List ℕ
 stray_name = codes "Stray"
+
+abbrev pub restore_fault_name : RestoreFault → List ℕ
+restore_fault_name restore.BadRecords = codes "BadRecords"
+restore_fault_name restore.OutOfMemory = codes "OutOfMemory"

@@ -15,5 +15,6 @@ pub mod Codes
 pub mod Plain
 pub mod PlainReads
 pub mod PlainScans
+pub mod PlainRestores
 -- worked rows
 pub mod Samples

@@ -3,7 +3,7 @@
 use Rattle.std.specs.Prelude.{◌≡◌, ℕ, ◌+◌, ◌≤◌, All, length, is_some, Bool, not, ◌&&◌, if◌then◌else◌, List, fold, map, filter, option_map, find, bytes_eq, Option, Some, None, IsTrue}
 use Rattle.std.specs.List.{list_any, reduce}
 use Rattle.std.specs.FinMap as map
-use Rattle.folder_core.specs.declared.plain.entry.Entry.{Entry}
+use Rattle.folder_core.specs.declared.announcement.Announcement.{Announcement as Entry}
 use Rattle.folder_core.specs.declared.plain.pull.OpenPull.{OpenPull}
 use Rattle.folder_core.specs.declared.stage.Stage.{Stage}
 use Rattle.folder_core.specs.declared.stage.Stage.TheVariants.{Pulling, Committing}

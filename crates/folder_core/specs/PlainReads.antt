@@ -1,7 +1,7 @@
 -- What the reads of `PlainFolder` find in its list of entries.
 use Rattle.std.specs.Prelude.{bytes_eq, ℕ, Bool, ◌&&◌, ◌||◌, not, nat_lt, if◌then◌else◌, List, map, filter, find, flat_map, fold, max, Option, Some, None, is_some, option_and_then, option_map}
 use Rattle.std.specs.List.{reduce}
-use Rattle.folder_core.specs.declared.plain.entry.Entry.{Entry}
+use Rattle.folder_core.specs.declared.announcement.Announcement.{Announcement as Entry}
 use Rattle.folder_core.specs.declared.place.Place.{Place}
 use Rattle.sync_blocks.specs.declared.block.Block.{Block}
 use Rattle.sync_record.specs.Devices.{Identity}

@@ -4,7 +4,7 @@ ghost use Rattle.folder_core.specs.Steps.{Forget, IndexFull, IndexMore, ScanFoun
 ghost use Rattle.folder_core.specs.Reads.{IsPlaceFound, best_found, bests_page, counts, known, local_since, need_page};
 ghost use Rattle.folder_core.specs.Calls.{Changes, index_answer, scan_answer};
 
-use crate::{Best, Counts, Finding, Place, ScanAnswer, ScanFault};
+use crate::{Best, Counts, Finding, Place, PlainFolder, ScanAnswer, ScanFault};
 use bep_messages::Items;
 use std::alloc::AllocError;
 use sync_names::SafeName;
@@ -103,4 +103,9 @@ pub trait FolderCore {
     /// How much the folder has. Does not allocate.
     fn counts(&self) -> Counts
         ensures { result ≡ counts (state self.now) };
+
+    /// A plain folder of the same state, with the same open pulls; it shares the records. Later changes of the one leave the
+    /// other as it is. Returns `Err` only if out of memory.
+    fn plain_copy(&self) -> Result<PlainFolder, AllocError>
+        ensures { IfOk result (λ copy. copy ≡ state self.now) };
 }

@@ -4,6 +4,7 @@
 //! [`PlainFolder`] is its first body.
 #![tactic(auto)]
 
+mod announcement;
 mod answer;
 mod best;
 mod change;
@@ -15,12 +16,14 @@ pub mod laws;
 mod place;
 mod plain;
 mod pull;
+mod restore_fault;
 mod scan;
 mod stage;
 #[cfg(test)]
 mod tests;
 mod token;
 
+pub use announcement::Announcement;
 pub use answer::Answer;
 pub use best::Best;
 pub use change::Change;
@@ -31,6 +34,7 @@ pub use history::Entry;
 pub use place::Place;
 pub use plain::PlainFolder;
 pub use pull::{BeginAnswer, Commit, NotEntered, Stray, Ticket};
+pub use restore_fault::RestoreFault;
 pub use scan::{ScanAnswer, ScanFault};
 pub use stage::Stage;
 pub use token::Token;

@@ -1,13 +1,18 @@
 //! A folder as one list in order.
-ghost use Rattle.std.specs.Prelude.{◌≡◌, ◌≢◌, ◌+◌, ◌<◌, ◌≤◌, [], IfOk, IsOk, IsTrue, None, map, option_copied, option_map, vec_len, vec_capacity};
+ghost use Rattle.std.specs.Prelude.{◌≡◌, ◌≢◌, ◌↔◌, ◌+◌, ◌<◌, ◌≤◌, [], IfErr, IfOk, IsOk, IsTrue, None, map, option_copied, option_map, vec_len, vec_capacity};
+ghost use Rattle.std.specs.FinMap.{empty, entries};
 ghost use Rattle.folder_core.specs.Calls.{Changes, index_answer, may_allocate, scan_answer};
 ghost use Rattle.folder_core.specs.Reads.{IsPlaceFound, best_found, bests_page, counts, known, local_since, need_page, places};
-ghost use Rattle.folder_core.specs.Plain.{commits};
+ghost use Rattle.folder_core.specs.Plain.{commits, filed};
+ghost use Rattle.folder_core.specs.PlainRestores.{given};
+ghost use Rattle.folder_core.specs.Restores.{MayRestore, restored_folder};
+ghost use Rattle.folder_core.specs.declared.restore_fault.RestoreFault.TheVariants.{BadRecords};
 ghost use Rattle.folder_core.specs.States.{empty_folder, local};
 ghost use Rattle.folder_core.specs.Steps.{Forget, IndexFull, IndexMore, ScanFound, ScanGone, is_found, step};
 
+mod compare;
+mod copy;
 mod count;
-mod entry;
 mod find;
 mod group;
 mod merge;
@@ -15,15 +20,19 @@ mod message;
 mod need;
 mod own;
 mod pull;
+mod restore;
 mod scan;
 mod since;
 #[cfg(test)]
 mod tests;
 
-use crate::{Best, Counts, Finding, FolderCore, Place, ScanAnswer, ScanFault};
+use crate::{
+    Announcement, Best, Counts, Finding, FolderCore, Place, RestoreFault, ScanAnswer, ScanFault,
+};
 use bep_messages::Items;
+use compare::{same_entries, same_pulls};
+use copy::{copied_entries, copied_pulls};
 use count::{deletions, live_directories, live_files, records_of_others};
-use entry::Entry;
 use find::place_of;
 use group::{best_with_devices, bests_of, entries_after, entries_of};
 use merge::merge;
@@ -31,6 +40,7 @@ use message::last_of_each_name;
 use need::{count_needed, needed_names};
 use own::{copy_from, greatest_sequence, record_from};
 use pull::OpenPull;
+use restore::{are_numbered, in_order};
 use scan::{
     found_record, gone_record, is_gone, is_same, next_version, put_next, scan_answer,
     scan_obstacle, version_of,
@@ -48,7 +58,7 @@ use sync_version::{Moment, Version};
 #[derive(Debug, Drop)]
 pub struct PlainFolder {
     me: DeviceId,
-    entries: Vec<Entry>,
+    entries: Vec<Announcement>,
     last: u64,
     pulls: Vec<OpenPull>,
 }
@@ -293,12 +303,85 @@ impl FolderCore for PlainFolder {
             last: self.last,
         }
     }
+
+    /// O(n + k) for n records kept and k open pulls. The records are not copied but shared. Where there is neither record
+    /// nor pull it does not allocate.
+    fn plain_copy(&self) -> Result<PlainFolder, AllocError>
+        ensures copy { IfOk result (λ copy. copy ≡ self.now) }
+        ensures nothing { self.now.announced ≡ empty → self.now.pulls ≡ empty → IsOk result }
+    {
+        let alloc = *self.entries.allocator();
+        let room = self.entries.len() + open_commits(&self.pulls);
+        Ok(PlainFolder {
+            me: self.me,
+            entries: copied_entries(alloc, self.entries.as_slice(), room)?,
+            last: self.last,
+            pulls: copied_pulls(alloc, self.pulls.as_slice())?,
+        })
+    }
+}
+
+impl PlainFolder {
+    /// The folder of this device that has these records and no open pull; `last` is the last sequence that it gave, 0 if none.
+    /// Fails with `BadRecords` where there is no such folder: if `last` is negative, a device has two records of a name, or
+    /// this device's records are not all valid, with distinct sequences from 1 to `last`. Fails with `OutOfMemory` only if
+    /// there are records.
+    ///
+    /// O(n log n) for n records; none is copied. Records that are in order, as [`records`](PlainFolder::records) lends them,
+    /// are not sorted.
+    pub fn restore(
+        alloc: Global,
+        me: DeviceId,
+        records: Items<Announcement>,
+        last: i64,
+    ) -> Result<PlainFolder, RestoreFault>
+        ensures allowed { IsOk result → MayRestore me (map given records) last }
+        ensures restored { IfOk result (λ folder. folder ≡ restored_folder me (map given records) last) }
+        ensures refused { IfErr result (λ fault. fault ≡ BadRecords → ¬ (MayRestore me (map given records) last)) }
+        ensures none { records ≡ [] → IfErr result (λ fault. fault ≡ BadRecords) }
+    {
+        let Ok(last) = u64::try_from(last) else {
+            return Err(RestoreFault::BadRecords);
+        };
+        let entries = in_order(records.into_vec())?;
+        if !are_numbered(alloc, entries.as_slice(), me, last)? {
+            return Err(RestoreFault::BadRecords);
+        }
+        Ok(PlainFolder {
+            me,
+            entries,
+            last,
+            pulls: Vec::new(alloc),
+        })
+    }
+
+    /// Every record with the device that announces it, by name and then by device. Does not allocate. O(1).
+    pub fn records(&self) -> &[Announcement]
+        ensures { map filed result.now ≡ entries self.now.announced }
+    {
+        self.entries.as_slice()
+    }
+
+    /// Whether both are the same state: of the same device, with the same records, the same last sequence and the same open
+    /// pulls. Of the record over which a pull began only the version counts. Does not allocate. O(s) for s bytes of both.
+    pub fn same_state(&self, other: &PlainFolder) -> bool
+        ensures { IsTrue result ↔ (self.now ≡ other.now) }
+    {
+        self.me == other.me
+            && self.last == other.last
+            && same_entries(self.entries.as_slice(), other.entries.as_slice())
+            && same_pulls(self.pulls.as_slice(), other.pulls.as_slice())
+    }
 }
 
 /// Makes room in the entries for this many more, and for what the open commits will add, and an empty list, with room for
 /// just the entries and the new ones where there are new ones. The entries stay as they are. It does not allocate if there
 /// are no new ones.
-fn room_for(entries: &mut Vec<Entry>, new: usize, promised: usize) -> Result<Vec<Entry>, AllocError>
+fn room_for(
+    entries: &mut Vec<Announcement>,
+    new: usize,
+    promised: usize,
+) -> Result<Vec<Announcement>, AllocError>
     requires { vec_len entries.old + promised ≤ vec_capacity entries.old }
     ensures entries_stay { entries.new.items ≡ entries.old.items }
     ensures len { vec_len entries.new ≡ vec_len entries.old }

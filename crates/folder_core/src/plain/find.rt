@@ -3,8 +3,7 @@ ghost use Rattle.std.specs.Prelude.{◌≡◌, ◌&&◌, [], None, Contains, IfO
 ghost use Rattle.sync_record.specs.Records.{is_live_file};
 ghost use Rattle.folder_core.specs.PlainReads.{block_from, places_from};
 
-use super::entry::Entry;
-use crate::Place;
+use crate::{Announcement, Place};
 use std::alloc::AllocError;
 use sync_record::{Block, DeviceId, Kind};
 
@@ -12,7 +11,7 @@ use sync_record::{Block, DeviceId, Kind};
 /// for n entries, up to that file, and b blocks of the device's files, and the copy of the name. Does not allocate where
 /// there is none.
 pub(super) fn place_of(
-    entries: &[Entry],
+    entries: &[Announcement],
     device: DeviceId,
     hash: &[u8; 32],
 ) -> Result<Option<Place>, AllocError>
@@ -30,7 +29,7 @@ pub(super) fn place_of(
 }
 
 /// The first block with this digest, if the entry is a live file of the device.
-fn block_from<'a>(entry: &'a Entry, device: DeviceId, hash: &[u8; 32]) -> Option<&'a Block>
+fn block_from<'a>(entry: &'a Announcement, device: DeviceId, hash: &[u8; 32]) -> Option<&'a Block>
     ensures { option_copied result ≡ block_from device hash.now entry.now }
 {
     if entry.device == device && is_live_file(entry) {
@@ -48,7 +47,7 @@ fn block_with<'a>(blocks: &'a [Block], hash: &[u8; 32]) -> Option<&'a Block>
 }
 
 /// Whether the entry is of a file that isn't deleted.
-pub(super) fn is_live_file(entry: &Entry) -> bool
+pub(super) fn is_live_file(entry: &Announcement) -> bool
     ensures { result ≡ is_live_file entry.now.record }
 {
     !entry.record.is_deleted() && entry.record.kind() == Kind::File

@@ -8,8 +8,7 @@ ghost use Rattle.sync_version.specs.Computed.{dominates, same_version};
 ghost use Rattle.folder_core.specs.Plain.{Rises, is_undominated, better, better_of, devices_with, group_best, listed_bests};
 ghost use Rattle.folder_core.specs.Reads.{is_after};
 
-use super::entry::Entry;
-use crate::Best;
+use crate::{Announcement, Best};
 use bep_messages::Items;
 use std::alloc::{AllocError, Global};
 use sync_names::SafeName;
@@ -17,7 +16,7 @@ use sync_record::{DeviceId, Record, preferred, same_content};
 use sync_version::Relation;
 
 /// The entries of a name, which are side by side. O(log n + k) for n entries, k of them of the name.
-pub(super) fn entries_of<'a>(entries: &'a [Entry], name: &SafeName) -> &'a [Entry]
+pub(super) fn entries_of<'a>(entries: &'a [Announcement], name: &SafeName) -> &'a [Announcement]
     requires { Rises entries.now }
     ensures { result.now ≡ filter (λ e. bytes_eq e.record.name name.now) entries.now }
 {
@@ -27,7 +26,7 @@ pub(super) fn entries_of<'a>(entries: &'a [Entry], name: &SafeName) -> &'a [Entr
 }
 
 /// How many of the first entries are of the name. O(k) for k of them.
-pub(super) fn count_of(entries: &[Entry], name: &SafeName) -> usize
+pub(super) fn count_of(entries: &[Announcement], name: &SafeName) -> usize
     ensures { result ≡ prefix_len (λ e. bytes_eq e.record.name name.now) entries.now }
 {
     entries
@@ -37,7 +36,10 @@ pub(super) fn count_of(entries: &[Entry], name: &SafeName) -> usize
 }
 
 /// The entries of the names greater than `after`, or all where it is `None`. O(log n) for n entries.
-pub(super) fn entries_after<'a>(entries: &'a [Entry], after: Option<&SafeName>) -> &'a [Entry]
+pub(super) fn entries_after<'a>(
+    entries: &'a [Announcement],
+    after: Option<&SafeName>,
+) -> &'a [Announcement]
     requires { Rises entries.now }
     ensures { result.now ≡ filter (λ e. is_after (option_copied after.entry) e.record.name) entries.now }
 {
@@ -52,7 +54,7 @@ pub(super) fn entries_after<'a>(entries: &'a [Entry], after: Option<&SafeName>) 
 /// up to the last one of them, with k entries, and the copies. Does not allocate where there is none.
 pub(super) fn bests_of(
     alloc: Global,
-    entries: &[Entry],
+    entries: &[Announcement],
     limit: usize,
 ) -> Result<Vec<Best>, AllocError>
     requires { Rises entries.now }
@@ -76,7 +78,10 @@ pub(super) fn bests_of(
 
 /// A copy of the best of the entries of one name, and the devices that have it. O(k^2) for k entries, and the copy. Does
 /// not allocate where there is no best.
-pub(super) fn best_with_devices(alloc: Global, group: &[Entry]) -> Result<Option<Best>, AllocError>
+pub(super) fn best_with_devices(
+    alloc: Global,
+    group: &[Announcement],
+) -> Result<Option<Best>, AllocError>
     ensures found { IfOk result (λ b. option_map (λ b. (b.record, b.devices)) b ≡ group_best group.now) }
     ensures none { group_best group.now ≡ None → IsOk result }
 {
@@ -94,7 +99,7 @@ pub(super) fn best_with_devices(alloc: Global, group: &[Entry]) -> Result<Option
 }
 
 /// The same of the only entry of a name: it is the best where it is valid.
-fn best_alone(alloc: Global, entry: &Entry) -> Result<Option<Best>, AllocError>
+fn best_alone(alloc: Global, entry: &Announcement) -> Result<Option<Best>, AllocError>
     ensures found { IfOk result (λ b. option_map (λ b. (b.record, b.devices)) b ≡ group_best (entry.now ∷ [])) }
     ensures none { group_best (entry.now ∷ []) ≡ None → IsOk result }
 {
@@ -111,10 +116,10 @@ fn best_alone(alloc: Global, entry: &Entry) -> Result<Option<Best>, AllocError>
 
 /// Of the entries of one name the best: it is valid, no valid one dominates it, and it is preferred to every other such
 /// one. O(k^2) for k entries.
-pub(super) fn best_of(group: &[Entry]) -> Option<&Entry>
+pub(super) fn best_of(group: &[Announcement]) -> Option<&Announcement>
     ensures { option_copied result ≡ reduce better (filter (is_undominated group.now) group.now) }
 {
-    let mut best: Option<&Entry> = None;
+    let mut best: Option<&Announcement> = None;
     for entry in group {
         if is_undominated(group, &entry.record) {
             best = Some(better(best, entry));
@@ -124,7 +129,7 @@ pub(super) fn best_of(group: &[Entry]) -> Option<&Entry>
 }
 
 /// The entry where there is no other or it is preferred to it, else the other.
-fn better<'a>(other: Option<&'a Entry>, entry: &'a Entry) -> &'a Entry
+fn better<'a>(other: Option<&'a Announcement>, entry: &'a Announcement) -> &'a Announcement
     ensures { result.now ≡ better_of (option_copied other.entry) entry.now }
 {
     match other {
@@ -133,19 +138,19 @@ fn better<'a>(other: Option<&'a Entry>, entry: &'a Entry) -> &'a Entry
     }
 }
 
-fn is_better(a: &Entry, b: &Entry) -> bool
+fn is_better(a: &Announcement, b: &Announcement) -> bool
     ensures { result ≡ is_preferred (a.now.device, a.now.record) (b.now.device, b.now.record) }
 {
     preferred((&a.record, &a.device), (&b.record, &b.device))
 }
 
-fn is_undominated(group: &[Entry], candidate: &Record) -> bool
+fn is_undominated(group: &[Announcement], candidate: &Record) -> bool
     ensures { result ≡ (is_valid candidate.now && not (list_any (λ f. is_valid f.record && dominates f.record.version candidate.now.version) group.now)) }
 {
     candidate.is_valid() && !is_dominated(group, candidate)
 }
 
-fn is_dominated(group: &[Entry], candidate: &Record) -> bool
+fn is_dominated(group: &[Announcement], candidate: &Record) -> bool
     ensures { result ≡ list_any (λ f. is_valid f.record && dominates f.record.version candidate.now.version) group.now }
 {
     group
@@ -162,7 +167,11 @@ fn dominates(a: &Record, b: &Record) -> bool
 
 /// The devices whose valid record has the version and the content of the best, in the order of the entries. O(k) for k
 /// entries.
-fn devices_with(alloc: Global, group: &[Entry], best: &Record) -> Result<Vec<DeviceId>, AllocError>
+fn devices_with(
+    alloc: Global,
+    group: &[Announcement],
+    best: &Record,
+) -> Result<Vec<DeviceId>, AllocError>
     ensures { IfOk result (λ ds. ds.items ≡ devices_with group.now best.now) }
 {
     group

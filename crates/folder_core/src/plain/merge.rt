@@ -7,7 +7,7 @@ ghost use Rattle.std.specs.declared.cmp.Ordering.TheVariants.{Less};
 ghost use Rattle.folder_core.specs.Announced.{key, key_cmp};
 ghost use Rattle.folder_core.specs.Plain.{filed, filed_by, put_all, NamesRise, Rises};
 
-use super::entry::Entry;
+use crate::Announcement;
 use std::cmp::Ordering;
 use sync_record::{DeviceId, Record};
 
@@ -15,10 +15,10 @@ use sync_record::{DeviceId, Record};
 /// allocate; `room` holds what is moved. O(t + m log n) for m records and n entries, t of them after the place of the
 /// first record, which are moved; the entries before it stay where they are.
 pub(super) fn merge(
-    entries: &mut Vec<Entry>,
+    entries: &mut Vec<Announcement>,
     device: DeviceId,
     mut records: Vec<Record>,
-    mut room: Vec<Entry>,
+    mut room: Vec<Announcement>,
 )
     requires rises { Rises entries.old.items }
     requires names_rise { NamesRise records.items }
@@ -41,10 +41,10 @@ pub(super) fn merge(
 /// first; none where there is no record. Does not allocate. O(log n + t) for n entries and t that are moved, O(1) where
 /// there are none.
 fn move_greater(
-    entries: &mut Vec<Entry>,
+    entries: &mut Vec<Announcement>,
     device: DeviceId,
     records: &[Record],
-    room: &mut Vec<Entry>,
+    room: &mut Vec<Announcement>,
 )
     requires rises { Rises entries.old.items }
     requires names_rise { NamesRise records.now }
@@ -75,7 +75,7 @@ fn move_greater(
 
 /// Puts a device's record among the entries, in its place and in place of the device's record of its name. Does not
 /// allocate. O(log n + t) for n entries, t of them after the place.
-pub(super) fn put(entries: &mut Vec<Entry>, device: DeviceId, announced: Record)
+pub(super) fn put(entries: &mut Vec<Announcement>, device: DeviceId, announced: Record)
     requires rises { Rises entries.old.items }
     requires fits { vec_len entries.old < vec_capacity entries.old }
     ensures placed { map filed entries.new.items ≡ put key_cmp (key announced.name device) announced (map filed entries.old.items) }
@@ -84,7 +84,7 @@ pub(super) fn put(entries: &mut Vec<Entry>, device: DeviceId, announced: Record)
 {
     let place = entries.partition_point(|entry| is_less(entry, device, &announced));
     let order = order(entries.get(place), device, &announced);
-    let entry = Entry {
+    let entry = Announcement {
         device,
         record: announced,
     };
@@ -96,7 +96,7 @@ pub(super) fn put(entries: &mut Vec<Entry>, device: DeviceId, announced: Record)
 }
 
 /// Inserts an entry at a place, where there is room for it. Does not allocate.
-fn insert_reserved(entries: &mut Vec<Entry>, place: usize, entry: Entry)
+fn insert_reserved(entries: &mut Vec<Announcement>, place: usize, entry: Announcement)
     requires place { place ≤ vec_len entries.old }
     requires fits { vec_len entries.old < vec_capacity entries.old }
     ensures items { entries.new.items ≡ insert entries.old.items place entry }
@@ -109,14 +109,14 @@ fn insert_reserved(entries: &mut Vec<Entry>, place: usize, entry: Entry)
 }
 
 /// Whether an entry is before what the device announces, by name and then by device.
-fn is_less(entry: &Entry, device: DeviceId, announced: &Record) -> bool
+fn is_less(entry: &Announcement, device: DeviceId, announced: &Record) -> bool
     ensures { result ≡ is_lt (key_cmp (filed entry.now).0 (key announced.now.name device)) }
 {
     order(Some(entry), device, announced) == Ordering::Less
 }
 
 /// Whether an entry is after what the device announces, by name and then by device.
-fn is_greater(entry: &Entry, device: DeviceId, announced: &Record) -> bool
+fn is_greater(entry: &Announcement, device: DeviceId, announced: &Record) -> bool
     ensures { result ≡ is_gt (key_cmp (filed entry.now).0 (key announced.now.name device)) }
 {
     order(Some(entry), device, announced) == Ordering::Greater
@@ -124,10 +124,10 @@ fn is_greater(entry: &Entry, device: DeviceId, announced: &Record) -> bool
 
 /// Takes the last of the entries and the records; of equal keys the record. `None` where no record is left.
 fn last_entry(
-    entries: &mut Vec<Entry>,
+    entries: &mut Vec<Announcement>,
     device: DeviceId,
     records: &mut Vec<Record>,
-) -> Option<Entry>
+) -> Option<Announcement>
     requires rises { Rises entries.old.items }
     requires names_rise { NamesRise records.old.items }
     ensures last { MatchOption result ((records.old.items ≡ []) × (entries.new.items ≡ entries.old.items)) (λ e. put_all (map filed entries.old.items) (map (filed_by device) records.old.items) ≡ put_all (map filed entries.new.items) (map (filed_by device) records.new.items) ++ filed e ∷ []) }
@@ -143,11 +143,11 @@ fn last_entry(
         Ordering::Less => {}
     }
     let record = records.pop()?;
-    Some(Entry { device, record })
+    Some(Announcement { device, record })
 }
 
 /// Compares an entry with what the device announces, by name and then by device. `Less` where there is no entry.
-fn order(entry: Option<&Entry>, device: DeviceId, announced: &Record) -> Ordering
+fn order(entry: Option<&Announcement>, device: DeviceId, announced: &Record) -> Ordering
     ensures { MatchOption (option_copied entry.entry) (result ≡ Less) (λ e. result ≡ key_cmp (filed e).0 (key announced.now.name device)) }
 {
     let Some(entry) = entry else {
@@ -158,7 +158,7 @@ fn order(entry: Option<&Entry>, device: DeviceId, announced: &Record) -> Orderin
 }
 
 /// Puts back after the entries what was taken from them, the last of it first.
-fn put_back(entries: &mut Vec<Entry>, mut taken: Vec<Entry>)
+fn put_back(entries: &mut Vec<Announcement>, mut taken: Vec<Announcement>)
     requires { vec_len entries.old + vec_len taken ≤ vec_capacity entries.old }
     ensures items { entries.new.items ≡ entries.old.items ++ reverse taken.items }
     ensures len { vec_len entries.new ≡ vec_len entries.old + vec_len taken }

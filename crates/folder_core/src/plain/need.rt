@@ -3,9 +3,9 @@ ghost use Rattle.std.specs.Prelude.{◌≡◌, ◌<◌, [], ◌∷◌, IfOk, IfS
 ghost use Rattle.folder_core.specs.Plain.{Rises};
 ghost use Rattle.folder_core.specs.PlainReads.{is_needed_over, needed_names, needed_of, record_from};
 
-use super::entry::Entry;
 use super::group::{best_of, count_of};
 use super::own::entry_from;
+use crate::Announcement;
 use std::alloc::{AllocError, Global};
 use sync_names::SafeName;
 use sync_record::{DeviceId, Record};
@@ -14,7 +14,7 @@ use sync_record::{DeviceId, Record};
 /// of them, with k entries, and the copies. Does not allocate where there is none.
 pub(super) fn needed_names(
     alloc: Global,
-    entries: &[Entry],
+    entries: &[Announcement],
     device: DeviceId,
     limit: usize,
 ) -> Result<Vec<SafeName>, AllocError>
@@ -35,7 +35,7 @@ pub(super) fn needed_names(
 }
 
 /// How many names have a best that the device needs. O(k^2) for each name, with k entries. Does not allocate.
-pub(super) fn count_needed(entries: &[Entry], device: DeviceId) -> usize
+pub(super) fn count_needed(entries: &[Announcement], device: DeviceId) -> usize
     requires { Rises entries.now }
     ensures { result ≡ length (needed_names device entries.now) }
 {
@@ -50,7 +50,10 @@ pub(super) fn count_needed(entries: &[Entry], device: DeviceId) -> usize
 
 /// The first best that the device needs, and the entries of the names after it. O(k^2) for each name up to it, with k
 /// entries.
-fn next_needed(entries: &[Entry], device: DeviceId) -> Option<(&Entry, &[Entry])>
+fn next_needed(
+    entries: &[Announcement],
+    device: DeviceId,
+) -> Option<(&Announcement, &[Announcement])>
     requires { Rises entries.now }
     ensures next { MatchOption result (needed_names device entries.now ≡ []) (λ r. needed_names device entries.now ≡ r.0.now.record.name ∷ needed_names device r.1.now) }
     ensures rises { IfSome result (λ r. Rises r.1.now) }
@@ -68,7 +71,7 @@ fn next_needed(entries: &[Entry], device: DeviceId) -> Option<(&Entry, &[Entry])
 }
 
 /// The best of the entries of one name, if the device needs it. O(k^2) for k entries.
-fn needed_of(group: &[Entry], device: DeviceId) -> Option<&Entry>
+fn needed_of(group: &[Announcement], device: DeviceId) -> Option<&Announcement>
     ensures { option_copied result ≡ needed_of device group.now }
 {
     let best = best_of(group)?;
@@ -77,7 +80,7 @@ fn needed_of(group: &[Entry], device: DeviceId) -> Option<&Entry>
 
 /// Whether the device needs the best of the entries of one name: its own record is of another version, or it has none and
 /// the best isn't deleted. O(k) for k entries.
-fn is_needed(group: &[Entry], device: DeviceId, best: &Record) -> bool
+fn is_needed(group: &[Announcement], device: DeviceId, best: &Record) -> bool
     ensures { result ≡ is_needed_over (record_from device group.now) best.now }
 {
     match entry_from(group, device) {

@@ -2,19 +2,19 @@
 ghost use Rattle.std.specs.Prelude.{◌≡◌, None, IfOk, IsOk, find, option_copied};
 ghost use Rattle.folder_core.specs.PlainReads.{greatest_sequence, is_from, record_from};
 
-use super::entry::Entry;
+use crate::Announcement;
 use std::alloc::AllocError;
 use sync_record::{DeviceId, Record};
 
 /// The first of the entries that is the device's. O(k) for k entries.
-pub(super) fn entry_from(entries: &[Entry], device: DeviceId) -> Option<&Entry>
+pub(super) fn entry_from(entries: &[Announcement], device: DeviceId) -> Option<&Announcement>
     ensures { option_copied result ≡ find (is_from device) entries.now }
 {
     entries.iter().find(|entry| entry.device == device)
 }
 
 /// The device's record of the entries of one name. O(k) for k entries.
-pub(super) fn record_from(entries: &[Entry], device: DeviceId) -> Option<&Record>
+pub(super) fn record_from(entries: &[Announcement], device: DeviceId) -> Option<&Record>
     ensures { option_copied result ≡ record_from device entries.now }
 {
     match entry_from(entries, device) {
@@ -24,7 +24,10 @@ pub(super) fn record_from(entries: &[Entry], device: DeviceId) -> Option<&Record
 }
 
 /// A copy of the device's record of the entries of one name. O(k) for k entries. Does not allocate where there is none.
-pub(super) fn copy_from(group: &[Entry], device: DeviceId) -> Result<Option<Record>, AllocError>
+pub(super) fn copy_from(
+    group: &[Announcement],
+    device: DeviceId,
+) -> Result<Option<Record>, AllocError>
     ensures found { IfOk result (λ r. r ≡ record_from device group.now) }
     ensures none { record_from device group.now ≡ None → IsOk result }
 {
@@ -35,7 +38,7 @@ pub(super) fn copy_from(group: &[Entry], device: DeviceId) -> Result<Option<Reco
 }
 
 /// The greatest sequence of the device's records, 0 without any. O(n) for n entries.
-pub(super) fn greatest_sequence(entries: &[Entry], device: DeviceId) -> u64
+pub(super) fn greatest_sequence(entries: &[Announcement], device: DeviceId) -> u64
     ensures { result ≡ greatest_sequence device entries.now }
 {
     entries

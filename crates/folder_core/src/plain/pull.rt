@@ -1,4 +1,7 @@
+ghost use Rattle.std.specs.Prelude.{◌≡◌, option_copied, option_map};
+
 use sync_record::Record;
+use sync_version::Version;
 
 /// An open pull, under its target's name.
 #[derive(Debug, Drop)]
@@ -11,4 +14,28 @@ pub(super) struct OpenPull {
     /// What will be announced at its end, made when its commit was entered, so that the end does not allocate. Only its
     /// sequence is missing.
     pub ready: Option<Record>,
+}
+
+impl PartialEq for OpenPull {
+    ghost use Rattle.std.specs.Cmp.{partial_equiv_from_equiv};
+    ghost use Rattle.folder_core.specs.PlainRestores.{same_pull, same_pull_equiv};
+
+    ghost eq = { same_pull };
+
+    ghost laws = { partial_equiv_from_equiv same_pull_equiv };
+
+    /// Whether the states have the same pull: of its base they have the version, and of what is ready that it is there.
+    /// Does not allocate. O(s) for s bytes of both.
+    fn eq(&self, other: &OpenPull) -> bool {
+        self.number == other.number
+            && version(&self.base) == version(&other.base)
+            && self.target == other.target
+            && self.ready.is_some() == other.ready.is_some()
+    }
+}
+
+fn version(record: &Option<Record>) -> Option<&Version>
+    ensures { option_copied result ≡ option_map (λ r. r.version) «record».now }
+{
+    record.as_ref().map(|record| record.version())
 }

@@ -18,11 +18,10 @@ ghost use Rattle.folder_core.specs.States.{max_sequence};
 ghost use Rattle.folder_core.specs.Steps.{is_found};
 ghost use Rattle.sync_record.specs.Devices.{short_id};
 
-use super::entry::Entry;
 use super::merge::put;
 use super::open_commits;
 use super::pull::OpenPull;
-use crate::{Finding, FoundContent, ScanAnswer, ScanFault};
+use crate::{Announcement, Finding, FoundContent, ScanAnswer, ScanFault};
 use bep_messages::Items;
 use std::alloc::{AllocError, Global};
 use sync_names::SafeName;
@@ -237,7 +236,7 @@ fn raised(version: &Version, id: u64, moment: Moment) -> Result<Version, AllocEr
 /// Puts a record of this device's own in its place under the next sequence, and returns that. `promised` places more are
 /// left free in the memory of the entries, as before. A call that is out of memory leaves the entries.
 pub(super) fn put_next(
-    entries: &mut Vec<Entry>,
+    entries: &mut Vec<Announcement>,
     device: DeviceId,
     announced: Record,
     last: u64,

@@ -4,7 +4,7 @@ ghost use Rattle.std.specs.BTreeMap.{values};
 ghost use Rattle.folder_core.specs.PlainReads.{is_from, later_from};
 ghost use Rattle.folder_core.specs.Reads.{by_sequence, max_page_blocks, page_of};
 
-use super::entry::Entry;
+use crate::Announcement;
 use std::alloc::{AllocError, Global};
 use std::collections::BTreeMap;
 use sync_record::{DeviceId, Record};
@@ -16,7 +16,7 @@ const MAX_PAGE_BLOCKS: usize = 1_000_000;
 /// entries and m such records, of which only those of the page are copied. Does not allocate where the page is empty.
 pub(super) fn records_since(
     alloc: Global,
-    entries: &[Entry],
+    entries: &[Announcement],
     device: DeviceId,
     sequence: u64,
     limit: usize,
@@ -51,7 +51,7 @@ fn fits(records: usize, blocks: usize, limit: usize) -> bool
 /// not allocate where there is none.
 fn later_by_sequence(
     alloc: Global,
-    entries: &[Entry],
+    entries: &[Announcement],
     device: DeviceId,
     sequence: u64,
 ) -> Result<BTreeMap<u64, &Record>, AllocError>
@@ -68,7 +68,7 @@ fn later_by_sequence(
 }
 
 /// Whether the entry is the device's and of greater sequence.
-fn is_later(entry: &Entry, device: DeviceId, sequence: u64) -> bool
+fn is_later(entry: &Announcement, device: DeviceId, sequence: u64) -> bool
     ensures { result ≡ (is_from device entry.now && nat_lt sequence entry.now.record.sequence) }
 {
     entry.device == device && entry.record.sequence() > sequence

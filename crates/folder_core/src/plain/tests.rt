@@ -1,9 +1,9 @@
 //! What is read of a device's own entries.
 use super::count::{deletions, live_directories, live_files, records_of_others};
-use super::entry::Entry;
 use super::find::place_of;
 use super::own::{copy_from, greatest_sequence};
 use super::since::records_since;
+use crate::Announcement;
 use bep_messages::{BlockInfo, Counter, FileInfo, Items, Octets, ShortOctets, Text, Vector};
 use std::alloc::AllocError;
 use std::process::Abort;
@@ -73,7 +73,7 @@ fn pages_have_a_million_blocks_at_most(rt: HostRuntime) -> Result<(), NameFault>
     let large = large_file(&rt)?;
     assert_eq!(rt; large.blocks().len(), 1_000_000);
     let mut entries = entries(&rt, &[abc("a", 1), file("c", 3)])?;
-    let large = Entry {
+    let large = Announcement {
         device: device(9),
         record: large,
     };
@@ -150,7 +150,7 @@ fn tells_a_device_from_others(rt: HostRuntime) -> Result<(), NameFault> {
 /// The page of records of greater sequence has these sequences.
 fn has_page(
     rt: &(impl AllocGlobal + Abort),
-    entries: &[Entry],
+    entries: &[Announcement],
     sequence: u64,
     limit: usize,
     sequences: &[u64],
@@ -165,7 +165,7 @@ fn has_page(
 
 fn finds(
     rt: &(impl AllocGlobal + Abort),
-    entries: &[Entry],
+    entries: &[Announcement],
     byte: u8,
     name: &str,
     offset: u64,
@@ -177,14 +177,14 @@ fn finds(
     Ok(())
 }
 
-fn entries(rt: &(impl AllocGlobal + Abort), rows: &[Row]) -> Result<Vec<Entry>, NameFault> {
+fn entries(rt: &(impl AllocGlobal + Abort), rows: &[Row]) -> Result<Vec<Announcement>, NameFault> {
     let mut entries = Vec::new(rt.alloc());
     for row in rows {
         let mut blocks = Items::new(rt.alloc());
         for (offset, size, byte) in row.blocks {
             blocks.push(block(rt, *offset, *size, *byte)?)?;
         }
-        let entry = Entry {
+        let entry = Announcement {
             device: device(row.device),
             record: record(rt, row, blocks)?,
         };

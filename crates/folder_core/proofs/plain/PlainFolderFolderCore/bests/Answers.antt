@@ -1,7 +1,7 @@
 use Rattle.std.proofs.Common.{◌≡◌, sym, ap, subst, ◌∙◌}
 use Rattle.std.specs.Prelude.{filter, map, option_copied, take}
 use Rattle.std.proofs.lemmas.Bool.{true≢false}
-use Rattle.folder_core.specs.declared.plain.entry.Entry.{Entry}
+use Rattle.folder_core.specs.declared.announcement.Announcement.{Announcement as Entry}
 use Rattle.folder_core.specs.Plain.{Rises, listed_bests, pulls_of}
 use Rattle.folder_core.specs.Reads.{is_after}
 use Rattle.folder_core.proofs.PlainFound.{after_rises, listed_after}

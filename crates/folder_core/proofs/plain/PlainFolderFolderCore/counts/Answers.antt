@@ -1,7 +1,7 @@
 use Rattle.std.proofs.Common.{◌≡◌, List, length, ap, ◌∙◌, arith}
 use Rattle.std.specs.Prelude.{◌&&◌, filter, not}
 use Rattle.sync_record.specs.Records.{is_directory, is_live, is_live_file}
-use Rattle.folder_core.specs.declared.plain.entry.Entry.{Entry}
+use Rattle.folder_core.specs.declared.announcement.Announcement.{Announcement as Entry}
 use Rattle.folder_core.specs.Plain.{pulls_of}
 use Rattle.folder_core.specs.PlainReads.{is_from, needed_names}
 use Rattle.folder_core.proofs.PlainCounts.{own_counted, others_counted, pulls_counted}

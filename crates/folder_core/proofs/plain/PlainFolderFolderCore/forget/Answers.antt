@@ -2,7 +2,7 @@ use Rattle.std.proofs.Common.{◌≡◌, ◌≢◌, List, map, subst, sym, ap, �
 use Rattle.std.specs.Prelude.{filter}
 use Rattle.std.specs.FinMap.{from_sorted}
 use Rattle.std.proofs.lemmas.Fn.{filter_same}
-use Rattle.folder_core.specs.declared.plain.entry.Entry.{Entry}
+use Rattle.folder_core.specs.declared.announcement.Announcement.{Announcement as Entry}
 use Rattle.folder_core.specs.Announced.{Announced}
 use Rattle.folder_core.specs.Plain.{Rises, filed, folder_of, pulls_of}
 use Rattle.folder_core.specs.Steps.{Applied, Forget}

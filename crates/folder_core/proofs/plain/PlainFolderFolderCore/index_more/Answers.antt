@@ -1,5 +1,5 @@
 use Rattle.std.proofs.Common.{◌≢◌, List, map, subst, sym, ap, ◌∙◌, arith}
-use Rattle.folder_core.specs.declared.plain.entry.Entry.{Entry}
+use Rattle.folder_core.specs.declared.announcement.Announcement.{Announcement as Entry}
 use Rattle.folder_core.specs.Plain.{IsLastOfEach, commits, filed, filed_by, pulls_of, put_all}
 use Rattle.folder_core.specs.Steps.{IndexMore}
 use Rattle.folder_core.proofs.PlainChange.{more_rises, more_step, plain_with}

@@ -2,7 +2,7 @@ use Rattle.std.proofs.Common.{◌≡◌, ◌-◌, length, take, drop, sym, ap, �
 use Rattle.std.specs.Prelude.{filter, option_copied}
 use Rattle.std.proofs.lemmas.List.{take_all, length-drop}
 use Rattle.std.proofs.lemmas.List.Sorted.{IsPartitionPoint-from_clause}
-use Rattle.folder_core.specs.declared.plain.entry.Entry.{Entry}
+use Rattle.folder_core.specs.declared.announcement.Announcement.{Announcement as Entry}
 use Rattle.folder_core.specs.Reads.{is_after}
 use Rattle.folder_core.proofs.PlainGroup.{after_of, all_after, is_up_to, partitioned, up_to_down, back_is}
 use Rattle.folder_core.proofs.plain.group.entries_after.Goals as goal

@@ -2,7 +2,7 @@ use Rattle.std.proofs.Common.{◌++◌, sym, ap, ◌∙◌, arith}
 use Rattle.std.specs.Prelude.{option_map}
 use Rattle.std.specs.Option.{option_to_list}
 use Rattle.std.proofs.lemmas.List.Sums.{prefix_len-le-length}
-use Rattle.folder_core.specs.declared.plain.entry.Entry.{Entry}
+use Rattle.folder_core.specs.declared.announcement.Announcement.{Announcement as Entry}
 use Rattle.folder_core.specs.PlainReads.{needed_names}
 use Rattle.folder_core.proofs.PlainGroup.{is_named}
 use Rattle.folder_core.proofs.PlainNeed.{need_step}

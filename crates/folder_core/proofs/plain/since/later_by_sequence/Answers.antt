@@ -3,7 +3,7 @@ use Rattle.std.specs.FinMap.{put}
 use Rattle.std.specs.Ordering.{nat_cmp}
 use Rattle.std.proofs.lemmas.Bool.{and_parts}
 use Rattle.std.proofs.lemmas.List.{take_all}
-use Rattle.folder_core.specs.declared.plain.entry.Entry.{Entry}
+use Rattle.folder_core.specs.declared.announcement.Announcement.{Announcement as Entry}
 use Rattle.folder_core.specs.PlainReads.{later_from}
 use Rattle.folder_core.specs.Reads.{by_sequence}
 use Rattle.folder_core.proofs.ListTests.{contains_in, In}

@@ -1,8 +1,8 @@
 use sync_record::{DeviceId, Record};
 
 /// What a device announces of a name.
-#[derive(Debug, Drop)]
-pub(super) struct Entry {
+#[derive(Debug, PartialEq, Eq, Drop)]
+pub struct Announcement {
     pub device: DeviceId,
     pub record: Record,
 }
