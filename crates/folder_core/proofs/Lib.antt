@@ -49,3 +49,9 @@ pub mod PlainPulls
 pub mod PlainChange
 pub mod PlainOwn
 pub mod PlainPlaces
+pub mod PlainOpen
+pub mod PlainOpened
+pub mod PlainNumber
+pub mod PlainBegin
+pub mod PlainFinish
+pub mod PlainEnter

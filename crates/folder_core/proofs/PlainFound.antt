@@ -86,7 +86,7 @@ module _ (n : Name) (es : List Entry) (rises : Rises es) where
   named : (e : Announcement) → In e (map filed named_entries) → e.0.name ≡ n
   named e i = same_bytes e.0.name n (of_filter (is_of n) (map filed es) e (subst (In e) (sym group_is) i)).1
 
-  best_is : best (map filed es) n ≡ option_map filed (reduce better (filter (is_undominated named_entries) named_entries))
+  pub best_is : best (map filed es) n ≡ option_map filed (reduce better (filter (is_undominated named_entries) named_entries))
   best_is =
       sym (best_in_group n (map filed es))
       ∙ ap (λ g. best g n) group_is

@@ -12,6 +12,7 @@ pub mod Faults
 pub mod Codes
 -- the plain folder's own words
 pub mod Plain
+pub mod PlainPulls
 pub mod PlainReads
 -- worked rows
 pub mod Samples

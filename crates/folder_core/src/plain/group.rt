@@ -111,7 +111,7 @@ fn best_alone(alloc: Global, entry: &Entry) -> Result<Option<Best>, AllocError>
 
 /// Of the entries of one name the best: it is valid, no valid one dominates it, and it is preferred to every other such
 /// one. O(k^2) for k entries.
-fn best_of(group: &[Entry]) -> Option<&Entry>
+pub(super) fn best_of(group: &[Entry]) -> Option<&Entry>
     ensures { option_copied result ≡ reduce better (filter (is_undominated group.now) group.now) }
 {
     let mut best: Option<&Entry> = None;
