@@ -46,6 +46,7 @@ pub mod PlainMerge
 pub mod PlainMessage
 pub mod PlainPut
 pub mod PlainPulls
+pub mod PlainScan
 pub mod PlainChange
 pub mod PlainOwn
 pub mod PlainPlaces

@@ -6,7 +6,7 @@ use Rattle.std.specs.Cmp.Lexicographic.{texts_ties}
 use Rattle.std.specs.FinMap as fin
 use Rattle.std.specs.FinMap.{entries, entries-from_sorted, find, from_sorted, get, get-from_sorted, is_sorted}
 use Rattle.std.specs.FinMap.Entries.{is_sorted-put}
-use Rattle.std.specs.List.{find as first_where, insert, list_any, reduce}
+use Rattle.std.specs.List.{insert, list_any, reduce}
 use Rattle.std.proofs.lemmas.Bool.{true≢false}
 use Rattle.sync_record.specs.Devices.{Identity, bytes_cmp}
 use Rattle.sync_record.specs.Records.{Name, FileRecord}
@@ -15,8 +15,8 @@ use Rattle.folder_core.specs.declared.plain.pull.OpenPull.{OpenPull}
 use Rattle.folder_core.specs.declared.stage.Stage.TheVariants.{Pulling}
 use Rattle.folder_core.specs.Announced.{Announcement, best, key_cmp}
 use Rattle.folder_core.specs.Plain.{IsPlain, IsReady, PullsRise, better, commits, filed, folder_of, is_undominated, opened, pulled, pulls_of}
-use Rattle.folder_core.specs.PlainPulls.{is_needed_over, is_unsupported, place_of, record_in}
-use Rattle.folder_core.specs.PlainReads.{is_from}
+use Rattle.folder_core.specs.PlainPulls.{is_needed_over, is_unsupported, place_of}
+use Rattle.folder_core.specs.PlainReads.{record_from}
 use Rattle.folder_core.specs.States.{FolderState, IsFolder, is_needed, local}
 use Rattle.folder_core.specs.Steps.{Answer, BeginPull, Begun, Busy, NotNeeded, Token, Unsupported, begin_pull, first_answer, is_accepted, least_free, next_ticket, step, with_pull}
 use Rattle.folder_core.proofs.ChangeFolders.{step-folder}
@@ -93,8 +93,8 @@ module _ (me : Identity) (es : List Entry) (capacity last : ℕ) (ps : List Open
   tested busy needed unsupported made = first_answer folder ((busy, Busy) ∷ (not needed, NotNeeded) ∷ (unsupported, Unsupported) ∷ []) made
 
   -- what is found of the name among the entries
-  pub own-is : (group : List Entry) → group ≡ filter (is_named n) es → (e : Option Entry) → e ≡ first_where (is_from me) group → (r : Option FileRecord) → r ≡ record_in e → r ≡ local folder n
-  own-is group is e found r «record» = «record» ∙ ap record_in (found ∙ ap (first_where (is_from me)) is) ∙ local_is me es last (pulls_of ps) old.rises n
+  pub own-is : (group : List Entry) → group ≡ filter (is_named n) es → (r : Option FileRecord) → r ≡ record_from me group → r ≡ local folder n
+  own-is group is r found = found ∙ ap (record_from me) is ∙ local_is me es last (pulls_of ps) old.rises n
 
   pub chosen-is : (group : List Entry) → group ≡ filter (is_named n) es → (b : Option Entry) → b ≡ reduce better (filter (is_undominated group) group) → chosen ≡ b
   chosen-is group is b found = sym (found ∙ ap (λ g. reduce better (filter (is_undominated g) g)) is)

@@ -19,7 +19,7 @@ use Rattle.folder_core.specs.Codes.{Pulls}
 use Rattle.folder_core.specs.Plain.{IsLastOfEach, IsPlain, Rises, commits, filed, filed_by, folder_of, pulls_of, put_all}
 use Rattle.folder_core.specs.declared.plain.pull.OpenPull.{OpenPull}
 use Rattle.folder_core.specs.States.{FolderState, IsFolder}
-use Rattle.folder_core.specs.Steps.{Answer, Applied, Change, IndexFull, IndexMore, MayChange, step}
+use Rattle.folder_core.specs.Steps.{Answer, Applied, Change, Forget, IndexFull, IndexMore, MayChange, step}
 use Rattle.folder_core.proofs.AnnouncedIndexes.{get-announce, get-announce_own, same_key}
 use Rattle.folder_core.proofs.ChangeFolders.{step-folder, empty-folder}
 use Rattle.folder_core.proofs.Orders.{bytes_total, exact_keys, exact_names, is_true, keys_total, retain_listed}
@@ -84,7 +84,7 @@ put_all-rises : (es rs : List Announcement) → T (is_sorted key_cmp es) → T (
 put_all-rises es [] h = h
 put_all-rises es (r ∷ rs) h = put_all-rises (put key_cmp r.0 r.1 es) rs (is_sorted-put key_cmp keys_total r.0 r.1 es h)
 
-announce-sorted : (d : Identity) (records kept : List FileRecord) (es : List Announcement) → IsLastOfEach records kept → T (is_sorted key_cmp es) →
+pub announce-sorted : (d : Identity) (records kept : List FileRecord) (es : List Announcement) → IsLastOfEach records kept → T (is_sorted key_cmp es) →
     announce d records (from_sorted es) ≡ from_sorted (put_all es (map (filed_by d) kept))
 announce-sorted d records kept es l h = same_map keys_total exact_keys _ _ (λ q.
     get-announce_at q d records (from_sorted es)
@@ -96,7 +96,7 @@ announce-sorted d records kept es l h = same_map keys_total exact_keys _ _ (λ q
 abbrev pub is_of_another : Identity → Entry → Bool
 is_of_another d e = not (bytes_eq e.device d)
 
-without-sorted : (d : Identity) (es : List Entry) → Rises es → without d (from_sorted (map filed es)) ≡ from_sorted (map filed (filter (is_of_another d) es))
+pub without-sorted : (d : Identity) (es : List Entry) → Rises es → without d (from_sorted (map filed es)) ≡ from_sorted (map filed (filter (is_of_another d) es))
 without-sorted d es rises =
     retain_listed keys_total exact_keys (map filed es) (λ k. not (bytes_eq k.device d)) rises
     ∙ ap from_sorted (filter_map filed (λ e. not (bytes_eq e.0.device d)) es)
@@ -124,6 +124,11 @@ module _ (me d : Identity) (es new : List Entry) (last : ℕ) (pulls : Pulls) (r
       ap (λ a. (Applied, record (folder_of me es last pulls) { announced = a }))
       (ap (announce d records) (without-sorted d es rises)
       ∙ announce-sorted d records kept (map filed (filter (is_of_another d) es)) l (passes _ (others-rise d es rises)) ∙ ap from_sorted (sym is))
+
+pub forgot : (me d : Identity) (es new : List Entry) (last : ℕ) (pulls : Pulls) → Rises es → new ≡ filter (is_of_another d) es → step (folder_of me es last pulls) (Forget d) ≡ (Applied, folder_of me new last pulls)
+forgot me d es new last pulls rises is =
+    ap (λ a. (Applied, record (folder_of me es last pulls) { announced = a }))
+    (without-sorted d es rises ∙ ap (λ xs. from_sorted (map filed xs)) (sym is))
 
 -- ---- the empty folder
 

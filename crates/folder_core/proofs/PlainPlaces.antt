@@ -47,9 +47,9 @@ module _ (d : Identity) (hash : List ℕ) where
   none_here e none =
       elim (is_from d e) as (λ b. None ≡ cond (b && is_live_file e.record) (find is_wanted e.record.blocks) None → flat_map places_in (filter is_live_file (map recorded (cond b (e ∷ []) []))) ≡ []) [
         | true ↦ λ n. elim (is_live_file e.record) as (λ b. None ≡ cond b (find is_wanted e.record.blocks) None → flat_map places_in (cond b (e.record ∷ []) []) ≡ []) [
-            | true ↦ λ n. ap (λ bs. map (place e.record) bs ++ []) (none_kept is_wanted e.record.blocks n)
-            | false ↦ λ n. refl
-          ] n
+          | true ↦ λ n. ap (λ bs. map (place e.record) bs ++ []) (none_kept is_wanted e.record.blocks n)
+          | false ↦ λ n. refl
+        ] n
         | false ↦ λ n. refl
       ] none
 

@@ -11,7 +11,7 @@ use Rattle.folder_core.specs.declared.plain.pull.OpenPull.{OpenPull}
 use Rattle.folder_core.specs.States.{open_commits, is_committing, same_stage}
 use Rattle.folder_core.specs.Plain.{PullsRise, commits, folder_of, opened, pulled, pulls_of, stage_of}
 
-commits_stage : (o : Option FileRecord) → (p : OpenPull) → p.ready ≡ o → is_committing (opened p) ≡ is_some p.ready
+pub commits_stage : (o : Option FileRecord) → (p : OpenPull) → p.ready ≡ o → is_committing (opened p) ≡ is_some p.ready
 commits_stage None p e = ap (λ r. is_committing (record (opened p) { stage = stage_of r })) e ∙ sym (ap is_some e)
 commits_stage (Some r) p e = ap (λ r. is_committing (record (opened p) { stage = stage_of r })) e ∙ sym (ap is_some e)
 

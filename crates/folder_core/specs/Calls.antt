@@ -62,3 +62,12 @@ finish_answer (Err stray) = Stray
 abbrev pub close_answer : Bool → Answer
 close_answer true = Closed
 close_answer false = Stray
+
+-- Of these answers a call makes something new: a record that is kept, a version that is told, a ticket or a commit. For every
+-- other one it needs no memory.
+abbrev pub may_allocate : Answer → Bool
+may_allocate (Recorded sequence) = true
+may_allocate (Moved (Some version)) = true
+may_allocate (Begun ticket) = true
+may_allocate (Entered commit) = true
+may_allocate _ = false

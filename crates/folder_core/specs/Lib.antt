@@ -14,5 +14,6 @@ pub mod Codes
 pub mod Plain
 pub mod PlainPulls
 pub mod PlainReads
+pub mod PlainScans
 -- worked rows
 pub mod Samples

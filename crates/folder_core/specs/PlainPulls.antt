@@ -2,7 +2,6 @@
 use Rattle.std.specs.Prelude.{bytes_eq, ℕ, Bool, not, ◌&&◌, ◌||◌, ◌==◌, if◌then◌else◌, List, Option, Some, None, is_some, option_and_then, option_map, slice_get}
 use Rattle.std.specs.List.{prefix_len}
 use Rattle.std.specs.Ordering.{is_lt}
-use Rattle.folder_core.specs.declared.plain.entry.Entry.{Entry}
 use Rattle.folder_core.specs.declared.plain.pull.OpenPull.{OpenPull}
 use Rattle.folder_core.specs.declared.stage.Stage.{Stage}
 use Rattle.folder_core.specs.declared.token.Token.{Token}
@@ -35,6 +34,3 @@ is_needed_over own b = not (same_local_version (version_of own) (Some b.version)
 -- live, and neither a file nor a directory
 abbrev pub is_unsupported : FileRecord → Bool
 is_unsupported r = is_live r && not (is_file r || is_directory r)
-
-abbrev pub record_in : Option Entry → Option FileRecord
-record_in e = option_map (λ e. e.record) e

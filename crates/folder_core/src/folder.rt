@@ -1,14 +1,17 @@
-ghost use Rattle.std.specs.Prelude.{Some, IfErr, ◌≡◌, ◌≢◌, IfOk, map, option_copied, option_map};
+ghost use Rattle.std.specs.Prelude.{◌≡◌, ◌≢◌, Some, IfErr, IfOk, IsTrue, map, option_copied, option_map};
 ghost use Rattle.folder_core.specs.States.{FolderState, IsFolder, local};
-ghost use Rattle.folder_core.specs.Steps.{IndexFull, IndexMore, BeginPull, EnterCommit, Finish, GiveUp, Abort};
+ghost use Rattle.folder_core.specs.Steps.{Forget, IndexFull, IndexMore, ScanFound, ScanGone, BeginPull, EnterCommit, Finish, GiveUp, Abort, is_found};
 ghost use Rattle.folder_core.specs.Reads.{IsPlaceFound, best_found, bests_page, known};
-ghost use Rattle.folder_core.specs.Calls.{Changes, GivesBack, index_answer, begin_answer, enter_answer, finish_answer, close_answer};
+ghost use Rattle.folder_core.specs.Calls.{Changes, GivesBack, index_answer, scan_answer, begin_answer, enter_answer, finish_answer, close_answer};
 
-use crate::{BeginAnswer, Best, Commit, NotEntered, Place, Stray, Ticket};
+use crate::{
+    BeginAnswer, Best, Commit, Finding, NotEntered, Place, ScanAnswer, ScanFault, Stray, Ticket,
+};
 use bep_messages::Items;
 use std::alloc::AllocError;
 use sync_names::SafeName;
 use sync_record::{Assembled, DeviceId, Record};
+use sync_version::{Moment, Version};
 
 /// A folder as one device keeps it, as a value. However it is kept, each change is a step of the folder, and each read
 /// returns what its state says.
@@ -23,6 +26,29 @@ pub trait FolderCore {
         ensures me { result ≡ (state self.now).me }
         ensures folder { IsFolder (state self.now) };
 
+    /// Records what is found at a name, if its local version is still the expected one. The version is raised by this device
+    /// at the moment. Returns `Moved` with the local version if it is another, and `Busy` while a commit of the name is open.
+    fn scan_found(
+        &mut self,
+        name: &SafeName,
+        expected: Option<&Version>,
+        found: &Finding,
+        moment: Moment,
+    ) -> Result<ScanAnswer, ScanFault>
+        requires { IsTrue (is_found found.now.content) }
+        ensures { Changes (state self.old) (ScanFound name.now (option_copied expected.entry) found.now moment) (scan_answer result) (state self.new) };
+
+    /// Records that nothing is at a name, if its local version is still the expected one. The version is raised by this
+    /// device at the moment. Returns `Moved` with the local version if it is another, and `Busy` while a commit of the name is
+    /// open.
+    fn scan_gone(
+        &mut self,
+        name: &SafeName,
+        expected: Option<&Version>,
+        moment: Moment,
+    ) -> Result<ScanAnswer, ScanFault>
+        ensures { Changes (state self.old) (ScanGone name.now (option_copied expected.entry) moment) (scan_answer result) (state self.new) };
+
     /// The device announces these records and no others; of several under one name the last counts. Returns `Err` only
     /// if out of memory.
     fn index_full(&mut self, device: DeviceId, records: Items<Record>) -> Result<(), AllocError>
@@ -34,6 +60,11 @@ pub trait FolderCore {
     fn index_more(&mut self, device: DeviceId, records: Items<Record>) -> Result<(), AllocError>
         requires { device ≢ (state self.old).me }
         ensures { Changes (state self.old) (IndexMore device records) (index_answer result) (state self.new) };
+
+    /// The device announces nothing. Returns `Err` only if out of memory.
+    fn forget(&mut self, device: DeviceId) -> Result<(), AllocError>
+        requires { device ≢ (state self.old).me }
+        ensures { Changes (state self.old) (Forget device) (index_answer result) (state self.new) };
 
     /// Begins to pull the best of a name, and answers the first of these that applies: `Busy` if a pull of the name is
     /// open, `NotNeeded` if there is no best or the local record is as good, and `Unsupported` if the best is live and

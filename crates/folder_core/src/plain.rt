@@ -1,10 +1,10 @@
 //! A folder as one list in order.
-ghost use Rattle.std.specs.Prelude.{false, true, not, Some, IfErr, IsSome, ◌≡◌, ◌≢◌, ◌+◌, ◌<◌, ◌≤◌, [], IfOk, IsOk, None, map, option_copied, option_map, vec_len, vec_capacity};
-ghost use Rattle.folder_core.specs.Calls.{Changes, GivesBack, index_answer, begin_answer, enter_answer, finish_answer, close_answer};
+ghost use Rattle.std.specs.Prelude.{◌≡◌, ◌≢◌, ◌+◌, ◌<◌, ◌≤◌, [], false, IfErr, IfOk, IsOk, IsSome, IsTrue, None, map, option_copied, option_map, vec_len, vec_capacity};
+ghost use Rattle.folder_core.specs.Calls.{Changes, GivesBack, index_answer, may_allocate, scan_answer, begin_answer, enter_answer, finish_answer, close_answer};
 ghost use Rattle.folder_core.specs.Reads.{IsPlaceFound, best_found, bests_page, known, places};
 ghost use Rattle.folder_core.specs.Plain.{commits};
 ghost use Rattle.folder_core.specs.States.{empty_folder, local};
-ghost use Rattle.folder_core.specs.Steps.{IndexFull, IndexMore, BeginPull, EnterCommit, Finish, GiveUp, Abort, is_accepted, step};
+ghost use Rattle.folder_core.specs.Steps.{Forget, IndexFull, IndexMore, ScanFound, ScanGone, BeginPull, EnterCommit, Finish, GiveUp, Abort, is_accepted, is_found, step};
 
 mod entry;
 mod find;
@@ -14,24 +14,33 @@ mod message;
 mod own;
 mod pull;
 mod pulls;
+mod scan;
 
-use crate::{BeginAnswer, Best, Commit, FolderCore, NotEntered, Place, Stage, Stray, Ticket};
+use crate::{
+    BeginAnswer, Best, Commit, Finding, FolderCore, NotEntered, Place, ScanAnswer, ScanFault,
+    Stage, Stray, Ticket,
+};
 use bep_messages::Items;
 use entry::Entry;
 use find::place_of;
 use group::{best_of, best_with_devices, bests_of, entries_after, entries_of};
 use merge::{merge, put};
 use message::last_of_each_name;
-use own::{copy_from, entry_from, greatest_sequence};
+use own::{copy_from, greatest_sequence, record_from};
 use pull::OpenPull;
 use pulls::{
-    has_moved, has_pull, is_best, is_needed, is_sequence_full, is_unsupported, make_ready, open,
-    place_for, record_of, take, take_ready,
+    has_moved, has_pull, is_best, is_needed, is_unsupported, make_ready, open, place_for, take,
+    take_ready,
+};
+use scan::{
+    found_record, gone_record, is_full, is_gone, is_same, next_version, put_next, scan_answer,
+    scan_obstacle, version_of,
 };
 use std::alloc::{AllocError, Global};
 use std::marker::Model;
 use sync_names::SafeName;
 use sync_record::{Assembled, DeviceId, Record};
+use sync_version::{Moment, Version};
 
 /// A folder as one list of records, by name and then by device. A look-up takes O(log n) for n records; a message of m
 /// records is sorted and merged with the list from its end, in O(t + m log m) for t records that are after the place of
@@ -83,6 +92,83 @@ impl FolderCore for PlainFolder {
         self.me
     }
 
+    /// O(log n + k + t) for n records kept, k devices that announce the name and t records after its place, which are moved,
+    /// and the copies of the name, the version and the blocks, beside the open pulls. It allocates for them, and only where it
+    /// is recorded or a version is told.
+    fn scan_found(
+        &mut self,
+        name: &SafeName,
+        expected: Option<&Version>,
+        found: &Finding,
+        moment: Moment,
+    ) -> Result<ScanAnswer, ScanFault>
+        requires { IsTrue (is_found found.now.content) }
+        ensures changes { Changes self.old (ScanFound name.now (option_copied expected.entry) found.now moment) (scan_answer result) self.new }
+        ensures memory { scan_answer result ≡ None → IsTrue (may_allocate (step self.old (ScanFound name.now (option_copied expected.entry) found.now moment)).0) }
+    {
+        let alloc = *self.entries.allocator();
+        let group = entries_of(self.entries.as_slice(), name);
+        let local = record_from(group, self.me);
+        let is_unchanged = is_same(local, &found.content);
+        let obstacle = scan_obstacle(
+            self.me,
+            &self.pulls,
+            self.last,
+            name,
+            local,
+            expected,
+            is_unchanged,
+        );
+        if let Some(obstacle) = obstacle {
+            return scan_answer(obstacle, version_of(local));
+        }
+        let id = self.me.short_id();
+        let version = next_version(alloc, version_of(local), id, moment)?;
+        let record = found_record(alloc, name, found, version, id)?;
+        let promised = open_commits(&self.pulls);
+        let sequence = put_next(&mut self.entries, self.me, record, self.last, promised)?;
+        self.last = sequence;
+        Ok(ScanAnswer::Recorded(sequence))
+    }
+
+    /// O(log n + k + t) for n records kept, k devices that announce the name and t records after its place, which are moved,
+    /// and the copies of the name and the version, beside the open pulls. It allocates for them, and only where it is recorded
+    /// or a version is told.
+    fn scan_gone(
+        &mut self,
+        name: &SafeName,
+        expected: Option<&Version>,
+        moment: Moment,
+    ) -> Result<ScanAnswer, ScanFault>
+        ensures changes { Changes self.old (ScanGone name.now (option_copied expected.entry) moment) (scan_answer result) self.new }
+        ensures memory { scan_answer result ≡ None → IsTrue (may_allocate (step self.old (ScanGone name.now (option_copied expected.entry) moment)).0) }
+    {
+        let alloc = *self.entries.allocator();
+        let group = entries_of(self.entries.as_slice(), name);
+        let local = record_from(group, self.me);
+        let is_unchanged = is_gone(local);
+        let obstacle = scan_obstacle(
+            self.me,
+            &self.pulls,
+            self.last,
+            name,
+            local,
+            expected,
+            is_unchanged,
+        );
+        if let Some(obstacle) = obstacle {
+            return scan_answer(obstacle, version_of(local));
+        }
+        let Some(local) = local else { unreachable!() };
+        let id = self.me.short_id();
+        let version = next_version(alloc, Some(local.version()), id, moment)?;
+        let record = gone_record(local, version, id, moment)?;
+        let promised = open_commits(&self.pulls);
+        let sequence = put_next(&mut self.entries, self.me, record, self.last, promised)?;
+        self.last = sequence;
+        Ok(ScanAnswer::Recorded(sequence))
+    }
+
     /// O(n + m log m) for n records kept and m given, and O(n + m) where the names given are in order. None is copied;
     /// it allocates for n + m of them. A message without records does not allocate.
     fn index_full(&mut self, device: DeviceId, records: Items<Record>) -> Result<(), AllocError>
@@ -111,6 +197,16 @@ impl FolderCore for PlainFolder {
         Ok(())
     }
 
+    /// O(n) for n records kept. Does not allocate.
+    fn forget(&mut self, device: DeviceId) -> Result<(), AllocError>
+        requires { device ≢ self.old.me }
+        ensures changes { Changes self.old (Forget device) (index_answer result) self.new }
+        ensures free { IsOk result }
+    {
+        self.entries.retain(|entry| entry.device != device);
+        Ok(())
+    }
+
     /// O(log n + d^2 + k^2) for n records kept, d devices that announce the name and k open pulls, and a copy of the name.
     /// Only a pull that begins allocates.
     fn begin_pull(&mut self, name: &SafeName) -> Result<BeginAnswer, AllocError>
@@ -125,7 +221,7 @@ impl FolderCore for PlainFolder {
             return Ok(BeginAnswer::NotNeeded);
         };
         let target = &best.record;
-        let base = record_of(entry_from(announced, self.me));
+        let base = record_from(announced, self.me);
         if !is_needed(base, target) {
             return Ok(BeginAnswer::NotNeeded);
         }
@@ -173,14 +269,14 @@ impl FolderCore for PlainFolder {
         };
         let pull = &self.pulls[place];
         let group = entries_of(self.entries.as_slice(), &ticket.token.name);
-        if has_moved(record_of(entry_from(group, self.me)), pull.base.as_ref()) {
+        if has_moved(record_from(group, self.me), pull.base.as_ref()) {
             return Err(NotEntered::LocalMoved(ticket));
         }
         if !is_best(group, &pull.target) {
             return Err(NotEntered::Superseded(ticket));
         }
         let promised = open_commits(&self.pulls);
-        if is_sequence_full(self.last, promised) {
+        if is_full(self.last, promised) {
             return Err(NotEntered::SequenceFull(ticket));
         }
         if make_ready(&mut self.entries, promised, &mut self.pulls, place).is_err() {

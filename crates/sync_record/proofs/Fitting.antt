@@ -1,9 +1,9 @@
 -- The blocks of a file fit a message's.
-use Rattle.std.proofs.Common.{◌≡◌, ◌≢◌, ℕ, zero, suc, ◌+◌, ◌<◌, ◌≤◌, ◌^◌, ◌==◌, Bool, true, false, ◌||◌, List, [], ◌∷◌, All, IsTrue, length, arith, not, refl, sym, ◌∙◌}
-use Rattle.std.specs.Prelude.{ℤ, pos, ◌&&◌}
+use Rattle.std.proofs.Common.{◌≡◌, ◌≢◌, ℕ, zero, suc, ◌+◌, ◌<◌, ◌≤◌, ◌^◌, ◌==◌, Bool, true, false, ◌||◌, ◌&&◌, List, [], ◌∷◌, All, IsTrue, length, arith, not, refl, sym, ◌∙◌}
+use Rattle.std.specs.Prelude.{pos}
 use Rattle.std.proofs.lemmas.Bool.{and_from, and_parts, eqb-true, leb-true}
 use Rattle.std.proofs.lemmas.Bool.Decides.{nat_tests}
-use Rattle.std.proofs.lemmas.List.Elements.{All-cons, All-head, All-nil, All-tail}
+use Rattle.std.proofs.lemmas.List.Elements.{All-cons, All-nil}
 use Rattle.sync_blocks.specs.declared.block.Block.{Block}
 use Rattle.sync_blocks.specs.Sizes.{is_block_size}
 use Rattle.sync_blocks.specs.Tiling.{tiles, tiles_from}
@@ -23,14 +23,14 @@ from_small [] at size s h = All-nil (IsWithin s)
 from_small (x ∷ []) at size s h =
     All-cons (IsWithin s) x [] (leb-true _ _ (and_parts _ _ h).1) (All-nil (IsWithin s))
 from_small (x ∷ y ∷ ys) at size s h =
-    let parts = and_parts _ _ h in
-    let same : x.size ≡ s = eqb-true _ _ (and_parts _ _ parts.0).1 in
+    let parts = and_parts ((x.offset == at) && (x.size == s)) (tiles_from (at + s) (y ∷ ys) size s) h in
+    let same : x.size ≡ s = eqb-true x.size s (and_parts (x.offset == at) (x.size == s) parts.0).1 in
     All-cons (IsWithin s) x (y ∷ ys) (omega arith) (from_small (y ∷ ys) (at + s) size s parts.1)
 
 small : (bs : List Block) (size s : ℕ) → IsTrue (tiles bs size s) → All (IsWithin s) bs
 small [] size s h = All-nil (IsWithin s)
 small (b ∷ []) zero s h =
-    let none : b.size ≡ 0 = eqb-true _ _ (and_parts _ _ h).1 in
+    let none : b.size ≡ 0 = eqb-true b.size 0 (and_parts (b.offset == 0) (b.size == 0) h).1 in
     All-cons (IsWithin s) b [] (omega arith) (All-nil (IsWithin s))
 small (b ∷ []) (suc n) s h = from_small (b ∷ []) 0 (suc n) s h
 small (b ∷ c ∷ bs) size s h = from_small (b ∷ c ∷ bs) 0 size s h

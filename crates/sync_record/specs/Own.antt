@@ -1,4 +1,4 @@
--- Records of a device's own changes (own rule): permissions are announced for nothing.
+-- Records of a device's own changes (own rule). None of them announces permissions.
 use Rattle.std.specs.Prelude.{ℕ, true, false, pos, List, []}
 use Rattle.sync_blocks.specs.declared.block.Block.{Block}
 use Rattle.sync_blocks.specs.declared.size.TheConstants.{MIN_BLOCK_SIZE}

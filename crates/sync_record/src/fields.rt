@@ -34,8 +34,8 @@ pub(crate) struct Plain {
 }
 
 impl Fields {
-    /// What holds of the name and the version.
-    pub fn is_named(&self)
+    /// What holds of every name and version. Does nothing.
+    pub fn facts(&self)
         ensures name { IsSafe self.now.name }
         ensures version { IsCanonical self.now.version }
     {

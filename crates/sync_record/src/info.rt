@@ -200,7 +200,7 @@ impl Record {
         ensures value { IfOk result (λ info. info ≡ info_of self.now) }
         ensures again { IfOk result (λ info. (refusal info.name ≡ None) × (record_of info ≡ self.now)) }
     {
-        self.is_kept();
+        self.facts();
         write_info(self)
     }
 }

@@ -49,7 +49,7 @@ impl Record {
         requires blocks { All FitsBlockInfo fields.blocks }
         ensures { IfOk result (λ r. r ≡ record fields { sequence = sequence }) }
     {
-        fields.is_named();
+        fields.facts();
         Ok(Record {
             sequence,
             fields: Arc::new(alloc, fields)?,
@@ -166,8 +166,8 @@ impl Record {
         self.fields.symlink_target.as_slice()
     }
 
-    // What holds of every record.
-    pub(crate) fn is_kept(&self)
+    // What holds of every record. Does nothing.
+    pub(crate) fn facts(&self)
         ensures kept { IsKept self.now }
         ensures fits { FitsFileInfo self.now }
     {

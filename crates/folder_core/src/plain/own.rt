@@ -13,6 +13,16 @@ pub(super) fn entry_from(entries: &[Entry], device: DeviceId) -> Option<&Entry>
     entries.iter().find(|entry| entry.device == device)
 }
 
+/// The device's record of the entries of one name. O(k) for k entries.
+pub(super) fn record_from(entries: &[Entry], device: DeviceId) -> Option<&Record>
+    ensures { option_copied result ≡ record_from device entries.now }
+{
+    match entry_from(entries, device) {
+        Some(entry) => Some(&entry.record),
+        None => None,
+    }
+}
+
 /// A copy of the device's record of the entries of one name. O(k) for k entries. Does not allocate where there is none.
 pub(super) fn copy_from(group: &[Entry], device: DeviceId) -> Result<Option<Record>, AllocError>
     ensures found { IfOk result (λ r. r ≡ record_from device group.now) }

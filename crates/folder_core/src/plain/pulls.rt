@@ -1,12 +1,12 @@
 //! The open pulls of a folder.
-ghost use Rattle.std.specs.Prelude.{◌≡◌, ◌+◌, ◌<◌, ◌≤◌, ◌&&◌, ◌==◌, None, Some, false, not, IfOk, IfSome, IfErr, OnErr, OnOk, MatchOption, bytes_eq, filter, length, map, nat_le, ◌-◌, option_and_then, option_copied, slice_get, slice_set, vec_len, vec_capacity};
+ghost use Rattle.std.specs.Prelude.{◌≡◌, ◌+◌, ◌<◌, ◌≤◌, ◌&&◌, ◌==◌, None, Some, false, not, IfOk, IfSome, IfErr, OnErr, OnOk, MatchOption, bytes_eq, filter, length, map, option_and_then, option_copied, slice_get, slice_set, vec_len, vec_capacity};
 ghost use Rattle.std.specs.List.{insert, list_any, reduce, remove};
 ghost use Rattle.std.specs.Option.{option_map_or};
 ghost use Rattle.sync_record.specs.Contents.{same_content};
 ghost use Rattle.sync_version.specs.Computed.{same_version};
 ghost use Rattle.folder_core.specs.Plain.{better, commits, is_undominated, stage_of};
-ghost use Rattle.folder_core.specs.PlainPulls.{is_for, is_needed_over, is_unsupported, place_of, pull_for, record_in, version_of};
-ghost use Rattle.folder_core.specs.States.{max_sequence, same_local_version, same_stage};
+ghost use Rattle.folder_core.specs.PlainPulls.{is_for, is_needed_over, is_unsupported, place_of, pull_for, version_of};
+ghost use Rattle.folder_core.specs.States.{same_local_version, same_stage};
 ghost use Rattle.folder_core.specs.Steps.{committed_record, least_free};
 ghost use Rattle.folder_core.specs.declared.stage.Stage.TheVariants.{Committing};
 
@@ -18,9 +18,6 @@ use std::alloc::{AllocError, Global};
 use sync_names::SafeName;
 use sync_record::{Kind, Record, same_content};
 use sync_version::Version;
-
-/// The greatest sequence.
-const MAX_SEQUENCE: u64 = (1 << 63) - 1;
 
 /// Whether a pull of the name is open. O(k) for k open pulls.
 pub(super) fn has_pull(pulls: &[OpenPull], name: &SafeName) -> bool
@@ -142,13 +139,6 @@ fn has_number(pulls: &[OpenPull], number: u64) -> bool
     pulls.iter().any(|pull| pull.number == number)
 }
 
-/// The record of the entry, if there is one.
-pub(super) fn record_of(entry: Option<&Entry>) -> Option<&Record>
-    ensures { option_copied result ≡ record_in (option_copied entry.entry) }
-{
-    entry.map(|entry| &entry.record)
-}
-
 /// Whether a best is needed over this local record: its version is another, or it is live where there is none.
 pub(super) fn is_needed(local: Option<&Record>, best: &Record) -> bool
     ensures { result ≡ is_needed_over (option_copied local.entry) best.now }
@@ -184,13 +174,6 @@ pub(super) fn is_best(group: &[Entry], record: &Record) -> bool
     best_of(group).is_some_and(|best| {
         best.record.version() == record.version() && same_content(&best.record, record)
     })
-}
-
-/// Whether no sequence is left but those that are promised.
-pub(super) fn is_sequence_full(last: u64, promised: usize) -> bool
-    ensures { result ≡ nat_le (max_sequence - last) promised }
-{
-    MAX_SEQUENCE.saturating_sub(last) <= promised as u64
 }
 
 /// Makes ready what the pull at this place will announce, and a place for it among the entries beside those that are

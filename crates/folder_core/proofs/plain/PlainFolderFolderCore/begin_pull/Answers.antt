@@ -21,7 +21,7 @@ returns-then-not-is_needed-clause-change c =
     let group : c.entries_of-announced.result.now ≡ filter (is_named c.args.name.now) c.self.inside.entries.items = c.entries_of-announced.ensures ∙ ap (filter (is_named c.args.name.now)) c.as_slice.ensures.value in
     let free = sym (c.has_pull.ensures ∙ ap (is_open c.args.name.now) c.deref.ensures.value) ∙ c.if-has_pull.false in
     let some = chosen-is c.self.inside.me c.self.inside.entries.items _ c.self.inside.last c.self.inside.pulls.items c.self.invariant c.args.name.now _ group _ c.in-Some.ensures in
-    let own = own-is c.self.inside.me c.self.inside.entries.items _ c.self.inside.last c.self.inside.pulls.items c.self.invariant c.args.name.now _ group _ c.entry_from.ensures _ c.record_of-base.ensures in
+    let own = own-is c.self.inside.me c.self.inside.entries.items _ c.self.inside.last c.self.inside.pulls.items c.self.invariant c.args.name.now _ group _ c.record_from-base.ensures in
     let need = sym (c.is_needed.ensures ∙ ap (λ o. is_needed_over o c.in-Some.best.now.record) own) ∙ c.if-not-is_needed.true in
     rw (← c.self.view_is) (begin-unneeded c.self.inside.me c.self.inside.entries.items _ c.self.inside.last c.self.inside.pulls.items c.self.invariant c.args.name.now c.in-Some.best.now free some need)
 
@@ -30,7 +30,7 @@ returns-then-is_unsupported-clause-change c =
     let group : c.entries_of-announced.result.now ≡ filter (is_named c.args.name.now) c.self.inside.entries.items = c.entries_of-announced.ensures ∙ ap (filter (is_named c.args.name.now)) c.as_slice.ensures.value in
     let free = sym (c.has_pull.ensures ∙ ap (is_open c.args.name.now) c.deref.ensures.value) ∙ c.if-has_pull.false in
     let some = chosen-is c.self.inside.me c.self.inside.entries.items _ c.self.inside.last c.self.inside.pulls.items c.self.invariant c.args.name.now _ group _ c.in-Some.ensures in
-    let own = own-is c.self.inside.me c.self.inside.entries.items _ c.self.inside.last c.self.inside.pulls.items c.self.invariant c.args.name.now _ group _ c.entry_from.ensures _ c.record_of-base.ensures in
+    let own = own-is c.self.inside.me c.self.inside.entries.items _ c.self.inside.last c.self.inside.pulls.items c.self.invariant c.args.name.now _ group _ c.record_from-base.ensures in
     let need = sym (c.is_needed.ensures ∙ ap (λ o. is_needed_over o c.in-Some.best.now.record) own) ∙ c.if-not-is_needed.false in
     let unsupported = sym c.is_unsupported.ensures ∙ c.if-is_unsupported.true in
     rw (← c.self.view_is) (begin-unsupported c.self.inside.me c.self.inside.entries.items _ c.self.inside.last c.self.inside.pulls.items c.self.invariant c.args.name.now c.in-Some.best.now free some need unsupported)
@@ -40,7 +40,7 @@ returns-in_err-token-clause-refused c =
     let group : c.entries_of-announced.result.now ≡ filter (is_named c.args.name.now) c.self.inside.entries.items = c.entries_of-announced.ensures ∙ ap (filter (is_named c.args.name.now)) c.as_slice.ensures.value in
     let free = sym (c.has_pull.ensures ∙ ap (is_open c.args.name.now) c.deref.ensures.value) ∙ c.if-has_pull.false in
     let some = chosen-is c.self.inside.me c.self.inside.entries.items _ c.self.inside.last c.self.inside.pulls.items c.self.invariant c.args.name.now _ group _ c.in-Some.ensures in
-    let own = own-is c.self.inside.me c.self.inside.entries.items _ c.self.inside.last c.self.inside.pulls.items c.self.invariant c.args.name.now _ group _ c.entry_from.ensures _ c.record_of-base.ensures in
+    let own = own-is c.self.inside.me c.self.inside.entries.items _ c.self.inside.last c.self.inside.pulls.items c.self.invariant c.args.name.now _ group _ c.record_from-base.ensures in
     let need = sym (c.is_needed.ensures ∙ ap (λ o. is_needed_over o c.in-Some.best.now.record) own) ∙ c.if-not-is_needed.false in
     let unsupported = sym c.is_unsupported.ensures ∙ c.if-is_unsupported.false in
     rw (← c.self.view_is) (λ refused. absurd (true≢false (sym (begin-accepted c.self.inside.me c.self.inside.entries.items _ c.self.inside.last c.self.inside.pulls.items c.self.invariant c.args.name.now c.in-Some.best.now free some need unsupported) ∙ refused)))
@@ -50,7 +50,7 @@ invariant_of-self-2 c =
     let group : c.entries_of-announced.result.now ≡ filter (is_named c.args.name.now) c.self.inside.entries.items = c.entries_of-announced.ensures ∙ ap (filter (is_named c.args.name.now)) c.as_slice.ensures.value in
     let free = sym (c.has_pull.ensures ∙ ap (is_open c.args.name.now) c.deref.ensures.value) ∙ c.if-has_pull.false in
     let some = chosen-is c.self.inside.me c.self.inside.entries.items _ c.self.inside.last c.self.inside.pulls.items c.self.invariant c.args.name.now _ group _ c.in-Some.ensures in
-    let own = own-is c.self.inside.me c.self.inside.entries.items _ c.self.inside.last c.self.inside.pulls.items c.self.invariant c.args.name.now _ group _ c.entry_from.ensures _ c.record_of-base.ensures in
+    let own = own-is c.self.inside.me c.self.inside.entries.items _ c.self.inside.last c.self.inside.pulls.items c.self.invariant c.args.name.now _ group _ c.record_from-base.ensures in
     let need = sym (c.is_needed.ensures ∙ ap (λ o. is_needed_over o c.in-Some.best.now.record) own) ∙ c.if-not-is_needed.false in
     let unsupported = sym c.is_unsupported.ensures ∙ c.if-is_unsupported.false in
     begin-plain c.self.inside.me c.self.inside.entries.items _ c.self.inside.last c.self.inside.pulls.items c.self.invariant c.args.name.now c.in-Some.best.now free some need unsupported _ own c.open.new.pulls.items c.in_ok-token.ensures.opened
@@ -60,7 +60,7 @@ returns-clause-change c =
     let group : c.entries_of-announced.result.now ≡ filter (is_named c.args.name.now) c.self.inside.entries.items = c.entries_of-announced.ensures ∙ ap (filter (is_named c.args.name.now)) c.as_slice.ensures.value in
     let free = sym (c.has_pull.ensures ∙ ap (is_open c.args.name.now) c.deref.ensures.value) ∙ c.if-has_pull.false in
     let some = chosen-is c.self.inside.me c.self.inside.entries.items _ c.self.inside.last c.self.inside.pulls.items c.self.invariant c.args.name.now _ group _ c.in-Some.ensures in
-    let own = own-is c.self.inside.me c.self.inside.entries.items _ c.self.inside.last c.self.inside.pulls.items c.self.invariant c.args.name.now _ group _ c.entry_from.ensures _ c.record_of-base.ensures in
+    let own = own-is c.self.inside.me c.self.inside.entries.items _ c.self.inside.last c.self.inside.pulls.items c.self.invariant c.args.name.now _ group _ c.record_from-base.ensures in
     let need = sym (c.is_needed.ensures ∙ ap (λ o. is_needed_over o c.in-Some.best.now.record) own) ∙ c.if-not-is_needed.false in
     let unsupported = sym c.is_unsupported.ensures ∙ c.if-is_unsupported.false in
     rw (← c.self.view_is) (begin-begun c.self.inside.me c.self.inside.entries.items _ c.self.inside.last c.self.inside.pulls.items c.self.invariant c.args.name.now c.in-Some.best.now free some need unsupported _ own c.open.new.pulls.items c.in_ok-token.ensures.opened c.in_ok-token.token c.in_ok-token.ensures.token)

@@ -15,8 +15,8 @@ returns c =
     let pulls = pulls_of c.self.inside.pulls.items in
     let another : bytes_eq d me ≡ false = sym c.eq.ensures ∙ c.if-eq.false in
     rw (← c.self.view_is) (
-      c.greatest_sequence.ensures
-          ∙ ap (greatest_sequence d) c.as_slice.ensures.value
-          ∙ greatest_is me _ last pulls c.self.invariant.rises d
-          ∙ ap (λ b. cond b last (fold max 0 (map (λ e. e.1.sequence) (filter (is_by d) (entries (folder_of me c.self.inside.entries.items last pulls).announced))))) (sym another)
+    c.greatest_sequence.ensures
+    ∙ ap (greatest_sequence d) c.as_slice.ensures.value
+    ∙ greatest_is me _ last pulls c.self.invariant.rises d
+    ∙ ap (λ b. cond b last (fold max 0 (map (λ e. e.1.sequence) (filter (is_by d) (entries (folder_of me c.self.inside.entries.items last pulls).announced))))) (sym another)
     )
