@@ -68,7 +68,7 @@ module _ (s : FolderState) (old : IsFolder s) (r : FileRecord) (valid : is_valid
     room = let h = leb-false (max_sequence - s.last) (open_commits s) full in omega arith;
   }
 
-  finished-folder : (n : Name) (p : Pull) → get s.pulls n ≡ Some p → is_committing p ≡ true → r.name ≡ n → IsFolder (without_pull (with_local s r) n)
+  pub finished-folder : (n : Name) (p : Pull) → get s.pulls n ≡ Some p → is_committing p ≡ true → r.name ≡ n → IsFolder (without_pull (with_local s r) n)
   finished-folder n p g c here = record {
     named = local-named;
     valid = local-valid;

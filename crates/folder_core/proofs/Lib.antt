@@ -57,3 +57,9 @@ pub mod PlainRestoreLists
 pub mod PlainRestore
 pub mod PlainRestoreSame
 pub mod ChangeRuns
+pub mod PlainOpen
+pub mod PlainOpened
+pub mod PlainNumber
+pub mod PlainBegin
+pub mod PlainFinish
+pub mod PlainEnter

@@ -13,6 +13,7 @@ pub mod Faults
 pub mod Codes
 -- the plain folder's own words
 pub mod Plain
+pub mod PlainPulls
 pub mod PlainReads
 pub mod PlainScans
 pub mod PlainRestores

@@ -1,14 +1,17 @@
-ghost use Rattle.std.specs.Prelude.{◌≡◌, ◌≢◌, IfOk, IsTrue, map, option_copied, option_map};
+ghost use Rattle.std.specs.Prelude.{◌≡◌, ◌≢◌, Some, IfErr, IfOk, IsTrue, map, option_copied, option_map};
 ghost use Rattle.folder_core.specs.States.{FolderState, IsFolder, local};
-ghost use Rattle.folder_core.specs.Steps.{Forget, IndexFull, IndexMore, ScanFound, ScanGone, is_found};
+ghost use Rattle.folder_core.specs.Steps.{Forget, IndexFull, IndexMore, ScanFound, ScanGone, BeginPull, EnterCommit, Finish, GiveUp, Abort, is_found};
 ghost use Rattle.folder_core.specs.Reads.{IsPlaceFound, best_found, bests_page, counts, known, local_since, need_page};
-ghost use Rattle.folder_core.specs.Calls.{Changes, index_answer, scan_answer};
+ghost use Rattle.folder_core.specs.Calls.{Changes, GivesBack, index_answer, scan_answer, begin_answer, enter_answer, finish_answer, close_answer};
 
-use crate::{Best, Counts, Finding, Place, PlainFolder, ScanAnswer, ScanFault};
+use crate::{
+    BeginAnswer, Best, Commit, Counts, Finding, NotEntered, Place, PlainFolder, ScanAnswer,
+    ScanFault, Stray, Ticket,
+};
 use bep_messages::Items;
 use std::alloc::AllocError;
 use sync_names::SafeName;
-use sync_record::{DeviceId, Record};
+use sync_record::{Assembled, DeviceId, Record};
 use sync_version::{Moment, Version};
 
 /// A folder as one device keeps it, as a value. However it is kept, each change is a step of the folder, and each read
@@ -63,6 +66,36 @@ pub trait FolderCore {
     fn forget(&mut self, device: DeviceId) -> Result<(), AllocError>
         requires { device ≢ (state self.old).me }
         ensures { Changes (state self.old) (Forget device) (index_answer result) (state self.new) };
+
+    /// Begins to pull the best of a name, and answers the first of these that applies: `Busy` if a pull of the name is
+    /// open, `NotNeeded` if there is no best or the local record is as good, and `Unsupported` if the best is live and
+    /// neither a file nor a directory. Otherwise the pull is open, under the least positive number that no open pull has.
+    /// Returns `Err` only if out of memory.
+    fn begin_pull(&mut self, name: &SafeName) -> Result<BeginAnswer, AllocError>
+        ensures { Changes (state self.old) (BeginPull name.now) (begin_answer result) (state self.new) };
+
+    /// Enters the commit of a pull, and fails with the first of these that applies: `Stray`, `LocalMoved`, `Superseded`,
+    /// `SequenceFull` and `OutOfMemory`. Every ticket but a stray one comes back.
+    fn enter_commit(&mut self, ticket: Ticket) -> Result<Commit, NotEntered>
+        ensures change { Changes (state self.old) (EnterCommit ticket) (enter_answer result) (state self.new) }
+        ensures given_back { IfErr result (GivesBack ticket) };
+
+    /// Announces the target of a commit, whose file is in place, as the local record, with what the base had seen added
+    /// to its version; closes the pull, and returns the record's sequence. A stray commit changes nothing. Does not
+    /// allocate.
+    fn finish(&mut self, commit: Commit, assembled: &Assembled) -> Result<u64, Stray>
+        requires { assembled.now ≡ commit.target }
+        ensures { Changes (state self.old) (Finish commit assembled.now) (Some (finish_answer result)) (state self.new) };
+
+    /// Closes a pull whose commit was not entered. Returns `false` if the ticket is stray; then nothing changes. Does not
+    /// allocate.
+    fn give_up(&mut self, ticket: Ticket) -> bool
+        ensures { Changes (state self.old) (GiveUp ticket) (Some (close_answer result)) (state self.new) };
+
+    /// Closes a pull whose commit was entered; the local record stays. Returns `false` if the commit is stray; then
+    /// nothing changes. Does not allocate.
+    fn abort(&mut self, commit: Commit) -> bool
+        ensures { Changes (state self.old) (Abort commit) (Some (close_answer result)) (state self.new) };
 
     /// A copy of the best record of a name, and the devices whose valid record of the name has its version and its
     /// content; `None` where no valid record of the name is announced. Returns `Err` only if out of memory.

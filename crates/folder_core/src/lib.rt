@@ -17,6 +17,7 @@ mod place;
 mod plain;
 mod pull;
 mod restore_fault;
+mod runs;
 mod scan;
 mod stage;
 #[cfg(test)]
@@ -35,6 +36,7 @@ pub use place::Place;
 pub use plain::PlainFolder;
 pub use pull::{BeginAnswer, Commit, NotEntered, Stray, Ticket};
 pub use restore_fault::RestoreFault;
+pub use runs::{make, make_all};
 pub use scan::{ScanAnswer, ScanFault};
 pub use stage::Stage;
 pub use token::Token;

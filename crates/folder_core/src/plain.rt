@@ -1,14 +1,14 @@
 //! A folder as one list in order.
-ghost use Rattle.std.specs.Prelude.{◌≡◌, ◌≢◌, ◌↔◌, ◌+◌, ◌<◌, ◌≤◌, [], IfErr, IfOk, IsOk, IsTrue, None, map, option_copied, option_map, vec_len, vec_capacity};
+ghost use Rattle.std.specs.Prelude.{◌≡◌, ◌≢◌, ◌↔◌, ◌+◌, ◌<◌, ◌≤◌, [], false, IfErr, IfOk, IsOk, IsSome, IsTrue, None, Some, map, option_copied, option_map, vec_len, vec_capacity};
 ghost use Rattle.std.specs.FinMap.{empty, entries};
-ghost use Rattle.folder_core.specs.Calls.{Changes, index_answer, may_allocate, scan_answer};
+ghost use Rattle.folder_core.specs.Calls.{Changes, GivesBack, index_answer, may_allocate, scan_answer, begin_answer, enter_answer, finish_answer, close_answer};
 ghost use Rattle.folder_core.specs.Reads.{IsPlaceFound, best_found, bests_page, counts, known, local_since, need_page, places};
 ghost use Rattle.folder_core.specs.Plain.{commits, filed};
 ghost use Rattle.folder_core.specs.PlainRestores.{given};
 ghost use Rattle.folder_core.specs.Restores.{MayRestore, restored_folder};
 ghost use Rattle.folder_core.specs.declared.restore_fault.RestoreFault.TheVariants.{BadRecords};
 ghost use Rattle.folder_core.specs.States.{empty_folder, local};
-ghost use Rattle.folder_core.specs.Steps.{Forget, IndexFull, IndexMore, ScanFound, ScanGone, is_found, step};
+ghost use Rattle.folder_core.specs.Steps.{Forget, IndexFull, IndexMore, ScanFound, ScanGone, BeginPull, EnterCommit, Finish, GiveUp, Abort, is_accepted, is_found, step};
 
 mod compare;
 mod copy;
@@ -20,6 +20,7 @@ mod message;
 mod need;
 mod own;
 mod pull;
+mod pulls;
 mod restore;
 mod scan;
 mod since;
@@ -27,29 +28,34 @@ mod since;
 mod tests;
 
 use crate::{
-    Announcement, Best, Counts, Finding, FolderCore, Place, RestoreFault, ScanAnswer, ScanFault,
+    Announcement, BeginAnswer, Best, Commit, Counts, Finding, FolderCore, NotEntered, Place,
+    RestoreFault, ScanAnswer, ScanFault, Stage, Stray, Ticket,
 };
 use bep_messages::Items;
 use compare::{same_entries, same_pulls};
 use copy::{copied_entries, copied_pulls};
 use count::{deletions, live_directories, live_files, records_of_others};
 use find::place_of;
-use group::{best_with_devices, bests_of, entries_after, entries_of};
-use merge::merge;
+use group::{best_of, best_with_devices, bests_of, entries_after, entries_of};
+use merge::{merge, put};
 use message::last_of_each_name;
 use need::{count_needed, needed_names};
 use own::{copy_from, greatest_sequence, record_from};
 use pull::OpenPull;
+use pulls::{
+    has_moved, has_pull, is_best, is_needed, is_unsupported, make_ready, open, place_for, take,
+    take_ready,
+};
 use restore::{are_numbered, in_order};
 use scan::{
-    found_record, gone_record, is_gone, is_same, next_version, put_next, scan_answer,
+    found_record, gone_record, is_full, is_gone, is_same, next_version, put_next, scan_answer,
     scan_obstacle, version_of,
 };
 use since::records_since;
 use std::alloc::{AllocError, Global};
 use std::marker::Model;
 use sync_names::SafeName;
-use sync_record::{DeviceId, Record};
+use sync_record::{Assembled, DeviceId, Record};
 use sync_version::{Moment, Version};
 
 /// A folder as one list of records, by name and then by device. A look-up takes O(log n) for n records; a message of m
@@ -215,6 +221,85 @@ impl FolderCore for PlainFolder {
     {
         self.entries.retain(|entry| entry.device != device);
         Ok(())
+    }
+
+    /// O(log n + d^2 + k^2) for n records kept, d devices that announce the name and k open pulls, and a copy of the name.
+    /// Only a pull that begins allocates.
+    fn begin_pull(&mut self, name: &SafeName) -> Result<BeginAnswer, AllocError>
+        ensures change { Changes self.old (BeginPull name.now) (begin_answer result) self.new }
+        ensures refused { is_accepted (step self.old (BeginPull name.now)).0 ≡ false → IsOk result }
+    {
+        if has_pull(&self.pulls, name) {
+            return Ok(BeginAnswer::Busy);
+        }
+        let announced = entries_of(self.entries.as_slice(), name);
+        let Some(best) = best_of(announced) else {
+            return Ok(BeginAnswer::NotNeeded);
+        };
+        let target = &best.record;
+        let base = record_from(announced, self.me);
+        if !is_needed(base, target) {
+            return Ok(BeginAnswer::NotNeeded);
+        }
+        if is_unsupported(target) {
+            return Ok(BeginAnswer::Unsupported);
+        }
+        let token = open(&mut self.pulls, name, base, target)?;
+        Ok(BeginAnswer::Begun(Ticket { token }))
+    }
+
+    /// O(k) for k open pulls.
+    fn give_up(&mut self, ticket: Ticket) -> bool {
+        let Ticket { token } = ticket;
+        take(&mut self.pulls, &token, Stage::Pulling).is_some()
+    }
+
+    /// O(k) for k open pulls.
+    fn abort(&mut self, commit: Commit) -> bool {
+        let Commit { token } = commit;
+        take(&mut self.pulls, &token, Stage::Committing).is_some()
+    }
+
+    /// O(k + t) for k open pulls and t records kept after the place of the record.
+    fn finish(&mut self, commit: Commit, _assembled: &Assembled) -> Result<u64, Stray> {
+        let Commit { token } = commit;
+        let Some(ready) = take_ready(&mut self.pulls, &token) else {
+            return Err(Stray);
+        };
+        self.last += 1;
+        put(&mut self.entries, self.me, ready.with_sequence(self.last));
+        Ok(self.last)
+    }
+
+    /// O(log n + d^2 + k) for n records kept, d devices that announce the name and k open pulls, and a copy of the target.
+    /// Only a commit that is entered allocates.
+    fn enter_commit(&mut self, ticket: Ticket) -> Result<Commit, NotEntered>
+        ensures change { Changes self.old (EnterCommit ticket) (enter_answer result) self.new }
+        ensures given_back { IfErr result (GivesBack ticket) }
+        ensures refused { is_accepted (step self.old (EnterCommit ticket)).0 ≡ false → IsSome (enter_answer result) }
+    {
+        let Some(place) = place_for(&self.pulls, &ticket.token, Stage::Pulling) else {
+            let Ticket { token } = ticket;
+            drop(token);
+            return Err(NotEntered::Stray);
+        };
+        let pull = &self.pulls[place];
+        let group = entries_of(self.entries.as_slice(), &ticket.token.name);
+        if has_moved(record_from(group, self.me), pull.base.as_ref()) {
+            return Err(NotEntered::LocalMoved(ticket));
+        }
+        if !is_best(group, &pull.target) {
+            return Err(NotEntered::Superseded(ticket));
+        }
+        let promised = open_commits(&self.pulls);
+        if is_full(self.last, promised) {
+            return Err(NotEntered::SequenceFull(ticket));
+        }
+        if make_ready(&mut self.entries, promised, &mut self.pulls, place).is_err() {
+            return Err(NotEntered::OutOfMemory(ticket));
+        }
+        let Ticket { token } = ticket;
+        Ok(Commit { token })
     }
 
     /// O(log n + k^2) for n records kept and k devices that announce the name, and the copy. A name without a best does

@@ -4,7 +4,10 @@ ghost use Rattle.folder_core.specs.Calls.{Changes, begin_answer, close_answer, e
 ghost use Rattle.folder_core.specs.Runs.{IsPartway, made_answer, run};
 ghost use Rattle.folder_core.specs.Steps.{MayChange};
 
-use crate::{Answer, BeginAnswer, Change, Commit, FolderCore, NotEntered, ScanAnswer, ScanFault, Stray, Ticket};
+use crate::{
+    Answer, BeginAnswer, Change, Commit, FolderCore, NotEntered, ScanAnswer, ScanFault, Stray,
+    Ticket,
+};
 use bep_messages::Items;
 use std::alloc::{AllocError, Global};
 

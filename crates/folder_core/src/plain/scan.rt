@@ -310,7 +310,7 @@ fn has_commit(pulls: &[OpenPull], name: &SafeName) -> bool
 }
 
 /// Whether no sequence is left, except those that the open commits will take.
-fn is_full(last: u64, commits: usize) -> bool
+pub(super) fn is_full(last: u64, commits: usize) -> bool
     ensures { result ≡ nat_le (max_sequence - last) commits }
 {
     MAX_SEQUENCE.saturating_sub(last) <= commits as u64

@@ -1,0 +1,162 @@
+-- What the entering of a commit makes of a plain folder is the rules' step.
+use Rattle.std.proofs.Common.{◌≡◌, ℕ, zero, suc, ◌+◌, ◌-◌, ◌<◌, ◌≤◌, Bool, true, false, List, [], ◌∷◌, get_or, length, refl, sym, ap, subst, ◌∙◌, arith}
+use Rattle.std.specs.Prelude.{All, IfSome, OnErr, OnOk, Result, Ok, Err, cond, is_err, is_some, nat_le, not, ◌&&◌, Option, Some, None, filter, map, option_map, slice_get, slice_set}
+use Rattle.std.specs.Bool.{passes}
+use Rattle.std.specs.FinMap as fin
+use Rattle.std.specs.FinMap.{entries-from_sorted, from_sorted, is_sorted}
+use Rattle.std.specs.FinMap.Entries.{is_sorted-put}
+use Rattle.std.specs.List.{reduce}
+use Rattle.std.specs.Option.{option_map_or}
+use Rattle.std.proofs.lemmas.Bool.{true≢false}
+use Rattle.std.proofs.lemmas.Option.{slice_get_read}
+use Rattle.sync_record.specs.Contents.{same_content}
+use Rattle.sync_record.specs.Devices.{Identity, bytes_cmp}
+use Rattle.sync_record.specs.Records.{FileRecord}
+use Rattle.sync_version.specs.Computed.{same_version}
+use Rattle.folder_core.specs.declared.announcement.Announcement.{Announcement as Entry}
+use Rattle.folder_core.specs.declared.plain.pull.OpenPull.{OpenPull}
+use Rattle.folder_core.specs.declared.stage.Stage.TheVariants.{Pulling}
+use Rattle.folder_core.specs.Announced.{best, key_cmp}
+use Rattle.folder_core.specs.Plain.{IsPlain, IsReady, Rises, better, commits, filed, folder_of, is_undominated, opened, pulled, pulls_of}
+use Rattle.folder_core.specs.PlainPulls.{place_of, pull_for, version_of}
+use Rattle.folder_core.specs.States.{FolderState, IsFolder, local, max_sequence, same_local_version}
+use Rattle.folder_core.specs.Steps.{Answer, EnterCommit, Entered, LocalMoved, SequenceFull, Stray, Superseded, Token, committed_record, enter_commit, first_answer, is_accepted, is_still_best, step, with_commit}
+use Rattle.folder_core.proofs.ChangeFolders.{step-folder}
+use Rattle.folder_core.proofs.ListTests.{inside}
+use Rattle.folder_core.proofs.Orders.{bytes_total, exact_names, insert_listed, is_true}
+use Rattle.folder_core.proofs.PlainFound.{best_is}
+use Rattle.folder_core.proofs.PlainGroup.{is_named}
+use Rattle.folder_core.proofs.PlainOpen.{set-there}
+use Rattle.folder_core.proofs.PlainOpened.{commits-cons, one, pull_for-at, pull_for-name, pull_of-plain}
+use Rattle.folder_core.proofs.PlainPulls.{commits-open}
+
+-- ---- a pull is set in the place of another
+
+one_at_most : (p : OpenPull) → one p ≤ 1
+one_at_most p = elim (is_some p.ready) as (λ b. cond b 1 0 ≤ 1) [ true ↦ omega arith | false ↦ omega arith ]
+
+pub set-commits : (ps : List OpenPull) (i : ℕ) (p : OpenPull) → commits (slice_set ps i p) ≤ commits ps + 1
+set-commits [] zero p = omega arith
+set-commits [] (suc i) p = omega arith
+set-commits (q ∷ ps) zero p = let a = commits-cons q ps in let b = commits-cons p ps in let c = one_at_most p in omega arith
+set-commits (q ∷ ps) (suc i) p =
+    let a = commits-cons q ps in
+    let b = commits-cons q (slice_set ps i p) in
+    let c = set-commits ps i p in
+    omega arith
+
+pub set-ready : (ps : List OpenPull) (i : ℕ) (p : OpenPull) → IsReady p → All IsReady ps → All IsReady (slice_set ps i p)
+set-ready [] zero p here each = each
+set-ready [] (suc i) p here each = each
+set-ready (q ∷ ps) zero p here each = first here each
+  where
+    first : IsReady p → All IsReady (q ∷ ps) → All IsReady (p ∷ ps)
+    first here each zero d below = here
+    first here each (suc k) d below = each (suc k) d (omega arith)
+set-ready (q ∷ ps) (suc i) p here each = next (each 0 q (omega arith)) (set-ready ps i p here (λ k d l. each (suc k) d (omega arith)))
+  where
+    next : IsReady q → All IsReady (slice_set ps i p) → All IsReady (q ∷ slice_set ps i p)
+    next now rest zero d below = now
+    next now rest (suc k) d below = rest k d (omega arith)
+
+pub ok_from : {A E : Type 0} {P : Type 0} (r : Result A E) → is_err r ≡ false → OnOk r P → P
+ok_from (Ok x) e h = h
+ok_from (Err x) e h = absurd (true≢false e)
+
+pub err_from : {A E : Type 0} {P : Type 0} (r : Result A E) → is_err r ≡ true → OnErr r P → P
+err_from (Ok x) e h = absurd (true≢false (sym e))
+err_from (Err x) e h = h
+
+-- ---- the commit is entered
+
+module _ (me : Identity) (es : List Entry) (capacity last : ℕ) (ps : List OpenPull) (old : IsPlain me es capacity last ps) (t : Token) where
+  abbrev pub folder : FolderState
+  folder = folder_of me es last (pulls_of ps)
+
+  pub enter-stray : pull_for t Pulling ps ≡ None → step folder (EnterCommit t) ≡ (Stray, folder)
+  enter-stray none = ap (enter_commit folder t) (pull_of-plain t Pulling me es last ps old.pulls_rise ∙ ap (option_map opened) none)
+
+  abbrev pub chosen : Option Entry
+  chosen = reduce better (filter (is_undominated (filter (is_named t.name) es)) (filter (is_named t.name) es))
+
+  abbrev pub is_best_of : Option Entry → FileRecord → Bool
+  is_best_of b r = option_map_or (λ b. same_version b.record.version r.version && same_content b.record r) b false
+
+  filed_best : (b : Option Entry) (r : FileRecord) → option_map_or (λ b. same_version b.1.version r.version && same_content b.1 r) (option_map filed b) false ≡ is_best_of b r
+  filed_best None r = refl
+  filed_best (Some b) r = refl
+
+  -- the pull at the place that was found
+  pub enter-at : (xs : List OpenPull) → xs ≡ ps → (i : ℕ) → i < length xs → slice_get xs i ≡ pull_for t Pulling xs → (p : OpenPull) → p ≡ get_or ps i p → pull_for t Pulling ps ≡ Some p
+  enter-at xs same i below found p is =
+      sym (subst (λ ys. slice_get ys i ≡ pull_for t Pulling ys) same found)
+      ∙ slice_get_read ps (length ps) i p refl (subst (λ ys. i < length ys) same below) is
+
+  module _ (p : OpenPull) (is : pull_for t Pulling ps ≡ Some p) where
+    here : p.target.name ≡ t.name
+    here = pull_for-name t Pulling ps p is
+
+    pub best-still : is_best_of chosen p.target ≡ is_still_best folder p.target
+    best-still =
+        sym ((λ i. option_map_or (λ b. same_version b.1.version p.target.version && same_content b.1 p.target) (best (entries-from_sorted key_cmp (map filed es) (passes _ old.rises) i) (here i)) false)
+        ∙ ap (λ o. option_map_or (λ b. same_version b.1.version p.target.version && same_content b.1 p.target) o false) (best_is t.name es old.rises)
+        ∙ filed_best chosen p.target)
+
+    abbrev pub tested : Bool → Bool → Bool → Answer × FolderState
+    tested moved still full = first_answer folder ((moved, LocalMoved) ∷ (not still, Superseded) ∷ (full, SequenceFull) ∷ []) (Entered t, with_commit folder t.name (opened p))
+
+    abbrev pub has_moved : Bool
+    has_moved = not (same_local_version (version_of (local folder t.name)) (version_of p.base))
+
+    enter-tested : step folder (EnterCommit t) ≡ tested has_moved (is_best_of chosen p.target) (nat_le (max_sequence - last) (commits ps))
+    enter-tested =
+        ap (enter_commit folder t) (pull_of-plain t Pulling me es last ps old.pulls_rise ∙ ap (option_map opened) is)
+        ∙ (λ i. tested has_moved (sym best-still i) (nat_le (max_sequence - last) (commits-open me es last ps old.pulls_rise i)))
+
+    pub enter-moved : has_moved ≡ true → step folder (EnterCommit t) ≡ (LocalMoved, folder)
+    enter-moved m = enter-tested ∙ ap (λ x. tested x (is_best_of chosen p.target) (nat_le (max_sequence - last) (commits ps))) m
+
+    pub enter-superseded : has_moved ≡ false → is_best_of chosen p.target ≡ false → step folder (EnterCommit t) ≡ (Superseded, folder)
+    enter-superseded m b = enter-tested ∙ (λ i. tested (m i) (b i) (nat_le (max_sequence - last) (commits ps)))
+
+    module _ (m : has_moved ≡ false) (b : is_best_of chosen p.target ≡ true) where
+      pub enter-full : nat_le (max_sequence - last) (commits ps) ≡ true → step folder (EnterCommit t) ≡ (SequenceFull, folder)
+      enter-full f = enter-tested ∙ (λ i. tested (m i) (b i) (f i))
+
+      module _ (f : nat_le (max_sequence - last) (commits ps) ≡ false) where
+        enter-entered : step folder (EnterCommit t) ≡ (Entered t, with_commit folder t.name (opened p))
+        enter-entered = enter-tested ∙ (λ i. tested (m i) (b i) (f i))
+
+        pub enter-accepted : is_accepted (step folder (EnterCommit t)).0 ≡ true
+        enter-accepted = ap (λ (d : Answer × FolderState). is_accepted d.0) enter-entered
+
+        abbrev pub ready_pull : OpenPull
+        ready_pull = record p { ready = Some (committed_record (version_of p.base) p.target) }
+
+        pub enter-set : (xs new : List OpenPull) → xs ≡ ps → (i : ℕ) → i ≡ place_of t.name xs
+            → IfSome (slice_get xs i) (λ q. new ≡ slice_set xs i (record q { ready = Some (committed_record (version_of q.base) q.target) })) → new ≡ slice_set ps (place_of t.name ps) ready_pull
+        enter-set xs new same i place set =
+            let there : IfSome (slice_get ps i) (λ q. new ≡ slice_set ps i (record q { ready = Some (committed_record (version_of q.base) q.target) })) =
+            subst (λ ys. IfSome (slice_get ys i) (λ q. new ≡ slice_set ys i (record q { ready = Some (committed_record (version_of q.base) q.target) }))) same set in
+            let at : IfSome (slice_get ps (place_of t.name ps)) (λ q. new ≡ slice_set ps (place_of t.name ps) (record q { ready = Some (committed_record (version_of q.base) q.target) })) =
+            subst (λ j. IfSome (slice_get ps j) (λ q. new ≡ slice_set ps j (record q { ready = Some (committed_record (version_of q.base) q.target) }))) (place ∙ ap (place_of t.name) same) there in
+            subst (λ o. IfSome o (λ q. new ≡ slice_set ps (place_of t.name ps) (record q { ready = Some (committed_record (version_of q.base) q.target) }))) (pull_for-at t Pulling ps p is) at
+
+        module _ (new : List OpenPull) (set : new ≡ slice_set ps (place_of t.name ps) ready_pull) where
+          put_there : map pulled new ≡ fin.put bytes_cmp t.name (opened ready_pull) (map pulled ps)
+          put_there = ap (map pulled) set ∙ set-there bytes_total exact_names pulled t.name ready_pull p ps here (pull_for-at t Pulling ps p is) here
+
+          new_pulls : pulls_of new ≡ fin.insert (pulls_of ps) t.name (opened ready_pull)
+          new_pulls = ap from_sorted put_there ∙ sym (insert_listed bytes_total exact_names (map pulled ps) t.name (opened ready_pull) old.pulls_rise)
+
+          pub enter-step : step folder (EnterCommit t) ≡ (Entered t, folder_of me es last (pulls_of new))
+          enter-step = enter-entered ∙ ap (λ xs. (Entered t, folder_of me es last xs)) (sym new_pulls)
+
+          pub enter-plain : (xs : List Entry) (roomy : ℕ) → xs ≡ es → length xs + (commits ps + 1) ≤ roomy → IsPlain me xs roomy last new
+          enter-plain xs roomy same room = record {
+            rises = subst Rises (sym same) old.rises;
+            pulls_rise = ap (is_sorted bytes_cmp) put_there ∙ is_true _ (is_sorted-put bytes_cmp bytes_total t.name (opened ready_pull) (map pulled ps) (passes _ old.pulls_rise));
+            folder = subst (λ ys. IsFolder (folder_of me ys last (pulls_of new))) (sym same) (subst IsFolder (ap (λ (d : Answer × FolderState). d.1) enter-step) (step-folder folder (EnterCommit t) old.folder tt));
+            ready = subst (All IsReady) (sym set) (set-ready ps (place_of t.name ps) ready_pull (λ r e. sym (inside _ r e)) old.ready);
+            room = let a = ap commits set in let b = set-commits ps (place_of t.name ps) ready_pull in omega arith;
+          }
