@@ -219,7 +219,7 @@ impl FolderCore for PlainFolder {
         ensures changes { Changes self.old (Forget device) (index_answer result) self.new }
         ensures free { IsOk result }
     {
-        self.entries.retain(|entry| entry.device != device);
+        self.entries.retain(|kept| kept.device != device);
         Ok(())
     }
 
