@@ -7,6 +7,7 @@
 mod answer;
 mod best;
 mod change;
+mod copies;
 mod counts;
 mod finding;
 mod folder;
