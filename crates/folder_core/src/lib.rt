@@ -8,6 +8,7 @@ mod announcement;
 mod answer;
 mod best;
 mod change;
+mod copies;
 mod counts;
 mod finding;
 mod folder;
