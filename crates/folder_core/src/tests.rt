@@ -1,4 +1,6 @@
 //! Worked rows of the rules, and allocations that fail.
+mod pulls;
+
 use crate::{Best, FolderCore, PlainFolder};
 use bep_messages::{BlockInfo, Counter, FileInfo, Items, Octets, ShortOctets, Text, Vector};
 use std::process::Abort;
