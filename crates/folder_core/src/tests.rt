@@ -1,4 +1,5 @@
 //! Worked rows of the rules, and allocations that fail.
+mod pulls;
 mod reads;
 mod restore;
 mod values;
