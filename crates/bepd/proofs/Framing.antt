@@ -18,7 +18,10 @@ use Rattle.bep_frames.proofs.Lemmas.{front_push, given_error_keeps, given_fault,
 use Rattle.bep_messages.specs.declared.file_info.FileInfo.{FileInfo}
 use Rattle.folder_core.specs.Announced.{IsNamed, Key}
 use Rattle.folder_core.specs.States.{FolderState, empty_folder}
-use Rattle.folder_core.specs.Steps.{Answer, Change, IndexFull, IndexMore, step}
+use Rattle.folder_core.specs.declared.answer.Answer.{Answer}
+use Rattle.folder_core.specs.declared.change.Change.{Change}
+use Rattle.folder_core.specs.declared.change.Change.TheVariants.{IndexFull, IndexMore}
+use Rattle.folder_core.specs.Steps.{step}
 use Rattle.folder_core.proofs.Lemmas.{IsOneOrWas, full-names, more-names}
 use Rattle.sync_record.specs.Records.{FileRecord}
 use Rattle.bepd.specs.Received.{own_device, peer, is_kept, kept_records, skipped_records, frame_changes, frame_files, changed, folder_after, skipped_count}

@@ -10,7 +10,8 @@ use Rattle.bepd.specs.declared.ending.Ending.{Ending}
 use Rattle.bepd.specs.Endings.{IsEndOf, StopsAtFault, max_input_bytes}
 use Rattle.folder_core.specs.Announced.{IsNamed}
 use Rattle.folder_core.specs.States.{FolderState}
-use Rattle.folder_core.specs.Steps.{Change, IndexFull, IndexMore}
+use Rattle.folder_core.specs.declared.change.Change.{Change}
+use Rattle.folder_core.specs.declared.change.Change.TheVariants.{IndexFull, IndexMore}
 use Rattle.bepd.specs.declared.received.Announcement.{Announcement}
 use Rattle.bepd.specs.declared.received.Announcement.TheVariants.{All, More}
 use Rattle.bepd.specs.Received.{peer, kept_records, frame_changes, frame_files, folder_after, skipped_count}

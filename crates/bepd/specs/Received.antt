@@ -6,7 +6,9 @@ use Rattle.bep_frames.specs.declared.frame.Frame.TheVariants.{Message as Message
 use Rattle.bep_frames.specs.declared.frame.Message.{Message}
 use Rattle.bep_frames.specs.declared.frame.Message.TheVariants.{Index, IndexUpdate}
 use Rattle.folder_core.specs.States.{FolderState, empty_folder}
-use Rattle.folder_core.specs.Steps.{Change, IndexFull, IndexMore, step}
+use Rattle.folder_core.specs.declared.change.Change.{Change}
+use Rattle.folder_core.specs.declared.change.Change.TheVariants.{IndexFull, IndexMore}
+use Rattle.folder_core.specs.Steps.{step}
 use Rattle.sync_names.specs.Refusal.{refusal}
 use Rattle.sync_record.specs.Devices.{Identity}
 use Rattle.sync_record.specs.Infos.{record_of}

@@ -1,5 +1,7 @@
 use Rattle.std.proofs.Common.{◌≡◌, ◌∙◌, ap, sym, arith, length}
-use Rattle.folder_core.specs.Steps.{Applied, IndexFull, IndexMore, step}
+use Rattle.folder_core.specs.declared.answer.Answer.TheVariants.{Applied}
+use Rattle.folder_core.specs.declared.change.Change.TheVariants.{IndexFull, IndexMore}
+use Rattle.folder_core.specs.Steps.{step}
 use Rattle.bepd.specs.Received.{frame_files}
 use Rattle.bepd.proofs.Keeping.{skipped_fewer}
 use Rattle.bepd.proofs.Framing.{full_received, more_received}
