@@ -8,7 +8,8 @@ use Rattle.folder_core.proofs.Orders.{bytes_total, keys_total, exact_keys}
 use Rattle.folder_core.proofs.ListTests.{none_some, In, in_contains, contains_in, of_filter, found_in, in_get}
 use Rattle.folder_core.specs.Announced.{Announced, Announcement, Key, key, is_of, is_best, announce, without, best, bests}
 use Rattle.folder_core.specs.States.{FolderState}
-use Rattle.folder_core.specs.Steps.{IndexFull, IndexMore, step}
+use Rattle.folder_core.specs.declared.change.Change.TheVariants.{IndexFull, IndexMore}
+use Rattle.folder_core.specs.Steps.{step}
 use Rattle.std.proofs.Common.{◌≡◌, ◌≢◌, ℕ, Bool, true, false, List, [], ◌∷◌, ◌++◌, refl, sym, ap, subst, ◌∙◌, ◌↔◌, ◌⊎◌, inl, inr}
 use Rattle.std.proofs.lemmas.Bool.{true≢false, false_from_ne_true}
 use Rattle.std.proofs.lemmas.Slice.Eq.{bytes_eq-Decides}

@@ -15,7 +15,12 @@ use Rattle.folder_core.specs.declared.stage.Stage.{Stage}
 use Rattle.folder_core.specs.declared.stage.Stage.TheVariants.{Pulling, Committing}
 use Rattle.folder_core.specs.Announced.{Announcement, best}
 use Rattle.folder_core.specs.States.{FolderState, Pull, local, local_version, same_local_version, same_stage, is_committing, is_sequence_full, open_commits, max_sequence}
-use Rattle.folder_core.specs.Steps.{Answer, Token, Finding, ScanFound, ScanGone, EnterCommit, Finish, GiveUp, Abort, Busy, Moved, Unchanged, CounterFull, SequenceFull, Recorded, Stray, LocalMoved, Superseded, Entered, Done, Closed, step, first_answer, scan_gone, scan_tests, enter_commit, finish, close_pull, pull_of, is_pull_committing, is_still_best, with_local, with_commit, IsFor}
+use Rattle.folder_core.specs.declared.answer.Answer.{Answer}
+use Rattle.folder_core.specs.declared.answer.Answer.TheVariants.{Busy, Moved, Unchanged, CounterFull, SequenceFull, Recorded, Stray, LocalMoved, Superseded, Entered, Done, Closed}
+use Rattle.folder_core.specs.declared.change.Change.TheVariants.{ScanFound, ScanGone, EnterCommit, Finish, GiveUp, Abort}
+use Rattle.folder_core.specs.declared.finding.Finding.{Finding}
+use Rattle.folder_core.specs.declared.token.Token.{Token}
+use Rattle.folder_core.specs.Steps.{step, first_answer, scan_gone, scan_tests, enter_commit, finish, close_pull, pull_of, is_pull_committing, is_still_best, with_local, with_commit, IsFor}
 use Rattle.folder_core.proofs.ChangeFolders.{same_local}
 use Rattle.folder_core.proofs.PullOpen.{pull_of-is, pull_of-fits}
 use Rattle.sync_record.proofs.Lemmas.{same_record-is, same_record-own}

@@ -11,7 +11,13 @@ use Rattle.sync_version.specs.Versions.{Vector}
 use Rattle.folder_core.specs.Announced.{Announcement, announce, without, best}
 use Rattle.folder_core.specs.declared.stage.Stage.TheVariants.{Pulling, Committing}
 use Rattle.folder_core.specs.States.{FolderState, Pull, local}
-use Rattle.folder_core.specs.Steps.{Answer, Change, Token, Finding, Recorded, Unchanged, Busy, NotNeeded, Stray, Applied, Closed, Done, Begun, Entered, is_accepted, first_answer, step, scan_found, scan_gone, scan_tests, begin_tests, enter_tests, with_local, with_pull, with_commit, without_pull, found_record, gone_record, committed_record, next_version, next_ticket, begin_pull, enter_commit, finish, close_pull, pull_of, ScanFound, ScanGone, IndexFull, IndexMore, Forget, BeginPull, EnterCommit, Finish, GiveUp, Abort}
+use Rattle.folder_core.specs.declared.answer.Answer.{Answer}
+use Rattle.folder_core.specs.declared.answer.Answer.TheVariants.{Recorded, Unchanged, Busy, NotNeeded, Stray, Applied, Closed, Done, Begun, Entered}
+use Rattle.folder_core.specs.declared.change.Change.{Change}
+use Rattle.folder_core.specs.declared.change.Change.TheVariants.{ScanFound, ScanGone, IndexFull, IndexMore, Forget, BeginPull, EnterCommit, Finish, GiveUp, Abort}
+use Rattle.folder_core.specs.declared.finding.Finding.{Finding}
+use Rattle.folder_core.specs.declared.token.Token.{Token}
+use Rattle.folder_core.specs.Steps.{is_accepted, first_answer, step, scan_found, scan_gone, scan_tests, begin_tests, enter_tests, with_local, with_pull, with_commit, without_pull, found_record, gone_record, committed_record, next_version, next_ticket, begin_pull, enter_commit, finish, close_pull, pull_of}
 
 abbrev pub AllFail : List (Bool × Answer) → Type 0
 AllFail [] = ⊤

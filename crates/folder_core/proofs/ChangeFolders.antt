@@ -12,8 +12,13 @@ use Rattle.sync_record.specs.Validity.{is_valid}
 use Rattle.folder_core.specs.declared.stage.Stage.TheVariants.{Pulling, Committing}
 use Rattle.folder_core.specs.Announced.{Announced, Key, key, key_cmp, announce, without}
 use Rattle.folder_core.specs.States.{FolderState, Pull, local, local_version, same_local_version, is_committing, same_stage, open_commits, max_sequence, is_sequence_full, IsFolder}
-use Rattle.folder_core.specs.Steps.{Change, Finding, FoundContent, FoundDirectory, FoundFile, step, is_pull_committing, with_local, without_pull, is_found, found_record, committed_record, next_version, next_ticket, MayChange}
-use Rattle.folder_core.specs.Histories.{Entry, IsLegal, after, state_after}
+use Rattle.folder_core.specs.declared.change.Change.{Change}
+use Rattle.folder_core.specs.declared.finding.Finding.{Finding}
+use Rattle.folder_core.specs.declared.finding.FoundContent.{FoundContent}
+use Rattle.folder_core.specs.declared.finding.FoundContent.TheVariants.{Directory as FoundDirectory, File as FoundFile}
+use Rattle.folder_core.specs.Steps.{step, is_pull_committing, with_local, without_pull, is_found, found_record, committed_record, next_version, next_ticket, MayChange}
+use Rattle.folder_core.specs.declared.history.Entry.{Entry}
+use Rattle.folder_core.specs.Histories.{IsLegal, after, state_after}
 use Rattle.folder_core.proofs.Orders.{keys_total, exact_keys, bytes_total, exact_names}
 use Rattle.folder_core.proofs.ListTests.{none_some}
 use Rattle.folder_core.proofs.AnnouncedMaps.{insert_split, insert_other, remove_split}

@@ -2,7 +2,8 @@
 use Rattle.std.proofs.Common.{◌≡◌, true, false, refl}
 use Rattle.std.proofs.lemmas.Bool.{true≢false}
 use Rattle.folder_core.specs.States.{FolderState}
-use Rattle.folder_core.specs.Steps.{Change, is_accepted, step}
+use Rattle.folder_core.specs.declared.change.Change.{Change}
+use Rattle.folder_core.specs.Steps.{is_accepted, step}
 use Rattle.folder_core.proofs.ChangeCases.{step-cases}
 
 made : (s t : FolderState) → true ≡ false → t ≡ s

@@ -5,7 +5,8 @@ use Rattle.std.specs.FinMap.{get}
 use Rattle.sync_record.specs.Records.{Name, FileRecord}
 use Rattle.folder_core.specs.Announced.{Announced, Key, key, announce, without}
 use Rattle.folder_core.specs.States.{FolderState, local, IsNumbered}
-use Rattle.folder_core.specs.Steps.{Change, step, with_local, committed_record, MayChange}
+use Rattle.folder_core.specs.declared.change.Change.{Change}
+use Rattle.folder_core.specs.Steps.{step, with_local, committed_record, MayChange}
 use Rattle.folder_core.proofs.Orders.{keys_total, exact_keys}
 use Rattle.folder_core.proofs.AnnouncedMaps.{insert_split}
 use Rattle.folder_core.proofs.AnnouncedIndexes.{get-announce, get-without_other, get-index_other}

@@ -10,7 +10,11 @@ use Rattle.folder_core.specs.declared.stage.Stage.TheVariants.{Committing}
 use Rattle.folder_core.specs.Announced.{Key, key}
 use Rattle.sync_version.specs.Versions.{Vector}
 use Rattle.folder_core.specs.States.{FolderState, local, IsFolder}
-use Rattle.folder_core.specs.Steps.{Change, Finding, MayChange, next_version, Token, ScanFound, ScanGone, IndexFull, IndexMore, Forget, BeginPull, EnterCommit, Finish, GiveUp, Abort, step, with_local, committed_record}
+use Rattle.folder_core.specs.declared.change.Change.{Change}
+use Rattle.folder_core.specs.declared.change.Change.TheVariants.{ScanFound, ScanGone, IndexFull, IndexMore, Forget, BeginPull, EnterCommit, Finish, GiveUp, Abort}
+use Rattle.folder_core.specs.declared.finding.Finding.{Finding}
+use Rattle.folder_core.specs.declared.token.Token.{Token}
+use Rattle.folder_core.specs.Steps.{MayChange, next_version, step, with_local, committed_record}
 use Rattle.folder_core.proofs.Orders.{keys_total, exact_keys, bytes_total, exact_names}
 use Rattle.folder_core.proofs.AnnouncedMaps.{insert_other, remove_other}
 use Rattle.folder_core.proofs.PullOpen.{pull_of-is}

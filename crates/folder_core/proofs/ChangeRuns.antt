@@ -4,7 +4,9 @@ use Rattle.std.specs.List.{All}
 use Rattle.std.specs.Prelude.{IfErr, Result, Ok, Err}
 use Rattle.folder_core.specs.Runs.{IsPartway, run}
 use Rattle.folder_core.specs.States.{FolderState}
-use Rattle.folder_core.specs.Steps.{Answer, Change, MayChange, step}
+use Rattle.folder_core.specs.declared.answer.Answer.{Answer}
+use Rattle.folder_core.specs.declared.change.Change.{Change}
+use Rattle.folder_core.specs.Steps.{MayChange, step}
 use Rattle.folder_core.proofs.ChangeRest.{step-me}
 
 -- some of the changes were made, and these are left

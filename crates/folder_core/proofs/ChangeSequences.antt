@@ -2,7 +2,10 @@
 use Rattle.std.proofs.Common.{◌≡◌, ℕ, ◌+◌, ◌-◌, ◌^◌, ◌≤◌, Bool, true, false, refl, sym, ap, ◌∙◌, arith, ◌⊎◌, inl, inr}
 use Rattle.std.proofs.lemmas.Bool.{true≢false}
 use Rattle.folder_core.specs.States.{FolderState, IsFolder}
-use Rattle.folder_core.specs.Steps.{Answer, Change, Recorded, Done, Applied, Begun, Entered, Closed, next_ticket, is_accepted, step, MayChange}
+use Rattle.folder_core.specs.declared.answer.Answer.{Answer}
+use Rattle.folder_core.specs.declared.answer.Answer.TheVariants.{Recorded, Done, Applied, Begun, Entered, Closed}
+use Rattle.folder_core.specs.declared.change.Change.{Change}
+use Rattle.folder_core.specs.Steps.{next_ticket, is_accepted, step, MayChange}
 use Rattle.folder_core.proofs.ChangeFolders.{step-folder}
 use Rattle.folder_core.proofs.ChangeCases.{step-cases}
 

@@ -12,8 +12,14 @@ use Rattle.folder_core.specs.declared.stage.Stage.{Stage}
 use Rattle.folder_core.specs.declared.stage.Stage.TheVariants.{Pulling, Committing}
 use Rattle.folder_core.specs.Announced.{Announcement, best}
 use Rattle.folder_core.specs.States.{FolderState, Pull, is_committing, local, same_stage, IsFolder}
-use Rattle.folder_core.specs.Steps.{Answer, Change, Token, BeginPull, EnterCommit, Begun, Entered, Recorded, Applied, Closed, Done, MayChange, is_accepted, step, finish, pull_of, with_pull, with_commit, without_pull, next_ticket}
-use Rattle.folder_core.specs.Histories.{Entry, MayFollow, is_begin_of, is_end_of, is_enter_of, ends_pull_of, after, state_after, IsLegal, EndsPull, CommitsAreLegal}
+use Rattle.folder_core.specs.declared.answer.Answer.{Answer}
+use Rattle.folder_core.specs.declared.answer.Answer.TheVariants.{Begun, Entered, Recorded, Applied, Closed, Done}
+use Rattle.folder_core.specs.declared.change.Change.{Change}
+use Rattle.folder_core.specs.declared.change.Change.TheVariants.{BeginPull, EnterCommit}
+use Rattle.folder_core.specs.declared.token.Token.{Token}
+use Rattle.folder_core.specs.Steps.{MayChange, is_accepted, step, finish, pull_of, with_pull, with_commit, without_pull, next_ticket}
+use Rattle.folder_core.specs.declared.history.Entry.{Entry}
+use Rattle.folder_core.specs.Histories.{MayFollow, is_begin_of, is_end_of, is_enter_of, ends_pull_of, after, state_after, IsLegal, EndsPull, CommitsAreLegal}
 use Rattle.folder_core.proofs.Orders.{bytes_total, exact_names}
 use Rattle.folder_core.proofs.AnnouncedMaps.{insert_split, insert_apart, remove_split}
 use Rattle.folder_core.proofs.PullOpen.{pull_of-is, pull_of-fits}

@@ -9,8 +9,14 @@ use Rattle.sync_record.specs.Records.{Name, FileRecord}
 use Rattle.sync_version.proofs.Lists.{zero_or_above}
 use Rattle.folder_core.specs.declared.stage.Stage.TheVariants.{Pulling, Committing}
 use Rattle.folder_core.specs.States.{FolderState, Pull}
-use Rattle.folder_core.specs.Steps.{Answer, Change, Token, HistoryFull, Finish, GiveUp, Abort, MayChange, is_accepted, step}
-use Rattle.folder_core.specs.Histories.{Entry, MayFollow, IsLegal, after, state_after, is_over, shared_answer, own_entries}
+use Rattle.folder_core.specs.declared.answer.Answer.{Answer}
+use Rattle.folder_core.specs.declared.answer.Answer.TheVariants.{HistoryFull}
+use Rattle.folder_core.specs.declared.change.Change.{Change}
+use Rattle.folder_core.specs.declared.change.Change.TheVariants.{Finish, GiveUp, Abort}
+use Rattle.folder_core.specs.declared.token.Token.{Token}
+use Rattle.folder_core.specs.Steps.{MayChange, is_accepted, step}
+use Rattle.folder_core.specs.declared.history.Entry.{Entry}
+use Rattle.folder_core.specs.Histories.{MayFollow, IsLegal, after, state_after, is_over, shared_answer, own_entries}
 use Rattle.folder_core.proofs.Orders.{bytes_total}
 use Rattle.folder_core.proofs.PullOpen.{pull_of-is}
 use Rattle.folder_core.proofs.ChangeCases.{step-cases}

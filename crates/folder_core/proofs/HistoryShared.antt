@@ -4,8 +4,12 @@ use Rattle.std.specs.Prelude.{cond, Some, MatchBool}
 use Rattle.std.proofs.lemmas.Bool.{true≢false}
 use mathlib.Core.List.{IsPrefix}
 use Rattle.folder_core.specs.States.{FolderState}
-use Rattle.folder_core.specs.Steps.{Answer, Change, MayChange, is_accepted, step, HistoryFull}
-use Rattle.folder_core.specs.Histories.{Entry, IsLegal, state_after, is_over, shared_answer, own_entries}
+use Rattle.folder_core.specs.declared.answer.Answer.{Answer}
+use Rattle.folder_core.specs.declared.answer.Answer.TheVariants.{HistoryFull}
+use Rattle.folder_core.specs.declared.change.Change.{Change}
+use Rattle.folder_core.specs.Steps.{MayChange, is_accepted, step}
+use Rattle.folder_core.specs.declared.history.Entry.{Entry}
+use Rattle.folder_core.specs.Histories.{IsLegal, state_after, is_over, shared_answer, own_entries}
 use Rattle.folder_core.specs.Shared.{View, Sees, Makes, Declines, IsAnswered}
 use Rattle.folder_core.proofs.HistoryEntries.{allowed-after, own-push, legal-push}
 

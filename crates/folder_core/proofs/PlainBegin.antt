@@ -18,7 +18,11 @@ use Rattle.folder_core.specs.Plain.{IsPlain, IsReady, PullsRise, better, commits
 use Rattle.folder_core.specs.PlainPulls.{is_needed_over, is_unsupported, place_of}
 use Rattle.folder_core.specs.PlainReads.{record_from}
 use Rattle.folder_core.specs.States.{FolderState, IsFolder, is_needed, local}
-use Rattle.folder_core.specs.Steps.{Answer, BeginPull, Begun, Busy, NotNeeded, Token, Unsupported, begin_pull, first_answer, is_accepted, least_free, next_ticket, step, with_pull}
+use Rattle.folder_core.specs.declared.answer.Answer.{Answer}
+use Rattle.folder_core.specs.declared.answer.Answer.TheVariants.{Begun, Busy, NotNeeded, Unsupported}
+use Rattle.folder_core.specs.declared.change.Change.TheVariants.{BeginPull}
+use Rattle.folder_core.specs.declared.token.Token.{Token}
+use Rattle.folder_core.specs.Steps.{begin_pull, first_answer, is_accepted, least_free, next_ticket, step, with_pull}
 use Rattle.folder_core.proofs.ChangeFolders.{step-folder}
 use Rattle.folder_core.proofs.ListTests.{none_some}
 use Rattle.folder_core.proofs.Orders.{bytes_total, exact_names, entries_listed, insert_listed, is_true}

@@ -19,7 +19,11 @@ use Rattle.folder_core.specs.Codes.{Pulls}
 use Rattle.folder_core.specs.Plain.{IsLastOfEach, IsPlain, Rises, commits, filed, filed_by, folder_of, pulls_of, put_all}
 use Rattle.folder_core.specs.declared.plain.pull.OpenPull.{OpenPull}
 use Rattle.folder_core.specs.States.{FolderState, IsFolder}
-use Rattle.folder_core.specs.Steps.{Answer, Applied, Change, Forget, IndexFull, IndexMore, MayChange, step}
+use Rattle.folder_core.specs.declared.answer.Answer.{Answer}
+use Rattle.folder_core.specs.declared.answer.Answer.TheVariants.{Applied}
+use Rattle.folder_core.specs.declared.change.Change.{Change}
+use Rattle.folder_core.specs.declared.change.Change.TheVariants.{Forget, IndexFull, IndexMore}
+use Rattle.folder_core.specs.Steps.{MayChange, step}
 use Rattle.folder_core.proofs.AnnouncedIndexes.{get-announce, get-announce_own, same_key}
 use Rattle.folder_core.proofs.ChangeFolders.{step-folder, empty-folder}
 use Rattle.folder_core.proofs.Orders.{bytes_total, exact_keys, exact_names, is_true, keys_total, retain_listed}

@@ -20,7 +20,11 @@ use Rattle.folder_core.specs.Announced.{best, key_cmp}
 use Rattle.folder_core.specs.Plain.{IsPlain, IsReady, Rises, better, commits, filed, folder_of, is_undominated, opened, pulled, pulls_of}
 use Rattle.folder_core.specs.PlainPulls.{place_of, pull_for, version_of}
 use Rattle.folder_core.specs.States.{FolderState, IsFolder, local, max_sequence, same_local_version}
-use Rattle.folder_core.specs.Steps.{Answer, EnterCommit, Entered, LocalMoved, SequenceFull, Stray, Superseded, Token, committed_record, enter_commit, first_answer, is_accepted, is_still_best, step, with_commit}
+use Rattle.folder_core.specs.declared.answer.Answer.{Answer}
+use Rattle.folder_core.specs.declared.answer.Answer.TheVariants.{Entered, LocalMoved, SequenceFull, Stray, Superseded}
+use Rattle.folder_core.specs.declared.change.Change.TheVariants.{EnterCommit}
+use Rattle.folder_core.specs.declared.token.Token.{Token}
+use Rattle.folder_core.specs.Steps.{committed_record, enter_commit, first_answer, is_accepted, is_still_best, step, with_commit}
 use Rattle.folder_core.proofs.ChangeFolders.{step-folder}
 use Rattle.folder_core.proofs.ListTests.{inside}
 use Rattle.folder_core.proofs.Orders.{bytes_total, exact_names, insert_listed, is_true}

@@ -17,7 +17,9 @@ use Rattle.folder_core.specs.Announced.{key, key_cmp}
 use Rattle.folder_core.specs.Plain.{IsPlain, IsReady, PullsRise, commits, filed, folder_of, opened, pulls_of, stage_of}
 use Rattle.folder_core.specs.PlainPulls.{place_of, pull_for}
 use Rattle.folder_core.specs.States.{FolderState, IsFolder, same_stage}
-use Rattle.folder_core.specs.Steps.{Done, Stray, Token, committed_record, finish, pull_of, with_local, without_pull}
+use Rattle.folder_core.specs.declared.answer.Answer.TheVariants.{Done, Stray}
+use Rattle.folder_core.specs.declared.token.Token.{Token}
+use Rattle.folder_core.specs.Steps.{committed_record, finish, pull_of, with_local, without_pull}
 use Rattle.folder_core.proofs.ChangeFolders.{finished-folder}
 use Rattle.folder_core.proofs.Orders.{exact_keys, insert_listed, is_true, keys_total}
 use Rattle.folder_core.proofs.PlainOpened.{one, pull_for-at, pull_for-name, pull_for-stage, pull_of-plain, removed-commits, removed-pulls, removed-ready, removed-rise}

@@ -19,7 +19,10 @@ use Rattle.folder_core.specs.declared.stage.Stage.{Stage}
 use Rattle.folder_core.specs.Plain.{IsPlain, IsReady, PullsRise, commits, folder_of, opened, pulled, pulls_of, stage_of}
 use Rattle.folder_core.specs.PlainPulls.{is_for, place_of, pull_for}
 use Rattle.folder_core.specs.States.{FolderState, IsFolder, Pull, same_stage}
-use Rattle.folder_core.specs.Steps.{Answer, Closed, Stray, Token, close_pull, pull_of}
+use Rattle.folder_core.specs.declared.answer.Answer.{Answer}
+use Rattle.folder_core.specs.declared.answer.Answer.TheVariants.{Closed, Stray}
+use Rattle.folder_core.specs.declared.token.Token.{Token}
+use Rattle.folder_core.specs.Steps.{close_pull, pull_of}
 use Rattle.folder_core.specs.Calls.{close_answer}
 use Rattle.folder_core.proofs.ListTests.{inside, same_bytes}
 use Rattle.folder_core.proofs.Orders.{bytes_total, exact_names, entries-remove, entries_listed, is_true, listed}

@@ -28,7 +28,14 @@ use Rattle.folder_core.specs.Plain.{IsLastOfEach, IsPlain, Rises, commits, filed
 use Rattle.folder_core.specs.PlainReads.{record_from}
 use Rattle.folder_core.specs.PlainScans.{content_record, deletion_edit, edit_of, first_of, is_gone, has_commit, is_full, obstacle_answer, tests_of}
 use Rattle.folder_core.specs.States.{FolderState, IsFolder, is_committing, local, local_version, max_sequence}
-use Rattle.folder_core.specs.Steps.{Answer, Change, Finding, FoundContent, FoundDirectory, FoundFile, MayChange, ScanFound, ScanGone, Unchanged, found_record, gone_record, scan_gone, next_version, Recorded, first_answer, is_pull_committing, scan_tests, step, with_local}
+use Rattle.folder_core.specs.declared.answer.Answer.{Answer}
+use Rattle.folder_core.specs.declared.answer.Answer.TheVariants.{Unchanged, Recorded}
+use Rattle.folder_core.specs.declared.change.Change.{Change}
+use Rattle.folder_core.specs.declared.change.Change.TheVariants.{ScanFound, ScanGone}
+use Rattle.folder_core.specs.declared.finding.Finding.{Finding}
+use Rattle.folder_core.specs.declared.finding.FoundContent.{FoundContent}
+use Rattle.folder_core.specs.declared.finding.FoundContent.TheVariants.{Directory as FoundDirectory, File as FoundFile}
+use Rattle.folder_core.specs.Steps.{MayChange, found_record, gone_record, scan_gone, next_version, first_answer, is_pull_committing, scan_tests, step, with_local}
 use Rattle.folder_core.proofs.ChangeFolders.{step-folder}
 use Rattle.folder_core.proofs.ListTests.{alike_bytes, by_or, inside, is_less, parts, same_bytes}
 use Rattle.folder_core.proofs.PlainChange.{announce-sorted, more_rises}

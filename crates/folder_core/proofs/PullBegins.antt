@@ -7,7 +7,10 @@ use Rattle.sync_record.specs.Records.{Name, is_live, is_file, is_directory}
 use Rattle.folder_core.specs.declared.stage.Stage.TheVariants.{Pulling}
 use Rattle.folder_core.specs.Announced.{Announcement, best}
 use Rattle.folder_core.specs.States.{FolderState, Pull, is_needed, need}
-use Rattle.folder_core.specs.Steps.{Answer, step, begin_pull, next_ticket, with_pull, first_answer, BeginPull, Busy, NotNeeded, Unsupported, Begun}
+use Rattle.folder_core.specs.declared.answer.Answer.{Answer}
+use Rattle.folder_core.specs.declared.answer.Answer.TheVariants.{Busy, NotNeeded, Unsupported, Begun}
+use Rattle.folder_core.specs.declared.change.Change.TheVariants.{BeginPull}
+use Rattle.folder_core.specs.Steps.{step, begin_pull, next_ticket, with_pull, first_answer}
 use Rattle.folder_core.proofs.ListTests.{inside}
 use Rattle.folder_core.proofs.ChangeCases.{holds, fails}
 use Rattle.folder_core.proofs.PullNeed.{needed-listed, listed-needed}

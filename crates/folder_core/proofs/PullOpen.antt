@@ -6,7 +6,8 @@ use Rattle.std.proofs.lemmas.Bool.{and_parts}
 use Rattle.sync_record.specs.Same.{same_record}
 use Rattle.folder_core.specs.declared.stage.Stage.{Stage}
 use Rattle.folder_core.specs.States.{FolderState, Pull, same_stage}
-use Rattle.folder_core.specs.Steps.{Token, pull_of}
+use Rattle.folder_core.specs.declared.token.Token.{Token}
+use Rattle.folder_core.specs.Steps.{pull_of}
 use Rattle.folder_core.proofs.ListTests.{inside}
 
 -- an open pull that a ticket is for

@@ -8,7 +8,12 @@ use Rattle.std.proofs.lemmas.Bool.{true≢false}
 use Rattle.sync_record.specs.Records.{Name}
 use Rattle.folder_core.specs.declared.stage.Stage.TheVariants.{Pulling, Committing}
 use Rattle.folder_core.specs.States.{FolderState, Pull}
-use Rattle.folder_core.specs.Steps.{Answer, Change, Token, ScanFound, ScanGone, IndexFull, IndexMore, Forget, BeginPull, EnterCommit, Finish, GiveUp, Abort, Begun, Entered, Closed, is_accepted, step, next_ticket}
+use Rattle.folder_core.specs.declared.answer.Answer.{Answer}
+use Rattle.folder_core.specs.declared.answer.Answer.TheVariants.{Begun, Entered, Closed}
+use Rattle.folder_core.specs.declared.change.Change.{Change}
+use Rattle.folder_core.specs.declared.change.Change.TheVariants.{ScanFound, ScanGone, IndexFull, IndexMore, Forget, BeginPull, EnterCommit, Finish, GiveUp, Abort}
+use Rattle.folder_core.specs.declared.token.Token.{Token}
+use Rattle.folder_core.specs.Steps.{is_accepted, step, next_ticket}
 use Rattle.folder_core.proofs.Orders.{bytes_total}
 use Rattle.folder_core.proofs.PullOpen.{pull_of-is}
 use Rattle.folder_core.proofs.ChangeCases.{step-cases}

@@ -5,7 +5,9 @@ use Rattle.std.specs.FinMap.{entries}
 use Rattle.folder_core.specs.Announced.{best, is_candidate}
 use Rattle.folder_core.specs.States.{need}
 use Rattle.folder_core.specs.Reads.{best_found, local_since, places, counts, known, need_page}
-use Rattle.folder_core.specs.Steps.{step, BeginPull, IndexFull, IndexMore, NotNeeded, Unsupported, Applied, Begun}
+use Rattle.folder_core.specs.declared.answer.Answer.TheVariants.{NotNeeded, Unsupported, Applied, Begun}
+use Rattle.folder_core.specs.declared.change.Change.TheVariants.{BeginPull, IndexFull, IndexMore}
+use Rattle.folder_core.specs.Steps.{step}
 use Rattle.folder_core.specs.Samples.{Leads, SharedLeads, me, p2, y, recorded, two_files, places_of_abd, counts_of_two, p1, p2, p3, x, file, deletion, content, modified, abc, by, folder, target, full_target, ring, deleted_and_live, deleted_alone, modified_by_5_and_7, cut_short, one_version, one_content, invalid_above, nanoseconds_apart, counters_apart, shared_by_two, of_each_kind, counts_of_each_kind, deleted_there, deletion_pulled, deletion_ticket, offered, appeared, local_moves, commit_is_closed, target_is_withdrawn, commit_merges, stray_tickets, other_tickets, no_sequence_to_enter, link_offered, scans, counter_is_full, sequences_end, commit_keeps_sequence, history_of_2, history_of_3, history_of_4}
 use Rattle.folder_core.proofs.RowsListed.{listed}
 

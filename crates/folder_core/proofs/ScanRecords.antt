@@ -15,7 +15,14 @@ use Rattle.folder_core.specs.declared.stage.Stage.{Stage}
 use Rattle.folder_core.specs.declared.stage.Stage.TheVariants.{Pulling, Committing}
 use Rattle.folder_core.specs.Announced.{Key, key, key_cmp}
 use Rattle.folder_core.specs.States.{FolderState, Pull, local, local_version, same_stage, IsFolder}
-use Rattle.folder_core.specs.Steps.{Answer, Change, Token, Finding, FoundDirectory, FoundFile, ScanFound, ScanGone, IndexFull, IndexMore, Forget, BeginPull, EnterCommit, Finish, GiveUp, Abort, Recorded, Done, is_accepted, step, with_local, without_pull, committed_record, gone_record, next_version}
+use Rattle.folder_core.specs.declared.answer.Answer.{Answer}
+use Rattle.folder_core.specs.declared.answer.Answer.TheVariants.{Recorded, Done}
+use Rattle.folder_core.specs.declared.change.Change.{Change}
+use Rattle.folder_core.specs.declared.change.Change.TheVariants.{ScanFound, ScanGone, IndexFull, IndexMore, Forget, BeginPull, EnterCommit, Finish, GiveUp, Abort}
+use Rattle.folder_core.specs.declared.finding.Finding.{Finding}
+use Rattle.folder_core.specs.declared.finding.FoundContent.TheVariants.{Directory as FoundDirectory, File as FoundFile}
+use Rattle.folder_core.specs.declared.token.Token.{Token}
+use Rattle.folder_core.specs.Steps.{is_accepted, step, with_local, without_pull, committed_record, gone_record, next_version}
 use Rattle.folder_core.proofs.Orders.{keys_total, exact_keys, bytes_total}
 use Rattle.folder_core.proofs.AnnouncedMaps.{insert_other}
 use Rattle.folder_core.proofs.PullOpen.{pull_of-is, pull_of-fits}

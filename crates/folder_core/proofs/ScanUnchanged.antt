@@ -15,7 +15,13 @@ use Rattle.sync_version.specs.Computed.{is_counter_full}
 use Rattle.sync_version.specs.Versions.{Vector}
 use Rattle.sync_record.specs.Devices.{short_id}
 use Rattle.folder_core.specs.States.{FolderState, local, local_version, same_local_version, is_sequence_full}
-use Rattle.folder_core.specs.Steps.{Answer, Finding, FoundContent, FoundDirectory, FoundFile, ScanFound, Busy, Moved, Unchanged, CounterFull, SequenceFull, Recorded, first_answer, step, found_record, next_version, with_local, is_pull_committing}
+use Rattle.folder_core.specs.declared.answer.Answer.{Answer}
+use Rattle.folder_core.specs.declared.answer.Answer.TheVariants.{Busy, Moved, Unchanged, CounterFull, SequenceFull, Recorded}
+use Rattle.folder_core.specs.declared.change.Change.TheVariants.{ScanFound}
+use Rattle.folder_core.specs.declared.finding.Finding.{Finding}
+use Rattle.folder_core.specs.declared.finding.FoundContent.{FoundContent}
+use Rattle.folder_core.specs.declared.finding.FoundContent.TheVariants.{Directory as FoundDirectory, File as FoundFile}
+use Rattle.folder_core.specs.Steps.{first_answer, step, found_record, next_version, with_local, is_pull_committing}
 use Rattle.folder_core.proofs.ChangeAnswers.{Idle, found-unchanged}
 use Rattle.folder_core.proofs.ChangeCases.{found_now}
 

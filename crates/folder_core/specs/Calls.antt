@@ -11,7 +11,11 @@ use Rattle.folder_core.specs.declared.scan.ScanAnswer.TheVariants as scan
 use Rattle.folder_core.specs.declared.scan.ScanFault.{ScanFault}
 use Rattle.folder_core.specs.declared.scan.ScanFault.TheVariants as fault
 use Rattle.folder_core.specs.States.{FolderState}
-use Rattle.folder_core.specs.Steps.{Change, Answer, Token, step, Busy, Moved, Unchanged, Recorded, CounterFull, SequenceFull, Applied, NotNeeded, Unsupported, Begun, Stray, LocalMoved, Superseded, Entered, Done, Closed}
+use Rattle.folder_core.specs.declared.answer.Answer.{Answer}
+use Rattle.folder_core.specs.declared.answer.Answer.TheVariants.{Busy, Moved, Unchanged, Recorded, CounterFull, SequenceFull, Applied, NotNeeded, Unsupported, Begun, Stray, LocalMoved, Superseded, Entered, Done, Closed}
+use Rattle.folder_core.specs.declared.change.Change.{Change}
+use Rattle.folder_core.specs.declared.token.Token.{Token}
+use Rattle.folder_core.specs.Steps.{step}
 
 -- A change of a state gives this answer and leaves the new state. Without an answer it is out of memory, and nothing
 -- changed.

@@ -1,11 +1,16 @@
 -- A folder that several callers share: the history of its changes.
 use Rattle.std.specs.Prelude.{bytes_eq, false, ◌++◌, count_by, Contains, option_map, ◌≡◌, ℕ, ◌+◌, ◌≤◌, Bool, ◌&&◌, ◌==◌, nat_lt, if◌then◌else◌, List, [], ◌∷◌, length, filter, fold, IsTrue, ⊤}
 use Rattle.std.specs.FinMap.{len}
-pub use Rattle.folder_core.specs.declared.history.Entry.{Entry}
+use Rattle.folder_core.specs.declared.history.Entry.{Entry}
 use Rattle.sync_record.specs.Assemblies.{IsAssembled}
 use Rattle.sync_record.specs.Records.{Name, FileRecord}
 use Rattle.folder_core.specs.States.{FolderState, IsFolder, local, local_version}
-use Rattle.folder_core.specs.Steps.{Change, Answer, Token, Begun, Entered, Finish, GiveUp, Abort, HistoryFull, is_accepted, step, MayChange}
+use Rattle.folder_core.specs.declared.answer.Answer.{Answer}
+use Rattle.folder_core.specs.declared.answer.Answer.TheVariants.{Begun, Entered, HistoryFull}
+use Rattle.folder_core.specs.declared.change.Change.{Change}
+use Rattle.folder_core.specs.declared.change.Change.TheVariants.{Finish, GiveUp, Abort}
+use Rattle.folder_core.specs.declared.token.Token.{Token}
+use Rattle.folder_core.specs.Steps.{is_accepted, step, MayChange}
 
 abbrev pub after : FolderState → Entry → FolderState
 after s e = (step s e.change).1

@@ -11,7 +11,11 @@ use Rattle.folder_core.specs.declared.plain.scan.Obstacle.{Obstacle}
 use Rattle.folder_core.specs.declared.plain.scan.Obstacle.TheVariants as obstacle
 use Rattle.folder_core.specs.Plain.{commits}
 use Rattle.folder_core.specs.States.{max_sequence, same_local_version}
-use Rattle.folder_core.specs.Steps.{Answer, Finding, FoundContent, FoundDirectory, FoundFile, Busy, Moved, Unchanged, CounterFull, SequenceFull}
+use Rattle.folder_core.specs.declared.answer.Answer.{Answer}
+use Rattle.folder_core.specs.declared.answer.Answer.TheVariants.{Busy, Moved, Unchanged, CounterFull, SequenceFull}
+use Rattle.folder_core.specs.declared.finding.Finding.{Finding}
+use Rattle.folder_core.specs.declared.finding.FoundContent.{FoundContent}
+use Rattle.folder_core.specs.declared.finding.FoundContent.TheVariants.{Directory as FoundDirectory, File as FoundFile}
 
 -- the answer of the first test that holds, if one does
 abbrev pub first_of : List (Bool × Answer) → Option Answer

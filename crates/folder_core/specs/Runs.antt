@@ -2,7 +2,9 @@
 use Rattle.std.specs.Prelude.{◌≡◌, List, [], ◌∷◌, ◌++◌, Option, Some, None, Result, Ok, Err}
 use Rattle.std.specs.declared.alloc.AllocError.{AllocError}
 use Rattle.folder_core.specs.States.{FolderState}
-use Rattle.folder_core.specs.Steps.{Answer, Change, step}
+use Rattle.folder_core.specs.declared.answer.Answer.{Answer}
+use Rattle.folder_core.specs.declared.change.Change.{Change}
+use Rattle.folder_core.specs.Steps.{step}
 
 -- the answers of the changes, and the state after them
 abbrev pub run : FolderState → List Change → List Answer × FolderState

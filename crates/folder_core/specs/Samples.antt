@@ -11,7 +11,14 @@ use Rattle.folder_core.specs.declared.stage.Stage.{Stage}
 use Rattle.folder_core.specs.declared.stage.Stage.TheVariants.{Pulling, Committing}
 use Rattle.folder_core.specs.Announced.{Announced, Announcement, key}
 use Rattle.folder_core.specs.States.{FolderState, Pull}
-use Rattle.folder_core.specs.Steps.{step, is_accepted, Change, Answer, Token, Finding, FoundFile, FoundDirectory, ScanFound, ScanGone, IndexFull, BeginPull, EnterCommit, Finish, GiveUp, Abort, Busy, Moved, Unchanged, CounterFull, SequenceFull, HistoryFull, NotNeeded, Stray, LocalMoved, Superseded, Applied, Closed, Recorded, Done, Begun, Entered}
+use Rattle.folder_core.specs.declared.answer.Answer.{Answer}
+use Rattle.folder_core.specs.declared.answer.Answer.TheVariants.{Busy, Moved, Unchanged, CounterFull, SequenceFull, HistoryFull, NotNeeded, Stray, LocalMoved, Superseded, Applied, Closed, Recorded, Done, Begun, Entered}
+use Rattle.folder_core.specs.declared.change.Change.{Change}
+use Rattle.folder_core.specs.declared.change.Change.TheVariants.{ScanFound, ScanGone, IndexFull, BeginPull, EnterCommit, Finish, GiveUp, Abort}
+use Rattle.folder_core.specs.declared.finding.Finding.{Finding}
+use Rattle.folder_core.specs.declared.finding.FoundContent.TheVariants.{File as FoundFile, Directory as FoundDirectory}
+use Rattle.folder_core.specs.declared.token.Token.{Token}
+use Rattle.folder_core.specs.Steps.{step, is_accepted}
 use Rattle.folder_core.specs.Histories.{shared_step}
 
 -- ---- devices, names, records

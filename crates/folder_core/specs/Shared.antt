@@ -2,9 +2,12 @@
 use Rattle.std.specs.Prelude.{◌≡◌, ℕ, List, [], ◌∷◌, ◌++◌, Option, Some, None, MatchBool}
 use mathlib.Core.List.{IsPrefix}
 use Rattle.folder_core.specs.States.{FolderState}
-use Rattle.folder_core.specs.Steps.{Change, Answer, is_accepted}
+use Rattle.folder_core.specs.declared.answer.Answer.{Answer}
+use Rattle.folder_core.specs.declared.change.Change.{Change}
+use Rattle.folder_core.specs.Steps.{is_accepted}
 use Rattle.folder_core.specs.Reads.{Query, Reply, Reads}
-use Rattle.folder_core.specs.Histories.{Entry, state_after, shared_answer, own_entries}
+use Rattle.folder_core.specs.declared.history.Entry.{Entry}
+use Rattle.folder_core.specs.Histories.{state_after, shared_answer, own_entries}
 
 -- what a caller knows: the state that the folder was opened with, the history's limit, the caller's pass,
 -- and the beginning of the history that it has seen

@@ -6,14 +6,14 @@ use Rattle.std.specs.Ordering.{int_eq}
 use Rattle.std.specs.FinMap.{get, insert, remove, entries}
 use Rattle.folder_core.specs.declared.stage.Stage.{Stage}
 use Rattle.folder_core.specs.declared.stage.Stage.TheVariants.{Pulling, Committing}
-pub use Rattle.folder_core.specs.declared.answer.Answer.{Answer}
-pub use Rattle.folder_core.specs.declared.answer.Answer.TheVariants.{Busy, Unchanged, CounterFull, SequenceFull, HistoryFull, NotNeeded, Unsupported, Stray, LocalMoved, Superseded, Applied, Closed, Moved, Recorded, Done, Begun, Entered}
-pub use Rattle.folder_core.specs.declared.change.Change.{Change}
-pub use Rattle.folder_core.specs.declared.change.Change.TheVariants.{ScanFound, ScanGone, IndexFull, IndexMore, Forget, BeginPull, EnterCommit, Finish, GiveUp, Abort}
-pub use Rattle.folder_core.specs.declared.finding.Finding.{Finding}
-pub use Rattle.folder_core.specs.declared.finding.FoundContent.{FoundContent}
-pub use Rattle.folder_core.specs.declared.finding.FoundContent.TheVariants.{Directory as FoundDirectory, File as FoundFile}
-pub use Rattle.folder_core.specs.declared.token.Token.{Token}
+use Rattle.folder_core.specs.declared.answer.Answer.{Answer}
+use Rattle.folder_core.specs.declared.answer.Answer.TheVariants.{Busy, Unchanged, CounterFull, SequenceFull, HistoryFull, NotNeeded, Unsupported, Stray, LocalMoved, Superseded, Applied, Closed, Moved, Recorded, Done, Begun, Entered}
+use Rattle.folder_core.specs.declared.change.Change.{Change}
+use Rattle.folder_core.specs.declared.change.Change.TheVariants.{ScanFound, ScanGone, IndexFull, IndexMore, Forget, BeginPull, EnterCommit, Finish, GiveUp, Abort}
+use Rattle.folder_core.specs.declared.finding.Finding.{Finding}
+use Rattle.folder_core.specs.declared.finding.FoundContent.{FoundContent}
+use Rattle.folder_core.specs.declared.finding.FoundContent.TheVariants.{Directory as FoundDirectory, File as FoundFile}
+use Rattle.folder_core.specs.declared.token.Token.{Token}
 use Rattle.sync_record.specs.Assemblies.{IsAssembled}
 use Rattle.sync_record.specs.Contents.{same_content}
 use Rattle.sync_blocks.specs.declared.block.Block.{Block}

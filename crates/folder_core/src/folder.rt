@@ -1,6 +1,7 @@
 ghost use Rattle.std.specs.Prelude.{◌≡◌, ◌≢◌, Some, IfErr, IfOk, IsTrue, map, option_copied, option_map};
 ghost use Rattle.folder_core.specs.States.{FolderState, IsFolder, local};
-ghost use Rattle.folder_core.specs.Steps.{Forget, IndexFull, IndexMore, ScanFound, ScanGone, BeginPull, EnterCommit, Finish, GiveUp, Abort, is_found};
+ghost use Rattle.folder_core.specs.declared.change.Change.TheVariants.{Forget, IndexFull, IndexMore, ScanFound, ScanGone, BeginPull, EnterCommit, Finish, GiveUp, Abort};
+ghost use Rattle.folder_core.specs.Steps.{is_found};
 ghost use Rattle.folder_core.specs.Reads.{IsPlaceFound, best_found, bests_page, counts, known, local_since, need_page};
 ghost use Rattle.folder_core.specs.Calls.{Changes, GivesBack, index_answer, scan_answer, begin_answer, enter_answer, finish_answer, close_answer};
 

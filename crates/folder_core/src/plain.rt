@@ -8,7 +8,8 @@ ghost use Rattle.folder_core.specs.PlainRestores.{given};
 ghost use Rattle.folder_core.specs.Restores.{MayRestore, restored_folder};
 ghost use Rattle.folder_core.specs.declared.restore_fault.RestoreFault.TheVariants.{BadRecords};
 ghost use Rattle.folder_core.specs.States.{empty_folder, local};
-ghost use Rattle.folder_core.specs.Steps.{Forget, IndexFull, IndexMore, ScanFound, ScanGone, BeginPull, EnterCommit, Finish, GiveUp, Abort, is_accepted, is_found, step};
+ghost use Rattle.folder_core.specs.declared.change.Change.TheVariants.{Forget, IndexFull, IndexMore, ScanFound, ScanGone, BeginPull, EnterCommit, Finish, GiveUp, Abort};
+ghost use Rattle.folder_core.specs.Steps.{is_accepted, is_found, step};
 
 mod compare;
 mod copy;

@@ -6,8 +6,8 @@ ghost use Rattle.sync_record.specs.Devices.{Identity};
 ghost use Rattle.sync_record.specs.Records.{Name, FileRecord};
 ghost use Rattle.folder_core.specs.Announced.{Announced, key, announce};
 ghost use Rattle.folder_core.specs.States.{FolderState};
-ghost use Rattle.folder_core.specs.Steps.{IndexFull, IndexMore, Forget};
-ghost use Rattle.folder_core.specs.Steps.{Applied};
+ghost use Rattle.folder_core.specs.declared.change.Change.TheVariants.{IndexFull, IndexMore, Forget};
+ghost use Rattle.folder_core.specs.declared.answer.Answer.TheVariants.{Applied};
 ghost use Rattle.folder_core.specs.Steps.{step};
 
 /// Indexes of two devices leave the same state in either order.

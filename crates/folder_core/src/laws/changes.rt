@@ -9,12 +9,18 @@ ghost use Rattle.sync_record.specs.Validity.{is_valid};
 ghost use Rattle.folder_core.specs.Announced.{key};
 ghost use Rattle.folder_core.specs.States.{FolderState, IsFolder, IsNumbered, local};
 ghost use Rattle.folder_core.specs.Samples.{me};
-ghost use Rattle.folder_core.specs.Histories.{Entry, IsLegal, state_after, ChangesKeepFolders};
+ghost use Rattle.folder_core.specs.declared.history.Entry.{Entry};
+ghost use Rattle.folder_core.specs.Histories.{IsLegal, state_after, ChangesKeepFolders};
 ghost use Rattle.folder_core.specs.Calls.{Changes, index_answer};
-ghost use Rattle.folder_core.specs.Steps.{Change, ScanFound, ScanGone, IndexFull, IndexMore, Forget, BeginPull, EnterCommit, Finish, GiveUp, Abort};
-ghost use Rattle.folder_core.specs.Steps.{Recorded, Applied, Begun};
-ghost use Rattle.folder_core.specs.Steps.{Entered, Done, Closed};
-ghost use Rattle.folder_core.specs.Steps.{Answer, Finding, FoundFile, FoundDirectory, Token, MayChange, step, is_accepted};
+ghost use Rattle.folder_core.specs.declared.change.Change.{Change};
+ghost use Rattle.folder_core.specs.declared.change.Change.TheVariants.{ScanFound, ScanGone, IndexFull, IndexMore, Forget, BeginPull, EnterCommit, Finish, GiveUp, Abort};
+ghost use Rattle.folder_core.specs.declared.answer.Answer.TheVariants.{Recorded, Applied, Begun};
+ghost use Rattle.folder_core.specs.declared.answer.Answer.TheVariants.{Entered, Done, Closed};
+ghost use Rattle.folder_core.specs.declared.answer.Answer.{Answer};
+ghost use Rattle.folder_core.specs.declared.finding.Finding.{Finding};
+ghost use Rattle.folder_core.specs.declared.finding.FoundContent.TheVariants.{File as FoundFile, Directory as FoundDirectory};
+ghost use Rattle.folder_core.specs.declared.token.Token.{Token};
+ghost use Rattle.folder_core.specs.Steps.{MayChange, step, is_accepted};
 ghost use Rattle.std.specs.declared.alloc.AllocError.{AllocError};
 
 /// An answer that isn't accepted leaves the state; accepted are Applied, Closed, Recorded, Done, Begun and Entered, and no

@@ -5,11 +5,16 @@ ghost use Rattle.sync_record.specs.Records.{FileRecord};
 ghost use Rattle.folder_core.specs.Announced.{Announcement, best};
 ghost use Rattle.folder_core.specs.States.{FolderState, local};
 ghost use Rattle.folder_core.specs.Reads.{Query, Reply, Reads};
-ghost use Rattle.folder_core.specs.Histories.{Entry, IsLegal, IsReplay, state_after, shared_answer, own_entries, CommitsAreLegal};
+ghost use Rattle.folder_core.specs.declared.history.Entry.{Entry};
+ghost use Rattle.folder_core.specs.Histories.{IsLegal, IsReplay, state_after, shared_answer, own_entries, CommitsAreLegal};
 ghost use Rattle.folder_core.specs.Shared.{View, IsAnswered, ReadsThere};
-ghost use Rattle.folder_core.specs.Steps.{Change, Finish, GiveUp, Abort};
-ghost use Rattle.folder_core.specs.Steps.{Begun};
-ghost use Rattle.folder_core.specs.Steps.{Answer, HistoryFull, Token, MayChange, step, is_accepted};
+ghost use Rattle.folder_core.specs.declared.change.Change.{Change};
+ghost use Rattle.folder_core.specs.declared.change.Change.TheVariants.{Finish, GiveUp, Abort};
+ghost use Rattle.folder_core.specs.declared.answer.Answer.TheVariants.{Begun};
+ghost use Rattle.folder_core.specs.declared.answer.Answer.{Answer};
+ghost use Rattle.folder_core.specs.declared.answer.Answer.TheVariants.{HistoryFull};
+ghost use Rattle.folder_core.specs.declared.token.Token.{Token};
+ghost use Rattle.folder_core.specs.Steps.{MayChange, step, is_accepted};
 ghost use mathlib.Core.List.{IsPrefix};
 
 /// In a legal history each finish ends one pull that was begun over the local record and entered there, and not ended

@@ -11,10 +11,11 @@ ghost use Rattle.sync_record.specs.Validity.{is_valid};
 ghost use Rattle.folder_core.specs.Announced.{Announcement, best};
 ghost use Rattle.folder_core.specs.States.{FolderState, Pull, IsFolder, local, local_version, max_sequence, need, open_commits};
 ghost use Rattle.folder_core.specs.declared.stage.Stage.TheVariants.{Pulling, Committing};
-ghost use Rattle.folder_core.specs.Steps.{BeginPull, EnterCommit, Finish, GiveUp, Abort};
-ghost use Rattle.folder_core.specs.Steps.{Busy, SequenceFull, NotNeeded, Unsupported, Begun};
-ghost use Rattle.folder_core.specs.Steps.{Stray, LocalMoved, Superseded, Entered, Done, Closed};
-ghost use Rattle.folder_core.specs.Steps.{IsFor, Token, step, is_copy_due};
+ghost use Rattle.folder_core.specs.declared.change.Change.TheVariants.{BeginPull, EnterCommit, Finish, GiveUp, Abort};
+ghost use Rattle.folder_core.specs.declared.answer.Answer.TheVariants.{Busy, SequenceFull, NotNeeded, Unsupported, Begun};
+ghost use Rattle.folder_core.specs.declared.answer.Answer.TheVariants.{Stray, LocalMoved, Superseded, Entered, Done, Closed};
+ghost use Rattle.folder_core.specs.declared.token.Token.{Token};
+ghost use Rattle.folder_core.specs.Steps.{IsFor, step, is_copy_due};
 
 /// Needed names strictly rise. A name is needed exactly where it has a best, the local record is absent or of
 /// another version, and the best isn't a deletion of what isn't there.

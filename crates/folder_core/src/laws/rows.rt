@@ -11,8 +11,8 @@ ghost use Rattle.folder_core.specs.Samples.{deleted_there, deletion_ticket, dele
 ghost use Rattle.folder_core.specs.Samples.{target, full_target, offered, appeared, local_moves, commit_is_closed, target_is_withdrawn};
 ghost use Rattle.folder_core.specs.Samples.{commit_merges, stray_tickets, other_tickets, no_sequence_to_enter, link_offered, scans, counter_is_full, sequences_end};
 ghost use Rattle.folder_core.specs.Samples.{commit_keeps_sequence, history_of_2, history_of_3, history_of_4};
-ghost use Rattle.folder_core.specs.Steps.{IndexFull, IndexMore, BeginPull};
-ghost use Rattle.folder_core.specs.Steps.{Applied, NotNeeded, Unsupported, Begun};
+ghost use Rattle.folder_core.specs.declared.change.Change.TheVariants.{IndexFull, IndexMore, BeginPull};
+ghost use Rattle.folder_core.specs.declared.answer.Answer.TheVariants.{Applied, NotNeeded, Unsupported, Begun};
 ghost use Rattle.folder_core.specs.Steps.{step};
 
 /// The best in worked rows: of a ring of three, after its best is withdrawn, of a deletion and a live file, of a

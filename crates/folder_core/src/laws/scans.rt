@@ -9,9 +9,11 @@ ghost use Rattle.sync_record.specs.Records.{Name, FileRecord, is_file, is_direct
 ghost use Rattle.sync_record.specs.Contents.{same_content};
 ghost use Rattle.folder_core.specs.States.{FolderState, Pull, IsFolder, NoCommit, local, local_version, max_sequence, open_commits};
 ghost use Rattle.folder_core.specs.declared.stage.Stage.TheVariants.{Pulling, Committing};
-ghost use Rattle.folder_core.specs.Steps.{ScanFound, ScanGone};
-ghost use Rattle.folder_core.specs.Steps.{Busy, Moved, Unchanged, CounterFull, SequenceFull, Recorded};
-ghost use Rattle.folder_core.specs.Steps.{Finding, FoundFile, FoundDirectory, step, found_record, next_version};
+ghost use Rattle.folder_core.specs.declared.change.Change.TheVariants.{ScanFound, ScanGone};
+ghost use Rattle.folder_core.specs.declared.answer.Answer.TheVariants.{Busy, Moved, Unchanged, CounterFull, SequenceFull, Recorded};
+ghost use Rattle.folder_core.specs.declared.finding.Finding.{Finding};
+ghost use Rattle.folder_core.specs.declared.finding.FoundContent.TheVariants.{File as FoundFile, Directory as FoundDirectory};
+ghost use Rattle.folder_core.specs.Steps.{step, found_record, next_version};
 
 /// A scan of a finding records nothing, in this order: while a commit of the name is open; where the local version isn't the
 /// expected one; where the local record has the content; where the counter, and where the sequence can't rise.

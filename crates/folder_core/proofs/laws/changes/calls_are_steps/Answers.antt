@@ -1,6 +1,6 @@
 use Rattle.std.proofs.Common.{refl, sym, ap}
 use Rattle.folder_core.specs.States.{FolderState}
-use Rattle.folder_core.specs.Steps.{Answer}
+use Rattle.folder_core.specs.declared.answer.Answer.{Answer}
 use Rattle.folder_core.proofs.laws.changes.calls_are_steps.Goals as goal
 
 pub returns-clause-made : goal.returns-clause-made

@@ -1,7 +1,8 @@
 use Rattle.folder_core.proofs.PullStages.{begin-opens}
 use Rattle.std.proofs.Common.{refl, ap}
 use Rattle.folder_core.specs.States.{FolderState}
-use Rattle.folder_core.specs.Steps.{Answer, next_ticket}
+use Rattle.folder_core.specs.declared.answer.Answer.{Answer}
+use Rattle.folder_core.specs.Steps.{next_ticket}
 use Rattle.folder_core.proofs.PullBegins.{begin-busy, begin-unneeded, begin-unsupported, begin-begun}
 use Rattle.folder_core.proofs.PullNumbers.{number-least}
 use Rattle.folder_core.proofs.laws.pulls.begin_pull_takes_the_needed.Goals as goal

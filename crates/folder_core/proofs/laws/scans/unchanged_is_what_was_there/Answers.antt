@@ -1,4 +1,4 @@
-use Rattle.folder_core.specs.Steps.{FoundDirectory, FoundFile}
+use Rattle.folder_core.specs.declared.finding.FoundContent.TheVariants.{Directory as FoundDirectory, File as FoundFile}
 use Rattle.folder_core.proofs.ScanUnchanged.{unchanged-has, has-unchanged}
 use Rattle.folder_core.proofs.laws.scans.unchanged_is_what_was_there.Goals as goal
 

@@ -2,7 +2,7 @@ use Rattle.std.proofs.Common.{ap, sym, ◌∙◌}
 use Rattle.folder_core.specs.Calls.{close_answer}
 use Rattle.folder_core.specs.declared.stage.Stage.TheVariants.{Committing}
 use Rattle.folder_core.specs.Plain.{folder_of, pulls_of}
-use Rattle.folder_core.specs.Steps.{Abort}
+use Rattle.folder_core.specs.declared.change.Change.TheVariants.{Abort}
 use Rattle.folder_core.proofs.ChangeFolders.{step-folder}
 use Rattle.folder_core.proofs.PlainOpened.{close-plain, close-step}
 use Rattle.folder_core.proofs.plain.PlainFolderFolderCore.abort.Goals as goal

@@ -5,7 +5,8 @@ use Rattle.std.proofs.lemmas.Fn.{filter_same}
 use Rattle.folder_core.specs.declared.announcement.Announcement.{Announcement as Entry}
 use Rattle.folder_core.specs.Announced.{Announced}
 use Rattle.folder_core.specs.Plain.{Rises, filed, folder_of, pulls_of}
-use Rattle.folder_core.specs.Steps.{Applied, Forget}
+use Rattle.folder_core.specs.declared.answer.Answer.TheVariants.{Applied}
+use Rattle.folder_core.specs.declared.change.Change.TheVariants.{Forget}
 use Rattle.folder_core.proofs.PlainChange.{forgot, is_of_another, others-rise, plain_with}
 use Rattle.folder_core.proofs.plain.PlainFolderFolderCore.forget.Goals as goal
 

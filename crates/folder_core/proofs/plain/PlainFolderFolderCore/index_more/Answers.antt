@@ -1,7 +1,7 @@
 use Rattle.std.proofs.Common.{◌≢◌, List, map, subst, sym, ap, ◌∙◌, arith}
 use Rattle.folder_core.specs.declared.announcement.Announcement.{Announcement as Entry}
 use Rattle.folder_core.specs.Plain.{IsLastOfEach, commits, filed, filed_by, pulls_of, put_all}
-use Rattle.folder_core.specs.Steps.{IndexMore}
+use Rattle.folder_core.specs.declared.change.Change.TheVariants.{IndexMore}
 use Rattle.folder_core.proofs.PlainChange.{more_rises, more_step, plain_with}
 use Rattle.folder_core.proofs.plain.PlainFolderFolderCore.index_more.Goals as goal
 

@@ -5,7 +5,10 @@ use Rattle.sync_version.specs.Computed.{raised}
 use Rattle.folder_core.specs.Plain.{commits, folder_of, pulls_of}
 use Rattle.folder_core.specs.PlainReads.{record_from}
 use Rattle.folder_core.specs.States.{FolderState}
-use Rattle.folder_core.specs.Steps.{Answer, Recorded, ScanFound, with_local}
+use Rattle.folder_core.specs.declared.answer.Answer.{Answer}
+use Rattle.folder_core.specs.declared.answer.Answer.TheVariants.{Recorded}
+use Rattle.folder_core.specs.declared.change.Change.TheVariants.{ScanFound}
+use Rattle.folder_core.specs.Steps.{with_local}
 use Rattle.folder_core.proofs.PlainGroup.{is_named}
 use Rattle.folder_core.proofs.PlainScan.{found-made, found-memory, found-record, found-told, plain_recorded, step_recorded}
 use Rattle.folder_core.proofs.plain.PlainFolderFolderCore.scan_found.Goals as goal
