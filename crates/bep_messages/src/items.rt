@@ -69,6 +69,18 @@ pub trait Copied: Drop {
         ensures { IfOk result (λ x. x ≡ self.now) };
 }
 
+impl<T: Copy> Items<T> {
+    /// The same list once more, of elements that are copied as they are. Returns `Err` if it could not be allocated.
+    /// O(n) time and memory.
+    pub fn to_items(&self) -> Result<Items<T>, AllocError>
+        ensures { IfOk result (λ items. items ≡ self.now) }
+    {
+        let mut items = Vec::with_capacity(*self.items.allocator(), self.items.len())?;
+        items.extend_from_slice(&self.items)?;
+        Ok(Items { items })
+    }
+}
+
 impl<T: Copied> Copied for Items<T> {
     fn copy(&self) -> Result<Self, AllocError> {
         let mut items = Vec::with_capacity(*self.items.allocator(), self.items.len())?;
@@ -77,4 +89,23 @@ impl<T: Copied> Copied for Items<T> {
         }
         Ok(Items { items })
     }
+}
+
+impl<T: PartialEq> PartialEq for Items<T> {
+    ghost use Rattle.std.specs.Cmp.Lexicographic.{lists_per, pointwise};
+
+    ghost eq = { pointwise T.eq };
+
+    ghost laws = { lists_per T.laws };
+
+    /// Whether both have as many elements, each equal to the other's at its place. Does not allocate. O(n) comparisons.
+    fn eq(&self, other: &Items<T>) -> bool {
+        self.items == other.items
+    }
+}
+
+impl<T: Eq> Eq for Items<T> {
+    ghost use Rattle.std.specs.Cmp.Lexicographic.{lists_equiv};
+
+    ghost laws = { lists_equiv T.Eq.laws };
 }

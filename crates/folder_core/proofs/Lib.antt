@@ -47,6 +47,7 @@ pub mod PlainMessage
 pub mod PlainPut
 pub mod PlainPulls
 pub mod PlainScan
+pub mod Same
 pub mod PlainChange
 pub mod PlainOwn
 pub mod PlainPlaces

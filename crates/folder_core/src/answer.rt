@@ -1,8 +1,12 @@
+ghost use Rattle.std.specs.Prelude.{◌≡◌, IfOk};
+
 use crate::Token;
+use crate::copies::copied_version;
+use std::alloc::AllocError;
 use sync_version::Version;
 
 /// What a folder answers to a change.
-#[derive(Debug, Drop)]
+#[derive(Debug, PartialEq, Eq, Drop)]
 pub enum Answer {
     /// A commit of the name is open, or a pull where one was to begin.
     Busy,
@@ -38,4 +42,32 @@ pub enum Answer {
     Begun(Token),
     /// The pull's commit was entered, and this is its commit.
     Entered(Token),
+}
+
+impl Answer {
+    /// The same answer once more. Returns `Err` only if out of memory, and never for an answer without a version or a token.
+    /// O(n) time and memory for n counters, or bytes of the name.
+    pub fn copy(&self) -> Result<Answer, AllocError>
+        ensures { IfOk result (λ answer. answer ≡ self.now) }
+    {
+        Ok(match self {
+            Answer::Busy => Answer::Busy,
+            Answer::Unchanged => Answer::Unchanged,
+            Answer::CounterFull => Answer::CounterFull,
+            Answer::SequenceFull => Answer::SequenceFull,
+            Answer::HistoryFull => Answer::HistoryFull,
+            Answer::NotNeeded => Answer::NotNeeded,
+            Answer::Unsupported => Answer::Unsupported,
+            Answer::Stray => Answer::Stray,
+            Answer::LocalMoved => Answer::LocalMoved,
+            Answer::Superseded => Answer::Superseded,
+            Answer::Applied => Answer::Applied,
+            Answer::Closed => Answer::Closed,
+            Answer::Moved(version) => Answer::Moved(copied_version(version.as_ref())?),
+            Answer::Recorded(sequence) => Answer::Recorded(*sequence),
+            Answer::Done(sequence) => Answer::Done(*sequence),
+            Answer::Begun(ticket) => Answer::Begun(ticket.copy()?),
+            Answer::Entered(commit) => Answer::Entered(commit.copy()?),
+        })
+    }
 }

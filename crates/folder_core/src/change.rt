@@ -1,11 +1,15 @@
+ghost use Rattle.std.specs.Prelude.{◌≡◌, IfOk};
+
+use crate::copies::copied_version;
 use crate::{Finding, Token};
-use bep_messages::Items;
+use bep_messages::{Copied, Items};
+use std::alloc::AllocError;
 use sync_names::SafeName;
 use sync_record::{Assembled, DeviceId, Record};
 use sync_version::{Moment, Version};
 
 /// A change that is asked of a folder.
-#[derive(Debug, Drop)]
+#[derive(Debug, PartialEq, Eq, Drop)]
 pub enum Change {
     /// This is found at the name, where the version was the local one when the scan began.
     ScanFound {
@@ -55,4 +59,58 @@ pub enum Change {
     Abort {
         commit: Token,
     },
+}
+
+impl Change {
+    /// The same change once more. Returns `Err` only if out of memory, and never for `Forget`. O(n) time and memory for n bytes
+    /// of the name, counters, blocks and records; the records share their memory.
+    pub fn copy(&self) -> Result<Change, AllocError>
+        ensures { IfOk result (λ change. change ≡ self.now) }
+    {
+        Ok(match self {
+            Change::ScanFound {
+                name,
+                expected,
+                found,
+                moment,
+            } => Change::ScanFound {
+                name: name.copy()?,
+                expected: copied_version(expected.as_ref())?,
+                found: found.copy()?,
+                moment: *moment,
+            },
+            Change::ScanGone {
+                name,
+                expected,
+                moment,
+            } => Change::ScanGone {
+                name: name.copy()?,
+                expected: copied_version(expected.as_ref())?,
+                moment: *moment,
+            },
+            Change::IndexFull { device, records } => Change::IndexFull {
+                device: *device,
+                records: records.copy()?,
+            },
+            Change::IndexMore { device, records } => Change::IndexMore {
+                device: *device,
+                records: records.copy()?,
+            },
+            Change::Forget { device } => Change::Forget { device: *device },
+            Change::BeginPull { name } => Change::BeginPull { name: name.copy()? },
+            Change::EnterCommit { ticket } => Change::EnterCommit {
+                ticket: ticket.copy()?,
+            },
+            Change::Finish { commit, assembled } => Change::Finish {
+                commit: commit.copy()?,
+                assembled: assembled.copy()?,
+            },
+            Change::GiveUp { ticket } => Change::GiveUp {
+                ticket: ticket.copy()?,
+            },
+            Change::Abort { commit } => Change::Abort {
+                commit: commit.copy()?,
+            },
+        })
+    }
 }

@@ -1,8 +1,11 @@
+ghost use Rattle.std.specs.Prelude.{◌≡◌, IfOk};
+
 use bep_messages::Items;
+use std::alloc::AllocError;
 use sync_record::Block;
 
 /// What a scan finds at a name.
-#[derive(Debug, Drop)]
+#[derive(Debug, PartialEq, Eq, Drop)]
 pub enum FoundContent {
     Directory,
     File {
@@ -16,11 +19,46 @@ pub enum FoundContent {
 }
 
 /// What a scan finds at a name, and when it was modified.
-#[derive(Debug, Drop)]
+#[derive(Debug, PartialEq, Eq, Drop)]
 pub struct Finding {
     pub content: FoundContent,
     /// Whole Unix seconds.
     pub modified_s: i64,
     /// The nanoseconds after them.
     pub modified_ns: i32,
+}
+
+impl FoundContent {
+    /// The same content once more. Returns `Err` only if out of memory, and never for a directory. O(n) time and memory for
+    /// n blocks.
+    pub fn copy(&self) -> Result<FoundContent, AllocError>
+        ensures { IfOk result (λ content. content ≡ self.now) }
+    {
+        Ok(match self {
+            FoundContent::Directory => FoundContent::Directory,
+            FoundContent::File {
+                size,
+                block_size,
+                blocks,
+            } => FoundContent::File {
+                size: *size,
+                block_size: *block_size,
+                blocks: blocks.to_items()?,
+            },
+        })
+    }
+}
+
+impl Finding {
+    /// The same finding once more. Returns `Err` only if out of memory, and never for a directory. O(n) time and memory for
+    /// n blocks.
+    pub fn copy(&self) -> Result<Finding, AllocError>
+        ensures { IfOk result (λ finding. finding ≡ self.now) }
+    {
+        Ok(Finding {
+            content: self.content.copy()?,
+            modified_s: self.modified_s,
+            modified_ns: self.modified_ns,
+        })
+    }
 }

@@ -10,6 +10,7 @@ mod reads;
 mod restores;
 mod rows;
 mod scans;
+mod values;
 
 pub use announced::{forget_removes, index_full_replaces, index_more_adds, indexes_in_any_order};
 pub use best::{
@@ -37,3 +38,4 @@ pub use scans::{
     findings_are_tested_in_order, losses_are_tested_in_order, scans_record_what_is_found,
     scans_record_what_is_gone, unchanged_is_what_was_there,
 };
+pub use values::comparison_is_equality;

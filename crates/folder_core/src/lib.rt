@@ -1,13 +1,14 @@
 //! The folder as one device keeps it: what each device announces of each name, the best of a name, and the changes.
 //!
-//! The definitions in `specs/` are the whole folder's; [`FolderCore`] has the calls that code has today, and
-//! [`PlainFolder`] is its first body.
+//! The definitions in `specs/` are the folder's rules; [`FolderCore`] has its calls, [`PlainFolder`] is their first body, and
+//! [`make`] takes a change as a value.
 #![tactic(auto)]
 
 mod announcement;
 mod answer;
 mod best;
 mod change;
+mod copies;
 mod counts;
 mod finding;
 mod folder;

@@ -1,13 +1,14 @@
 //! Worked rows of the rules, and allocations that fail.
+mod pulls;
+mod reads;
 mod restore;
+mod values;
 
 use crate::{Best, FolderCore, PlainFolder};
 use bep_messages::{BlockInfo, Counter, FileInfo, Items, Octets, ShortOctets, Text, Vector};
 use std::process::Abort;
 use sync_names::{NameFault, SafeName};
 use sync_record::{DeviceId, Record};
-
-mod reads;
 
 /// The device of which each byte is this number. The folder's own is 9.
 fn device(number: u8) -> DeviceId {

@@ -5,6 +5,7 @@ ghost use Rattle.sync_record.specs.Validity.{IsKept, FitsBlockInfo, FitsFileInfo
 use crate::Kind;
 use crate::fields::Fields;
 use crate::same::same_numbers;
+use bep_messages::Copied;
 use std::alloc::{AllocError, Global};
 use std::marker::Model;
 use std::sync::Arc;
@@ -172,6 +173,12 @@ impl Record {
         ensures fits { FitsFileInfo self.now }
     {
         let _ = &self.fields;
+    }
+}
+
+impl Copied for Record {
+    fn copy(&self) -> Result<Record, AllocError> {
+        Record::copy(self)
     }
 }
 

@@ -21,6 +21,7 @@ ghost use Rattle.sync_record.specs.Devices.{short_id};
 use super::merge::put;
 use super::open_commits;
 use super::pull::OpenPull;
+use crate::copies::copied_version;
 use crate::{Announcement, Finding, FoundContent, ScanAnswer, ScanFault};
 use bep_messages::Items;
 use std::alloc::{AllocError, Global};
@@ -91,16 +92,6 @@ pub(super) fn scan_answer(
         Obstacle::Unchanged => Ok(ScanAnswer::Unchanged),
         Obstacle::CounterFull => Err(ScanFault::CounterFull),
         Obstacle::SequenceFull => Err(ScanFault::SequenceFull),
-    }
-}
-
-fn copied_version(version: Option<&Version>) -> Result<Option<Version>, AllocError>
-    ensures value { IfOk result (λ v. v ≡ option_copied version.entry) }
-    ensures none { option_copied version.entry ≡ None → IsOk result }
-{
-    match version {
-        Some(version) => Ok(Some(version.copy()?)),
-        None => Ok(None),
     }
 }
 

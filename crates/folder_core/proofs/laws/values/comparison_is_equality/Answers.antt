@@ -1,0 +1,23 @@
+use Rattle.folder_core.proofs.Same.{answers, bests, changes, entries, findings, places, tokens}
+use Rattle.folder_core.proofs.laws.values.comparison_is_equality.Goals as goal
+
+pub returns-clause-changes : goal.returns-clause-changes
+returns-clause-changes c = changes
+
+pub returns-clause-answers : goal.returns-clause-answers
+returns-clause-answers c = answers
+
+pub returns-clause-entries : goal.returns-clause-entries
+returns-clause-entries c = entries
+
+pub returns-clause-tokens : goal.returns-clause-tokens
+returns-clause-tokens c = tokens
+
+pub returns-clause-findings : goal.returns-clause-findings
+returns-clause-findings c = findings
+
+pub returns-clause-places : goal.returns-clause-places
+returns-clause-places c = places
+
+pub returns-clause-bests : goal.returns-clause-bests
+returns-clause-bests c = bests
