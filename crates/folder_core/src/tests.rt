@@ -2,6 +2,7 @@
 mod pulls;
 mod reads;
 mod restore;
+mod scans;
 mod values;
 
 use crate::{Best, FolderCore, PlainFolder};

@@ -131,7 +131,7 @@ fn try_begin(
     })
 }
 
-fn begins(
+pub(super) fn begins(
     rt: &(impl AllocGlobal + Abort),
     folder: &mut PlainFolder,
     name: &str,
@@ -147,7 +147,7 @@ fn begins(
     }
 }
 
-fn refuses(
+pub(super) fn refuses(
     rt: &(impl AllocGlobal + Abort),
     folder: &mut PlainFolder,
     name: &str,
@@ -161,14 +161,18 @@ fn refuses(
 }
 
 /// Enters a commit, once more where allocation fails.
-fn try_enter(folder: &mut PlainFolder, ticket: Ticket) -> Result<Commit, NotEntered> {
+pub(super) fn try_enter(folder: &mut PlainFolder, ticket: Ticket) -> Result<Commit, NotEntered> {
     match folder.enter_commit(ticket) {
         Err(NotEntered::OutOfMemory(ticket)) => folder.enter_commit(ticket),
         answer => answer,
     }
 }
 
-fn enters(rt: &(impl AllocGlobal + Abort), folder: &mut PlainFolder, ticket: Ticket) -> Commit {
+pub(super) fn enters(
+    rt: &(impl AllocGlobal + Abort),
+    folder: &mut PlainFolder,
+    ticket: Ticket,
+) -> Commit {
     match try_enter(folder, ticket) {
         Ok(commit) => commit,
         Err(fault) => panic!(rt; "{fault:?}"),
@@ -176,7 +180,7 @@ fn enters(rt: &(impl AllocGlobal + Abort), folder: &mut PlainFolder, ticket: Tic
 }
 
 /// Finishes the commit of an empty file.
-fn finishes(
+pub(super) fn finishes(
     rt: &(impl AllocGlobal + Abort),
     folder: &mut PlainFolder,
     commit: Commit,
@@ -208,7 +212,7 @@ fn is_live_file(record: &Record) -> bool
     record.is_valid() && !record.is_deleted() && record.kind() == Kind::File
 }
 
-fn has_local(
+pub(super) fn has_local(
     rt: &(impl AllocGlobal + Abort),
     folder: &PlainFolder,
     name: &str,

@@ -123,7 +123,7 @@ fn refuses(
 }
 
 /// The folder of device 9 from these records, asked for once more where allocation fails.
-fn restored(
+pub(super) fn restored(
     rt: &(impl AllocGlobal + Abort),
     rows: &[Announced],
     last: i64,
@@ -150,7 +150,7 @@ fn announcements(
 }
 
 /// A copy, asked for once more where allocation fails.
-fn copied(folder: &PlainFolder) -> Result<PlainFolder, NameFault> {
+pub(super) fn copied(folder: &PlainFolder) -> Result<PlainFolder, NameFault> {
     Ok(match folder.plain_copy() {
         Err(_) => folder.plain_copy()?,
         Ok(copy) => copy,
