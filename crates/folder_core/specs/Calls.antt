@@ -67,8 +67,8 @@ abbrev pub close_answer : Bool → Answer
 close_answer true = Closed
 close_answer false = Stray
 
--- Of these answers a call makes something new: a record that is kept, a version that is told, a ticket or a commit. For every
--- other one it needs no memory.
+-- With these answers a scan, a begin or an entrance makes something new: a record that is kept, a version that is told, a
+-- ticket or a commit. With every other one it needs no memory.
 abbrev pub may_allocate : Answer → Bool
 may_allocate (Recorded sequence) = true
 may_allocate (Moved (Some version)) = true
