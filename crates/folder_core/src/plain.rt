@@ -25,8 +25,6 @@ mod pulls;
 mod restore;
 mod scan;
 mod since;
-#[cfg(test)]
-mod tests;
 
 use crate::{
     Announcement, BeginAnswer, Best, Commit, Counts, Finding, FolderCore, NotEntered, Place,
