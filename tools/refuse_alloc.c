@@ -1,5 +1,6 @@
 /* Preloaded into a test program by tools/refusals: lets the REFUSE-th allocation of the process fail (none where it
-   is 0), and keeps the number of allocations so far in the file COUNT. For programs of one thread. */
+   is 0), or with a + behind the number that one and all after it, and keeps the number of allocations so far in the
+   file COUNT. For programs of one thread. */
 #define _GNU_SOURCE
 #include <dlfcn.h>
 #include <errno.h>
@@ -9,7 +10,7 @@
 #include <unistd.h>
 
 static unsigned long refuse, seen;
-static int count = -1;
+static int all_after, count = -1;
 static void *(*next_malloc)(size_t);
 static void *(*next_realloc)(void *, size_t);
 
@@ -17,7 +18,9 @@ __attribute__((constructor)) static void begin(void) {
     const char *nth = getenv("REFUSE"), *path = getenv("COUNT");
     next_malloc = dlsym(RTLD_NEXT, "malloc");
     next_realloc = dlsym(RTLD_NEXT, "realloc");
-    refuse = nth ? strtoul(nth, NULL, 10) : 0;
+    char *behind = "";
+    refuse = nth ? strtoul(nth, &behind, 10) : 0;
+    all_after = refuse && *behind == '+';
     count = path ? open(path, O_WRONLY | O_CREAT | O_TRUNC, 0600) : -1;
     if (count >= 0 && pwrite(count, "0\n", 2, 0) != 2) abort();
     seen = 0;
@@ -27,7 +30,7 @@ static int is_refused(void) {
     char text[24];
     int len = snprintf(text, sizeof text, "%lu\n", ++seen);
     if (count >= 0 && pwrite(count, text, len, 0) != len) abort();
-    if (seen != refuse) return 0;
+    if (all_after ? seen < refuse : seen != refuse) return 0;
     errno = ENOMEM;
     return 1;
 }
