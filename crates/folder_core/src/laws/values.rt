@@ -4,16 +4,14 @@ ghost use Rattle.folder_core.specs.declared.answer.Answer.{Answer};
 ghost use Rattle.folder_core.specs.declared.best.Best.{Best};
 ghost use Rattle.folder_core.specs.declared.change.Change.{Change};
 ghost use Rattle.folder_core.specs.declared.finding.Finding.{Finding};
-ghost use Rattle.folder_core.specs.declared.history.Entry.{Entry};
 ghost use Rattle.folder_core.specs.declared.place.Place.{Place};
 ghost use Rattle.folder_core.specs.declared.token.Token.{Token};
 
-/// The comparison `==` of two changes, answers or entries, and of two tokens, findings, places or bests, is true exactly
+/// The comparison `==` of two changes or answers, and of two tokens, findings, places or bests, is true exactly
 /// where the two are equal.
 pub fn comparison_is_equality()
     ensures changes { (a b : Change) → IsTrue (⟦<crate::Change as PartialEq>⟧.eq a b) ↔ (a ≡ b) }
     ensures answers { (a b : Answer) → IsTrue (⟦<crate::Answer as PartialEq>⟧.eq a b) ↔ (a ≡ b) }
-    ensures entries { (a b : Entry) → IsTrue (⟦<crate::Entry as PartialEq>⟧.eq a b) ↔ (a ≡ b) }
     ensures tokens { (a b : Token) → IsTrue (⟦<crate::Token as PartialEq>⟧.eq a b) ↔ (a ≡ b) }
     ensures findings { (a b : Finding) → IsTrue (⟦<crate::Finding as PartialEq>⟧.eq a b) ↔ (a ≡ b) }
     ensures places { (a b : Place) → IsTrue (⟦<crate::Place as PartialEq>⟧.eq a b) ↔ (a ≡ b) }

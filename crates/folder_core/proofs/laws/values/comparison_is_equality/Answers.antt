@@ -1,4 +1,4 @@
-use Rattle.folder_core.proofs.Same.{answers, bests, changes, entries, findings, places, tokens}
+use Rattle.folder_core.proofs.Same.{answers, bests, changes, findings, places, tokens}
 use Rattle.folder_core.proofs.laws.values.comparison_is_equality.Goals as goal
 
 pub returns-clause-changes : goal.returns-clause-changes
@@ -6,9 +6,6 @@ returns-clause-changes c = changes
 
 pub returns-clause-answers : goal.returns-clause-answers
 returns-clause-answers c = answers
-
-pub returns-clause-entries : goal.returns-clause-entries
-returns-clause-entries c = entries
 
 pub returns-clause-tokens : goal.returns-clause-tokens
 returns-clause-tokens c = tokens
