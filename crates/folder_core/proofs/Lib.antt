@@ -51,6 +51,7 @@ pub mod PlainPlaces
 pub mod PlainNeed
 pub mod PlainCounts
 pub mod PlainSince
+pub mod PlainTests
 pub mod PlainRestoreLists
 pub mod PlainRestore
 pub mod PlainRestoreSame

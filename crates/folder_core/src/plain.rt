@@ -11,6 +11,7 @@ ghost use Rattle.folder_core.specs.States.{empty_folder, local};
 ghost use Rattle.folder_core.specs.declared.change.Change.TheVariants.{Forget, IndexFull, IndexMore, ScanFound, ScanGone, BeginPull, EnterCommit, Finish, GiveUp, Abort};
 ghost use Rattle.folder_core.specs.Steps.{is_accepted, is_found, step};
 
+mod accept;
 mod compare;
 mod copy;
 mod count;
@@ -29,28 +30,28 @@ mod since;
 mod tests;
 
 use crate::{
-    Announcement, BeginAnswer, Best, Commit, Counts, Finding, FolderCore, NotEntered, Place,
-    RestoreFault, ScanAnswer, ScanFault, Stage, Stray, Ticket,
+    Announcement, BeginAnswer, Best, Change, Commit, Counts, Finding, FolderCore, NotEntered,
+    Place, RestoreFault, ScanAnswer, ScanFault, Stage, Stray, Ticket,
 };
 use bep_messages::Items;
 use compare::{same_entries, same_pulls};
 use copy::{copied_entries, copied_pulls};
 use count::{deletions, live_directories, live_files, records_of_others};
 use find::place_of;
-use group::{best_of, best_with_devices, bests_of, entries_after, entries_of};
+use group::{best_with_devices, bests_of, entries_after, entries_of};
 use merge::{merge, put};
 use message::last_of_each_name;
 use need::{count_needed, needed_names};
-use own::{copy_from, greatest_sequence, record_from};
+use own::{copy_from, greatest_sequence, record_from, version_of};
 use pull::OpenPull;
 use pulls::{
-    has_moved, has_pull, is_best, is_needed, is_unsupported, make_ready, open, place_for, take,
-    take_ready,
+    begin_refused, best_to_pull, entry_obstacle, has_pull, make_ready, not_entered, open,
+    place_for, take, take_ready,
 };
 use restore::{are_numbered, in_order};
 use scan::{
     found_record, gone_record, is_full, is_gone, is_same, next_version, put_next, scan_answer,
-    scan_obstacle, version_of,
+    scan_obstacle,
 };
 use since::records_since;
 use std::alloc::{AllocError, Global};
@@ -230,22 +231,14 @@ impl FolderCore for PlainFolder {
         ensures change { Changes self.old (BeginPull name.now) (begin_answer result) self.new }
         ensures refused { is_accepted (step self.old (BeginPull name.now)).0 ≡ false → IsOk result }
     {
-        if has_pull(&self.pulls, name) {
-            return Ok(BeginAnswer::Busy);
-        }
         let announced = entries_of(self.entries.as_slice(), name);
-        let Some(best) = best_of(announced) else {
-            return Ok(BeginAnswer::NotNeeded);
-        };
-        let target = &best.record;
         let base = record_from(announced, self.me);
-        if !is_needed(base, target) {
-            return Ok(BeginAnswer::NotNeeded);
-        }
-        if is_unsupported(target) {
-            return Ok(BeginAnswer::Unsupported);
-        }
-        let token = open(&mut self.pulls, name, base, target)?;
+        let is_open = has_pull(&self.pulls, name);
+        let best = match best_to_pull(is_open, announced, base) {
+            Ok(best) => best,
+            Err(obstacle) => return Ok(begin_refused(obstacle)),
+        };
+        let token = open(&mut self.pulls, name, base, &best.record)?;
         Ok(BeginAnswer::Begun(Ticket { token }))
     }
 
@@ -286,15 +279,11 @@ impl FolderCore for PlainFolder {
         };
         let pull = &self.pulls[place];
         let group = entries_of(self.entries.as_slice(), &ticket.token.name);
-        if has_moved(record_from(group, self.me), pull.base.as_ref()) {
-            return Err(NotEntered::LocalMoved(ticket));
-        }
-        if !is_best(group, &pull.target) {
-            return Err(NotEntered::Superseded(ticket));
-        }
+        let local = record_from(group, self.me);
         let promised = open_commits(&self.pulls);
-        if is_full(self.last, promised) {
-            return Err(NotEntered::SequenceFull(ticket));
+        let is_full = is_full(self.last, promised);
+        if let Some(obstacle) = entry_obstacle(pull, group, local, is_full) {
+            return Err(not_entered(obstacle, ticket));
         }
         if make_ready(&mut self.entries, promised, &mut self.pulls, place).is_err() {
             return Err(NotEntered::OutOfMemory(ticket));
@@ -387,6 +376,29 @@ impl FolderCore for PlainFolder {
             others: records_of_others(entries, self.me) as u64,
             pulls: self.pulls.len() as u64,
             last: self.last,
+        }
+    }
+
+    /// O(log n + d^2 + k + b) for n records kept, d devices that announce the name, k open pulls, and b blocks and counters of
+    /// what is found and of the local record; O(1) for an index and `Forget`.
+    fn accepts(&self, change: &Change) -> bool
+        ensures { result ≡ is_accepted (step self.now change.now).0 }
+    {
+        match change {
+            Change::ScanFound {
+                name,
+                expected,
+                found,
+                ..
+            } => self.accepts_found(name, expected.as_ref(), found),
+            Change::ScanGone { name, expected, .. } => self.accepts_gone(name, expected.as_ref()),
+            Change::IndexFull { .. } | Change::IndexMore { .. } | Change::Forget { .. } => true,
+            Change::BeginPull { name } => self.accepts_begin(name),
+            Change::EnterCommit { ticket } => self.accepts_entry(ticket),
+            Change::GiveUp { ticket } => self.has_open(ticket, Stage::Pulling),
+            Change::Finish { commit, .. } | Change::Abort { commit } => {
+                self.has_open(commit, Stage::Committing)
+            }
         }
     }
 
