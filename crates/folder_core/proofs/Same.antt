@@ -18,9 +18,11 @@ use Rattle.sync_blocks.specs.contracts.block.BlockPartialEq.TheImpl as block_tes
 use Rattle.folder_core.specs.contracts.answer.Answer as answer
 use Rattle.folder_core.specs.contracts.change.Change as change
 use Rattle.folder_core.specs.contracts.finding.FoundContent as content
+use Rattle.folder_core.specs.contracts.announcement.AnnouncementPartialEq.TheImpl as announcement_test
 use Rattle.folder_core.specs.contracts.answer.AnswerPartialEq.TheImpl as answer_test
 use Rattle.folder_core.specs.contracts.best.BestPartialEq.TheImpl as best_test
 use Rattle.folder_core.specs.contracts.change.ChangePartialEq.TheImpl as change_test
+use Rattle.folder_core.specs.contracts.counts.CountsPartialEq.TheImpl as counts_test
 use Rattle.folder_core.specs.contracts.finding.FindingPartialEq.TheImpl as finding_test
 use Rattle.folder_core.specs.contracts.finding.FoundContentPartialEq.TheImpl as content_test
 use Rattle.folder_core.specs.contracts.place.PlacePartialEq.TheImpl as place_test
@@ -121,6 +123,15 @@ places = through (λ p. (p.name, (p.offset, p.size)))
 pub bests : IsExact best_test.ghosts.eq
 bests = through (λ b. (b.record, b.devices)) (λ f. record { «record» = f.0; devices = f.1 }) (λ b. refl)
     (before records (pointwise_decides bytes_eq-Decides))
+
+pub announcements : IsExact announcement_test.ghosts.eq
+announcements = through (λ a. (a.device, a.record)) (λ f. record { device = f.0; «record» = f.1 }) (λ a. refl)
+    (before bytes_eq-Decides records)
+
+pub counts : IsExact counts_test.ghosts.eq
+counts = through (λ c. (c.files, (c.directories, (c.deletions, (c.needed, (c.others, (c.pulls, c.last)))))))
+    (λ f. record { files = f.0; directories = f.1.0; deletions = f.1.1.0; needed = f.1.1.1.0; others = f.1.1.1.1.0; pulls = f.1.1.1.1.1.0; last = f.1.1.1.1.1.1 }) (λ c. refl)
+    (before unsigned_Decides (before unsigned_Decides (before unsigned_Decides (before unsigned_Decides (before unsigned_Decides (before unsigned_Decides unsigned_Decides))))))
 
 pub answers : IsExact answer_test.ghosts.eq
 answers = variants answer.enum _ (

@@ -1,4 +1,4 @@
-use Rattle.folder_core.proofs.Same.{answers, bests, changes, findings, places, tokens}
+use Rattle.folder_core.proofs.Same.{announcements, answers, bests, changes, counts, findings, places, tokens}
 use Rattle.folder_core.proofs.laws.values.comparison_is_equality.Goals as goal
 
 pub returns-clause-changes : goal.returns-clause-changes
@@ -18,3 +18,9 @@ returns-clause-places c = places
 
 pub returns-clause-bests : goal.returns-clause-bests
 returns-clause-bests c = bests
+
+pub returns-clause-announcements : goal.returns-clause-announcements
+returns-clause-announcements c = announcements
+
+pub returns-clause-counts : goal.returns-clause-counts
+returns-clause-counts c = counts
