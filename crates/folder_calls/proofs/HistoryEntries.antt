@@ -14,6 +14,7 @@ use Rattle.folder_core.specs.declared.answer.Answer.TheVariants.{HistoryFull}
 use Rattle.folder_core.specs.declared.change.Change.{Change}
 use Rattle.folder_core.specs.declared.change.Change.TheVariants.{Finish, GiveUp, Abort}
 use Rattle.folder_core.specs.declared.token.Token.{Token}
+use Rattle.folder_core.specs.Runs.{ends_pull}
 use Rattle.folder_core.specs.Steps.{MayChange, is_accepted, step}
 use Rattle.folder_calls.specs.declared.entry.Entry.{Entry}
 use Rattle.folder_calls.specs.Histories.{MayFollow, IsLegal, after, state_after, is_over, shared_answer, own_entries}
@@ -109,12 +110,6 @@ pulls-fewer s n p g = by (zero_or_above (len s.pulls))
     by : (len s.pulls ≡ 0) ⊎ (0 < len s.pulls) → len (remove s.pulls n) + 1 ≤ len s.pulls
     by (inl none) = absurd (none_some p (sym (ap (λ m. get m n) (empty_of_len s.pulls none) ∙ get-empty bytes_cmp n) ∙ g))
     by (inr some) = let e = less in omega arith
-
-abbrev ends_pull : Change → Bool
-ends_pull (Finish t assembled) = true
-ends_pull (GiveUp t) = true
-ends_pull (Abort t) = true
-ends_pull _ = false
 
 abbrev Frees : FolderState → Change → Answer × FolderState → Type 0
 Frees s c d = ends_pull c ≡ true → (is_accepted d.0 ≡ false) ⊎ (len d.1.pulls + 1 ≤ len s.pulls)

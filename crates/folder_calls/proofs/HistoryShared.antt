@@ -5,7 +5,7 @@ use Rattle.std.specs.FinMap.{len}
 use Rattle.std.proofs.lemmas.Bool.{true≢false}
 use Rattle.std.proofs.lemmas.List.{length-append}
 use mathlib.Core.List.{IsPrefix}
-use Rattle.folder_core.specs.States.{FolderState}
+use Rattle.folder_core.specs.States.{FolderState, IsFolder}
 use Rattle.folder_core.specs.declared.answer.Answer.{Answer}
 use Rattle.folder_core.specs.declared.answer.Answer.TheVariants.{HistoryFull}
 use Rattle.folder_core.specs.declared.change.Change.{Change}
@@ -124,6 +124,10 @@ view-push v c view may accepted = record {
   where
     e : Entry
     e = own_entry v c (shared_answer v.limit v.opening v.seen c)
+
+-- what the caller of a folder that was just opened has seen
+pub view-opened : (s : FolderState) (limit pass : ℕ) → IsFolder s → len s.pulls ≡ 0 → 1 ≤ pass → IsLegalView (record { opening = s; limit = limit; pass = pass; seen = [] })
+view-opened s limit pass folder none given = record { opening = folder; no_pull = none; passes = pass; given = (given, omega arith); legal = tt; room = omega arith }
 
 -- wherever the history went on without the caller, its calls may be answered
 module _ (old : View) (es : List Entry) (longer : IsPrefix old.seen es) (own : own_entries old.pass es ≡ own_entries old.pass old.seen) (view : IsLegalView (seeing old es)) where

@@ -1,5 +1,5 @@
 -- What a caller of a shared folder knows, and what each of its calls tells it.
-use Rattle.std.specs.Prelude.{◌≡◌, ℕ, ◌+◌, ◌≤◌, nat_lt, if◌then◌else◌, List, [], ◌∷◌, ◌++◌, length, Option, Some, None, MatchBool, ◌⊎◌}
+use Rattle.std.specs.Prelude.{◌≡◌, ℕ, ◌+◌, ◌≤◌, List, [], ◌∷◌, ◌++◌, length, Option, Some, None, MatchBool}
 use Rattle.std.specs.FinMap.{len}
 use mathlib.Core.List.{IsPrefix}
 use Rattle.folder_core.specs.States.{FolderState, IsFolder}
@@ -77,23 +77,3 @@ pub record IsRead (old : View) (q : Query) (told : At (Reply q)) (new : View) : 
 abbrev pub ReadsThere : View → (q : Query) → Option (At (Reply q)) → View → Type 0
 ReadsThere old q None new = new ≡ old
 ReadsThere old q (Some told) new = IsRead old q told new
-
--- of two beginnings of one history the longer one
-abbrev pub longer : List Entry → List Entry → List Entry
-longer es fs = if nat_lt (length es) (length fs) then fs else es
-
--- Two callers of one folder meet: of what they have seen one begins the other, and both then know the longer, in which each has
--- the entries that it made.
-pub record Meets (old_one old_other new_one new_other : View) : Type 0 where
-  pub comparable : IsPrefix old_one.seen old_other.seen ⊎ IsPrefix old_other.seen old_one.seen
-  pub one : Sees old_one new_one
-  pub other : Sees old_other new_other
-  pub longer_one : new_one.seen ≡ longer old_one.seen old_other.seen
-  pub longer_other : new_other.seen ≡ longer old_one.seen old_other.seen
-
--- The folder is closed in this state: that after a history which the caller would see next.
-pub record Closes (old : View) (end : FolderState) : Type 0 where
-  pub last : View
-  pub sees : Sees old last
-  pub legal : IsLegalView last
-  pub state : end ≡ state_after last.opening last.seen

@@ -6,7 +6,9 @@ mod histories;
 mod rows;
 mod values;
 
-pub use calls::{calls_may_be_answered_at_any_point, calls_share_one_history};
+pub use calls::{
+    calls_may_be_answered_at_any_point, calls_share_one_history, views_are_of_folders,
+};
 pub use histories::{
     commits_are_legal, histories_keep_folders, histories_keep_room, histories_may_be_divided,
     legal_histories_grow, local_records_go_on, own_entries_are_those_of_the_pass,

@@ -24,9 +24,9 @@ ends_pull (GiveUp ticket) = true
 ends_pull (Abort commit) = true
 ends_pull _ = false
 
--- the state is that after some of the changes, from the first on
-pub record IsPartway (s : FolderState) (changes : List Change) (t : FolderState) : Type 0 where
+-- the answers are those of some of the changes, from the first on, and the state is that after these
+pub record IsPartway (s : FolderState) (changes : List Change) (answers : List Answer) (t : FolderState) : Type 0 where
   pub made : List Change
   pub rest : List Change
   pub divided : changes ≡ made ++ rest
-  pub state : t ≡ (run s made).1
+  pub ran : (answers, t) ≡ run s made

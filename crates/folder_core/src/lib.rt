@@ -35,7 +35,7 @@ pub use place::Place;
 pub use plain::PlainFolder;
 pub use pull::{BeginAnswer, Commit, NotEntered, Stray, Ticket};
 pub use restore_fault::RestoreFault;
-pub use runs::{make, make_all};
+pub use runs::{Partway, make, make_all};
 pub use scan::{ScanAnswer, ScanFault};
 pub use stage::Stage;
 pub use token::Token;

@@ -46,23 +46,44 @@ pub fn make<C: FolderCore>(core: &mut C, change: Change) -> Result<Answer, Alloc
     }
 }
 
-/// Makes changes on a folder, one after the other, and returns their answers. Returns `Err` only if out of memory; then the
-/// changes up to some one of them were made. It does not allocate if there are none.
+/// Memory ran out before all changes were made.
+#[derive(Debug, PartialEq, Eq, Drop)]
+pub struct Partway {
+    /// The answers of the changes that were made, which are the first ones.
+    pub answers: Items<Answer>,
+}
+
+/// Makes changes on a folder, one after the other, and returns their answers. Returns `Err` only if out of memory, with the
+/// answers of the changes that were made until then. It does not allocate if there are none.
 pub fn make_all<C: FolderCore>(
     alloc: Global,
     core: &mut C,
     changes: Items<Change>,
-) -> Result<Items<Answer>, AllocError>
+) -> Result<Items<Answer>, Partway>
     requires { All (MayChange (C.state core.old).me) changes }
     ensures ok { IfOk result (λ answers. (answers, C.state core.new) ≡ run (C.state core.old) changes) }
-    ensures err { IfErr result (λ _. IsPartway (C.state core.old) changes (C.state core.new)) }
+    ensures err { IfErr result (λ partway. IsPartway (C.state core.old) changes partway.answers (C.state core.new)) }
     ensures nothing { changes ≡ [] → IsOk result }
 {
     let mut answers = Vec::new(alloc);
     for change in changes.into_vec() {
-        answers.push(make(core, change)?)?;
+        if answers.reserve(1).is_err() {
+            return Err(stopped(answers));
+        }
+        match make(core, change) {
+            Ok(answer) => answers.push_reserved(answer),
+            Err(_) => return Err(stopped(answers)),
+        }
     }
     Ok(Items::from_vec(answers))
+}
+
+fn stopped(answers: Vec<Answer>) -> Partway
+    ensures { result.answers ≡ answers.items }
+{
+    Partway {
+        answers: Items::from_vec(answers),
+    }
 }
 
 fn scan_answer(answer: Result<ScanAnswer, ScanFault>) -> Result<Answer, AllocError>

@@ -1,15 +1,19 @@
 //! What calls of a folder with a history tell their caller.
-ghost use Rattle.std.specs.Prelude.{[], ◌∷◌, ◌++◌, ◌≡◌, ◌⊎◌, ◌≤◌, ◌+◌, ℕ, length, List, Some, None, false, true};
+ghost use Rattle.std.specs.Prelude.{[], ◌∷◌, ◌++◌, ◌≡◌, ◌≤◌, ◌+◌, ℕ, length, List, Some, None, false, true};
+ghost use Rattle.std.specs.FinMap.{len};
 ghost use mathlib.Core.List.{IsPrefix};
-ghost use Rattle.folder_core.specs.States.{FolderState};
+ghost use Rattle.folder_core.specs.States.{FolderState, IsFolder};
 ghost use Rattle.folder_core.specs.Reads.{Query, Reply, Reads};
 ghost use Rattle.folder_core.specs.declared.answer.Answer.{Answer};
 ghost use Rattle.folder_core.specs.declared.change.Change.{Change};
-ghost use Rattle.folder_core.specs.Steps.{MayChange, is_accepted};
+ghost use Rattle.folder_core.specs.declared.change.Change.TheVariants.{Finish, GiveUp, Abort};
+ghost use Rattle.folder_core.specs.declared.token.Token.{Token};
+ghost use Rattle.sync_record.specs.Records.{FileRecord};
+ghost use Rattle.folder_core.specs.Steps.{MayChange, is_accepted, step};
 ghost use Rattle.folder_calls.specs.declared.at.At.{At};
 ghost use Rattle.folder_calls.specs.declared.entry.Entry.{Entry};
 ghost use Rattle.folder_calls.specs.Histories.{IsLegal, state_after, shared_answer, own_entries};
-ghost use Rattle.folder_calls.specs.Shared.{View, IsLegalView, Meets, ReadsThere, Tells, longer, own_entry, seeing};
+ghost use Rattle.folder_calls.specs.Shared.{View, IsLegalView, ReadsThere, Tells, own_entry, seeing};
 
 /// After a call of a folder with a history the caller's history goes on, of the same folder, limit and pass; it is one that the
 /// folder had, and the number that is told is its length. An accepted change is in it once, as the caller's only new entry
@@ -39,6 +43,20 @@ pub fn calls_share_one_history()
         × (own_entries old.pass new.seen ≡ own_entries old.pass old.seen)
         × Reads (state_after old.opening new.seen) q told.value }
     ensures no_read { (old new : View) (q : Query) → ReadsThere old q None new → new ≡ old }
+{}
+
+/// A folder that was opened without open pulls shows its caller a history that it had, and every such history leads to a folder and
+/// has room for what ends its open pulls: that is never answered with `HistoryFull`.
+pub fn views_are_of_folders()
+    ensures opened { (s : FolderState) (limit pass : ℕ) → IsFolder s → len s.pulls ≡ 0 → 1 ≤ pass →
+        IsLegalView (record { opening = s; limit = limit; pass = pass; seen = [] }) }
+    ensures legal { (v : View) → IsLegalView v → (len v.opening.pulls ≡ 0)
+        × (passes : ℕ) × (1 ≤ v.pass) × (v.pass ≤ passes) × IsLegal passes v.opening v.seen }
+    ensures folder { (v : View) → IsLegalView v → IsFolder (state_after v.opening v.seen) }
+    ensures ends { (v : View) (t : Token) (assembled : FileRecord) → IsLegalView v →
+        (shared_answer v.limit v.opening v.seen (Finish t assembled) ≡ (step (state_after v.opening v.seen) (Finish t assembled)).0)
+        × (shared_answer v.limit v.opening v.seen (GiveUp t) ≡ (step (state_after v.opening v.seen) (GiveUp t)).0)
+        × (shared_answer v.limit v.opening v.seen (Abort t) ≡ (step (state_after v.opening v.seen) (Abort t)).0) }
 {}
 
 /// Wherever the history went on without the caller, to one that a folder had, the caller's change may be made there, or be
