@@ -9,6 +9,8 @@ mod entry;
 pub mod laws;
 mod pull;
 mod refusal;
+#[cfg(test)]
+mod tests;
 
 pub use at::At;
 pub use calls::FolderCalls;

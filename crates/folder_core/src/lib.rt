@@ -20,8 +20,6 @@ mod restore_fault;
 mod runs;
 mod scan;
 mod stage;
-#[cfg(test)]
-mod tests;
 mod token;
 
 pub use announcement::Announcement;

@@ -28,8 +28,6 @@ mod pulls;
 mod restore;
 mod scan;
 mod since;
-#[cfg(test)]
-mod tests;
 
 use crate::{
     Announcement, BeginAnswer, Best, Change, Commit, Counts, Finding, FolderCore, NotEntered,

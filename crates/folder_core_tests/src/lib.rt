@@ -1,0 +1,27 @@
+//! Tests of `folder_core` over its public calls.
+//!
+//! They stand in a crate of their own because a crate with tests is proved twice, once with them.
+#![tactic(auto)]
+
+#[cfg(test)]
+mod calls;
+#[cfg(test)]
+mod index;
+#[cfg(test)]
+mod local;
+#[cfg(test)]
+mod memory;
+#[cfg(test)]
+mod pulls;
+#[cfg(test)]
+mod reads;
+#[cfg(test)]
+mod restore;
+#[cfg(test)]
+mod rows;
+#[cfg(test)]
+mod runs;
+#[cfg(test)]
+mod scans;
+#[cfg(test)]
+mod values;

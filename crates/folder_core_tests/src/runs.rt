@@ -1,0 +1,202 @@
+//! Changes as values, made one after the other: worked rows of the rules, and what the calls of a folder leave.
+ghost use Rattle.std.specs.Prelude.{IsTrue};
+ghost use Rattle.folder_core.specs.Steps.{MayChange};
+
+use crate::calls::{
+    assembled, begins, copied, enters, finds, finishes, folder, forgets, full, loses, more,
+};
+use crate::rows::{Row, device, directory, is_found, moment, name, record, records, version};
+use bep_messages::Items;
+use folder_core::{Answer, Change, FolderCore, PlainFolder, Token, make};
+use std::process::Abort;
+use sync_record::DeviceId;
+
+/// What the first device announces.
+const X: Row<'static> = Row {
+    name: "x",
+    kind: 0,
+    version: &[(1, 1)],
+    time: 2,
+    modified_by: 1,
+    deleted: false,
+    invalid: false,
+    size: 0,
+    blocks: &[],
+};
+
+/// The same under another name.
+const Y: Row<'static> = Row { name: "y", ..X };
+
+#[test]
+fn makes_changes_one_after_the_other(rt: HostRuntime) {
+    let mut folder = folder(&rt);
+    for (change, wanted) in steps(&rt).as_slice() {
+        makes(&rt, &mut folder, change, wanted);
+    }
+    assert!(rt; folder.same_state(&changed(&rt)));
+}
+
+/// The folder after the calls of the same changes.
+fn changed(rt: &(impl AllocGlobal + Abort)) -> PlainFolder {
+    let mut folder = folder(rt);
+    more(rt, &mut folder, 1, &[X, Y]);
+    let ticket = begins(rt, &mut folder, "x", 1);
+    let commit = enters(rt, &mut folder, ticket);
+    finds(rt, &mut folder, "x", None, &directory(1), &Answer::Busy);
+    finishes(rt, &mut folder, commit, 1);
+    let ticket = begins(rt, &mut folder, "y", 1);
+    assert!(rt; folder.give_up(ticket));
+    let ticket = begins(rt, &mut folder, "y", 1);
+    let commit = enters(rt, &mut folder, ticket);
+    assert!(rt; folder.abort(commit));
+    let recorded = Answer::Recorded(2);
+    loses(rt, &mut folder, "x", Some(&[(1, 1)]), &recorded);
+    full(rt, &mut folder, 1, &[Y]);
+    forgets(rt, &mut folder, 2);
+    folder
+}
+
+/// Changes of each kind, and what a folder answers that was empty.
+fn steps(rt: &(impl AllocGlobal + Abort)) -> Items<(Change, Answer)> {
+    let mut steps = Items::new(rt.alloc());
+    add(rt, &mut steps, update(rt), Answer::Applied);
+    add_pull_of_x(rt, &mut steps);
+    add_pulls_of_y(rt, &mut steps);
+    add(rt, &mut steps, gone(rt), Answer::Recorded(2));
+    add(rt, &mut steps, index(rt), Answer::Applied);
+    let forget = Change::Forget { device: device(2) };
+    add(rt, &mut steps, forget, Answer::Applied);
+    steps
+}
+
+fn add_pull_of_x(rt: &(impl AllocGlobal + Abort), steps: &mut Items<(Change, Answer)>) {
+    let begin = Change::BeginPull {
+        name: name(rt, "x"),
+    };
+    add(rt, steps, begin, Answer::Begun(token(rt, X)));
+    let enter = Change::EnterCommit {
+        ticket: token(rt, X),
+    };
+    add(rt, steps, enter, Answer::Entered(token(rt, X)));
+    add(rt, steps, found(rt), Answer::Busy);
+    let finish = Change::Finish {
+        commit: token(rt, X),
+        assembled: assembled(rt, &record(rt, &X)),
+    };
+    add(rt, steps, finish, Answer::Done(1));
+    let now = Some(version(rt, &[(1, 1)]));
+    add(rt, steps, found(rt), Answer::Moved(now));
+    let give_up = Change::GiveUp {
+        ticket: token(rt, X),
+    };
+    add(rt, steps, give_up, Answer::Stray);
+}
+
+fn add_pulls_of_y(rt: &(impl AllocGlobal + Abort), steps: &mut Items<(Change, Answer)>) {
+    let give_up = Change::GiveUp {
+        ticket: token(rt, Y),
+    };
+    let abort = Change::Abort {
+        commit: token(rt, Y),
+    };
+    add_begin_of_y(rt, steps);
+    add(rt, steps, give_up, Answer::Closed);
+    add_begin_of_y(rt, steps);
+    let enter = Change::EnterCommit {
+        ticket: token(rt, Y),
+    };
+    add(rt, steps, enter, Answer::Entered(token(rt, Y)));
+    add(rt, steps, abort, Answer::Closed);
+}
+
+fn add_begin_of_y(rt: &(impl AllocGlobal + Abort), steps: &mut Items<(Change, Answer)>) {
+    let begin = Change::BeginPull {
+        name: name(rt, "y"),
+    };
+    add(rt, steps, begin, Answer::Begun(token(rt, Y)));
+}
+
+fn add(rt: &impl Abort, steps: &mut Items<(Change, Answer)>, change: Change, wanted: Answer) {
+    steps.push((change, wanted)).expect(rt, "a step");
+}
+
+fn update(rt: &(impl AllocGlobal + Abort)) -> Change {
+    Change::IndexMore {
+        device: device(1),
+        records: records(rt, &[X, Y]),
+    }
+}
+
+fn index(rt: &(impl AllocGlobal + Abort)) -> Change {
+    Change::IndexFull {
+        device: device(1),
+        records: records(rt, &[Y]),
+    }
+}
+
+fn found(rt: &(impl AllocGlobal + Abort)) -> Change {
+    Change::ScanFound {
+        name: name(rt, "x"),
+        expected: None,
+        found: directory(1),
+        moment: moment(rt, 0),
+    }
+}
+
+fn gone(rt: &(impl AllocGlobal + Abort)) -> Change {
+    Change::ScanGone {
+        name: name(rt, "x"),
+        expected: Some(version(rt, &[(1, 1)])),
+        moment: moment(rt, 0),
+    }
+}
+
+/// What is said of the first pull, where there was no local record.
+fn token(rt: &(impl AllocGlobal + Abort), target: Row) -> Token {
+    Token {
+        number: 1,
+        name: name(rt, target.name),
+        base: None,
+        target: record(rt, &target),
+    }
+}
+
+/// Makes the change, and compares the answer. After out of memory the folder must be as it was, and it is made again.
+fn makes(
+    rt: &(impl AllocGlobal + Abort),
+    folder: &mut PlainFolder,
+    change: &Change,
+    wanted: &Answer,
+) {
+    let me = folder.me();
+    let before = copied(rt, folder);
+    let first = change.copy().expect(rt, "a copy");
+    let again = change.copy().expect(rt, "a copy");
+    assert!(rt; may_change(me, &first) && may_change(me, &again));
+    let answer = match make(folder, first) {
+        Err(_) => {
+            assert!(rt; folder.same_state(&before));
+            make(folder, again).expect(rt, "an answer")
+        }
+        Ok(answer) => answer,
+    };
+    assert_eq!(rt; &answer, wanted);
+}
+
+/// Whether a caller may ask for the change.
+fn may_change(me: DeviceId, change: &Change) -> bool
+    ensures { IsTrue result → MayChange me change.now }
+{
+    match change {
+        Change::IndexFull { device, .. }
+        | Change::IndexMore { device, .. }
+        | Change::Forget { device } => *device != me,
+        Change::ScanFound { found, .. } => is_found(&found.content),
+        Change::Finish { commit, assembled } => *assembled.target() == commit.target,
+        Change::ScanGone { .. }
+        | Change::BeginPull { .. }
+        | Change::EnterCommit { .. }
+        | Change::GiveUp { .. }
+        | Change::Abort { .. } => true,
+    }
+}
