@@ -17,8 +17,6 @@ use Rattle.folder_core.specs.declared.finding.Finding.{Finding}
 use Rattle.folder_core.specs.declared.finding.FoundContent.{FoundContent}
 use Rattle.folder_core.specs.declared.finding.FoundContent.TheVariants.{Directory as FoundDirectory, File as FoundFile}
 use Rattle.folder_core.specs.Steps.{step, is_pull_committing, with_local, without_pull, is_found, found_record, committed_record, next_version, next_ticket, MayChange}
-use Rattle.folder_core.specs.declared.history.Entry.{Entry}
-use Rattle.folder_core.specs.Histories.{IsLegal, after, state_after}
 use Rattle.folder_core.proofs.Orders.{keys_total, exact_keys, bytes_total, exact_names}
 use Rattle.folder_core.proofs.ListTests.{none_some}
 use Rattle.folder_core.proofs.AnnouncedMaps.{insert_split, insert_other, remove_split}
@@ -187,11 +185,6 @@ step-folder s c old = step-cases s (λ x d. MayChange s.me x → IsFolder d.1) (
   given_up = λ t p _ _. closed-folder s old t.name;
   aborted = λ t p _ _. closed-folder s old t.name;
 }) c
-
--- along a legal history
-pub legal-folder : (passes : ℕ) (s : FolderState) (es : List Entry) → IsFolder s → IsLegal passes s es → IsFolder (state_after s es)
-legal-folder passes s [] old legal = old
-legal-folder passes s (e ∷ es) old legal = legal-folder passes (after s e) es (step-folder s e.change old legal.0.allowed) legal.1
 
 none_there : {A : Type 0} (x : A) (P : Type 0) → None ≡ Some x → P
 none_there x P e = absurd (none_some x e)

@@ -43,7 +43,7 @@ abbrev pub Announces : Change → Identity → Type 0
 Announces c d = ((rs : List FileRecord) × (c ≡ IndexFull d rs)) ⊎ (((rs : List FileRecord) × (c ≡ IndexMore d rs)) ⊎ (c ≡ Forget d))
 
 -- two byte strings are one, or apart
-same_or_not : {P : Type 0} (x y : List ℕ) → (x ≡ y → P) → (x ≢ y → P) → P
+pub same_or_not : {P : Type 0} (x y : List ℕ) → (x ≡ y → P) → (x ≢ y → P) → P
 same_or_not {P} x y f g = by (cases_Bool (bytes_eq x y))
   where
     by : (bytes_eq x y ≡ true) ⊎ (bytes_eq x y ≡ false) → P

@@ -46,8 +46,8 @@ ran-may start now all rest answers c r = subst (λ d. MayChange d c) (sym r.me) 
 pub ran-all : (start now : FolderState) (all rest : List Change) (answers : List Answer) → Ran start now all rest answers → rest ≡ [] → (answers, now) ≡ run start all
 ran-all start now all rest answers r none = sym r.answered ∙ ap (run start) (sym (r.divided ∙ ap (λ cs. r.made ++ cs) none ∙ append-nil r.made))
 
-pub ran-partway : (start now : FolderState) (all rest : List Change) (answers : List Answer) → Ran start now all rest answers → IsPartway start all now
-ran-partway start now all rest answers r = record { made = r.made; rest = rest; divided = r.divided; state = ap (λ (d : List Answer × FolderState). d.1) (sym r.answered) }
+pub ran-partway : (start now : FolderState) (all rest : List Change) (answers : List Answer) → Ran start now all rest answers → IsPartway start all answers now
+ran-partway start now all rest answers r = record { made = r.made; rest = rest; divided = r.divided; ran = sym r.answered }
 
 pub if_err : {A E P : Type 0} → (r : Result A E) → P → IfErr r (λ _. P)
 if_err (Ok x) p = tt

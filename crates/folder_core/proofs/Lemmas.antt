@@ -8,7 +8,7 @@ pub use Rattle.folder_core.proofs.ListTests.{In, in_contains, contains_in}
 pub use Rattle.folder_core.proofs.BestList.{bests-rise, bests-announced, bests-listed, bests-by_name, bests-lines, IsOneOrWas, full-names, more-names}
 pub use Rattle.folder_core.proofs.ChangeKept.{step-keeps}
 pub use Rattle.folder_core.proofs.ChangeRest.{step-me, step-devices, step-locals, step-pulls}
-pub use Rattle.folder_core.proofs.ChangeFolders.{empty-folder, step-folder, legal-folder}
+pub use Rattle.folder_core.proofs.ChangeFolders.{empty-folder, step-folder}
 pub use Rattle.folder_core.proofs.ChangeNumbers.{step-numbered, step-new}
 pub use Rattle.folder_core.proofs.ChangeSequences.{step-taken, step-kept, step-fits}
 pub use Rattle.folder_core.proofs.PullStages.{begin-opens, enter-commits, give_up-closes, abort-closes}
@@ -17,9 +17,6 @@ pub use Rattle.folder_core.proofs.PullBegins.{begin-busy, begin-unneeded, begin-
 pub use Rattle.folder_core.proofs.ScanRecords.{found-number, found-elsewhere, file-recorded, directory-recorded, gone-number, gone-elsewhere, gone-recorded, Finishes, finish-recorded}
 pub use Rattle.folder_core.proofs.ChangeAnswers.{found-busy, found-moved, found-unchanged, found-counter, found-sequence, found-made, gone-busy, gone-moved, gone-unchanged, gone-counter, gone-sequence, gone-made}
 pub use Rattle.folder_core.proofs.ChangeAnswers.{enter-stray, enter-moved, enter-superseded, enter-sequence, enter-entered, finish-stray, finish-done, give_up-stray, give_up-closed, abort-stray, abort-closed}
-pub use Rattle.folder_core.proofs.HistoryCommits.{commits-legal, legal-begin}
-pub use Rattle.folder_core.proofs.HistoryEntries.{legal-front, legal-push, state-push, own-push, own-skip, shared-full, shared-same, shared-room, finish-fits, give_up-fits, abort-fits}
-pub use Rattle.folder_core.proofs.HistoryShared.{OfOneCaller, answered-longer, answered-entered, answered-kept, shared-legal}
 pub use Rattle.folder_core.proofs.ReadAnswers.{BestFound, best-read, no_best-read, need-page_rises, need-page_fits, need-page_of, need-page_has, IsPlaceOf, place-read, no_place-read, known-own, known-greatest, known-reached}
 pub use Rattle.folder_core.proofs.BestPages.{bests_after-none, bests_after-lines, bests_after-short, bests_after-next, bests_after-page, bests-page_rises, bests-page_of, bests-page_has, bests-page_end, pages-together}
 pub use Rattle.folder_core.proofs.ReadPages.{page-rises, page-fits, page-of, page-has}

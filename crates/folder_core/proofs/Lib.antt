@@ -25,9 +25,6 @@ pub mod PullStages
 pub mod PullNumbers
 pub mod PullCommits
 pub mod PullCopies
-pub mod HistoryEntries
-pub mod HistoryCommits
-pub mod HistoryShared
 pub mod ReadAnswers
 pub mod ReadPages
 pub mod ReadLists
@@ -54,6 +51,7 @@ pub mod PlainPlaces
 pub mod PlainNeed
 pub mod PlainCounts
 pub mod PlainSince
+pub mod PlainTests
 pub mod PlainRestoreLists
 pub mod PlainRestore
 pub mod PlainRestoreSame

@@ -1,23 +1,27 @@
 -- What the begin of a pull makes of a plain folder is the rules' step.
 use Rattle.std.proofs.Common.{◌≡◌, ℕ, suc, Bool, true, false, List, [], ◌∷◌, refl, sym, ap, subst, ◌∙◌, arith}
-use Rattle.std.specs.Prelude.{All, bytes_eq, cond, is_some, not, ◌||◌, Option, Some, None, filter, map, option_map}
+use Rattle.std.specs.Prelude.{All, IfOk, bytes_eq, cond, is_ok, is_some, not, ◌||◌, Option, Some, None, Result, Ok, Err, filter, map, option_map}
 use Rattle.std.specs.Bool.{passes}
 use Rattle.std.specs.Cmp.Lexicographic.{texts_ties}
 use Rattle.std.specs.FinMap as fin
 use Rattle.std.specs.FinMap.{entries, entries-from_sorted, find, from_sorted, get, get-from_sorted, is_sorted}
 use Rattle.std.specs.FinMap.Entries.{is_sorted-put}
-use Rattle.std.specs.List.{insert, list_any, reduce}
+use Rattle.std.specs.List.{insert, list_any}
+use Rattle.std.specs.Result.{result_err}
 use Rattle.std.proofs.lemmas.Bool.{true≢false}
 use Rattle.sync_record.specs.Devices.{Identity, bytes_cmp}
 use Rattle.sync_record.specs.Records.{Name, FileRecord}
 use Rattle.folder_core.specs.declared.announcement.Announcement.{Announcement as Entry}
 use Rattle.folder_core.specs.declared.plain.pull.OpenPull.{OpenPull}
+use Rattle.folder_core.specs.declared.plain.pulls.BeginObstacle.{BeginObstacle}
+use Rattle.folder_core.specs.declared.plain.pulls.BeginObstacle.TheVariants as begin
 use Rattle.folder_core.specs.declared.stage.Stage.TheVariants.{Pulling}
-use Rattle.folder_core.specs.Announced.{Announcement, best, key_cmp}
-use Rattle.folder_core.specs.Plain.{IsPlain, IsReady, PullsRise, better, commits, filed, folder_of, is_undominated, opened, pulled, pulls_of}
-use Rattle.folder_core.specs.PlainPulls.{is_needed_over, is_unsupported, place_of}
-use Rattle.folder_core.specs.PlainReads.{record_from}
-use Rattle.folder_core.specs.States.{FolderState, IsFolder, is_needed, local}
+use Rattle.folder_core.specs.Announced.{best, key_cmp}
+use Rattle.folder_core.specs.Plain.{IsPlain, IsReady, PullsRise, commits, filed, folder_of, opened, pulled, pulls_of}
+use Rattle.folder_core.specs.PlainPulls.{begin_refusal, begin_tests_of, best_in, is_unsupported, place_of}
+use Rattle.folder_core.specs.PlainReads.{is_needed_over, record_from}
+use Rattle.folder_core.specs.PlainScans.{first_of}
+use Rattle.folder_core.specs.States.{FolderState, IsFolder, local}
 use Rattle.folder_core.specs.declared.answer.Answer.{Answer}
 use Rattle.folder_core.specs.declared.answer.Answer.TheVariants.{Begun, Busy, NotNeeded, Unsupported}
 use Rattle.folder_core.specs.declared.change.Change.TheVariants.{BeginPull}
@@ -32,6 +36,7 @@ use Rattle.folder_core.proofs.PlainNumber.{numbers_of}
 use Rattle.folder_core.proofs.PlainOpen.{insert-there}
 use Rattle.folder_core.proofs.PlainOpened.{commits-cons, one}
 use Rattle.folder_core.proofs.PlainOwn.{local_is}
+use Rattle.folder_core.proofs.PlainTests.{first-none, first-some}
 
 -- ---- whether a pull of the name is open
 
@@ -86,57 +91,67 @@ insert-ready (q ∷ ps) (suc i) p here each = ready_cons q (insert ps i p) (each
 
 -- ---- the begin of a pull
 
+-- an obstacle is no answer that is accepted
+refused : (o : BeginObstacle) → is_accepted (begin_refusal o) ≡ false
+refused begin.Busy = refl
+refused begin.NotNeeded = refl
+refused begin.Unsupported = refl
+
+not_first : (a : Bool) (x : Answer) (ts : List (Bool × Answer)) → None ≡ first_of ((a, x) ∷ ts) → a ≡ false
+not_first true x ts e = absurd (let f : None ≡ Some x = e in cc)
+not_first false x ts e = refl
+
 module _ (me : Identity) (es : List Entry) (capacity last : ℕ) (ps : List OpenPull) (old : IsPlain me es capacity last ps) (n : Name) where
   abbrev pub folder : FolderState
   folder = folder_of me es last (pulls_of ps)
 
-  abbrev pub chosen : Option Entry
-  chosen = reduce better (filter (is_undominated (filter (is_named n) es)) (filter (is_named n) es))
+  abbrev pub group : List Entry
+  group = filter (is_named n) es
 
-  abbrev pub tested : Bool → Bool → Bool → Answer × FolderState → Answer × FolderState
-  tested busy needed unsupported made = first_answer folder ((busy, Busy) ∷ (not needed, NotNeeded) ∷ (unsupported, Unsupported) ∷ []) made
+  abbrev pub chosen : Option Entry
+  chosen = best_in group
+
+  abbrev pub tests_with : Option Entry → List (Bool × Answer)
+  tests_with o = begin_tests_of (is_open n ps) (local folder n) o
 
   -- what is found of the name among the entries
-  pub own-is : (group : List Entry) → group ≡ filter (is_named n) es → (r : Option FileRecord) → r ≡ record_from me group → r ≡ local folder n
-  own-is group is r found = found ∙ ap (record_from me) is ∙ local_is me es last (pulls_of ps) old.rises n
+  pub own-is : (named : List Entry) → named ≡ group → (r : Option FileRecord) → r ≡ record_from me named → r ≡ local folder n
+  own-is named is r found = found ∙ ap (record_from me) is ∙ local_is me es last (pulls_of ps) old.rises n
 
-  pub chosen-is : (group : List Entry) → group ≡ filter (is_named n) es → (b : Option Entry) → b ≡ reduce better (filter (is_undominated group) group) → chosen ≡ b
-  chosen-is group is b found = sym (found ∙ ap (λ g. reduce better (filter (is_undominated g) g)) is)
+  -- the tests, from what the code has at hand
+  pub tests-are : (found : List Entry) (own : Option FileRecord) (busy : Bool) → found ≡ group → own ≡ local folder n → busy ≡ is_open n ps → begin_tests_of busy own (best_in found) ≡ tests_with chosen
+  tests-are found own busy g o b = (λ i. begin_tests_of (b i) (o i) (best_in (g i)))
 
   best-chosen : best (entries folder.announced) n ≡ option_map filed chosen
   best-chosen = ap (λ xs. best xs n) (entries-from_sorted key_cmp (map filed es) (passes _ old.rises)) ∙ best_is n es old.rises
 
-  busy_is : (o : Option Announcement) → is_some (get folder.pulls n) ≡ true → begin_pull folder n o ≡ (Busy, folder)
-  busy_is None t = ap (λ b. first_answer folder ((b, Busy) ∷ []) (NotNeeded, folder)) t
-  busy_is (Some b) t =
-      ap (λ x. tested x (is_needed folder b) (is_unsupported b.1) (Begun (next_ticket folder n b.1), with_pull folder (next_ticket folder n b.1) Pulling)) t
-
-  pub begin-busy : is_open n ps ≡ true → step folder (BeginPull n) ≡ (Busy, folder)
-  begin-busy t = busy_is (best (entries folder.announced) n) (open-is n ps old.pulls_rise ∙ t)
-
-  pub begin-none : is_open n ps ≡ false → chosen ≡ None → step folder (BeginPull n) ≡ (NotNeeded, folder)
-  begin-none free none =
-      ap (begin_pull folder n) (best-chosen ∙ ap (option_map filed) none)
-      ∙ ap (λ b. first_answer folder ((b, Busy) ∷ []) (NotNeeded, folder)) (open-is n ps old.pulls_rise ∙ free)
-
   abbrev pub begun : FileRecord → Answer × FolderState
   begun r = (Begun (next_ticket folder n r), with_pull folder (next_ticket folder n r) Pulling)
 
-  pub begin-tested : (b : Entry) → is_open n ps ≡ false → chosen ≡ Some b → step folder (BeginPull n) ≡ tested false (is_needed_over (local folder n) b.record) (is_unsupported b.record) (begun b.record)
-  begin-tested b free some =
-      ap (begin_pull folder n) (best-chosen ∙ ap (option_map filed) some)
-      ∙ (λ i. tested ((open-is n ps old.pulls_rise ∙ free) i) (is_needed_over (local folder (named_best n es old.rises b (sym some) i)) b.record) (is_unsupported b.record) (begun b.record))
+  abbrev pub made : Option Entry → Answer × FolderState
+  made None = (NotNeeded, folder)
+  made (Some b) = begun b.record
 
-  pub begin-unneeded : (b : Entry) → is_open n ps ≡ false → chosen ≡ Some b → is_needed_over (local folder n) b.record ≡ false → step folder (BeginPull n) ≡ (NotNeeded, folder)
-  begin-unneeded b free some e = begin-tested b free some ∙ ap (λ x. tested false x (is_unsupported b.record) (begun b.record)) e
+  begin-tested : (o : Option Entry) → chosen ≡ o → step folder (BeginPull n) ≡ first_answer folder (tests_with o) (made o)
+  begin-tested None is =
+      ap (begin_pull folder n) (best-chosen ∙ ap (option_map filed) is)
+      ∙ ap (λ b. first_answer folder ((b, Busy) ∷ []) (NotNeeded, folder)) (open-is n ps old.pulls_rise)
+  begin-tested (Some b) is =
+      ap (begin_pull folder n) (best-chosen ∙ ap (option_map filed) is)
+      ∙ (λ i. first_answer folder (begin_tests_of (open-is n ps old.pulls_rise i) (local folder (named_best n es old.rises b (sym is) i)) (Some b)) (begun b.record))
 
-  pub begin-unsupported : (b : Entry) → is_open n ps ≡ false → chosen ≡ Some b → is_needed_over (local folder n) b.record ≡ true → is_unsupported b.record ≡ true → step folder (BeginPull n) ≡ (Unsupported, folder)
-  begin-unsupported b free some e u =
-      begin-tested b free some
-      ∙ (λ i. tested false (e i) (u i) (begun b.record))
+  pub begin-refused : (o : BeginObstacle) → Some (begin_refusal o) ≡ first_of (tests_with chosen) → step folder (BeginPull n) ≡ (begin_refusal o, folder)
+  begin-refused o told = begin-tested chosen refl ∙ first-some folder (tests_with chosen) (made chosen) (begin_refusal o) told
 
-  pub begin-accepted : (b : Entry) → is_open n ps ≡ false → chosen ≡ Some b → is_needed_over (local folder n) b.record ≡ true → is_unsupported b.record ≡ false → is_accepted (step folder (BeginPull n)).0 ≡ true
-  begin-accepted b free some e u = ap (λ (d : Answer × FolderState). is_accepted d.0) (begin-tested b free some ∙ (λ i. tested false (e i) (u i) (begun b.record)))
+  begin-made : (b : Entry) → chosen ≡ Some b → None ≡ first_of (tests_with chosen) → step folder (BeginPull n) ≡ begun b.record
+  begin-made b some told = begin-tested (Some b) some ∙ first-none folder (tests_with (Some b)) (begun b.record) (told ∙ ap (λ o. first_of (tests_with o)) some)
+
+  pub begin-is_accepted : (b : Entry) → chosen ≡ Some b → None ≡ first_of (tests_with chosen) → is_accepted (step folder (BeginPull n)).0 ≡ true
+  begin-is_accepted b some told = ap (λ (d : Answer × FolderState). is_accepted d.0) (begin-made b some told)
+
+  pub begin-accepted : {A : Type 0} (f : A → Entry) (r : Result A BeginObstacle) → IfOk r (λ b. chosen ≡ Some (f b)) → option_map begin_refusal (result_err r) ≡ first_of (tests_with chosen) → is_ok r ≡ is_accepted (step folder (BeginPull n)).0
+  begin-accepted f (Ok b) best told = sym (begin-is_accepted (f b) best told)
+  begin-accepted f (Err o) best told = sym (ap (λ (d : Answer × FolderState). is_accepted d.0) (begin-refused o told) ∙ refused o)
 
   -- what is opened, and what its ticket says
   abbrev pub opened_pull : Option FileRecord → FileRecord → OpenPull
@@ -145,8 +160,11 @@ module _ (me : Identity) (es : List Entry) (capacity last : ℕ) (ps : List Open
   abbrev pub ticket : Option FileRecord → FileRecord → Token
   ticket o r = record { number = least_free (numbers_of ps); name = n; base = o; target = r }
 
-  module _ (b : Entry) (free : is_open n ps ≡ false) (some : chosen ≡ Some b) (needed : is_needed_over (local folder n) b.record ≡ true) (supported : is_unsupported b.record ≡ false)
+  module _ (b : Entry) (some : chosen ≡ Some b) (told : None ≡ first_of (tests_with chosen))
       (o : Option FileRecord) (base : o ≡ local folder n) (new : List OpenPull) (is : new ≡ insert ps (place_of b.record.name ps) (opened_pull o b.record)) where
+    free : is_open n ps ≡ false
+    free = not_first (is_open n ps) Busy ((not (is_needed_over (local folder n) b.record), NotNeeded) ∷ (is_unsupported b.record, Unsupported) ∷ []) (told ∙ ap (λ x. first_of (tests_with x)) some)
+
     put_there : map pulled new ≡ fin.put bytes_cmp b.record.name (opened (opened_pull o b.record)) (map pulled ps)
     put_there =
         ap (map pulled) is
@@ -173,8 +191,7 @@ module _ (me : Identity) (es : List Entry) (capacity last : ℕ) (ps : List Open
 
     pub begin-begun : (t : Token) → t ≡ ticket o b.record → step folder (BeginPull n) ≡ (Begun t, folder_of me es last (pulls_of new))
     begin-begun t same =
-        begin-tested b free some
-        ∙ (λ i. tested false (needed i) (supported i) (begun b.record))
+        begin-made b some told
         ∙ ap (λ u. (Begun u, with_pull folder u Pulling)) ticket-is
         ∙ (λ i. (Begun (sym same i), folder_of me es last (sym new_pulls i)))
 

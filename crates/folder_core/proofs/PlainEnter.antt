@@ -5,7 +5,6 @@ use Rattle.std.specs.Bool.{passes}
 use Rattle.std.specs.FinMap as fin
 use Rattle.std.specs.FinMap.{entries-from_sorted, from_sorted, is_sorted}
 use Rattle.std.specs.FinMap.Entries.{is_sorted-put}
-use Rattle.std.specs.List.{reduce}
 use Rattle.std.specs.Option.{option_map_or}
 use Rattle.std.proofs.lemmas.Bool.{true≢false}
 use Rattle.std.proofs.lemmas.Option.{slice_get_read}
@@ -15,13 +14,17 @@ use Rattle.sync_record.specs.Records.{FileRecord}
 use Rattle.sync_version.specs.Computed.{same_version}
 use Rattle.folder_core.specs.declared.announcement.Announcement.{Announcement as Entry}
 use Rattle.folder_core.specs.declared.plain.pull.OpenPull.{OpenPull}
+use Rattle.folder_core.specs.declared.plain.pulls.EntryObstacle.{EntryObstacle}
+use Rattle.folder_core.specs.declared.plain.pulls.EntryObstacle.TheVariants as entry
 use Rattle.folder_core.specs.declared.stage.Stage.TheVariants.{Pulling}
 use Rattle.folder_core.specs.Announced.{best, key_cmp}
-use Rattle.folder_core.specs.Plain.{IsPlain, IsReady, Rises, better, commits, filed, folder_of, is_undominated, opened, pulled, pulls_of}
-use Rattle.folder_core.specs.PlainPulls.{place_of, pull_for, version_of}
-use Rattle.folder_core.specs.States.{FolderState, IsFolder, local, max_sequence, same_local_version}
+use Rattle.folder_core.specs.Plain.{IsPlain, IsReady, Rises, commits, filed, folder_of, opened, pulled, pulls_of}
+use Rattle.folder_core.specs.PlainPulls.{best_in, entry_refusal, entry_tests_of, is_best_in, place_of, pull_for}
+use Rattle.folder_core.specs.PlainReads.{version_of}
+use Rattle.folder_core.specs.PlainScans.{first_of}
+use Rattle.folder_core.specs.States.{FolderState, IsFolder, local, max_sequence}
 use Rattle.folder_core.specs.declared.answer.Answer.{Answer}
-use Rattle.folder_core.specs.declared.answer.Answer.TheVariants.{Entered, LocalMoved, SequenceFull, Stray, Superseded}
+use Rattle.folder_core.specs.declared.answer.Answer.TheVariants.{Entered, Stray}
 use Rattle.folder_core.specs.declared.change.Change.TheVariants.{EnterCommit}
 use Rattle.folder_core.specs.declared.token.Token.{Token}
 use Rattle.folder_core.specs.Steps.{committed_record, enter_commit, first_answer, is_accepted, is_still_best, step, with_commit}
@@ -33,6 +36,7 @@ use Rattle.folder_core.proofs.PlainGroup.{is_named}
 use Rattle.folder_core.proofs.PlainOpen.{set-there}
 use Rattle.folder_core.proofs.PlainOpened.{commits-cons, one, pull_for-at, pull_for-name, pull_of-plain}
 use Rattle.folder_core.proofs.PlainPulls.{commits-open}
+use Rattle.folder_core.proofs.PlainTests.{accepted-answer, first-none, first-some}
 
 -- ---- a pull is set in the place of another
 
@@ -71,6 +75,12 @@ pub err_from : {A E : Type 0} {P : Type 0} (r : Result A E) → is_err r ≡ tru
 err_from (Ok x) e h = absurd (true≢false (sym e))
 err_from (Err x) e h = h
 
+-- an obstacle is no answer that is accepted
+entry-refused : (o : EntryObstacle) → is_accepted (entry_refusal o) ≡ false
+entry-refused entry.LocalMoved = refl
+entry-refused entry.Superseded = refl
+entry-refused entry.SequenceFull = refl
+
 -- ---- the commit is entered
 
 module _ (me : Identity) (es : List Entry) (capacity last : ℕ) (ps : List OpenPull) (old : IsPlain me es capacity last ps) (t : Token) where
@@ -80,13 +90,10 @@ module _ (me : Identity) (es : List Entry) (capacity last : ℕ) (ps : List Open
   pub enter-stray : pull_for t Pulling ps ≡ None → step folder (EnterCommit t) ≡ (Stray, folder)
   enter-stray none = ap (enter_commit folder t) (pull_of-plain t Pulling me es last ps old.pulls_rise ∙ ap (option_map opened) none)
 
-  abbrev pub chosen : Option Entry
-  chosen = reduce better (filter (is_undominated (filter (is_named t.name) es)) (filter (is_named t.name) es))
+  abbrev pub group : List Entry
+  group = filter (is_named t.name) es
 
-  abbrev pub is_best_of : Option Entry → FileRecord → Bool
-  is_best_of b r = option_map_or (λ b. same_version b.record.version r.version && same_content b.record r) b false
-
-  filed_best : (b : Option Entry) (r : FileRecord) → option_map_or (λ b. same_version b.1.version r.version && same_content b.1 r) (option_map filed b) false ≡ is_best_of b r
+  filed_best : (b : Option Entry) (r : FileRecord) → option_map_or (λ b. same_version b.1.version r.version && same_content b.1 r) (option_map filed b) false ≡ option_map_or (λ b. same_version b.record.version r.version && same_content b.record r) b false
   filed_best None r = refl
   filed_best (Some b) r = refl
 
@@ -100,40 +107,45 @@ module _ (me : Identity) (es : List Entry) (capacity last : ℕ) (ps : List Open
     here : p.target.name ≡ t.name
     here = pull_for-name t Pulling ps p is
 
-    pub best-still : is_best_of chosen p.target ≡ is_still_best folder p.target
+    best-still : is_best_in group p.target ≡ is_still_best folder p.target
     best-still =
         sym ((λ i. option_map_or (λ b. same_version b.1.version p.target.version && same_content b.1 p.target) (best (entries-from_sorted key_cmp (map filed es) (passes _ old.rises) i) (here i)) false)
         ∙ ap (λ o. option_map_or (λ b. same_version b.1.version p.target.version && same_content b.1 p.target) o false) (best_is t.name es old.rises)
-        ∙ filed_best chosen p.target)
+        ∙ filed_best (best_in group) p.target)
 
-    abbrev pub tested : Bool → Bool → Bool → Answer × FolderState
-    tested moved still full = first_answer folder ((moved, LocalMoved) ∷ (not still, Superseded) ∷ (full, SequenceFull) ∷ []) (Entered t, with_commit folder t.name (opened p))
+    abbrev pub tests : List (Bool × Answer)
+    tests = entry_tests_of p (local folder t.name) (is_best_in group p.target) (nat_le (max_sequence - last) (commits ps))
 
-    abbrev pub has_moved : Bool
-    has_moved = not (same_local_version (version_of (local folder t.name)) (version_of p.base))
+    abbrev pub entered : Answer × FolderState
+    entered = (Entered t, with_commit folder t.name (opened p))
 
-    enter-tested : step folder (EnterCommit t) ≡ tested has_moved (is_best_of chosen p.target) (nat_le (max_sequence - last) (commits ps))
+    enter-tested : step folder (EnterCommit t) ≡ first_answer folder tests entered
     enter-tested =
         ap (enter_commit folder t) (pull_of-plain t Pulling me es last ps old.pulls_rise ∙ ap (option_map opened) is)
-        ∙ (λ i. tested has_moved (sym best-still i) (nat_le (max_sequence - last) (commits-open me es last ps old.pulls_rise i)))
+        ∙ (λ i. first_answer folder (entry_tests_of p (local folder t.name) (sym best-still i) (nat_le (max_sequence - last) (commits-open me es last ps old.pulls_rise i))) entered)
 
-    pub enter-moved : has_moved ≡ true → step folder (EnterCommit t) ≡ (LocalMoved, folder)
-    enter-moved m = enter-tested ∙ ap (λ x. tested x (is_best_of chosen p.target) (nat_le (max_sequence - last) (commits ps))) m
+    -- the tests, from what the code has at hand
+    pub tests-are : (found : List Entry) (own : Option FileRecord) (full : Bool) → found ≡ group → own ≡ local folder t.name → full ≡ nat_le (max_sequence - last) (commits ps)
+        → entry_tests_of p own (is_best_in found p.target) full ≡ tests
+    tests-are found own full g o f = (λ i. entry_tests_of p (o i) (is_best_in (g i) p.target) (f i))
 
-    pub enter-superseded : has_moved ≡ false → is_best_of chosen p.target ≡ false → step folder (EnterCommit t) ≡ (Superseded, folder)
-    enter-superseded m b = enter-tested ∙ (λ i. tested (m i) (b i) (nat_le (max_sequence - last) (commits ps)))
+    module _ (first : Option EntryObstacle) (told : option_map entry_refusal first ≡ first_of tests) where
+      pub enter-refused : (o : EntryObstacle) → first ≡ Some o → step folder (EnterCommit t) ≡ (entry_refusal o, folder)
+      enter-refused o some = enter-tested ∙ first-some folder tests entered (entry_refusal o) (sym (ap (option_map entry_refusal) some) ∙ told)
 
-    module _ (m : has_moved ≡ false) (b : is_best_of chosen p.target ≡ true) where
-      pub enter-full : nat_le (max_sequence - last) (commits ps) ≡ true → step folder (EnterCommit t) ≡ (SequenceFull, folder)
-      enter-full f = enter-tested ∙ (λ i. tested (m i) (b i) (f i))
+      enter-entered : first ≡ None → step folder (EnterCommit t) ≡ entered
+      enter-entered none = enter-tested ∙ first-none folder tests entered (sym (ap (option_map entry_refusal) none) ∙ told)
 
-      module _ (f : nat_le (max_sequence - last) (commits ps) ≡ false) where
-        enter-entered : step folder (EnterCommit t) ≡ (Entered t, with_commit folder t.name (opened p))
-        enter-entered = enter-tested ∙ (λ i. tested (m i) (b i) (f i))
+      pub enter-is_accepted : first ≡ None → is_accepted (step folder (EnterCommit t)).0 ≡ true
+      enter-is_accepted none = ap (λ (d : Answer × FolderState). is_accepted d.0) (enter-entered none)
 
-        pub enter-accepted : is_accepted (step folder (EnterCommit t)).0 ≡ true
-        enter-accepted = ap (λ (d : Answer × FolderState). is_accepted d.0) enter-entered
+      pub enter-accepted : (b : Bool) → is_some first ≡ not b → b ≡ is_accepted (step folder (EnterCommit t)).0
+      enter-accepted b some =
+          accepted-answer entry_refusal first b (step folder (EnterCommit t)) some entry-refused
+          (λ o so. ap (λ (d : Answer × FolderState). d.0) (enter-refused o so))
+          enter-is_accepted
 
+      module _ (none : first ≡ None) where
         abbrev pub ready_pull : OpenPull
         ready_pull = record p { ready = Some (committed_record (version_of p.base) p.target) }
 
@@ -154,7 +166,7 @@ module _ (me : Identity) (es : List Entry) (capacity last : ℕ) (ps : List Open
           new_pulls = ap from_sorted put_there ∙ sym (insert_listed bytes_total exact_names (map pulled ps) t.name (opened ready_pull) old.pulls_rise)
 
           pub enter-step : step folder (EnterCommit t) ≡ (Entered t, folder_of me es last (pulls_of new))
-          enter-step = enter-entered ∙ ap (λ xs. (Entered t, folder_of me es last xs)) (sym new_pulls)
+          enter-step = enter-entered none ∙ ap (λ xs. (Entered t, folder_of me es last xs)) (sym new_pulls)
 
           pub enter-plain : (xs : List Entry) (roomy : ℕ) → xs ≡ es → length xs + (commits ps + 1) ≤ roomy → IsPlain me xs roomy last new
           enter-plain xs roomy same room = record {

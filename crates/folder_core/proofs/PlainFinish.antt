@@ -16,10 +16,10 @@ use Rattle.folder_core.specs.declared.stage.Stage.TheVariants.{Committing}
 use Rattle.folder_core.specs.Announced.{key, key_cmp}
 use Rattle.folder_core.specs.Plain.{IsPlain, IsReady, PullsRise, commits, filed, folder_of, opened, pulls_of, stage_of}
 use Rattle.folder_core.specs.PlainPulls.{place_of, pull_for}
-use Rattle.folder_core.specs.States.{FolderState, IsFolder, same_stage}
+use Rattle.folder_core.specs.States.{FolderState, IsFolder, Pull, same_stage}
 use Rattle.folder_core.specs.declared.answer.Answer.TheVariants.{Done, Stray}
 use Rattle.folder_core.specs.declared.token.Token.{Token}
-use Rattle.folder_core.specs.Steps.{committed_record, finish, pull_of, with_local, without_pull}
+use Rattle.folder_core.specs.Steps.{close_pull, committed_record, finish, is_accepted, pull_of, with_local, without_pull}
 use Rattle.folder_core.proofs.ChangeFolders.{finished-folder}
 use Rattle.folder_core.proofs.Orders.{exact_keys, insert_listed, is_true, keys_total}
 use Rattle.folder_core.proofs.PlainOpened.{one, pull_for-at, pull_for-name, pull_for-stage, pull_of-plain, removed-commits, removed-pulls, removed-ready, removed-rise}
@@ -44,6 +44,16 @@ of_ready (Some p) r e = (p, refl, e)
 
 pub ready-at : (ps : List OpenPull) (i : ℕ) (p : OpenPull) → All IsReady ps → slice_get ps i ≡ Some p → IsReady p
 ready-at ps i p each at = subst IsReady (get_or_from_slice_get ps i p p at) (each i p (slice_get_within ps i p at))
+
+-- ---- whether a pull ends
+
+pub close-accepted : (s : FolderState) (t : Token) (o : Option Pull) → is_accepted (close_pull s t o).0 ≡ is_some o
+close-accepted s t None = refl
+close-accepted s t (Some p) = refl
+
+pub finish-accepted : (s : FolderState) (t : Token) (o : Option Pull) → is_accepted (finish s t o).0 ≡ is_some o
+finish-accepted s t None = refl
+finish-accepted s t (Some p) = refl
 
 -- ---- the end of a commit
 

@@ -1,6 +1,6 @@
 -- The plain folder's list of open pulls, as the map of the states, when a pull is found, added, committed or closed.
 use Rattle.std.proofs.Common.{◌≡◌, ℕ, suc, ◌+◌, Bool, true, false, List, [], ◌∷◌, refl, sym, ap, subst, ◌∙◌, arith}
-use Rattle.std.specs.Prelude.{All, bytes_eq, cond, is_some, not, ◌&&◌, ◌==◌, MatchOption, Option, Some, None, if◌then◌else◌, map, option_and_then, option_map, slice_get}
+use Rattle.std.specs.Prelude.{All, IfSome, bytes_eq, cond, ◌<◌, length, is_some, not, ◌&&◌, ◌==◌, MatchOption, Option, Some, None, if◌then◌else◌, map, option_and_then, option_map, slice_get}
 use Rattle.std.specs.Bool.{passes}
 use Rattle.std.specs.Cmp.Lexicographic.{texts_ties}
 use Rattle.std.specs.FinMap as fin
@@ -65,6 +65,26 @@ module _ (t : Token) (stage : Stage) where
   pull_of-plain me es last ps rise =
       ap (option_and_then (λ q. if fits t stage q then Some q else None)) (get-pull t.name ps rise)
       ∙ found_from (slice_get ps (place_of t.name ps))
+
+  -- whether there is one, from the place that was found
+  pub open-is : (me : Identity) (es : List Entry) (last : ℕ) (ps xs : List OpenPull) → PullsRise ps → xs ≡ ps → (place : Option ℕ) → IfSome place (λ i. i < length xs)
+      → option_and_then (slice_get xs) place ≡ pull_for t stage xs → is_some place ≡ is_some (pull_of (folder_of me es last (pulls_of ps)) t stage)
+  open-is me es last ps xs rise same place within found =
+      sym (there place within) ∙ ap is_some found
+      ∙ sym (ap is_some (pull_of-plain me es last ps rise) ∙ is_some-opened (pull_for t stage ps) ∙ ap (λ ys. is_some (pull_for t stage ys)) (sym same))
+    where
+      some_within : (xs : List OpenPull) (i : ℕ) → i < length xs → is_some (slice_get xs i) ≡ true
+      some_within [] i within = absurd (omega arith)
+      some_within (x ∷ xs) ℕ.zero within = refl
+      some_within (x ∷ xs) (suc i) within = some_within xs i (omega arith)
+
+      there : (place : Option ℕ) → IfSome place (λ i. i < length xs) → is_some (option_and_then (slice_get xs) place) ≡ is_some place
+      there None within = refl
+      there (Some i) within = some_within xs i within
+
+      is_some-opened : (o : Option OpenPull) → is_some (option_map opened o) ≡ is_some o
+      is_some-opened None = refl
+      is_some-opened (Some p) = refl
 
   fits_from : (p q : OpenPull) (b : Bool) → is_for t stage q ≡ b → cond b (Some q) None ≡ Some p → (q ≡ p) × (is_for t stage p ≡ true)
   fits_from p q true e is = (inside q p is, ap (is_for t stage) (sym (inside q p is)) ∙ e)

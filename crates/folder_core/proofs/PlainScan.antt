@@ -1,63 +1,45 @@
 -- What the plain folder's scans test and record is the step's.
 use Rattle.std.proofs.Common.{◌≡◌, ℕ, ◌+◌, ◌-◌, ◌≤◌, Bool, true, false, List, [], ◌∷◌, length, refl, sym, ap, subst, ◌∙◌}
-use Rattle.std.specs.Prelude.{bytes_eq, ◌&&◌, ◌||◌, cond, T, IfSome, IsTrue, nat_le, Option, Some, None, filter, is_some, map, option_map, unwrap_or}
+use Rattle.std.specs.Prelude.{bytes_eq, ◌&&◌, ◌||◌, cond, not, T, IfSome, IsTrue, nat_le, Option, Some, None, filter, is_some, map, option_map, unwrap_or}
 use Rattle.std.specs.Bool.{passes}
-use Rattle.std.specs.List.{list_any}
 use Rattle.std.specs.Option.{option_map_or}
-use Rattle.std.specs.Ordering.{eq_by_cmp, is_eq}
+use Rattle.std.specs.Ordering.{is_eq}
 use Rattle.std.specs.Cmp.Lexicographic.{texts_ties}
-use Rattle.std.specs.declared.cmp.Ordering.{Ordering}
-use Rattle.std.specs.declared.cmp.Ordering.TheVariants.{Less, Equal, Greater}
 use Rattle.std.specs.FinMap.{find, from_sorted, get-from_sorted, is_sorted, put}
 use Rattle.std.specs.FinMap.Entries.{below_all}
-use Rattle.std.proofs.lemmas.Bool.{true≢false, false_from_ne_true}
 use Rattle.sync_record.specs.Contents.{same_content}
 use Rattle.sync_record.specs.Devices.{Identity, bytes_cmp, short_id}
 use Rattle.sync_record.specs.Own.{deletion_of}
 use Rattle.sync_record.specs.declared.own.Edit.{Edit}
 use Rattle.sync_record.specs.Records.{Name, FileRecord}
-use Rattle.sync_version.specs.Computed.{raised}
+use Rattle.sync_version.specs.Computed.{is_counter_full, raised}
 use Rattle.sync_version.specs.Versions.{Vector}
 use Rattle.folder_core.specs.declared.announcement.Announcement.{Announcement as Entry}
 use Rattle.folder_core.specs.declared.plain.pull.OpenPull.{OpenPull}
 use Rattle.folder_core.specs.declared.plain.scan.Obstacle.{Obstacle}
+use Rattle.folder_core.specs.declared.plain.scan.Obstacle.TheVariants as obstacle
 use Rattle.folder_core.specs.Announced.{Announced, key, key_cmp}
 use Rattle.folder_core.specs.Codes.{Pulls}
 use Rattle.folder_core.specs.Calls.{Changes, may_allocate}
 use Rattle.folder_core.specs.Plain.{IsLastOfEach, IsPlain, Rises, commits, filed, folder_of, opened, pulled, pulls_of}
 use Rattle.folder_core.specs.PlainReads.{record_from}
 use Rattle.folder_core.specs.PlainScans.{content_record, deletion_edit, edit_of, first_of, is_gone, has_commit, is_full, obstacle_answer, tests_of}
-use Rattle.folder_core.specs.States.{FolderState, IsFolder, is_committing, local, local_version, max_sequence}
+use Rattle.folder_core.specs.States.{FolderState, IsFolder, is_committing, local, max_sequence, same_local_version}
 use Rattle.folder_core.specs.declared.answer.Answer.{Answer}
-use Rattle.folder_core.specs.declared.answer.Answer.TheVariants.{Unchanged, Recorded}
+use Rattle.folder_core.specs.declared.answer.Answer.TheVariants.{Busy, Moved, Unchanged, CounterFull, SequenceFull, Recorded}
 use Rattle.folder_core.specs.declared.change.Change.{Change}
 use Rattle.folder_core.specs.declared.change.Change.TheVariants.{ScanFound, ScanGone}
 use Rattle.folder_core.specs.declared.finding.Finding.{Finding}
 use Rattle.folder_core.specs.declared.finding.FoundContent.{FoundContent}
 use Rattle.folder_core.specs.declared.finding.FoundContent.TheVariants.{Directory as FoundDirectory, File as FoundFile}
-use Rattle.folder_core.specs.Steps.{MayChange, found_record, gone_record, scan_gone, next_version, first_answer, is_pull_committing, scan_tests, step, with_local}
+use Rattle.folder_core.specs.Steps.{MayChange, found_record, gone_record, is_accepted, scan_gone, next_version, first_answer, is_pull_committing, scan_tests, step, with_local}
 use Rattle.folder_core.proofs.ChangeFolders.{step-folder}
-use Rattle.folder_core.proofs.ListTests.{alike_bytes, by_or, inside, is_less, parts, same_bytes}
+use Rattle.folder_core.proofs.ListTests.{alike_bytes, by_or, is_less, parts, same_bytes}
 use Rattle.folder_core.proofs.PlainChange.{announce-sorted, more_rises}
 use Rattle.folder_core.proofs.PlainGroup.{is_named}
 use Rattle.folder_core.proofs.PlainOwn.{local_is}
 use Rattle.folder_core.proofs.PlainPulls.{commits-open, commits_stage}
-
--- ---- the first test that holds
-
-first-none : (s : FolderState) (ts : List (Bool × Answer)) (made : Answer × FolderState) → None ≡ first_of ts → first_answer s ts made ≡ made
-first-none s [] made e = refl
-first-none s (t ∷ ts) made e =
-    by_or t.0 (first_answer s (t ∷ ts) made ≡ made)
-    (λ is. absurd (let f : None ≡ Some t.1 = e ∙ ap (λ b. cond b (Some t.1) (first_of ts)) is in cc))
-    (λ is. ap (λ b. cond b (t.1, s) (first_answer s ts made)) is ∙ first-none s ts made (e ∙ ap (λ b. cond b (Some t.1) (first_of ts)) is))
-
-first-some : (s : FolderState) (ts : List (Bool × Answer)) (made : Answer × FolderState) (a : Answer) → Some a ≡ first_of ts → first_answer s ts made ≡ (a, s)
-first-some s [] made a e = absurd (let f : Some a ≡ None = e in cc)
-first-some s (t ∷ ts) made a e =
-    by_or t.0 (first_answer s (t ∷ ts) made ≡ (a, s))
-    (λ is. ap (λ b. cond b (t.1, s) (first_answer s ts made)) is ∙ ap (λ x. (x, s)) (sym (inside a t.1 (e ∙ ap (λ b. cond b (Some t.1) (first_of ts)) is))))
-    (λ is. ap (λ b. cond b (t.1, s) (first_answer s ts made)) is ∙ first-some s ts made a (e ∙ ap (λ b. cond b (Some t.1) (first_of ts)) is))
+use Rattle.folder_core.proofs.PlainTests.{accepted-answer, first-none, first-some}
 
 -- ---- the tests of a scan
 
@@ -139,6 +121,24 @@ module _ (me : Identity) (es : List Entry) (capacity last : ℕ) (ps : List Open
 
     pub recorded-so : (made : Answer × FolderState) → first ≡ None → first_answer before (scan_tests before n expected u) made ≡ made
     recorded-so made is = recorded expected u made (sym (ap (option_map (obstacle_answer own_version)) is) ∙ told-is)
+
+-- an obstacle is no answer that is accepted
+obstacle-refused : (version : Option Vector) (o : Obstacle) → is_accepted (obstacle_answer version o) ≡ false
+obstacle-refused version obstacle.Busy = refl
+obstacle-refused version obstacle.Moved = refl
+obstacle-refused version obstacle.Unchanged = refl
+obstacle-refused version obstacle.CounterFull = refl
+obstacle-refused version obstacle.SequenceFull = refl
+
+-- where nothing is changed, one of the first three tests holds
+first-three : (a m : Bool) (moved : Answer) (ts : List (Bool × Answer)) → None ≡ first_of ((a, Busy) ∷ (m, moved) ∷ (true, Unchanged) ∷ ts) → ⊥
+first-three true m moved ts e = let f : None ≡ Some Busy = e in cc
+first-three false true moved ts e = let f : None ≡ Some moved = e in cc
+first-three false false moved ts e = let f : None ≡ Some Unchanged = e in cc
+
+unchanged-holds : (a : Bool) (version expected : Option Vector) (id : ℕ) (full : Bool) → None ≡ first_of (tests_of a version expected true id full) → ⊥
+unchanged-holds a version expected id full e =
+    first-three a (not (same_local_version version expected)) (Moved version) ((is_counter_full (unwrap_or version []) id, CounterFull) ∷ (full, SequenceFull) ∷ []) e
 
 -- what is found, as a record
 content-is : (s : FolderState) (n : Name) (v : Vector) (f : Finding) (c : FoundContent) → content_record n (edit_of v (short_id s.me) f) c ≡ found_record s n v (record f { content = c })
@@ -241,6 +241,12 @@ module _ (me : Identity) (es : List Entry) (capacity last : ℕ) (ps : List Open
         ap (λ b. first_answer s (scan_tests s n expected b) (Recorded (last + 1), with_local s r)) (sym u-is)
         ∙ recorded-so me es capacity last ps kept n found found_own qs qs-is expected u first told (Recorded (last + 1), with_local s r) is
 
+    pub found-accepted : (b : Bool) → is_some first ≡ not b → b ≡ is_accepted (step s (ScanFound n expected f moment)).0
+    found-accepted b is =
+        accepted-answer (obstacle_answer (own_version me es capacity last ps kept n)) first b (step s (ScanFound n expected f moment)) is
+        (obstacle-refused (own_version me es capacity last ps kept n)) (λ o some. ap (λ (d : Answer × FolderState). d.0) (found-step o some))
+        (λ none. ap (λ (d : Answer × FolderState). is_accepted d.0) (found-made none))
+
     -- the record that the code makes
     pub found-record : (v : Vector) (id : ℕ) (made : FileRecord) → v ≡ raised (unwrap_or (option_map (λ r. r.version) found) []) id moment → id ≡ short_id me
         → made ≡ content_record n (edit_of v id f) f.content → made ≡ r
@@ -274,6 +280,18 @@ module _ (me : Identity) (es : List Entry) (capacity last : ℕ) (ps : List Open
         ap (scan_gone s n expected moment) (sym found_local ∙ there)
         ∙ ap (λ b. first_answer s (scan_tests s n expected b) (Recorded (last + 1), with_local s (gone_record s r (next_version s n moment) moment))) (sym (unchanged ∙ ap is_gone there))
         ∙ recorded-so me es capacity last ps kept n found found_own qs qs-is expected u first told (Recorded (last + 1), with_local s (gone_record s r (next_version s n moment) moment)) is
+
+    pub gone-accepted : (b : Bool) → is_some first ≡ not b → b ≡ is_accepted (step s (ScanGone n expected moment)).0
+    gone-accepted b is =
+        accepted-answer (obstacle_answer (own_version me es capacity last ps kept n)) first b (step s (ScanGone n expected moment)) is
+        (obstacle-refused (own_version me es capacity last ps kept n)) (λ o some. ap (λ (d : Answer × FolderState). d.0) (gone-step o some)) (made found refl)
+      where
+        made : (l : Option FileRecord) → found ≡ l → first ≡ None → is_accepted (step s (ScanGone n expected moment)).0 ≡ true
+        made None absent none =
+            absurd (unchanged-holds (has_commit n qs) (option_map (λ r. r.version) found) expected (short_id me) (is_full last qs)
+            (sym (ap (option_map (obstacle_answer (option_map (λ r. r.version) found))) none) ∙ told
+            ∙ ap (λ x. first_of (tests_of (has_commit n qs) (option_map (λ r. r.version) found) expected x (short_id me) (is_full last qs))) (unchanged ∙ ap is_gone absent)))
+        made (Some q) there none = ap (λ (d : Answer × FolderState). is_accepted d.0) (gone-made q there none)
 
     -- the record that the code makes
     pub gone-record : (r : FileRecord) (v : Vector) (id : ℕ) (made : FileRecord) → found ≡ Some r → v ≡ raised r.version id moment → id ≡ short_id me → made ≡ deletion_of r (deletion_edit v id moment)

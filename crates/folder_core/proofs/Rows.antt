@@ -8,7 +8,7 @@ use Rattle.folder_core.specs.Reads.{best_found, local_since, places, counts, kno
 use Rattle.folder_core.specs.declared.answer.Answer.TheVariants.{NotNeeded, Unsupported, Applied, Begun}
 use Rattle.folder_core.specs.declared.change.Change.TheVariants.{BeginPull, IndexFull, IndexMore}
 use Rattle.folder_core.specs.Steps.{step}
-use Rattle.folder_core.specs.Samples.{Leads, SharedLeads, me, p2, y, recorded, two_files, places_of_abd, counts_of_two, p1, p2, p3, x, file, deletion, content, modified, abc, by, folder, target, full_target, ring, deleted_and_live, deleted_alone, modified_by_5_and_7, cut_short, one_version, one_content, invalid_above, nanoseconds_apart, counters_apart, shared_by_two, of_each_kind, counts_of_each_kind, deleted_there, deletion_pulled, deletion_ticket, offered, appeared, local_moves, commit_is_closed, target_is_withdrawn, commit_merges, stray_tickets, other_tickets, no_sequence_to_enter, link_offered, scans, counter_is_full, sequences_end, commit_keeps_sequence, history_of_2, history_of_3, history_of_4}
+use Rattle.folder_core.specs.Samples.{Leads, me, p2, y, recorded, two_files, places_of_abd, counts_of_two, p1, p2, p3, x, file, deletion, content, modified, abc, by, folder, target, full_target, ring, deleted_and_live, deleted_alone, modified_by_5_and_7, cut_short, one_version, one_content, invalid_above, nanoseconds_apart, counters_apart, shared_by_two, of_each_kind, counts_of_each_kind, deleted_there, deletion_pulled, deletion_ticket, offered, appeared, local_moves, commit_is_closed, target_is_withdrawn, commit_merges, stray_tickets, other_tickets, no_sequence_to_enter, link_offered, scans, counter_is_full, sequences_end, commit_keeps_sequence}
 use Rattle.folder_core.proofs.RowsListed.{listed}
 
 pub ring-best : best ring x ≡ Some (by p3 (file ((3, 1) ∷ []) 2))
@@ -103,15 +103,6 @@ sequence-kept = (simp listed, (simp listed, (simp listed, (simp listed, tt))))
 
 pub sequence-wanting : Leads (folder (by p1 target ∷ []) 9223372036854775807 []) no_sequence_to_enter
 sequence-wanting = (simp listed, (simp listed, tt))
-
-pub history-2 : SharedLeads 2 0 (folder [] 0 []) history_of_2
-history-2 = (simp listed, (simp listed, (simp listed, tt)))
-
-pub history-3 : SharedLeads 3 0 (folder [] 0 []) history_of_3
-history-3 = (simp listed, (simp listed, (simp listed, (simp listed, tt))))
-
-pub history-4 : SharedLeads 4 0 (folder [] 0 []) history_of_4
-history-4 = (simp listed, (simp listed, (simp listed, (simp listed, (simp listed, tt)))))
 
 pub first-page : local_since two_files 0 1 ≡ recorded x 1 ∷ []
 first-page = simp listed

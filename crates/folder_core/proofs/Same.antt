@@ -18,12 +18,13 @@ use Rattle.sync_blocks.specs.contracts.block.BlockPartialEq.TheImpl as block_tes
 use Rattle.folder_core.specs.contracts.answer.Answer as answer
 use Rattle.folder_core.specs.contracts.change.Change as change
 use Rattle.folder_core.specs.contracts.finding.FoundContent as content
+use Rattle.folder_core.specs.contracts.announcement.AnnouncementPartialEq.TheImpl as announcement_test
 use Rattle.folder_core.specs.contracts.answer.AnswerPartialEq.TheImpl as answer_test
 use Rattle.folder_core.specs.contracts.best.BestPartialEq.TheImpl as best_test
 use Rattle.folder_core.specs.contracts.change.ChangePartialEq.TheImpl as change_test
+use Rattle.folder_core.specs.contracts.counts.CountsPartialEq.TheImpl as counts_test
 use Rattle.folder_core.specs.contracts.finding.FindingPartialEq.TheImpl as finding_test
 use Rattle.folder_core.specs.contracts.finding.FoundContentPartialEq.TheImpl as content_test
-use Rattle.folder_core.specs.contracts.history.EntryPartialEq.TheImpl as entry_test
 use Rattle.folder_core.specs.contracts.place.PlacePartialEq.TheImpl as place_test
 use Rattle.folder_core.specs.contracts.token.TokenPartialEq.TheImpl as token_test
 
@@ -41,14 +42,14 @@ one : {A : Type 0} {E : A → A → Bool} → IsExact E → IsExact (λ (x y : A
 one s x y = (λ e i. ((s x.0 y.0).0 e i, tt), λ e. (s x.0 y.0).1 (ap (λ (p : _ × _). p.0) e))
 
 -- a field before others
-before : {A B : Type 0} {E : A → A → Bool} {F : B → B → Bool} → IsExact E → IsExact F → IsExact (λ (x y : A × B). E x.0 y.0 && F x.1 y.1)
+pub before : {A B : Type 0} {E : A → A → Bool} {F : B → B → Bool} → IsExact E → IsExact F → IsExact (λ (x y : A × B). E x.0 y.0 && F x.1 y.1)
 before s t x y = (
   λ e. let both = and_parts _ _ e in λ i. ((s x.0 y.0).0 both.0 i, (t x.1 y.1).0 both.1 i),
   λ e. and_from _ _ ((s x.0 y.0).1 (ap (λ (p : _ × _). p.0) e)) ((t x.1 y.1).1 (ap (λ (p : _ × _). p.1) e)),
 )
 
 -- a type whose values have these parts
-through : {K A : Type 0} (parts : K → A) (whole : A → K) → ((x : K) → whole (parts x) ≡ x) → {E : A → A → Bool} → IsExact E → IsExact (λ x y. E (parts x) (parts y))
+pub through : {K A : Type 0} (parts : K → A) (whole : A → K) → ((x : K) → whole (parts x) ≡ x) → {E : A → A → Bool} → IsExact E → IsExact (λ x y. E (parts x) (parts y))
 through parts whole back s x y = (λ e. sym (back x) ∙ ap whole ((s (parts x) (parts y)).0 e) ∙ back y, λ e. (s (parts x) (parts y)).1 (ap parts e))
 
 -- the variants
@@ -122,6 +123,15 @@ places = through (λ p. (p.name, (p.offset, p.size)))
 pub bests : IsExact best_test.ghosts.eq
 bests = through (λ b. (b.record, b.devices)) (λ f. record { «record» = f.0; devices = f.1 }) (λ b. refl)
     (before records (pointwise_decides bytes_eq-Decides))
+
+pub announcements : IsExact announcement_test.ghosts.eq
+announcements = through (λ a. (a.device, a.record)) (λ f. record { device = f.0; «record» = f.1 }) (λ a. refl)
+    (before bytes_eq-Decides records)
+
+pub counts : IsExact counts_test.ghosts.eq
+counts = through (λ c. (c.files, (c.directories, (c.deletions, (c.needed, (c.others, (c.pulls, c.last)))))))
+    (λ f. record { files = f.0; directories = f.1.0; deletions = f.1.1.0; needed = f.1.1.1.0; others = f.1.1.1.1.0; pulls = f.1.1.1.1.1.0; last = f.1.1.1.1.1.1 }) (λ c. refl)
+    (before unsigned_Decides (before unsigned_Decides (before unsigned_Decides (before unsigned_Decides (before unsigned_Decides (before unsigned_Decides unsigned_Decides))))))
 
 pub answers : IsExact answer_test.ghosts.eq
 answers = variants answer.enum _ (
@@ -209,8 +219,3 @@ changes = variants change.enum _ (
     ),
   ),
 )
-
-pub entries : IsExact entry_test.ghosts.eq
-entries = through (λ e. (e.pass, (e.change, e.answer)))
-    (λ f. record { pass = f.0; change = f.1.0; answer = f.1.1 }) (λ e. refl)
-    (before unsigned_Decides (before changes answers))

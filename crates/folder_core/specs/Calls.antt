@@ -75,3 +75,10 @@ may_allocate (Moved (Some version)) = true
 may_allocate (Begun ticket) = true
 may_allocate (Entered commit) = true
 may_allocate _ = false
+
+-- these answers have a version or a token, for which a copy allocates
+abbrev pub copy_allocates : Answer → Bool
+copy_allocates (Moved (Some version)) = true
+copy_allocates (Begun ticket) = true
+copy_allocates (Entered commit) = true
+copy_allocates _ = false

@@ -4,8 +4,6 @@ pub mod States
 pub mod Steps
 pub mod Reads
 pub mod Restores
-pub mod Histories
-pub mod Shared
 -- how calls say the rules, and how a proof compares states
 pub mod Calls
 pub mod Runs

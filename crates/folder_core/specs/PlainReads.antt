@@ -6,6 +6,7 @@ use Rattle.folder_core.specs.declared.place.Place.{Place}
 use Rattle.sync_blocks.specs.declared.block.Block.{Block}
 use Rattle.sync_record.specs.Devices.{Identity}
 use Rattle.sync_record.specs.Records.{Name, FileRecord, is_live, is_live_file}
+use Rattle.sync_version.specs.Versions.{Vector}
 use Rattle.folder_core.specs.Announced.{bests}
 use Rattle.folder_core.specs.Plain.{better, filed, is_undominated}
 use Rattle.folder_core.specs.States.{same_local_version}
@@ -38,10 +39,12 @@ abbrev pub places_from : Identity → List ℕ → List Entry → List Place
 places_from d hash es =
     flat_map (λ r. map (place r) (filter (λ b. bytes_eq b.hash hash) r.blocks)) (filter is_live_file (records_from d es))
 
+abbrev pub version_of : Option FileRecord → Option Vector
+version_of r = option_map (λ r. r.version) r
+
 -- whether a best is needed by a device of which this is the own record
 abbrev pub is_needed_over : Option FileRecord → FileRecord → Bool
-is_needed_over own b =
-    not (same_local_version (option_map (λ r. r.version) own) (Some b.version)) && (is_live b || is_some own)
+is_needed_over own b = not (same_local_version (version_of own) (Some b.version)) && (is_live b || is_some own)
 
 -- of entries of one name: the best, if the device needs it
 abbrev pub needed_of : Identity → List Entry → Option Entry

@@ -19,7 +19,6 @@ use Rattle.folder_core.specs.declared.finding.Finding.{Finding}
 use Rattle.folder_core.specs.declared.finding.FoundContent.TheVariants.{File as FoundFile, Directory as FoundDirectory}
 use Rattle.folder_core.specs.declared.token.Token.{Token}
 use Rattle.folder_core.specs.Steps.{step, is_accepted}
-use Rattle.folder_core.specs.Histories.{shared_step}
 
 -- ---- devices, names, records
 
@@ -107,12 +106,6 @@ Row = List (Change × Answer × FolderState)
 abbrev pub Leads : FolderState → Row → Type 0
 Leads s [] = ⊤
 Leads s (m ∷ ms) = (step s m.0 ≡ (m.1, m.2)) × Leads m.2 ms
-
--- the same after a history of some length
-abbrev pub SharedLeads : ℕ → ℕ → FolderState → Row → Type 0
-SharedLeads limit entries s [] = ⊤
-SharedLeads limit entries s (m ∷ ms) =
-    (shared_step limit entries s m.0 ≡ (m.1, m.2)) × SharedLeads limit (if is_accepted m.1 then entries + 1 else entries) m.2 ms
 
 -- ---- which record is the best
 
@@ -356,33 +349,6 @@ abbrev pub no_sequence_to_enter : Row
 no_sequence_to_enter =
     (BeginPull x, Begun ticket, folder (by p1 target ∷ []) 9223372036854775807 ((x, pull Pulling) ∷ []))
     ∷ (EnterCommit ticket, SequenceFull, folder (by p1 target ∷ []) 9223372036854775807 ((x, pull Pulling) ∷ []))
-    ∷ []
-
--- ---- histories
-
-abbrev pub history_of_2 : Row
-history_of_2 =
-    (ScanFound x None found_abd 0, Recorded 1, one_file)
-    ∷ (ScanFound y None found_abd 0, Recorded 2, two_files)
-    ∷ (ScanFound z None found_abd 0, HistoryFull, two_files)
-    ∷ []
-
--- what closes an open pull finds its room
-abbrev pub history_of_4 : Row
-history_of_4 =
-    (IndexFull p1 (target ∷ []), Applied, offered)
-    ∷ (BeginPull x, Begun ticket, folder (by p1 target ∷ []) 0 ((x, pull Pulling) ∷ []))
-    ∷ (EnterCommit ticket, Entered ticket, folder (by p1 target ∷ []) 0 ((x, pull Committing) ∷ []))
-    ∷ (ScanFound y None found_abd 0, HistoryFull, folder (by p1 target ∷ []) 0 ((x, pull Committing) ∷ []))
-    ∷ (Finish ticket target, Done 1, folder (by me committed ∷ by p1 target ∷ []) 1 [])
-    ∷ []
-
-abbrev pub history_of_3 : Row
-history_of_3 =
-    (IndexFull p1 (target ∷ []), Applied, offered)
-    ∷ (BeginPull x, Begun ticket, folder (by p1 target ∷ []) 0 ((x, pull Pulling) ∷ []))
-    ∷ (EnterCommit ticket, HistoryFull, folder (by p1 target ∷ []) 0 ((x, pull Pulling) ∷ []))
-    ∷ (GiveUp ticket, Closed, offered)
     ∷ []
 
 -- ---- reads

@@ -1,4 +1,5 @@
-ghost use Rattle.std.specs.Prelude.{◌≡◌, IfOk};
+ghost use Rattle.std.specs.Prelude.{◌≡◌, IfErr, IfOk, IsTrue};
+ghost use Rattle.folder_core.specs.Calls.{copy_allocates};
 
 use crate::Token;
 use crate::copies::copied_version;
@@ -48,7 +49,8 @@ impl Answer {
     /// The same answer once more. Returns `Err` only if out of memory, and never for an answer without a version or a token.
     /// O(n) time and memory for n counters, or bytes of the name.
     pub fn copy(&self) -> Result<Answer, AllocError>
-        ensures { IfOk result (λ answer. answer ≡ self.now) }
+        ensures same { IfOk result (λ answer. answer ≡ self.now) }
+        ensures memory { IfErr result (λ _. IsTrue (copy_allocates self.now)) }
     {
         Ok(match self {
             Answer::Busy => Answer::Busy,

@@ -1,4 +1,6 @@
-ghost use Rattle.std.specs.Prelude.{◌≡◌, IfOk};
+ghost use Rattle.std.specs.Prelude.{◌≡◌, IfOk, IsOk};
+ghost use Rattle.sync_record.specs.Devices.{Identity};
+ghost use Rattle.folder_core.specs.declared.change.Change.TheVariants.{Forget};
 
 use crate::copies::copied_version;
 use crate::{Finding, Token};
@@ -65,7 +67,8 @@ impl Change {
     /// The same change once more. Returns `Err` only if out of memory, and never for `Forget`. O(n) time and memory for n bytes
     /// of the name, counters, blocks and records; the records share their memory.
     pub fn copy(&self) -> Result<Change, AllocError>
-        ensures { IfOk result (λ change. change ≡ self.now) }
+        ensures same { IfOk result (λ change. change ≡ self.now) }
+        ensures forget { (d : Identity) → self.now ≡ Forget d → IsOk result }
     {
         Ok(match self {
             Change::ScanFound {

@@ -1,4 +1,5 @@
-ghost use Rattle.std.specs.Prelude.{◌≡◌, IfOk};
+ghost use Rattle.std.specs.Prelude.{◌≡◌, IfOk, IsOk};
+ghost use Rattle.folder_core.specs.declared.finding.FoundContent.TheVariants.{Directory};
 
 use bep_messages::Items;
 use std::alloc::AllocError;
@@ -32,7 +33,8 @@ impl FoundContent {
     /// The same content once more. Returns `Err` only if out of memory, and never for a directory. O(n) time and memory for
     /// n blocks.
     pub fn copy(&self) -> Result<FoundContent, AllocError>
-        ensures { IfOk result (λ content. content ≡ self.now) }
+        ensures same { IfOk result (λ content. content ≡ self.now) }
+        ensures directory { self.now ≡ Directory → IsOk result }
     {
         Ok(match self {
             FoundContent::Directory => FoundContent::Directory,
@@ -53,7 +55,8 @@ impl Finding {
     /// The same finding once more. Returns `Err` only if out of memory, and never for a directory. O(n) time and memory for
     /// n blocks.
     pub fn copy(&self) -> Result<Finding, AllocError>
-        ensures { IfOk result (λ finding. finding ≡ self.now) }
+        ensures same { IfOk result (λ finding. finding ≡ self.now) }
+        ensures directory { self.now.content ≡ Directory → IsOk result }
     {
         Ok(Finding {
             content: self.content.copy()?,

@@ -1,12 +1,12 @@
 ghost use Rattle.std.specs.Prelude.{◌≡◌, ◌≢◌, Some, IfErr, IfOk, IsTrue, map, option_copied, option_map};
 ghost use Rattle.folder_core.specs.States.{FolderState, IsFolder, local};
 ghost use Rattle.folder_core.specs.declared.change.Change.TheVariants.{Forget, IndexFull, IndexMore, ScanFound, ScanGone, BeginPull, EnterCommit, Finish, GiveUp, Abort};
-ghost use Rattle.folder_core.specs.Steps.{is_found};
+ghost use Rattle.folder_core.specs.Steps.{is_accepted, is_found, step};
 ghost use Rattle.folder_core.specs.Reads.{IsPlaceFound, best_found, bests_page, counts, known, local_since, need_page};
 ghost use Rattle.folder_core.specs.Calls.{Changes, GivesBack, index_answer, scan_answer, begin_answer, enter_answer, finish_answer, close_answer};
 
 use crate::{
-    BeginAnswer, Best, Commit, Counts, Finding, NotEntered, Place, PlainFolder, ScanAnswer,
+    BeginAnswer, Best, Change, Commit, Counts, Finding, NotEntered, Place, PlainFolder, ScanAnswer,
     ScanFault, Stray, Ticket,
 };
 use bep_messages::Items;
@@ -97,6 +97,13 @@ pub trait FolderCore {
     /// nothing changes. Does not allocate.
     fn abort(&mut self, commit: Commit) -> bool
         ensures { Changes (state self.old) (Abort commit) (Some (close_answer result)) (state self.new) };
+
+    /// Whether the change would be made if it were asked for now: whether its call, unless out of memory, would answer
+    /// `Recorded`, `Begun` or `Entered`, return `Ok` for an index, `forget` and `finish`, or `true` for `give_up` and `abort`.
+    /// A token of the change stands for the ticket or the commit that it was made from. What the call requires beside is
+    /// not asked. Changes nothing, and does not allocate.
+    fn accepts(&self, change: &Change) -> bool
+        ensures { result ≡ is_accepted (step (state self.now) change.now).0 };
 
     /// A copy of the best record of a name, and the devices whose valid record of the name has its version and its
     /// content; `None` where no valid record of the name is announced. Returns `Err` only if out of memory.

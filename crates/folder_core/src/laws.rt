@@ -4,7 +4,6 @@
 mod announced;
 mod best;
 mod changes;
-mod histories;
 mod pulls;
 mod reads;
 mod restores;
@@ -20,10 +19,6 @@ pub use changes::{
     callers_ensure_no_more, calls_are_steps, changes_keep_folders, changes_leave_the_rest,
     other_answers_keep_the_state, sequences_stay_distinct,
 };
-pub use histories::{
-    calls_share_one_history, commits_are_legal, histories_keep_room, legal_histories_grow,
-    own_entries_are_those_of_the_pass,
-};
 pub use pulls::{
     begin_pull_takes_the_needed, copies_are_due_in_conflict, entering_is_tested_in_order,
     finish_records_the_target, need_is_the_rule, pulls_end_by_their_tickets,
@@ -33,7 +28,7 @@ pub use reads::{
     needed_names_come_in_pages, queries_have_replies, reads_follow_the_state,
 };
 pub use restores::{restored_folders_are_folders, restores_in_rows};
-pub use rows::{best_in_rows, changes_in_rows, histories_in_rows, reads_in_rows};
+pub use rows::{best_in_rows, changes_in_rows, reads_in_rows};
 pub use scans::{
     findings_are_tested_in_order, losses_are_tested_in_order, scans_record_what_is_found,
     scans_record_what_is_gone, unchanged_is_what_was_there,

@@ -1,9 +1,11 @@
 //! A folder as one list in order.
-ghost use Rattle.std.specs.Prelude.{◌≡◌, ◌≢◌, ◌↔◌, ◌+◌, ◌<◌, ◌≤◌, [], false, IfErr, IfOk, IsOk, IsSome, IsTrue, None, Some, map, option_copied, option_map, vec_len, vec_capacity};
+ghost use Rattle.std.specs.Prelude.{◌≡◌, ◌≢◌, ◌↔◌, ◌+◌, ◌<◌, ◌≤◌, [], false, IfErr, IfOk, IsOk, IsSome, IsTrue, None, Some, filter, map, option_copied, option_map, vec_len, vec_capacity};
 ghost use Rattle.std.specs.FinMap.{empty, entries};
 ghost use Rattle.folder_core.specs.Calls.{Changes, GivesBack, index_answer, may_allocate, scan_answer, begin_answer, enter_answer, finish_answer, close_answer};
 ghost use Rattle.folder_core.specs.Reads.{IsPlaceFound, best_found, bests_page, counts, known, local_since, need_page, places};
-ghost use Rattle.folder_core.specs.Plain.{commits, filed};
+ghost use Rattle.folder_core.specs.Plain.{Rises, commits, filed};
+ghost use Rattle.folder_core.specs.PlainReads.{is_from};
+ghost use Rattle.sync_record.specs.Infos.{is_natural};
 ghost use Rattle.folder_core.specs.PlainRestores.{given};
 ghost use Rattle.folder_core.specs.Restores.{MayRestore, restored_folder};
 ghost use Rattle.folder_core.specs.declared.restore_fault.RestoreFault.TheVariants.{BadRecords};
@@ -11,6 +13,7 @@ ghost use Rattle.folder_core.specs.States.{empty_folder, local};
 ghost use Rattle.folder_core.specs.declared.change.Change.TheVariants.{Forget, IndexFull, IndexMore, ScanFound, ScanGone, BeginPull, EnterCommit, Finish, GiveUp, Abort};
 ghost use Rattle.folder_core.specs.Steps.{is_accepted, is_found, step};
 
+mod accept;
 mod compare;
 mod copy;
 mod count;
@@ -27,28 +30,28 @@ mod scan;
 mod since;
 
 use crate::{
-    Announcement, BeginAnswer, Best, Commit, Counts, Finding, FolderCore, NotEntered, Place,
-    RestoreFault, ScanAnswer, ScanFault, Stage, Stray, Ticket,
+    Announcement, BeginAnswer, Best, Change, Commit, Counts, Finding, FolderCore, NotEntered,
+    Place, RestoreFault, ScanAnswer, ScanFault, Stage, Stray, Ticket,
 };
 use bep_messages::Items;
 use compare::{same_entries, same_pulls};
 use copy::{copied_entries, copied_pulls};
 use count::{deletions, live_directories, live_files, records_of_others};
 use find::place_of;
-use group::{best_of, best_with_devices, bests_of, entries_after, entries_of};
+use group::{best_with_devices, bests_of, entries_after, entries_of};
 use merge::{merge, put};
 use message::last_of_each_name;
 use need::{count_needed, needed_names};
-use own::{copy_from, greatest_sequence, record_from};
+use own::{copy_from, greatest_sequence, record_from, version_of};
 use pull::OpenPull;
 use pulls::{
-    has_moved, has_pull, is_best, is_needed, is_unsupported, make_ready, open, place_for, take,
-    take_ready,
+    begin_refused, best_to_pull, entry_obstacle, has_pull, make_ready, not_entered, open,
+    place_for, take, take_ready,
 };
 use restore::{are_numbered, in_order};
 use scan::{
     found_record, gone_record, is_full, is_gone, is_same, next_version, put_next, scan_answer,
-    scan_obstacle, version_of,
+    scan_obstacle,
 };
 use since::records_since;
 use std::alloc::{AllocError, Global};
@@ -228,22 +231,14 @@ impl FolderCore for PlainFolder {
         ensures change { Changes self.old (BeginPull name.now) (begin_answer result) self.new }
         ensures refused { is_accepted (step self.old (BeginPull name.now)).0 ≡ false → IsOk result }
     {
-        if has_pull(&self.pulls, name) {
-            return Ok(BeginAnswer::Busy);
-        }
         let announced = entries_of(self.entries.as_slice(), name);
-        let Some(best) = best_of(announced) else {
-            return Ok(BeginAnswer::NotNeeded);
-        };
-        let target = &best.record;
         let base = record_from(announced, self.me);
-        if !is_needed(base, target) {
-            return Ok(BeginAnswer::NotNeeded);
-        }
-        if is_unsupported(target) {
-            return Ok(BeginAnswer::Unsupported);
-        }
-        let token = open(&mut self.pulls, name, base, target)?;
+        let is_open = has_pull(&self.pulls, name);
+        let best = match best_to_pull(is_open, announced, base) {
+            Ok(best) => best,
+            Err(obstacle) => return Ok(begin_refused(obstacle)),
+        };
+        let token = open(&mut self.pulls, name, base, &best.record)?;
         Ok(BeginAnswer::Begun(Ticket { token }))
     }
 
@@ -284,15 +279,11 @@ impl FolderCore for PlainFolder {
         };
         let pull = &self.pulls[place];
         let group = entries_of(self.entries.as_slice(), &ticket.token.name);
-        if has_moved(record_from(group, self.me), pull.base.as_ref()) {
-            return Err(NotEntered::LocalMoved(ticket));
-        }
-        if !is_best(group, &pull.target) {
-            return Err(NotEntered::Superseded(ticket));
-        }
+        let local = record_from(group, self.me);
         let promised = open_commits(&self.pulls);
-        if is_full(self.last, promised) {
-            return Err(NotEntered::SequenceFull(ticket));
+        let is_full = is_full(self.last, promised);
+        if let Some(obstacle) = entry_obstacle(pull, group, local, is_full) {
+            return Err(not_entered(obstacle, ticket));
         }
         if make_ready(&mut self.entries, promised, &mut self.pulls, place).is_err() {
             return Err(NotEntered::OutOfMemory(ticket));
@@ -388,6 +379,29 @@ impl FolderCore for PlainFolder {
         }
     }
 
+    /// O(log n + d^2 + k + b) for n records kept, d devices that announce the name, k open pulls, and b blocks and counters of
+    /// what is found and of the local record; O(1) for an index and `Forget`.
+    fn accepts(&self, change: &Change) -> bool
+        ensures { result ≡ is_accepted (step self.now change.now).0 }
+    {
+        match change {
+            Change::ScanFound {
+                name,
+                expected,
+                found,
+                ..
+            } => self.accepts_found(name, expected.as_ref(), found),
+            Change::ScanGone { name, expected, .. } => self.accepts_gone(name, expected.as_ref()),
+            Change::IndexFull { .. } | Change::IndexMore { .. } | Change::Forget { .. } => true,
+            Change::BeginPull { name } => self.accepts_begin(name),
+            Change::EnterCommit { ticket } => self.accepts_entry(ticket),
+            Change::GiveUp { ticket } => self.has_open(ticket, Stage::Pulling),
+            Change::Finish { commit, .. } | Change::Abort { commit } => {
+                self.has_open(commit, Stage::Committing)
+            }
+        }
+    }
+
     /// O(n + k) for n records kept and k open pulls. The records are not copied but shared. Where there is neither record
     /// nor pull it does not allocate.
     fn plain_copy(&self) -> Result<PlainFolder, AllocError>
@@ -409,7 +423,7 @@ impl PlainFolder {
     /// The folder of this device that has these records and no open pull; `last` is the last sequence that it gave, 0 if none.
     /// Fails with `BadRecords` where there is no such folder: if `last` is negative, a device has two records of a name, or
     /// this device's records are not all valid, with distinct sequences from 1 to `last`. Fails with `OutOfMemory` only if
-    /// there are records.
+    /// there are records and `last` is not negative, and never where the records are in order and none is this device's.
     ///
     /// O(n log n) for n records; none is copied. Records that are in order, as [`records`](PlainFolder::records) lends them,
     /// are not sorted.
@@ -423,6 +437,8 @@ impl PlainFolder {
         ensures restored { IfOk result (λ folder. folder ≡ restored_folder me (map given records) last) }
         ensures refused { IfErr result (λ fault. fault ≡ BadRecords → ¬ (MayRestore me (map given records) last)) }
         ensures none { records ≡ [] → IfErr result (λ fault. fault ≡ BadRecords) }
+        ensures negative { is_natural last ≡ false → IfErr result (λ fault. fault ≡ BadRecords) }
+        ensures in_order { Rises records → filter (is_from me) records ≡ [] → IfErr result (λ fault. fault ≡ BadRecords) }
     {
         let Ok(last) = u64::try_from(last) else {
             return Err(RestoreFault::BadRecords);

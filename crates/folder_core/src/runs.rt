@@ -1,7 +1,7 @@
 //! Changes as values, made on any folder.
-ghost use Rattle.std.specs.Prelude.{◌≡◌, All, IfErr, IfOk};
+ghost use Rattle.std.specs.Prelude.{◌≡◌, [], All, IfErr, IfOk, IsOk, IsTrue};
 ghost use Rattle.folder_core.specs.Calls.{Changes, begin_answer, close_answer, enter_answer, finish_answer, index_answer, scan_answer};
-ghost use Rattle.folder_core.specs.Runs.{IsPartway, made_answer, run};
+ghost use Rattle.folder_core.specs.Runs.{IsPartway, ends_pull, made_answer, run};
 ghost use Rattle.folder_core.specs.Steps.{MayChange};
 
 use crate::{
@@ -12,10 +12,12 @@ use bep_messages::Items;
 use std::alloc::{AllocError, Global};
 
 /// Makes a change on a folder, and returns its answer. A token of the change stands for the ticket or the commit that it was
-/// made from; one that is for no open pull is stray. Returns `Err` only if out of memory, and then nothing changed.
+/// made from; one that is for no open pull is stray. Returns `Err` only if out of memory, and then nothing changed; never
+/// for the end of a pull.
 pub fn make<C: FolderCore>(core: &mut C, change: Change) -> Result<Answer, AllocError>
     requires { MayChange (C.state core.old).me change }
-    ensures { Changes (C.state core.old) change (made_answer result) (C.state core.new) }
+    ensures made { Changes (C.state core.old) change (made_answer result) (C.state core.new) }
+    ensures ends { IsTrue (ends_pull change) → IsOk result }
 {
     match change {
         Change::ScanFound {
@@ -44,22 +46,44 @@ pub fn make<C: FolderCore>(core: &mut C, change: Change) -> Result<Answer, Alloc
     }
 }
 
-/// Makes changes on a folder, one after the other, and returns their answers. Returns `Err` only if out of memory; then the
-/// changes up to some one of them were made.
+/// Memory ran out before all changes were made.
+#[derive(Debug, PartialEq, Eq, Drop)]
+pub struct Partway {
+    /// The answers of the changes that were made, which are the first ones.
+    pub answers: Items<Answer>,
+}
+
+/// Makes changes on a folder, one after the other, and returns their answers. Returns `Err` only if out of memory, with the
+/// answers of the changes that were made until then. It does not allocate if there are none.
 pub fn make_all<C: FolderCore>(
     alloc: Global,
     core: &mut C,
     changes: Items<Change>,
-) -> Result<Items<Answer>, AllocError>
+) -> Result<Items<Answer>, Partway>
     requires { All (MayChange (C.state core.old).me) changes }
     ensures ok { IfOk result (λ answers. (answers, C.state core.new) ≡ run (C.state core.old) changes) }
-    ensures err { IfErr result (λ _. IsPartway (C.state core.old) changes (C.state core.new)) }
+    ensures err { IfErr result (λ partway. IsPartway (C.state core.old) changes partway.answers (C.state core.new)) }
+    ensures nothing { changes ≡ [] → IsOk result }
 {
     let mut answers = Vec::new(alloc);
     for change in changes.into_vec() {
-        answers.push(make(core, change)?)?;
+        if answers.reserve(1).is_err() {
+            return Err(stopped(answers));
+        }
+        match make(core, change) {
+            Ok(answer) => answers.push_reserved(answer),
+            Err(_) => return Err(stopped(answers)),
+        }
     }
     Ok(Items::from_vec(answers))
+}
+
+fn stopped(answers: Vec<Answer>) -> Partway
+    ensures { result.answers ≡ answers.items }
+{
+    Partway {
+        answers: Items::from_vec(answers),
+    }
 }
 
 fn scan_answer(answer: Result<ScanAnswer, ScanFault>) -> Result<Answer, AllocError>

@@ -1,9 +1,9 @@
-//! Copies of changes, answers and entries, and which of them are equal.
+//! Copies of changes and answers, and which of them are equal.
 use crate::rows::{
     Row, device, directory, file, file_content, moment, name, record, records, version,
 };
 use bep_messages::Items;
-use folder_core::{Answer, Best, Change, Entry, Finding, FoundContent, Place, Token};
+use folder_core::{Answer, Best, Change, Finding, FoundContent, Place, Token};
 use std::process::Abort;
 use sync_record::Assembled;
 
@@ -34,23 +34,6 @@ fn copies_changes(rt: HostRuntime) {
         for (other_at, other) in changes.iter().enumerate() {
             assert_eq!(rt; copy == *other, at == other_at, "{copy:?} and {other:?}");
         }
-    }
-}
-
-#[test]
-fn copies_entries(rt: HostRuntime) {
-    let entries = [
-        entry(&rt, 1, 1, Answer::Done(5)),
-        entry(&rt, 2, 1, Answer::Done(5)),
-        entry(&rt, 1, 2, Answer::Done(5)),
-        entry(&rt, 1, 1, Answer::Done(6)),
-    ];
-    let copy = match entries[0].copy() {
-        Err(_) => entries[0].copy().expect(&rt, "a copy"),
-        Ok(copy) => copy,
-    };
-    for (at, entry) in entries.iter().enumerate() {
-        assert_eq!(rt; copy == *entry, at == 0, "{entry:?}");
     }
 }
 
@@ -183,15 +166,6 @@ fn add_pulls(rt: &(impl AllocGlobal + Abort), changes: &mut Items<Change>, numbe
         },
     ] {
         changes.push(change).expect(rt, "a change");
-    }
-}
-
-fn entry(rt: &(impl AllocGlobal + Abort), pass: u64, number: u64, answer: Answer) -> Entry {
-    let ticket = token(rt, number);
-    Entry {
-        pass,
-        change: Change::GiveUp { ticket },
-        answer,
     }
 }
 

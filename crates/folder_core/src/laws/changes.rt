@@ -9,8 +9,6 @@ ghost use Rattle.sync_record.specs.Validity.{is_valid};
 ghost use Rattle.folder_core.specs.Announced.{key};
 ghost use Rattle.folder_core.specs.States.{FolderState, IsFolder, IsNumbered, local};
 ghost use Rattle.folder_core.specs.Samples.{me};
-ghost use Rattle.folder_core.specs.declared.history.Entry.{Entry};
-ghost use Rattle.folder_core.specs.Histories.{IsLegal, state_after, ChangesKeepFolders};
 ghost use Rattle.folder_core.specs.Calls.{Changes, index_answer};
 ghost use Rattle.folder_core.specs.declared.change.Change.{Change};
 ghost use Rattle.folder_core.specs.declared.change.Change.TheVariants.{ScanFound, ScanGone, IndexFull, IndexMore, Forget, BeginPull, EnterCommit, Finish, GiveUp, Abort};
@@ -32,14 +30,11 @@ pub fn other_answers_keep_the_state()
         ⊎ (((t : Token) × (a ≡ Begun t)) ⊎ ((t : Token) × (a ≡ Entered t))))))) }
 {}
 
-/// An empty folder is a folder, and each change that keeps its caller's conditions leads from a folder to a
-/// folder; so does a legal history.
+/// An empty folder is a folder, and each change that keeps its caller's conditions leads from a folder to a folder.
 pub fn changes_keep_folders()
     ensures empty { (me : Identity) →
         IsFolder (record { me = me; announced = empty; last = 0; pulls = empty }) }
-    ensures change { ChangesKeepFolders }
-    ensures history { (passes : ℕ) (s : FolderState) (es : List Entry) →
-        IsFolder s → IsLegal passes s es → IsFolder (state_after s es) }
+    ensures change { (s : FolderState) (c : Change) → IsFolder s → MayChange s.me c → IsFolder (step s c).1 }
 {}
 
 /// What a caller of a change need not ensure: any index of another device may come, whatever it says; a directory may be found,

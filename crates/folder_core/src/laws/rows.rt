@@ -4,13 +4,13 @@ ghost use Rattle.std.specs.FinMap.{entries};
 ghost use Rattle.folder_core.specs.Announced.{is_candidate, best};
 ghost use Rattle.folder_core.specs.States.{need};
 ghost use Rattle.folder_core.specs.Reads.{best_found, local_since, places, counts, known, need_page};
-ghost use Rattle.folder_core.specs.Samples.{Leads, SharedLeads, me, p1, p2, p3, x, y, file, recorded, two_files, places_of_abd, counts_of_two, deletion, content, modified, abc, by, folder};
+ghost use Rattle.folder_core.specs.Samples.{Leads, me, p1, p2, p3, x, y, file, recorded, two_files, places_of_abd, counts_of_two, deletion, content, modified, abc, by, folder};
 ghost use Rattle.folder_core.specs.Samples.{ring, deleted_and_live, deleted_alone, modified_by_5_and_7, cut_short, one_version, one_content, invalid_above};
 ghost use Rattle.folder_core.specs.Samples.{nanoseconds_apart, counters_apart, shared_by_two, of_each_kind, counts_of_each_kind};
 ghost use Rattle.folder_core.specs.Samples.{deleted_there, deletion_ticket, deletion_pulled};
 ghost use Rattle.folder_core.specs.Samples.{target, full_target, offered, appeared, local_moves, commit_is_closed, target_is_withdrawn};
 ghost use Rattle.folder_core.specs.Samples.{commit_merges, stray_tickets, other_tickets, no_sequence_to_enter, link_offered, scans, counter_is_full, sequences_end};
-ghost use Rattle.folder_core.specs.Samples.{commit_keeps_sequence, history_of_2, history_of_3, history_of_4};
+ghost use Rattle.folder_core.specs.Samples.{commit_keeps_sequence};
 ghost use Rattle.folder_core.specs.declared.change.Change.TheVariants.{IndexFull, IndexMore, BeginPull};
 ghost use Rattle.folder_core.specs.declared.answer.Answer.TheVariants.{Applied, NotNeeded, Unsupported, Begun};
 ghost use Rattle.folder_core.specs.Steps.{step};
@@ -59,13 +59,6 @@ pub fn changes_in_rows()
     ensures last { Leads (folder [] 9223372036854775806 []) sequences_end }
     ensures last_but_one { Leads (folder (by p1 target ∷ []) 9223372036854775806 []) commit_keeps_sequence }
     ensures no_sequence { Leads (folder (by p1 target ∷ []) 9223372036854775807 []) no_sequence_to_enter }
-{}
-
-/// Histories of 2, 3 and 4 entries at most, in worked rows.
-pub fn histories_in_rows()
-    ensures two { SharedLeads 2 0 (folder [] 0 []) history_of_2 }
-    ensures three { SharedLeads 3 0 (folder [] 0 []) history_of_3 }
-    ensures four { SharedLeads 4 0 (folder [] 0 []) history_of_4 }
 {}
 
 /// Reads in worked rows.

@@ -1,10 +1,10 @@
 //! The names whose best is needed.
 ghost use Rattle.std.specs.Prelude.{◌≡◌, ◌<◌, [], ◌∷◌, IfOk, IfSome, IsOk, MatchOption, length, option_copied, take};
 ghost use Rattle.folder_core.specs.Plain.{Rises};
-ghost use Rattle.folder_core.specs.PlainReads.{is_needed_over, needed_names, needed_of, record_from};
+ghost use Rattle.folder_core.specs.PlainReads.{is_needed_over, needed_names, needed_of};
 
 use super::group::{best_of, count_of};
-use super::own::entry_from;
+use super::own::record_from;
 use crate::Announcement;
 use std::alloc::{AllocError, Global};
 use sync_names::SafeName;
@@ -75,16 +75,16 @@ fn needed_of(group: &[Announcement], device: DeviceId) -> Option<&Announcement>
     ensures { option_copied result ≡ needed_of device group.now }
 {
     let best = best_of(group)?;
-    is_needed(group, device, &best.record).then_some(best)
+    is_needed(record_from(group, device), &best.record).then_some(best)
 }
 
-/// Whether the device needs the best of the entries of one name: its own record is of another version, or it has none and
-/// the best isn't deleted. O(k) for k entries.
-fn is_needed(group: &[Announcement], device: DeviceId, best: &Record) -> bool
-    ensures { result ≡ is_needed_over (record_from device group.now) best.now }
+/// Whether a best is needed over this local record: its version is another, or it isn't deleted where there is none. Does not
+/// allocate. O(v) for v counters.
+pub(super) fn is_needed(own: Option<&Record>, best: &Record) -> bool
+    ensures { result ≡ is_needed_over (option_copied own.entry) best.now }
 {
-    match entry_from(group, device) {
-        Some(own) => own.record.version() != best.version(),
+    match own {
+        Some(own) => own.version() != best.version(),
         None => !best.is_deleted(),
     }
 }

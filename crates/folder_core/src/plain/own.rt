@@ -1,10 +1,11 @@
 //! A device's records among the entries.
 ghost use Rattle.std.specs.Prelude.{◌≡◌, None, IfOk, IsOk, find, option_copied};
-ghost use Rattle.folder_core.specs.PlainReads.{greatest_sequence, is_from, record_from};
+ghost use Rattle.folder_core.specs.PlainReads.{greatest_sequence, is_from, record_from, version_of};
 
 use crate::Announcement;
 use std::alloc::AllocError;
 use sync_record::{DeviceId, Record};
+use sync_version::Version;
 
 /// The first of the entries that is the device's. O(k) for k entries.
 pub(super) fn entry_from(entries: &[Announcement], device: DeviceId) -> Option<&Announcement>
@@ -19,6 +20,16 @@ pub(super) fn record_from(entries: &[Announcement], device: DeviceId) -> Option<
 {
     match entry_from(entries, device) {
         Some(entry) => Some(&entry.record),
+        None => None,
+    }
+}
+
+/// The version of the record, if there is one.
+pub(super) fn version_of(own: Option<&Record>) -> Option<&Version>
+    ensures { option_copied result ≡ version_of (option_copied own.entry) }
+{
+    match own {
+        Some(own) => Some(own.version()),
         None => None,
     }
 }

@@ -1,7 +1,5 @@
-ghost use Rattle.std.specs.Prelude.{◌≡◌, option_copied, option_map};
-
+use super::own::version_of;
 use sync_record::Record;
-use sync_version::Version;
 
 /// An open pull, under its target's name.
 #[derive(Debug, Drop)]
@@ -28,14 +26,8 @@ impl PartialEq for OpenPull {
     /// Does not allocate. O(s) for s bytes of both.
     fn eq(&self, other: &OpenPull) -> bool {
         self.number == other.number
-            && version(&self.base) == version(&other.base)
+            && version_of(self.base.as_ref()) == version_of(other.base.as_ref())
             && self.target == other.target
             && self.ready.is_some() == other.ready.is_some()
     }
-}
-
-fn version(record: &Option<Record>) -> Option<&Version>
-    ensures { option_copied result ≡ option_map (λ r. r.version) «record».now }
-{
-    record.as_ref().map(|record| record.version())
 }

@@ -1,18 +1,21 @@
 //! The open pulls of a folder.
-ghost use Rattle.std.specs.Prelude.{◌≡◌, ◌+◌, ◌<◌, ◌≤◌, ◌&&◌, ◌==◌, None, Some, false, not, IfOk, IfSome, IfErr, OnErr, OnOk, MatchOption, bytes_eq, filter, length, map, option_and_then, option_copied, slice_get, slice_set, vec_len, vec_capacity};
-ghost use Rattle.std.specs.List.{insert, list_any, reduce, remove};
-ghost use Rattle.std.specs.Option.{option_map_or};
-ghost use Rattle.sync_record.specs.Contents.{same_content};
-ghost use Rattle.sync_version.specs.Computed.{same_version};
-ghost use Rattle.folder_core.specs.Plain.{better, commits, is_undominated, stage_of};
-ghost use Rattle.folder_core.specs.PlainPulls.{is_for, is_needed_over, is_unsupported, place_of, pull_for, version_of};
+ghost use Rattle.std.specs.Prelude.{◌≡◌, ◌+◌, ◌<◌, ◌≤◌, ◌==◌, Err, None, Ok, Some, not, IfOk, IfSome, OnErr, OnOk, MatchOption, bytes_eq, length, map, option_and_then, option_copied, option_map, slice_get, slice_set, vec_len, vec_capacity};
+ghost use Rattle.std.specs.List.{insert, list_any, remove};
+ghost use Rattle.std.specs.Result.{result_err};
+ghost use Rattle.folder_core.specs.Calls.{GivesBack, begin_answer, enter_answer};
+ghost use Rattle.folder_core.specs.Plain.{commits, stage_of};
+ghost use Rattle.folder_core.specs.PlainPulls.{begin_refusal, begin_tests_of, best_in, entry_refusal, entry_tests_of, is_best_in, is_for, is_unsupported, place_of, pull_for};
+ghost use Rattle.folder_core.specs.PlainReads.{version_of};
+ghost use Rattle.folder_core.specs.PlainScans.{first_of};
 ghost use Rattle.folder_core.specs.States.{same_local_version, same_stage};
 ghost use Rattle.folder_core.specs.Steps.{committed_record, least_free};
 ghost use Rattle.folder_core.specs.declared.stage.Stage.TheVariants.{Committing};
 
 use super::group::best_of;
+use super::need::is_needed;
+use super::own::version_of;
 use super::pull::OpenPull;
-use crate::{Announcement, Stage, Token};
+use crate::{Announcement, BeginAnswer, NotEntered, Stage, Ticket, Token};
 use std::alloc::{AllocError, Global};
 use sync_names::SafeName;
 use sync_record::{Kind, Record, same_content};
@@ -138,41 +141,113 @@ fn has_number(pulls: &[OpenPull], number: u64) -> bool
     pulls.iter().any(|pull| pull.number == number)
 }
 
-/// Whether a best is needed over this local record: its version is another, or it is live where there is none.
-pub(super) fn is_needed(local: Option<&Record>, best: &Record) -> bool
-    ensures { result ≡ is_needed_over (option_copied local.entry) best.now }
+/// Why no pull of a name begins.
+#[derive(Clone, Copy, Debug, PartialEq, Eq)]
+pub(super) enum BeginObstacle {
+    Busy,
+    NotNeeded,
+    Unsupported,
+}
+
+/// The best of the entries of one name, which a pull of it would fetch over this local record; or the first test of a begin
+/// that holds, in the order of the rules. Does not allocate. O(d^2 + v) for d entries and v counters.
+pub(super) fn best_to_pull<'a>(
+    is_open: bool,
+    announced: &'a [Announcement],
+    local: Option<&Record>,
+) -> Result<&'a Announcement, BeginObstacle>
+    ensures best { IfOk result (λ b. best_in announced.now ≡ Some b.now) }
+    ensures refused { option_map begin_refusal (result_err result) ≡ first_of (begin_tests_of is_open (option_copied local.entry) (best_in announced.now)) }
 {
-    match local {
-        Some(local) => local.version() != best.version(),
-        None => !best.is_deleted(),
+    if is_open {
+        return Err(BeginObstacle::Busy);
+    }
+    let Some(best) = best_of(announced) else {
+        return Err(BeginObstacle::NotNeeded);
+    };
+    if !is_needed(local, &best.record) {
+        return Err(BeginObstacle::NotNeeded);
+    }
+    if is_unsupported(&best.record) {
+        return Err(BeginObstacle::Unsupported);
+    }
+    Ok(best)
+}
+
+/// What a begin answers for this reason.
+pub(super) fn begin_refused(obstacle: BeginObstacle) -> BeginAnswer
+    ensures { begin_answer (Ok result) ≡ Some (begin_refusal obstacle) }
+{
+    match obstacle {
+        BeginObstacle::Busy => BeginAnswer::Busy,
+        BeginObstacle::NotNeeded => BeginAnswer::NotNeeded,
+        BeginObstacle::Unsupported => BeginAnswer::Unsupported,
     }
 }
 
 /// Whether the record is live, and neither a file nor a directory.
-pub(super) fn is_unsupported(record: &Record) -> bool
+fn is_unsupported(record: &Record) -> bool
     ensures { result ≡ is_unsupported «record».now }
 {
     !record.is_deleted() && record.kind() == Kind::Other
 }
 
 /// Whether the local record is of another version than the base.
-pub(super) fn has_moved(local: Option<&Record>, base: Option<&Record>) -> bool
+fn has_moved(local: Option<&Record>, base: Option<&Record>) -> bool
     ensures { result ≡ not (same_local_version (version_of (option_copied local.entry)) (version_of (option_copied base.entry))) }
 {
-    match (local, base) {
-        (Some(local), Some(base)) => local.version() != base.version(),
-        (None, None) => false,
-        _ => true,
-    }
+    version_of(local) != version_of(base)
 }
 
 /// Whether the best of the entries of one name has the version and the content of the record. O(k^2) for k entries.
-pub(super) fn is_best(group: &[Announcement], record: &Record) -> bool
-    ensures { result ≡ option_map_or (λ b. same_version b.record.version «record».now.version && same_content b.record «record».now) (reduce better (filter (is_undominated group.now) group.now)) false }
+fn is_best(group: &[Announcement], record: &Record) -> bool
+    ensures { result ≡ is_best_in group.now «record».now }
 {
     best_of(group).is_some_and(|best| {
         best.record.version() == record.version() && same_content(&best.record, record)
     })
+}
+
+/// Why the commit of an open pull is not entered.
+#[derive(Clone, Copy, Debug, PartialEq, Eq)]
+pub(super) enum EntryObstacle {
+    LocalMoved,
+    Superseded,
+    SequenceFull,
+}
+
+/// The first test of the entrance of the pull's commit that holds, in the order of the rules, where these are the entries of
+/// its name and this is the local record among them. Does not allocate. O(d^2 + b) for d entries, and b blocks and counters.
+pub(super) fn entry_obstacle(
+    pull: &OpenPull,
+    group: &[Announcement],
+    local: Option<&Record>,
+    is_full: bool,
+) -> Option<EntryObstacle>
+    ensures { option_map entry_refusal result ≡ first_of (entry_tests_of pull.now (option_copied local.entry) (is_best_in group.now pull.now.target) is_full) }
+{
+    if has_moved(local, pull.base.as_ref()) {
+        return Some(EntryObstacle::LocalMoved);
+    }
+    if !is_best(group, &pull.target) {
+        return Some(EntryObstacle::Superseded);
+    }
+    if is_full {
+        return Some(EntryObstacle::SequenceFull);
+    }
+    None
+}
+
+/// What an entrance answers for this reason. The ticket is given back.
+pub(super) fn not_entered(obstacle: EntryObstacle, ticket: Ticket) -> NotEntered
+    ensures told { enter_answer (Err result) ≡ Some (entry_refusal obstacle) }
+    ensures given_back { GivesBack ticket result }
+{
+    match obstacle {
+        EntryObstacle::LocalMoved => NotEntered::LocalMoved(ticket),
+        EntryObstacle::Superseded => NotEntered::Superseded(ticket),
+        EntryObstacle::SequenceFull => NotEntered::SequenceFull(ticket),
+    }
 }
 
 /// Makes ready what the pull at this place will announce, and a place for it among the entries beside those that are

@@ -23,6 +23,7 @@ pub(super) fn in_order(mut records: Vec<Announcement>) -> Result<Vec<Announcemen
     ensures same { IfOk result (λ kept. IsPermutation records.items kept.items) }
     ensures repeated { IfErr result (λ fault. fault ≡ BadRecords → ¬ (IsOnce records.items)) }
     ensures in_order { Rises records.items → IsOk result }
+    ensures kept { Rises records.items → IfOk result (λ kept. kept.items ≡ records.items) }
 {
     if rises(records.as_slice()) {
         return Ok(records);

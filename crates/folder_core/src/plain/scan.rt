@@ -20,6 +20,7 @@ ghost use Rattle.sync_record.specs.Devices.{short_id};
 
 use super::merge::put;
 use super::open_commits;
+use super::own::version_of;
 use super::pull::OpenPull;
 use crate::copies::copied_version;
 use crate::{Announcement, Finding, FoundContent, ScanAnswer, ScanFault};
@@ -269,16 +270,6 @@ pub(super) fn scan_obstacle(
         me.short_id(),
         is_full(last, open_commits(pulls)),
     )
-}
-
-/// The version of the record.
-pub(super) fn version_of(local: Option<&Record>) -> Option<&Version>
-    ensures { option_copied result ≡ option_map (λ r. r.version) (option_copied local.entry) }
-{
-    match local {
-        Some(record) => Some(record.version()),
-        None => None,
-    }
 }
 
 /// Whether there is no live record.

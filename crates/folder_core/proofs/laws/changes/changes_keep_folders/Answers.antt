@@ -1,4 +1,4 @@
-use Rattle.folder_core.proofs.ChangeFolders.{empty-folder, step-folder, legal-folder}
+use Rattle.folder_core.proofs.ChangeFolders.{empty-folder, step-folder}
 use Rattle.folder_core.proofs.laws.changes.changes_keep_folders.Goals as goal
 
 pub returns-clause-empty : goal.returns-clause-empty
@@ -6,6 +6,3 @@ returns-clause-empty c = empty-folder
 
 pub returns-clause-change : goal.returns-clause-change
 returns-clause-change c = step-folder
-
-pub returns-clause-history : goal.returns-clause-history
-returns-clause-history c = legal-folder

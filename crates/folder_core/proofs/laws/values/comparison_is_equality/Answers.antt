@@ -1,4 +1,4 @@
-use Rattle.folder_core.proofs.Same.{answers, bests, changes, entries, findings, places, tokens}
+use Rattle.folder_core.proofs.Same.{announcements, answers, bests, changes, counts, findings, places, tokens}
 use Rattle.folder_core.proofs.laws.values.comparison_is_equality.Goals as goal
 
 pub returns-clause-changes : goal.returns-clause-changes
@@ -6,9 +6,6 @@ returns-clause-changes c = changes
 
 pub returns-clause-answers : goal.returns-clause-answers
 returns-clause-answers c = answers
-
-pub returns-clause-entries : goal.returns-clause-entries
-returns-clause-entries c = entries
 
 pub returns-clause-tokens : goal.returns-clause-tokens
 returns-clause-tokens c = tokens
@@ -21,3 +18,9 @@ returns-clause-places c = places
 
 pub returns-clause-bests : goal.returns-clause-bests
 returns-clause-bests c = bests
+
+pub returns-clause-announcements : goal.returns-clause-announcements
+returns-clause-announcements c = announcements
+
+pub returns-clause-counts : goal.returns-clause-counts
+returns-clause-counts c = counts

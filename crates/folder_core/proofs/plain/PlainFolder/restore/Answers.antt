@@ -4,7 +4,7 @@ use Rattle.std.specs.Prelude.{pos, filter}
 use Rattle.std.specs.List.Sorted.{IsPermutation}
 use Rattle.folder_core.specs.declared.plain.pull.OpenPull.{OpenPull}
 use Rattle.folder_core.specs.declared.restore_fault.RestoreFault.TheVariants.{BadRecords}
-use Rattle.folder_core.specs.Plain.{IsPlain, folder_of, pulls_of}
+use Rattle.folder_core.specs.Plain.{IsPlain, Rises, folder_of, pulls_of}
 use Rattle.folder_core.specs.PlainReads.{is_from}
 use Rattle.folder_core.specs.PlainRestores.{AreNumbered, IsOnce, given}
 use Rattle.folder_core.specs.Restores.{MayRestore, restored_folder}
@@ -16,6 +16,15 @@ returns-in_err-entries-clause-refused c =
     let not : c.in_err-entries.field-0.0 ≡ BadRecords → MayRestore c.args.me (map given c.args.records) c.args.last → ⊥ =
     λ bad may. c.in_err-entries.ensures.repeated bad (subst IsOnce (sym c.into_vec.ensures) (once-given c.args.me c.args.records c.args.records 0 may.once)) in
     search rules
+
+pub returns-in_err-entries-clause-in_order : goal.returns-in_err-entries-clause-in_order
+returns-in_err-entries-clause-in_order c = λ rises none.
+    absurd (true≢false (sym (c.in_err-entries.ensures.in_order (subst Rises (sym c.into_vec.ensures) rises))))
+
+pub returns-in_err-are_numbered-clause-in_order : goal.returns-in_err-are_numbered-clause-in_order
+returns-in_err-are_numbered-clause-in_order c = λ rises none.
+    let entries = c.in_ok-entries.ensures.kept (subst Rises (sym c.into_vec.ensures) rises) ∙ c.into_vec.ensures in
+    absurd (true≢false (sym (c.in_err-are_numbered.ensures.none (ap (filter (is_from c.args.me)) (c.as_slice.ensures.value ∙ entries) ∙ none))))
 
 pub returns-in_err-are_numbered-clause-none : goal.returns-in_err-are_numbered-clause-none
 returns-in_err-are_numbered-clause-none c = λ none.

@@ -1,0 +1,6 @@
+pub mod HistoryEntries
+pub mod HistoryFronts
+pub mod HistoryCommits
+pub mod HistoryShared
+pub mod Rows
+pub mod Same

@@ -1,0 +1,79 @@
+-- What a caller of a shared folder knows, and what each of its calls tells it.
+use Rattle.std.specs.Prelude.{◌≡◌, ℕ, ◌+◌, ◌≤◌, List, [], ◌∷◌, ◌++◌, length, Option, Some, None, MatchBool}
+use Rattle.std.specs.FinMap.{len}
+use mathlib.Core.List.{IsPrefix}
+use Rattle.folder_core.specs.States.{FolderState, IsFolder}
+use Rattle.folder_core.specs.declared.answer.Answer.{Answer}
+use Rattle.folder_core.specs.declared.change.Change.{Change}
+use Rattle.folder_core.specs.Steps.{is_accepted}
+use Rattle.folder_core.specs.Reads.{Query, Reply, Reads}
+use Rattle.folder_calls.specs.declared.at.At.{At}
+use Rattle.folder_calls.specs.declared.entry.Entry.{Entry}
+use Rattle.folder_calls.specs.Histories.{IsLegal, state_after, shared_answer, own_entries}
+
+-- what a caller knows: the state that the folder was opened with, the history's limit, the caller's pass,
+-- and the beginning of the history that it has seen
+pub record View : Type 0 where
+  pub opening : FolderState
+  pub limit : ℕ
+  pub pass : ℕ
+  pub seen : List Entry
+
+-- What a caller has seen is a history that a folder had: it was opened without open pulls, each entry follows from those before
+-- it and is of one of the passes that were given out, the caller's among them; and there is room for the entries that end the
+-- pulls that are then open.
+pub record IsLegalView (v : View) : Type 0 where
+  pub opening : IsFolder v.opening
+  pub no_pull : len v.opening.pulls ≡ 0
+  pub passes : ℕ
+  pub given : (1 ≤ v.pass) × (v.pass ≤ passes)
+  pub legal : IsLegal passes v.opening v.seen
+  pub room : length v.seen + len (state_after v.opening v.seen).pulls ≤ v.limit
+
+-- the view after this history
+abbrev pub seeing : View → List Entry → View
+seeing v seen = record v { seen = seen }
+
+-- the caller saw the history go on, without an entry of its own
+pub record Sees (old new : View) : Type 0 where
+  pub longer : IsPrefix old.seen new.seen
+  pub own : own_entries old.pass new.seen ≡ own_entries old.pass old.seen
+  pub same : new ≡ seeing old new.seen
+
+abbrev pub own_entry : View → Change → Answer → Entry
+own_entry v change answer = record { pass = v.pass; change = change; answer = answer }
+
+-- the change was made after what the caller then saw, and its entry is the last
+pub record Makes (old new : View) (change : Change) (answer : Answer) : Type 0 where
+  pub point : View
+  pub sees : Sees old point
+  pub answer_is : answer ≡ shared_answer old.limit old.opening point.seen change
+  pub entered : new ≡ seeing point (point.seen ++ own_entry old change answer ∷ [])
+
+-- the change was not made, by the answer at the point that the caller then knows
+pub record Declines (old new : View) (change : Change) (answer : Answer) : Type 0 where
+  pub sees : Sees old new
+  pub answer_is : answer ≡ shared_answer old.limit old.opening new.seen change
+
+-- the change got this answer, at the point that the caller then knows
+pub record IsAnswered (old : View) (change : Change) (told : At Answer) (new : View) : Type 0 where
+  pub point : told.at ≡ length new.seen
+  pub legal : IsLegalView new
+  pub answered : MatchBool (is_accepted told.value) (Makes old new change told.value) (Declines old new change told.value)
+
+-- Without an answer the call is out of memory: nothing was changed and nothing seen.
+abbrev pub Tells : View → Change → Option (At Answer) → View → Type 0
+Tells old change None new = new ≡ old
+Tells old change (Some told) new = IsAnswered old change told new
+
+-- a read answers of the point that the caller then knows
+pub record IsRead (old : View) (q : Query) (told : At (Reply q)) (new : View) : Type 0 where
+  pub point : told.at ≡ length new.seen
+  pub legal : IsLegalView new
+  pub sees : Sees old new
+  pub answer_is : Reads (state_after old.opening new.seen) q told.value
+
+-- Without an answer the read is out of memory, and nothing was seen.
+abbrev pub ReadsThere : View → (q : Query) → Option (At (Reply q)) → View → Type 0
+ReadsThere old q None new = new ≡ old
+ReadsThere old q (Some told) new = IsRead old q told new

@@ -1,0 +1,17 @@
+//! The laws of histories. A law is a function that does nothing, whose contract says of the definitions in `specs/` what
+//! follows from them in plainer words; so a reader who finds a law true of histories knows that the definitions mean it.
+
+mod calls;
+mod histories;
+mod rows;
+mod values;
+
+pub use calls::{
+    calls_may_be_answered_at_any_point, calls_share_one_history, views_are_of_folders,
+};
+pub use histories::{
+    commits_are_legal, histories_keep_folders, histories_keep_room, histories_may_be_divided,
+    legal_histories_grow, local_records_go_on, own_entries_are_those_of_the_pass,
+};
+pub use rows::histories_in_rows;
+pub use values::comparison_is_equality;
