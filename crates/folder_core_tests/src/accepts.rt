@@ -1,12 +1,12 @@
 //! What `accepts` says of a change, and what the change then comes to.
-ghost use Rattle.std.specs.Prelude.{◌≡◌, ◌≢◌};
-ghost use Rattle.folder_core.specs.Steps.{MayChange};
 
-use crate::calls::{assembled, folder, restored};
-use crate::rows::{ME, Row, device, directory, file, is_found, moment, name, records, version};
+use crate::calls::{assembled, copied, folder, restored};
+use crate::rows::{ME, Row, device, directory, file, moment, name, records, version};
+use crate::runs::may_change;
 use bep_messages::Items;
 use folder_core::{Answer, Change, FolderCore, PlainFolder, Token, make};
 use std::process::Abort;
+use sync_version::Version;
 
 #[test]
 fn accepts_a_pull_step_by_step(rt: HostRuntime) {
@@ -97,7 +97,7 @@ fn accepts_no_unsupported_best(rt: HostRuntime) {
     let mut folder = folder(&rt);
     let link = Row {
         kind: 4,
-        ..file("x", &[(1, 1)], 1)
+        ..file("x", &[], 1)
     };
     announces(&rt, &mut folder, 1, &link);
     begins(&rt, &mut folder, "x", "Unsupported", false);
@@ -112,18 +112,24 @@ fn accepts_no_unsupported_best(rt: HostRuntime) {
     begins(&rt, &mut folder, "x", "NotNeeded", false);
 }
 
-/// Asks whether the change is accepted, makes it, and compares both answers.
+/// Asks whether the change is accepted, makes it, and compares both answers. After out of memory it is made again.
 fn makes(
     rt: &(impl AllocGlobal + Abort),
     folder: &mut PlainFolder,
     change: Change,
     wanted: &str,
     is_accepted: bool,
-) -> Answer
-    requires { MayChange folder.old.me change }
-{
+) -> Answer {
+    let me = folder.me();
+    let before = copied(rt, folder);
+    let again = change.copy().expect(rt, "a copy");
+    assert!(rt; may_change(me, &change) && may_change(me, &again));
     assert!(rt; folder.accepts(&change) == is_accepted, "{wanted}");
-    let answer = make(folder, change).expect(rt, "an answer");
+    assert!(rt; folder.same_state(&before));
+    let answer = match make(folder, change) {
+        Err(_) => make(folder, again).expect(rt, "an answer"),
+        Ok(answer) => answer,
+    };
     assert!(rt; name_of(&answer) == wanted, "{answer:?} for {wanted}");
     answer
 }
@@ -159,12 +165,10 @@ fn finds(
     wanted: &str,
     is_accepted: bool,
 ) {
-    let found = directory(1);
-    assert!(rt; is_found(&found.content));
     let change = Change::ScanFound {
         name: name(rt, text),
-        expected: expected.map(|counters| version(rt, counters)),
-        found,
+        expected: expected_version(rt, expected),
+        found: directory(1),
         moment: moment(rt, 0),
     };
     makes(rt, folder, change, wanted, is_accepted);
@@ -181,18 +185,26 @@ fn loses(
 ) {
     let change = Change::ScanGone {
         name: name(rt, text),
-        expected: expected.map(|counters| version(rt, counters)),
+        expected: expected_version(rt, expected),
         moment: moment(rt, 0),
     };
     makes(rt, folder, change, wanted, is_accepted);
 }
 
+fn expected_version(
+    rt: &(impl AllocGlobal + Abort),
+    counters: Option<&[(u64, u64)]>,
+) -> Option<Version> {
+    match counters {
+        Some(counters) => Some(version(rt, counters)),
+        None => None,
+    }
+}
+
 /// The device announces this record too.
 fn announces(rt: &(impl AllocGlobal + Abort), folder: &mut PlainFolder, number: u8, row: &Row) {
-    let peer = device(number);
-    assert!(rt; peer != folder.me());
     let change = Change::IndexMore {
-        device: peer,
+        device: device(number),
         records: records(rt, &[*row]),
     };
     makes(rt, folder, change, "Applied", true);
@@ -200,17 +212,14 @@ fn announces(rt: &(impl AllocGlobal + Abort), folder: &mut PlainFolder, number: 
 
 /// The device announces nothing any more.
 fn forgets(rt: &(impl AllocGlobal + Abort), folder: &mut PlainFolder, number: u8) {
-    let peer = device(number);
-    assert!(rt; peer != folder.me());
-    makes(rt, folder, Change::Forget { device: peer }, "Applied", true);
+    let device = device(number);
+    makes(rt, folder, Change::Forget { device }, "Applied", true);
 }
 
 /// The device announces nothing, by an index without records.
 fn clears(rt: &(impl AllocGlobal + Abort), folder: &mut PlainFolder, number: u8) {
-    let peer = device(number);
-    assert!(rt; peer != folder.me());
     let change = Change::IndexFull {
-        device: peer,
+        device: device(number),
         records: Items::new(rt.alloc()),
     };
     makes(rt, folder, change, "Applied", true);
@@ -261,7 +270,7 @@ fn finishes(
     is_accepted: bool,
 ) {
     let commit = token.copy().expect(rt, "a copy");
-    let assembled = assembled(rt, &commit.target);
+    let assembled = assembled(rt, &token.target);
     makes(
         rt,
         folder,

@@ -184,7 +184,7 @@ fn makes(
 }
 
 /// Whether a caller may ask for the change.
-fn may_change(me: DeviceId, change: &Change) -> bool
+pub(crate) fn may_change(me: DeviceId, change: &Change) -> bool
     ensures { IsTrue result → MayChange me change.now }
 {
     match change {
