@@ -1,5 +1,5 @@
 //! Changes as values, made one after the other: worked rows of the rules, and what the calls of a folder leave.
-ghost use Rattle.std.specs.Prelude.{IsTrue};
+ghost use Rattle.std.specs.Prelude.{All, IsTrue};
 ghost use Rattle.folder_core.specs.Steps.{MayChange};
 
 use crate::calls::{
@@ -7,7 +7,7 @@ use crate::calls::{
 };
 use crate::rows::{Row, device, directory, is_found, moment, name, record, records, version};
 use bep_messages::Items;
-use folder_core::{Answer, Change, FolderCore, PlainFolder, Token, make};
+use folder_core::{Answer, Change, FolderCore, Partway, PlainFolder, Token, make, make_all};
 use std::process::Abort;
 use sync_record::DeviceId;
 
@@ -34,6 +34,43 @@ fn makes_changes_one_after_the_other(rt: HostRuntime) {
         makes(&rt, &mut folder, change, wanted);
     }
     assert!(rt; folder.same_state(&changed(&rt)));
+}
+
+#[test]
+fn keeps_the_answers_when_memory_runs_out(rt: HostRuntime) {
+    let mut folder = folder(&rt);
+    let steps = steps(&rt);
+    let answers = makes_all(&rt, &mut folder, steps.as_slice());
+    let made = answers.as_slice().len();
+    for (answer, (_, wanted)) in answers.as_slice().iter().zip(steps.as_slice()) {
+        assert_eq!(rt; answer, wanted);
+    }
+    // What was not made is made one by one.
+    for (change, wanted) in steps.as_slice().iter().skip(made) {
+        makes(&rt, &mut folder, change, wanted);
+    }
+    assert!(rt; folder.same_state(&changed(&rt)));
+}
+
+/// Makes all changes in a row, and returns the answers of those that were made.
+fn makes_all(
+    rt: &(impl AllocGlobal + Abort),
+    folder: &mut PlainFolder,
+    steps: &[(Change, Answer)],
+) -> Items<Answer> {
+    let mut changes = Items::new(rt.alloc());
+    for (change, _) in steps {
+        let copy = change.copy().expect(rt, "a copy");
+        changes.push(copy).expect(rt, "a change");
+    }
+    assert!(rt; may_make(folder.me(), changes.as_slice()));
+    match make_all(rt.alloc(), folder, changes) {
+        Ok(answers) => {
+            assert_eq!(rt; answers.as_slice().len(), steps.len());
+            answers
+        }
+        Err(Partway { answers }) => answers,
+    }
 }
 
 /// The folder after the calls of the same changes.
@@ -181,6 +218,13 @@ fn makes(
         Ok(answer) => answer,
     };
     assert_eq!(rt; &answer, wanted);
+}
+
+/// Whether a caller may ask for these changes.
+fn may_make(me: DeviceId, changes: &[Change]) -> bool
+    ensures { IsTrue result → All (MayChange me) changes.now }
+{
+    changes.iter().all(|change| may_change(me, change))
 }
 
 /// Whether a caller may ask for the change.
