@@ -1,0 +1,294 @@
+//! What `accepts` says of a change, and what the change then comes to.
+ghost use Rattle.std.specs.Prelude.{◌≡◌, ◌≢◌};
+ghost use Rattle.folder_core.specs.Steps.{MayChange};
+
+use crate::calls::{assembled, folder, restored};
+use crate::rows::{ME, Row, device, directory, file, is_found, moment, name, records, version};
+use bep_messages::Items;
+use folder_core::{Answer, Change, FolderCore, PlainFolder, Token, make};
+use std::process::Abort;
+
+#[test]
+fn accepts_a_pull_step_by_step(rt: HostRuntime) {
+    let mut folder = folder(&rt);
+    begins(&rt, &mut folder, "x", "NotNeeded", false);
+    announces(&rt, &mut folder, 1, &file("x", &[(1, 2)], 1));
+    let token = begun(&rt, &mut folder, "x");
+    begins(&rt, &mut folder, "x", "Busy", false);
+    // It is a ticket, and no commit yet.
+    finishes(&rt, &mut folder, &token, "Stray", false);
+    aborts(&rt, &mut folder, &token, "Stray", false);
+    enters(&rt, &mut folder, &token, "Entered", true);
+    // It is a commit, and no ticket any more.
+    enters(&rt, &mut folder, &token, "Stray", false);
+    gives_up(&rt, &mut folder, &token, "Stray", false);
+    loses(&rt, &mut folder, "x", None, "Busy", false);
+    finds(&rt, &mut folder, "x", None, "Busy", false);
+    finishes(&rt, &mut folder, &token, "Done", true);
+    finishes(&rt, &mut folder, &token, "Stray", false);
+    begins(&rt, &mut folder, "x", "NotNeeded", false);
+}
+
+#[test]
+fn accepts_what_scans_find(rt: HostRuntime) {
+    let mut folder = folder(&rt);
+    loses(&rt, &mut folder, "x", None, "Unchanged", false);
+    loses(&rt, &mut folder, "x", Some(&[(ME, 1)]), "Moved", false);
+    finds(&rt, &mut folder, "x", Some(&[]), "Moved", false);
+    finds(&rt, &mut folder, "x", None, "Recorded", true);
+    finds(&rt, &mut folder, "x", None, "Moved", false);
+    finds(&rt, &mut folder, "x", Some(&[(ME, 1)]), "Unchanged", false);
+    loses(&rt, &mut folder, "x", Some(&[(ME, 1)]), "Recorded", true);
+    loses(&rt, &mut folder, "x", Some(&[(ME, 2)]), "Unchanged", false);
+    finds(&rt, &mut folder, "x", Some(&[(ME, 2)]), "Recorded", true);
+}
+
+#[test]
+fn accepts_no_counter_past_the_greatest(rt: HostRuntime) {
+    let mut folder = folder(&rt);
+    let greatest: &[(u64, u64)] = &[(ME, u64::MAX)];
+    announces(&rt, &mut folder, 1, &file("x", greatest, 2));
+    let token = begun(&rt, &mut folder, "x");
+    enters(&rt, &mut folder, &token, "Entered", true);
+    finishes(&rt, &mut folder, &token, "Done", true);
+    finds(&rt, &mut folder, "x", Some(greatest), "CounterFull", false);
+    loses(&rt, &mut folder, "x", Some(greatest), "CounterFull", false);
+}
+
+#[test]
+fn accepts_no_sequence_past_the_greatest(rt: HostRuntime) {
+    let mut folder = restored(&rt, &[], 9_223_372_036_854_775_806);
+    announces(&rt, &mut folder, 1, &file("x", &[(1, 1)], 1));
+    announces(&rt, &mut folder, 1, &file("y", &[(1, 1)], 1));
+    let first = begun(&rt, &mut folder, "x");
+    let second = begun(&rt, &mut folder, "y");
+    enters(&rt, &mut folder, &first, "Entered", true);
+    // The last sequence is the commit's.
+    finds(&rt, &mut folder, "z", None, "SequenceFull", false);
+    enters(&rt, &mut folder, &second, "SequenceFull", false);
+    aborts(&rt, &mut folder, &first, "Closed", true);
+    finds(&rt, &mut folder, "z", None, "Recorded", true);
+    loses(
+        &rt,
+        &mut folder,
+        "z",
+        Some(&[(ME, 1)]),
+        "SequenceFull",
+        false,
+    );
+    enters(&rt, &mut folder, &second, "SequenceFull", false);
+}
+
+#[test]
+fn accepts_no_commit_over_another_version(rt: HostRuntime) {
+    let mut folder = folder(&rt);
+    announces(&rt, &mut folder, 1, &file("x", &[(1, 1)], 1));
+    let token = begun(&rt, &mut folder, "x");
+    announces(&rt, &mut folder, 2, &file("x", &[(1, 2)], 2));
+    enters(&rt, &mut folder, &token, "Superseded", false);
+    finds(&rt, &mut folder, "x", None, "Recorded", true);
+    enters(&rt, &mut folder, &token, "LocalMoved", false);
+    gives_up(&rt, &mut folder, &token, "Closed", true);
+    gives_up(&rt, &mut folder, &token, "Stray", false);
+}
+
+#[test]
+fn accepts_no_unsupported_best(rt: HostRuntime) {
+    let mut folder = folder(&rt);
+    let link = Row {
+        kind: 4,
+        ..file("x", &[(1, 1)], 1)
+    };
+    announces(&rt, &mut folder, 1, &link);
+    begins(&rt, &mut folder, "x", "Unsupported", false);
+    forgets(&rt, &mut folder, 1);
+    clears(&rt, &mut folder, 1);
+    begins(&rt, &mut folder, "x", "NotNeeded", false);
+    let deleted = Row {
+        deleted: true,
+        ..file("x", &[(1, 1)], 1)
+    };
+    announces(&rt, &mut folder, 1, &deleted);
+    begins(&rt, &mut folder, "x", "NotNeeded", false);
+}
+
+/// Asks whether the change is accepted, makes it, and compares both answers.
+fn makes(
+    rt: &(impl AllocGlobal + Abort),
+    folder: &mut PlainFolder,
+    change: Change,
+    wanted: &str,
+    is_accepted: bool,
+) -> Answer
+    requires { MayChange folder.old.me change }
+{
+    assert!(rt; folder.accepts(&change) == is_accepted, "{wanted}");
+    let answer = make(folder, change).expect(rt, "an answer");
+    assert!(rt; name_of(&answer) == wanted, "{answer:?} for {wanted}");
+    answer
+}
+
+fn name_of(answer: &Answer) -> &'static str {
+    match answer {
+        Answer::Busy => "Busy",
+        Answer::Moved(_) => "Moved",
+        Answer::Unchanged => "Unchanged",
+        Answer::CounterFull => "CounterFull",
+        Answer::SequenceFull => "SequenceFull",
+        Answer::HistoryFull => "HistoryFull",
+        Answer::NotNeeded => "NotNeeded",
+        Answer::Unsupported => "Unsupported",
+        Answer::Stray => "Stray",
+        Answer::LocalMoved => "LocalMoved",
+        Answer::Superseded => "Superseded",
+        Answer::Applied => "Applied",
+        Answer::Closed => "Closed",
+        Answer::Recorded(_) => "Recorded",
+        Answer::Done(_) => "Done",
+        Answer::Begun(_) => "Begun",
+        Answer::Entered(_) => "Entered",
+    }
+}
+
+/// A directory is found at the name.
+fn finds(
+    rt: &(impl AllocGlobal + Abort),
+    folder: &mut PlainFolder,
+    text: &str,
+    expected: Option<&[(u64, u64)]>,
+    wanted: &str,
+    is_accepted: bool,
+) {
+    let found = directory(1);
+    assert!(rt; is_found(&found.content));
+    let change = Change::ScanFound {
+        name: name(rt, text),
+        expected: expected.map(|counters| version(rt, counters)),
+        found,
+        moment: moment(rt, 0),
+    };
+    makes(rt, folder, change, wanted, is_accepted);
+}
+
+/// Nothing is found at the name.
+fn loses(
+    rt: &(impl AllocGlobal + Abort),
+    folder: &mut PlainFolder,
+    text: &str,
+    expected: Option<&[(u64, u64)]>,
+    wanted: &str,
+    is_accepted: bool,
+) {
+    let change = Change::ScanGone {
+        name: name(rt, text),
+        expected: expected.map(|counters| version(rt, counters)),
+        moment: moment(rt, 0),
+    };
+    makes(rt, folder, change, wanted, is_accepted);
+}
+
+/// The device announces this record too.
+fn announces(rt: &(impl AllocGlobal + Abort), folder: &mut PlainFolder, number: u8, row: &Row) {
+    let peer = device(number);
+    assert!(rt; peer != folder.me());
+    let change = Change::IndexMore {
+        device: peer,
+        records: records(rt, &[*row]),
+    };
+    makes(rt, folder, change, "Applied", true);
+}
+
+/// The device announces nothing any more.
+fn forgets(rt: &(impl AllocGlobal + Abort), folder: &mut PlainFolder, number: u8) {
+    let peer = device(number);
+    assert!(rt; peer != folder.me());
+    makes(rt, folder, Change::Forget { device: peer }, "Applied", true);
+}
+
+/// The device announces nothing, by an index without records.
+fn clears(rt: &(impl AllocGlobal + Abort), folder: &mut PlainFolder, number: u8) {
+    let peer = device(number);
+    assert!(rt; peer != folder.me());
+    let change = Change::IndexFull {
+        device: peer,
+        records: Items::new(rt.alloc()),
+    };
+    makes(rt, folder, change, "Applied", true);
+}
+
+fn begins(
+    rt: &(impl AllocGlobal + Abort),
+    folder: &mut PlainFolder,
+    text: &str,
+    wanted: &str,
+    is_accepted: bool,
+) {
+    let name = name(rt, text);
+    makes(rt, folder, Change::BeginPull { name }, wanted, is_accepted);
+}
+
+/// A pull of the name begins.
+fn begun(rt: &(impl AllocGlobal + Abort), folder: &mut PlainFolder, text: &str) -> Token {
+    let name = name(rt, text);
+    match makes(rt, folder, Change::BeginPull { name }, "Begun", true) {
+        Answer::Begun(token) => token,
+        answer => panic!(rt; "{answer:?}"),
+    }
+}
+
+fn enters(
+    rt: &(impl AllocGlobal + Abort),
+    folder: &mut PlainFolder,
+    token: &Token,
+    wanted: &str,
+    is_accepted: bool,
+) {
+    let ticket = token.copy().expect(rt, "a copy");
+    makes(
+        rt,
+        folder,
+        Change::EnterCommit { ticket },
+        wanted,
+        is_accepted,
+    );
+}
+
+fn finishes(
+    rt: &(impl AllocGlobal + Abort),
+    folder: &mut PlainFolder,
+    token: &Token,
+    wanted: &str,
+    is_accepted: bool,
+) {
+    let commit = token.copy().expect(rt, "a copy");
+    let assembled = assembled(rt, &commit.target);
+    makes(
+        rt,
+        folder,
+        Change::Finish { commit, assembled },
+        wanted,
+        is_accepted,
+    );
+}
+
+fn gives_up(
+    rt: &(impl AllocGlobal + Abort),
+    folder: &mut PlainFolder,
+    token: &Token,
+    wanted: &str,
+    is_accepted: bool,
+) {
+    let ticket = token.copy().expect(rt, "a copy");
+    makes(rt, folder, Change::GiveUp { ticket }, wanted, is_accepted);
+}
+
+fn aborts(
+    rt: &(impl AllocGlobal + Abort),
+    folder: &mut PlainFolder,
+    token: &Token,
+    wanted: &str,
+    is_accepted: bool,
+) {
+    let commit = token.copy().expect(rt, "a copy");
+    makes(rt, folder, Change::Abort { commit }, wanted, is_accepted);
+}
