@@ -120,6 +120,12 @@ module _ (h : History) (pulls capacity : ℕ) (s : FolderState) (j : IsJournal s
         let p = pulls-there in
         omega arith
 
+    pub room-full : nat_le (length h.entries + len (end h).pulls + (1 + opens c)) h.limit ≡ false → closes c ≡ 0 → Enters h pass c (Some HistoryFull) h
+    room-full full none =
+        let r = leb-false (length h.entries + len (end h).pulls + (1 + opens c)) h.limit full in
+        let o = step-open (end h) c accepted-there in
+        full-enters h pass c j.history given may accepted-there (omega arith)
+
     -- or it was kept since the pull began
     pub room-kept : closes c ≡ 1 → opens c ≡ 0 → length h.entries + 1 + len t.pulls ≤ h.limit
     room-kept one none =
@@ -202,3 +208,13 @@ module _ (h now : History) (view_is : h ≡ now) (pulls capacity : ℕ) (s : Fol
 
   pub kept-room : is_accepted a ≡ true → closes c ≡ 1 → opens c ≡ 0 → length h.entries + 1 + len t.pulls ≤ h.limit
   kept-room accepted one none = room-kept h pulls capacity s j pass given-here c may-here a t made accepted one none
+
+  -- where no room is left for it and for the entries that end the pulls, it is refused
+  pub full-after : is_accepted a ≡ true → nat_le (length now.entries + len (end now).pulls + (1 + opens c)) now.limit ≡ false → closes c ≡ 0 → Enters now pass c (Some HistoryFull) now
+  full-after accepted full none = subst (λ old. Enters old pass c (Some HistoryFull) old) view_is
+      (room-full h pulls capacity s j pass given-here c may-here a t made accepted
+      (subst (λ (h : History). nat_le (length h.entries + len (end h).pulls + (1 + opens c)) h.limit ≡ false) (sym view_is) full) none)
+
+-- the entries after one more, in other words
+pub pushed-as : {given es es' : List Entry} {e e' : Entry} → given ≡ es ++ e ∷ [] → es ≡ es' → e ≡ e' → given ≡ es' ++ e' ∷ []
+pushed-as {given} {es} {es'} {e} {e'} pushed same same_entry = pushed ∙ ap (λ xs. xs ++ e ∷ []) same ∙ ap (λ x. es' ++ x ∷ []) same_entry

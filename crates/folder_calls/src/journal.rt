@@ -182,11 +182,7 @@ impl<C: FolderCore> Journal<C> {
             records: records.copy()?,
         };
         self.core.index_full(device, records)?;
-        self.entries.push_reserved(Entry {
-            pass,
-            change,
-            answer: Answer::Applied,
-        });
+        enter(&mut self.entries, pass, change, Answer::Applied);
         Ok(Ok(()))
     }
 
@@ -211,11 +207,7 @@ impl<C: FolderCore> Journal<C> {
             records: records.copy()?,
         };
         self.core.index_more(device, records)?;
-        self.entries.push_reserved(Entry {
-            pass,
-            change,
-            answer: Answer::Applied,
-        });
+        enter(&mut self.entries, pass, change, Answer::Applied);
         Ok(Ok(()))
     }
 
@@ -235,11 +227,12 @@ impl<C: FolderCore> Journal<C> {
         }
         make_room(&mut self.entries, self.pulls, 1)?;
         self.core.forget(device)?;
-        self.entries.push_reserved(Entry {
+        enter(
+            &mut self.entries,
             pass,
-            change: Change::Forget { device },
-            answer: Answer::Applied,
-        });
+            Change::Forget { device },
+            Answer::Applied,
+        );
         Ok(Ok(()))
     }
 
@@ -263,11 +256,7 @@ impl<C: FolderCore> Journal<C> {
             folder_core::BeginAnswer::Begun(ticket) => match two_copies(ticket.token()) {
                 Ok((answered, token)) => {
                     self.pulls += 1;
-                    self.entries.push_reserved(Entry {
-                        pass,
-                        change,
-                        answer: Answer::Begun(answered),
-                    });
+                    enter(&mut self.entries, pass, change, Answer::Begun(answered));
                     Ok(Ok(BeginAnswer::Begun(Ticket {
                         inner: ticket,
                         token,
@@ -310,11 +299,7 @@ impl<C: FolderCore> Journal<C> {
         let Ticket { inner, token } = ticket;
         match self.core.enter_commit(inner) {
             Ok(inner) => {
-                self.entries.push_reserved(Entry {
-                    pass,
-                    change,
-                    answer: Answer::Entered(token),
-                });
+                enter(&mut self.entries, pass, change, Answer::Entered(token));
                 Ok(Ok(Commit { inner, token: kept }))
             }
             Err(refused) => not_entered(refused, token),
@@ -322,12 +307,7 @@ impl<C: FolderCore> Journal<C> {
     }
 
     /// [`FolderCore::finish`] for a pass. Does not allocate; the history keeps what was assembled.
-    pub fn finish(
-        &mut self,
-        pass: u64,
-        commit: Commit,
-        assembled: Assembled,
-    ) -> Result<u64, Stray>
+    pub fn finish(&mut self, pass: u64, commit: Commit, assembled: Assembled) -> Result<u64, Stray>
         requires pass { (1 ≤ pass) × (pass ≤ self.old.passes) }
         requires assembled { assembled ≡ commit.target }
         ensures enters { Enters self.old pass (Finish commit assembled) (Some (finish_answer result)) self.new }
@@ -336,23 +316,20 @@ impl<C: FolderCore> Journal<C> {
         let Commit { inner, token } = commit;
         let sequence = self.core.finish(inner, &assembled)?;
         self.pulls -= 1;
-        self.entries.push_reserved(Entry {
+        enter(
+            &mut self.entries,
             pass,
-            change: Change::Finish {
+            Change::Finish {
                 commit: token,
                 assembled,
             },
-            answer: Answer::Done(sequence),
-        });
+            Answer::Done(sequence),
+        );
         Ok(sequence)
     }
 
     /// [`FolderCore::give_up`] for a pass. Does not allocate.
-    pub fn give_up(
-        &mut self,
-        pass: u64,
-        ticket: Ticket,
-    ) -> bool
+    pub fn give_up(&mut self, pass: u64, ticket: Ticket) -> bool
         requires pass { (1 ≤ pass) × (pass ≤ self.old.passes) }
         ensures enters { Enters self.old pass (GiveUp ticket) (Some (close_answer result)) self.new }
         ensures history { IsHistory self.new }
@@ -361,21 +338,18 @@ impl<C: FolderCore> Journal<C> {
         let is_closed = self.core.give_up(inner);
         if is_closed {
             self.pulls -= 1;
-            self.entries.push_reserved(Entry {
+            enter(
+                &mut self.entries,
                 pass,
-                change: Change::GiveUp { ticket: token },
-                answer: Answer::Closed,
-            });
+                Change::GiveUp { ticket: token },
+                Answer::Closed,
+            );
         }
         is_closed
     }
 
     /// [`FolderCore::abort`] for a pass. Does not allocate.
-    pub fn abort(
-        &mut self,
-        pass: u64,
-        commit: Commit,
-    ) -> bool
+    pub fn abort(&mut self, pass: u64, commit: Commit) -> bool
         requires pass { (1 ≤ pass) × (pass ≤ self.old.passes) }
         ensures enters { Enters self.old pass (Abort commit) (Some (close_answer result)) self.new }
         ensures history { IsHistory self.new }
@@ -384,11 +358,12 @@ impl<C: FolderCore> Journal<C> {
         let is_closed = self.core.abort(inner);
         if is_closed {
             self.pulls -= 1;
-            self.entries.push_reserved(Entry {
+            enter(
+                &mut self.entries,
                 pass,
-                change: Change::Abort { commit: token },
-                answer: Answer::Closed,
-            });
+                Change::Abort { commit: token },
+                Answer::Closed,
+            );
         }
         is_closed
     }
@@ -411,6 +386,19 @@ fn make_room(entries: &mut Vec<Entry>, pulls: u64, more: u64) -> Result<(), Allo
     entries.reserve((pulls + more) as usize)
 }
 
+// Enters an accepted change, for whose entry there is room. Does not allocate.
+fn enter(entries: &mut Vec<Entry>, pass: u64, change: Change, answer: Answer)
+    requires room { length entries.old.items < vec_capacity entries.old }
+    ensures items { entries.new.items ≡ entries.old.items ++ (record { pass = pass; change = change; answer = answer }) ∷ [] }
+    ensures capacity { vec_capacity entries.new ≡ vec_capacity entries.old }
+{
+    entries.push_reserved(Entry {
+        pass,
+        change,
+        answer,
+    });
+}
+
 // Enters a scan that was recorded, and says its answer.
 fn enter_scan(
     entries: &mut Vec<Entry>,
@@ -425,12 +413,7 @@ fn enter_scan(
 {
     match answer {
         Ok(ScanAnswer::Recorded(sequence)) => {
-            let answer = Answer::Recorded(sequence);
-            entries.push_reserved(Entry {
-                pass,
-                change,
-                answer,
-            });
+            enter(entries, pass, change, Answer::Recorded(sequence));
             Ok(Ok(ScanAnswer::Recorded(sequence)))
         }
         Ok(answer) => Ok(Ok(answer)),
@@ -461,7 +444,10 @@ fn not_entered(
         folder_core::NotEntered::SequenceFull(inner) => {
             EnterRefusal::SequenceFull(Ticket { inner, token })
         }
-        folder_core::NotEntered::OutOfMemory(inner) => return Err(NotEntered(Ticket { inner, token })),
+        folder_core::NotEntered::OutOfMemory(inner) => return Err(NotEntered(Ticket {
+            inner,
+            token,
+        })),
     }))
 }
 

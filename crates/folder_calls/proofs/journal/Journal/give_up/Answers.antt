@@ -8,26 +8,26 @@ use Rattle.folder_calls.specs.Calls.{GivesBack, begin_value, enter_value, index_
 use Rattle.folder_calls.specs.Journals.{Enters, IsHistory, answered, end, entered_items, new_history}
 use Rattle.folder_calls.proofs.journal.Journal.give_up.Goals as goal
 
--- src/journal.rt:363:13
+-- src/journal.rt:340:13
 pub overflow_sub-self : goal.overflow_sub-self
 overflow_sub-self g c = ?
 
--- src/journal.rt:364:13
-pub push_reserved-requires : goal.push_reserved-requires
-push_reserved-requires g c = ?
+-- src/journal.rt:341:13
+pub enter-requires : goal.enter-requires
+enter-requires g c = ?
 
--- src/journal.rt:364:13
+-- src/journal.rt:341:13
 pub invariant_of-self : goal.invariant_of-self
 invariant_of-self g c = ?
 
--- src/journal.rt:360:29
+-- src/journal.rt:337:29
 pub invariant_of-self-else-is_closed : goal.invariant_of-self-else-is_closed
 invariant_of-self-else-is_closed g c = ?
 
--- src/journal.rt:351:5
+-- src/journal.rt:332:5
 pub returns-then-is_closed-clause-enters : goal.returns-then-is_closed-clause-enters
 returns-then-is_closed-clause-enters g c = ?
 
--- src/journal.rt:351:5
+-- src/journal.rt:332:5
 pub returns-then-is_closed-clause-history : goal.returns-then-is_closed-clause-history
 returns-then-is_closed-clause-history g c = ?

@@ -1,10 +1,10 @@
-use Rattle.std.proofs.Common.{◌≡◌, ◌++◌, ◌∷◌, [], refl, sym, ap, ◌∙◌, arith}
+use Rattle.std.proofs.Common.{◌≡◌, refl, sym, ap, ◌∙◌, arith}
 use Rattle.folder_core.specs.States.{FolderState}
 use Rattle.folder_core.specs.declared.answer.Answer.TheVariants.{Applied}
 use Rattle.folder_core.specs.declared.change.Change.TheVariants.{IndexFull}
 use Rattle.folder_calls.specs.declared.history.History.{History}
 use Rattle.folder_calls.proofs.HistoryEntries.{state-me}
-use Rattle.folder_calls.proofs.JournalSteps.{enters-after, found-room, history-after, journal-after}
+use Rattle.folder_calls.proofs.JournalSteps.{found-room, history-after, journal-after, pushed-as}
 use Rattle.folder_calls.proofs.journal.Journal.index_full.Goals as goal
 
 pub index_full-requires : goal.index_full-requires
@@ -15,9 +15,9 @@ invariant_of-self-2 g c =
     let made = c.in_ok-index_full.ensures in
     let room = found-room _ c.args.self.now c.self.view_is _ _ _ c.self.invariant c.args.pass c.requires.pass (IndexFull c.args.device c.args.records) c.requires.device Applied _ made refl (sym c.has_room.ensures ∙ c.if-not-has_room.false) refl in
     let more = c.in_ok-make_room.ensures.room refl in
-    let same = c.push_reserved.ensures.capacity in
+    let same = c.enter.ensures.capacity in
     journal-after _ c.args.self.now c.self.view_is _ _ _ c.self.invariant c.args.pass c.requires.pass (IndexFull c.args.device c.args.records) c.requires.device Applied _ made refl room
-    c.push_reserved.new.self.items (c.push_reserved.ensures.items ∙ ap (λ es. es ++ (record { pass = c.args.pass; change = IndexFull c.args.device c.args.records; answer = Applied }) ∷ []) c.make_room.ensures.items)
+    c.enter.new.entries.items (pushed-as c.enter.ensures.items c.make_room.ensures.items (ap (λ rs. record { pass = c.args.pass; change = IndexFull c.args.device rs; answer = Applied }) c.in_ok-copy.ensures))
     c.self.inside.pulls _ refl (omega arith)
 
 pub returns-clause-history : goal.returns-clause-history
@@ -25,4 +25,4 @@ returns-clause-history g c =
     let made = c.in_ok-index_full.ensures in
     let room = found-room _ c.args.self.now c.self.view_is _ _ _ c.self.invariant c.args.pass c.requires.pass (IndexFull c.args.device c.args.records) c.requires.device Applied _ made refl (sym c.has_room.ensures ∙ c.if-not-has_room.false) refl in
     history-after _ c.args.self.now c.self.view_is _ _ _ c.self.invariant c.args.pass c.requires.pass (IndexFull c.args.device c.args.records) c.requires.device Applied _ made refl room
-    c.push_reserved.new.self.items (c.push_reserved.ensures.items ∙ ap (λ es. es ++ (record { pass = c.args.pass; change = IndexFull c.args.device c.args.records; answer = Applied }) ∷ []) c.make_room.ensures.items)
+    c.enter.new.entries.items (pushed-as c.enter.ensures.items c.make_room.ensures.items (ap (λ rs. record { pass = c.args.pass; change = IndexFull c.args.device rs; answer = Applied }) c.in_ok-copy.ensures))
