@@ -215,6 +215,42 @@ module _ (h now : History) (view_is : h ≡ now) (pulls capacity : ℕ) (s : Fol
       (room-full h pulls capacity s j pass given-here c may-here a t made accepted
       (subst (λ (h : History). nat_le (length h.entries + len (end h).pulls + (1 + opens c)) h.limit ≡ false) (sym view_is) full) none)
 
+  -- any other answer leaves the journal
+  pub tested-journal : is_accepted a ≡ false → IsJournal t pulls capacity h
+  tested-journal tested = subst (λ s. IsJournal s pulls capacity h) (sym (tested-state h pulls capacity s j pass given-here c may-here a t made tested)) j
+
+  -- what ends a pull: one is open, and the room for its entry was kept
+  module _ (accepted : is_accepted a ≡ true) (one : closes c ≡ 1) (none : opens c ≡ 0) where
+    pub ended-pulls : 1 ≤ pulls
+    ended-pulls =
+        let o = step-open (end h) c (accepted-there h pulls capacity s j pass given-here c may-here a t made accepted) in
+        let q = j.pulls_is in
+        omega arith
+
+    pub ended-room : length h.entries < capacity
+    ended-room = let p = ended-pulls in let r = j.room in omega arith
+
+    pub ended-journal : (es : List Entry) → es ≡ h.entries ++ (record { pass = pass; change = c; answer = a }) ∷ [] → (capacity' : ℕ) → capacity' ≡ capacity → IsJournal t (pulls - 1) capacity' (record h { entries = es })
+    ended-journal es pushed capacity' same =
+        let p = ended-pulls in
+        let r = j.room in
+        journal-after accepted (kept-room accepted one none) es pushed (pulls - 1) capacity' (omega arith) (omega arith)
+
+    pub ended-history : (es : List Entry) → es ≡ h.entries ++ (record { pass = pass; change = c; answer = a }) ∷ [] → IsHistory (record h { entries = es })
+    ended-history es pushed = history-after accepted (kept-room accepted one none) es pushed
+
+    pub ended-enters : (es : List Entry) → es ≡ h.entries ++ (record { pass = pass; change = c; answer = a }) ∷ [] → Enters now pass c (Some a) (record h { entries = es })
+    ended-enters es pushed = enters-after accepted (kept-room accepted one none) es pushed
+
+-- the step of a change, in other words
+pub made-as : (s : FolderState) {c c' : Change} {d : Answer × FolderState} → c ≡ c' → step s c ≡ d → step s c' ≡ d
+made-as s same made = ap (step s) (sym same) ∙ made
+
 -- the entries after one more, in other words
-pub pushed-as : {given es es' : List Entry} {e e' : Entry} → given ≡ es ++ e ∷ [] → es ≡ es' → e ≡ e' → given ≡ es' ++ e' ∷ []
-pushed-as {given} {es} {es'} {e} {e'} pushed same same_entry = pushed ∙ ap (λ xs. xs ++ e ∷ []) same ∙ ap (λ x. es' ++ x ∷ []) same_entry
+pub pushed-as : (pass : ℕ) {given es es' : List Entry} {c c' : Change} {a a' : Answer}
+    → given ≡ es ++ (record { pass = pass; change = c; answer = a }) ∷ [] → es ≡ es' → c ≡ c' → a ≡ a'
+    → given ≡ es' ++ (record { pass = pass; change = c'; answer = a' }) ∷ []
+pushed-as pass {given} {es} {es'} {c} {c'} {a} {a'} pushed same same_change same_answer =
+    pushed ∙ ap (λ xs. xs ++ (record { pass = pass; change = c; answer = a }) ∷ []) same
+    ∙ ap (λ c. es' ++ (record { pass = pass; change = c; answer = a }) ∷ []) same_change
+    ∙ ap (λ a. es' ++ (record { pass = pass; change = c'; answer = a }) ∷ []) same_answer

@@ -1,33 +1,48 @@
-use Rattle.std.proofs.Common.{rules, ◌≡◌, ◌≢◌, ◌≤◌, ◌+◌, ◌<◌, ◌++◌, ◌∷◌, [], ◌^◌, Err, IfErr, IfOk, IfSome, IsOk, IsTrue, Some, length, nat_le, option_copied, true, vec_capacity, ℕ, ◌-◌, ◌*◌, ◌/◌, ◌%◌, Bool, false, nat_eq, nat_lt, List, slice_index_or, slice_set, bit_and, bit_or, Fits, w8, w32, w64, Bor, MutBor}
-use Rattle.std.specs.FinMap.{len}
-use Rattle.folder_core.specs.Calls.{GivesBack as GivesBackOpen}
-use Rattle.folder_core.specs.Calls.{close_answer, enter_answer, finish_answer, scan_answer}
-use Rattle.folder_core.specs.Steps.{is_accepted, is_found, step}
-use Rattle.folder_core.specs.declared.change.Change.TheVariants.{Forget, IndexFull, IndexMore, ScanFound, ScanGone, BeginPull, EnterCommit, Finish, GiveUp, Abort}
-use Rattle.folder_calls.specs.Calls.{GivesBack, begin_value, enter_value, index_value, scan_value}
-use Rattle.folder_calls.specs.Journals.{Enters, IsHistory, answered, end, entered_items, new_history}
+use Rattle.std.proofs.Common.{◌≡◌, refl, sym, ap, ◌∙◌}
+use Rattle.folder_core.specs.Calls.{close_answer}
+use Rattle.folder_core.specs.Steps.{is_accepted}
+use Rattle.folder_core.specs.declared.change.Change.TheVariants.{GiveUp}
+use Rattle.folder_calls.proofs.JournalSteps.{ended-enters, ended-history, ended-journal, ended-pulls, ended-room, made-as, pushed-as, tested-journal}
 use Rattle.folder_calls.proofs.journal.Journal.give_up.Goals as goal
 
--- src/journal.rt:340:13
 pub overflow_sub-self : goal.overflow_sub-self
-overflow_sub-self g c = ?
+overflow_sub-self g c =
+    ended-pulls _ c.args.self.now c.self.view_is _ _ _ c.self.invariant c.args.pass c.requires.pass (GiveUp c.args.ticket)
+    tt _ _ (made-as _ (ap GiveUp (c.ticket.invariant ∙ c.ticket.view_is)) c.give_up-is_closed.ensures)
+    (ap (λ b. is_accepted (close_answer b)) c.if-is_closed.true) refl refl
 
--- src/journal.rt:341:13
 pub enter-requires : goal.enter-requires
-enter-requires g c = ?
+enter-requires g c = record {
+  room =
+      ended-room _ c.args.self.now c.self.view_is _ _ _ c.self.invariant c.args.pass c.requires.pass (GiveUp c.args.ticket)
+      tt _ _ (made-as _ (ap GiveUp (c.ticket.invariant ∙ c.ticket.view_is)) c.give_up-is_closed.ensures)
+      (ap (λ b. is_accepted (close_answer b)) c.if-is_closed.true) refl refl;
+}
 
--- src/journal.rt:341:13
 pub invariant_of-self : goal.invariant_of-self
-invariant_of-self g c = ?
+invariant_of-self g c =
+    ended-journal _ c.args.self.now c.self.view_is _ _ _ c.self.invariant c.args.pass c.requires.pass (GiveUp c.args.ticket)
+    tt _ _ (made-as _ (ap GiveUp (c.ticket.invariant ∙ c.ticket.view_is)) c.give_up-is_closed.ensures)
+    (ap (λ b. is_accepted (close_answer b)) c.if-is_closed.true) refl refl
+    c.enter.new.entries.items (pushed-as _ c.enter.ensures.items refl (ap GiveUp c.ticket.view_is) (sym (ap close_answer c.if-is_closed.true)))
+    _ c.enter.ensures.capacity
 
--- src/journal.rt:337:29
 pub invariant_of-self-else-is_closed : goal.invariant_of-self-else-is_closed
-invariant_of-self-else-is_closed g c = ?
+invariant_of-self-else-is_closed g c =
+    tested-journal _ c.args.self.now c.self.view_is _ _ _ c.self.invariant c.args.pass c.requires.pass (GiveUp c.args.ticket)
+    tt _ _ (made-as _ (ap GiveUp (c.ticket.invariant ∙ c.ticket.view_is)) c.give_up-is_closed.ensures)
+    (ap (λ b. is_accepted (close_answer b)) c.if-is_closed.false)
 
--- src/journal.rt:332:5
 pub returns-then-is_closed-clause-enters : goal.returns-then-is_closed-clause-enters
-returns-then-is_closed-clause-enters g c = ?
+returns-then-is_closed-clause-enters g c =
+    ended-enters _ c.args.self.now c.self.view_is _ _ _ c.self.invariant c.args.pass c.requires.pass (GiveUp c.args.ticket)
+    tt _ _ (made-as _ (ap GiveUp (c.ticket.invariant ∙ c.ticket.view_is)) c.give_up-is_closed.ensures)
+    (ap (λ b. is_accepted (close_answer b)) c.if-is_closed.true) refl refl
+    c.enter.new.entries.items (pushed-as _ c.enter.ensures.items refl (ap GiveUp c.ticket.view_is) (sym (ap close_answer c.if-is_closed.true)))
 
--- src/journal.rt:332:5
 pub returns-then-is_closed-clause-history : goal.returns-then-is_closed-clause-history
-returns-then-is_closed-clause-history g c = ?
+returns-then-is_closed-clause-history g c =
+    ended-history _ c.args.self.now c.self.view_is _ _ _ c.self.invariant c.args.pass c.requires.pass (GiveUp c.args.ticket)
+    tt _ _ (made-as _ (ap GiveUp (c.ticket.invariant ∙ c.ticket.view_is)) c.give_up-is_closed.ensures)
+    (ap (λ b. is_accepted (close_answer b)) c.if-is_closed.true) refl refl
+    c.enter.new.entries.items (pushed-as _ c.enter.ensures.items refl (ap GiveUp c.ticket.view_is) (sym (ap close_answer c.if-is_closed.true)))
