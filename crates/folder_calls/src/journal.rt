@@ -1,5 +1,5 @@
 //! A folder with the history of its changes.
-ghost use Rattle.std.specs.Prelude.{◌≡◌, ◌≢◌, ◌≤◌, ◌+◌, ◌<◌, ◌++◌, ◌∷◌, [], ◌^◌, Err, IfErr, IfOk, IfSome, IsOk, IsTrue, Some, length, nat_le, option_copied, true, vec_capacity};
+ghost use Rattle.std.specs.Prelude.{◌≡◌, ◌≢◌, ◌≤◌, ◌+◌, ◌<◌, ◌++◌, ◌∷◌, [], ◌^◌, Err, IfErr, IfOk, IfSome, IsOk, IsTrue, None, Ok, Some, false, length, nat_le, option_copied, true, vec_capacity};
 ghost use Rattle.std.specs.FinMap.{len};
 ghost use Rattle.folder_core.specs.Calls.{GivesBack as GivesBackOpen, close_answer, enter_answer, finish_answer, scan_answer};
 ghost use Rattle.folder_core.specs.Steps.{is_accepted, is_found, step};
@@ -120,17 +120,19 @@ impl<C: FolderCore> Journal<C> {
         ensures enters { Enters self.old pass (ScanFound name.now (option_copied expected.entry) found.now moment) (answered scan_value result) self.new }
         ensures history { IsHistory self.new }
     {
-        let change = Change::ScanFound {
-            name: name.copy()?,
-            expected: copied_version(expected)?,
-            found: found.copy()?,
-            moment,
-        };
-        if self.has_room(1) {
-            make_room(&mut self.entries, self.pulls, 1)?;
-        } else if accepts(&self.core, &change) {
+        let change = found_change(name, expected, found, moment)?;
+        let has_room = self.has_room(1);
+        let Some(change) = admit(
+            &self.core,
+            change,
+            has_room,
+            &mut self.entries,
+            self.pulls,
+            1,
+        )?
+        else {
             return Ok(Err(ScanRefusal::HistoryFull));
-        }
+        };
         let answer = self.core.scan_found(name, expected, found, moment);
         enter_scan(&mut self.entries, pass, change, answer)
     }
@@ -147,16 +149,19 @@ impl<C: FolderCore> Journal<C> {
         ensures enters { Enters self.old pass (ScanGone name.now (option_copied expected.entry) moment) (answered scan_value result) self.new }
         ensures history { IsHistory self.new }
     {
-        let change = Change::ScanGone {
-            name: name.copy()?,
-            expected: copied_version(expected)?,
-            moment,
-        };
-        if self.has_room(1) {
-            make_room(&mut self.entries, self.pulls, 1)?;
-        } else if accepts(&self.core, &change) {
+        let change = gone_change(name, expected, moment)?;
+        let has_room = self.has_room(1);
+        let Some(change) = admit(
+            &self.core,
+            change,
+            has_room,
+            &mut self.entries,
+            self.pulls,
+            1,
+        )?
+        else {
             return Ok(Err(ScanRefusal::HistoryFull));
-        }
+        };
         let answer = self.core.scan_gone(name, expected, moment);
         enter_scan(&mut self.entries, pass, change, answer)
     }
@@ -246,15 +251,13 @@ impl<C: FolderCore> Journal<C> {
         ensures enters { Enters self.old pass (BeginPull name.now) (answered begin_value result) self.new }
         ensures history { IsHistory self.new }
     {
-        let change = Change::BeginPull { name: name.copy()? };
-        if self.has_room(2) {
-            make_room(&mut self.entries, self.pulls, 2)?;
-        } else if accepts(&self.core, &change) {
+        let has_room = self.has_room(2);
+        if !admit_begin(&self.core, name, has_room, &mut self.entries, self.pulls)? {
             return Ok(Err(HistoryFull));
         }
         match self.core.begin_pull(name)? {
-            folder_core::BeginAnswer::Begun(ticket) => match two_copies(ticket.token()) {
-                Ok((answered, token)) => {
+            folder_core::BeginAnswer::Begun(ticket) => match begun_parts(name, ticket.token()) {
+                Ok((change, (answered, token))) => {
                     self.pulls += 1;
                     enter(&mut self.entries, pass, change, Answer::Begun(answered));
                     Ok(Ok(BeginAnswer::Begun(Ticket {
@@ -262,9 +265,9 @@ impl<C: FolderCore> Journal<C> {
                         token,
                     })))
                 }
-                Err(_) => {
+                Err(fault) => {
                     let _ = self.core.give_up(ticket);
-                    Err(AllocError)
+                    Err(fault)
                 }
             },
             folder_core::BeginAnswer::NotNeeded => Ok(Ok(BeginAnswer::NotNeeded)),
@@ -289,13 +292,19 @@ impl<C: FolderCore> Journal<C> {
             return Err(NotEntered(ticket));
         };
         let change = Change::EnterCommit { ticket: asked };
-        if self.has_room(1) {
-            if make_room(&mut self.entries, self.pulls, 1).is_err() {
-                return Err(NotEntered(ticket));
-            }
-        } else if accepts(&self.core, &change) {
-            return Ok(Err(EnterRefusal::HistoryFull(ticket)));
-        }
+        let has_room = self.has_room(1);
+        let change = match admit(
+            &self.core,
+            change,
+            has_room,
+            &mut self.entries,
+            self.pulls,
+            1,
+        ) {
+            Ok(Some(change)) => change,
+            Ok(None) => return Ok(Err(EnterRefusal::HistoryFull(ticket))),
+            Err(_) => return Err(NotEntered(ticket)),
+        };
         let Ticket { inner, token } = ticket;
         match self.core.enter_commit(inner) {
             Ok(inner) => {
@@ -386,6 +395,55 @@ fn make_room(entries: &mut Vec<Entry>, pulls: u64, more: u64) -> Result<(), Allo
     entries.reserve((pulls + more) as usize)
 }
 
+// Returns the change if it's to be tried: where the history has room for its entry, which is made then, or the folder won't
+// accept it. Returns `Err` only if out of memory.
+fn admit<C: FolderCore>(
+    core: &C,
+    change: Change,
+    has_room: bool,
+    entries: &mut Vec<Entry>,
+    pulls: u64,
+    more: u64,
+) -> Result<Option<Change>, AllocError>
+    requires { pulls + more < 2 ^ 64 }
+    ensures items { entries.new.items ≡ entries.old.items }
+    ensures kept { vec_capacity entries.old ≤ vec_capacity entries.new }
+    ensures same { IfOk result (λ admitted. IfSome admitted (λ same. same ≡ change)) }
+    ensures admitted { (c : _) → result ≡ Ok (Some c) → is_accepted (step (C.state core.now) change).0 ≡ true → (has_room ≡ true) × (length entries.old.items + pulls + more ≤ vec_capacity entries.new) }
+    ensures refused { result ≡ Ok None → (has_room ≡ false) × (is_accepted (step (C.state core.now) change).0 ≡ true) }
+{
+    if has_room {
+        make_room(entries, pulls, more)?;
+        return Ok(Some(change));
+    }
+    if accepts(core, &change) {
+        return Ok(None);
+    }
+    Ok(Some(change))
+}
+
+// Whether the begin of a pull is tried, as for every change.
+fn admit_begin<C: FolderCore>(
+    core: &C,
+    name: &SafeName,
+    has_room: bool,
+    entries: &mut Vec<Entry>,
+    pulls: u64,
+) -> Result<bool, AllocError>
+    requires { pulls + 2 < 2 ^ 64 }
+    ensures items { entries.new.items ≡ entries.old.items }
+    ensures kept { vec_capacity entries.old ≤ vec_capacity entries.new }
+    ensures admitted { result ≡ Ok true → is_accepted (step (C.state core.now) (BeginPull name.now)).0 ≡ true → (has_room ≡ true) × (length entries.old.items + pulls + 2 ≤ vec_capacity entries.new) }
+    ensures refused { result ≡ Ok false → (has_room ≡ false) × (is_accepted (step (C.state core.now) (BeginPull name.now)).0 ≡ true) }
+{
+    if has_room {
+        make_room(entries, pulls, 2)?;
+        return Ok(true);
+    }
+    let change = Change::BeginPull { name: name.copy()? };
+    Ok(!accepts(core, &change))
+}
+
 // Enters an accepted change, for whose entry there is room. Does not allocate.
 fn enter(entries: &mut Vec<Entry>, pass: u64, change: Change, answer: Answer)
     requires room { length entries.old.items < vec_capacity entries.old }
@@ -455,6 +513,45 @@ fn two_copies(token: &Token) -> Result<(Token, Token), AllocError>
     ensures { IfOk result (λ copies. (copies.0 ≡ token.now) × (copies.1 ≡ token.now)) }
 {
     Ok((token.copy()?, token.copy()?))
+}
+
+// What the entry of a begin and the ticket hold.
+fn begun_parts(name: &SafeName, token: &Token) -> Result<(Change, (Token, Token)), AllocError>
+    ensures change { IfOk result (λ parts. parts.0 ≡ BeginPull name.now) }
+    ensures tokens { IfOk result (λ parts. (parts.1.0 ≡ token.now) × (parts.1.1 ≡ token.now)) }
+{
+    let name = name.copy()?;
+    Ok((Change::BeginPull { name }, two_copies(token)?))
+}
+
+fn found_change(
+    name: &SafeName,
+    expected: Option<&Version>,
+    found: &Finding,
+    moment: Moment,
+) -> Result<Change, AllocError>
+    ensures { IfOk result (λ change. change ≡ ScanFound name.now (option_copied expected.entry) found.now moment) }
+{
+    Ok(Change::ScanFound {
+        name: name.copy()?,
+        expected: copied_version(expected)?,
+        found: found.copy()?,
+        moment,
+    })
+}
+
+fn gone_change(
+    name: &SafeName,
+    expected: Option<&Version>,
+    moment: Moment,
+) -> Result<Change, AllocError>
+    ensures { IfOk result (λ change. change ≡ ScanGone name.now (option_copied expected.entry) moment) }
+{
+    Ok(Change::ScanGone {
+        name: name.copy()?,
+        expected: copied_version(expected)?,
+        moment,
+    })
 }
 
 fn copied_version(version: Option<&Version>) -> Result<Option<Version>, AllocError>
