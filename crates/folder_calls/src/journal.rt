@@ -1,0 +1,571 @@
+//! A folder with the history of its changes.
+ghost use Rattle.std.specs.Prelude.{◌≡◌, ◌≢◌, ◌≤◌, ◌+◌, ◌<◌, ◌++◌, ◌∷◌, [], ◌^◌, Err, IfErr, IfOk, IfSome, IsOk, IsTrue, None, Ok, Some, false, length, nat_le, option_copied, true, vec_capacity};
+ghost use Rattle.std.specs.FinMap.{len};
+ghost use Rattle.folder_core.specs.Calls.{GivesBack as GivesBackOpen, close_answer, enter_answer, finish_answer, scan_answer};
+ghost use Rattle.folder_core.specs.Steps.{is_accepted, is_found, step};
+ghost use Rattle.folder_core.specs.declared.change.Change.TheVariants.{Forget, IndexFull, IndexMore, ScanFound, ScanGone, BeginPull, EnterCommit, Finish, GiveUp, Abort};
+ghost use Rattle.folder_calls.specs.Calls.{GivesBack, begin_value, enter_value, index_value, scan_value};
+ghost use Rattle.folder_calls.specs.Journals.{Enters, IsHistory, answered, end, entered_items, new_history};
+
+use crate::{
+    BeginAnswer, Commit, EnterRefusal, Entry, HistoryFull, NotEntered, ScanRefusal, Ticket,
+};
+use bep_messages::{Copied, Items};
+use folder_core::{
+    Answer, Change, Finding, FolderCore, PlainFolder, ScanAnswer, ScanFault, Stray, Token,
+};
+use std::alloc::{AllocError, Global};
+use std::marker::Model;
+use sync_names::SafeName;
+use sync_record::{Assembled, DeviceId, Record};
+use sync_version::{Moment, Version};
+
+/// A folder, what it was when it was opened, and the history of its changes since.
+///
+/// Each change is made for a pass, whose number stands in its entry. A change that the folder would accept is refused with
+/// `HistoryFull` if there is no room for its entry and for those that end the pulls that are then open. The room for the
+/// entry that ends a pull is kept from its begin on, so that ending a pull does not allocate.
+#[derive(Drop)]
+pub struct Journal<C: FolderCore> {
+    core: C,
+    opening: PlainFolder,
+    entries: Vec<Entry>,
+    limit: u64,
+    passes: u64,
+    /// How many pulls are open.
+    pulls: u64,
+}
+
+impl<C: FolderCore> Model for Journal<C> {
+    ghost use Rattle.std.specs.Prelude.{vec_capacity};
+    ghost use Rattle.folder_calls.specs.declared.history.History.{History};
+    ghost use Rattle.folder_calls.specs.Journals.{IsJournal};
+
+    ghost Value = { History };
+
+    ghost use Rattle.folder_calls.specs.Codes.{coded_history};
+
+    ghost coded = { coded_history };
+
+    ghost view = { λ j. record { opening = j.opening; entries = j.entries.items; limit = j.limit; passes = j.passes } };
+
+    ghost invariant = { λ j. IsJournal (C.state j.core) j.pulls (vec_capacity j.entries) (record { opening = j.opening; entries = j.entries.items; limit = j.limit; passes = j.passes }) };
+}
+
+impl<C: FolderCore> Journal<C> {
+    /// The folder with an empty history. Returns `Err` with the folder only if its copy could not be allocated. O(n) time and
+    /// memory for n records, which share their memory.
+    pub fn open(alloc: Global, core: C, limit: u64, passes: u64) -> Result<Journal<C>, C>
+        requires { len (C.state core).pulls ≡ 0 }
+        ensures ok { IfOk result (λ journal. journal ≡ new_history (C.state core) limit passes) }
+        ensures err { IfErr result (λ back. C.state back ≡ C.state core) }
+    {
+        let _ = core.me();
+        let Ok(opening) = core.plain_copy() else {
+            return Err(core);
+        };
+        Ok(Journal {
+            core,
+            opening,
+            entries: Vec::new(alloc),
+            limit,
+            passes,
+            pulls: 0,
+        })
+    }
+
+    /// The folder, after the history. O(n) for n entries, which are dropped.
+    pub fn into_core(self) -> C
+        ensures core { C.state result ≡ end self }
+        ensures history { IsHistory self }
+    {
+        let Journal {
+            core,
+            opening: _,
+            entries: _,
+            limit: _,
+            passes: _,
+            pulls: _,
+        } = self;
+        core
+    }
+
+    /// The folder, after the history. O(1).
+    pub fn core(&self) -> &C
+        ensures core { C.state result.now ≡ end self.now }
+        ensures history { IsHistory self.now }
+    {
+        &self.core
+    }
+
+    /// The number of entries. O(1).
+    pub fn len(&self) -> u64
+        ensures len { result ≡ length self.now.entries }
+        ensures history { IsHistory self.now }
+    {
+        self.entries.len() as u64
+    }
+
+    /// [`FolderCore::scan_found`] for a pass. O(n) memory for the size n of what is found.
+    pub fn scan_found(
+        &mut self,
+        pass: u64,
+        name: &SafeName,
+        expected: Option<&Version>,
+        found: &Finding,
+        moment: Moment,
+    ) -> Result<Result<ScanAnswer, ScanRefusal>, AllocError>
+        requires pass { (1 ≤ pass) × (pass ≤ self.old.passes) }
+        requires found { IsTrue (is_found found.now.content) }
+        ensures enters { Enters self.old pass (ScanFound name.now (option_copied expected.entry) found.now moment) (answered scan_value result) self.new }
+        ensures history { IsHistory self.new }
+    {
+        let change = found_change(name, expected, found, moment)?;
+        let has_room = self.has_room(1);
+        let Some(change) = admit(
+            &self.core,
+            change,
+            has_room,
+            &mut self.entries,
+            self.pulls,
+            1,
+        )?
+        else {
+            return Ok(Err(ScanRefusal::HistoryFull));
+        };
+        let answer = self.core.scan_found(name, expected, found, moment);
+        enter_scan(&mut self.entries, pass, change, answer)
+    }
+
+    /// [`FolderCore::scan_gone`] for a pass.
+    pub fn scan_gone(
+        &mut self,
+        pass: u64,
+        name: &SafeName,
+        expected: Option<&Version>,
+        moment: Moment,
+    ) -> Result<Result<ScanAnswer, ScanRefusal>, AllocError>
+        requires pass { (1 ≤ pass) × (pass ≤ self.old.passes) }
+        ensures enters { Enters self.old pass (ScanGone name.now (option_copied expected.entry) moment) (answered scan_value result) self.new }
+        ensures history { IsHistory self.new }
+    {
+        let change = gone_change(name, expected, moment)?;
+        let has_room = self.has_room(1);
+        let Some(change) = admit(
+            &self.core,
+            change,
+            has_room,
+            &mut self.entries,
+            self.pulls,
+            1,
+        )?
+        else {
+            return Ok(Err(ScanRefusal::HistoryFull));
+        };
+        let answer = self.core.scan_gone(name, expected, moment);
+        enter_scan(&mut self.entries, pass, change, answer)
+    }
+
+    /// [`FolderCore::index_full`] for a pass. The history keeps the records too; they share their memory.
+    pub fn index_full(
+        &mut self,
+        pass: u64,
+        device: DeviceId,
+        records: Items<Record>,
+    ) -> Result<Result<(), HistoryFull>, AllocError>
+        requires pass { (1 ≤ pass) × (pass ≤ self.old.passes) }
+        requires device { device ≢ self.old.opening.me }
+        ensures enters { Enters self.old pass (IndexFull device records) (answered index_value result) self.new }
+        ensures history { IsHistory self.new }
+    {
+        if !self.has_room(1) {
+            return Ok(Err(HistoryFull));
+        }
+        make_room(&mut self.entries, self.pulls, 1)?;
+        let change = Change::IndexFull {
+            device,
+            records: records.copy()?,
+        };
+        self.core.index_full(device, records)?;
+        enter(&mut self.entries, pass, change, Answer::Applied);
+        Ok(Ok(()))
+    }
+
+    /// [`FolderCore::index_more`] for a pass. The history keeps the records too; they share their memory.
+    pub fn index_more(
+        &mut self,
+        pass: u64,
+        device: DeviceId,
+        records: Items<Record>,
+    ) -> Result<Result<(), HistoryFull>, AllocError>
+        requires pass { (1 ≤ pass) × (pass ≤ self.old.passes) }
+        requires device { device ≢ self.old.opening.me }
+        ensures enters { Enters self.old pass (IndexMore device records) (answered index_value result) self.new }
+        ensures history { IsHistory self.new }
+    {
+        if !self.has_room(1) {
+            return Ok(Err(HistoryFull));
+        }
+        make_room(&mut self.entries, self.pulls, 1)?;
+        let change = Change::IndexMore {
+            device,
+            records: records.copy()?,
+        };
+        self.core.index_more(device, records)?;
+        enter(&mut self.entries, pass, change, Answer::Applied);
+        Ok(Ok(()))
+    }
+
+    /// [`FolderCore::forget`] for a pass.
+    pub fn forget(
+        &mut self,
+        pass: u64,
+        device: DeviceId,
+    ) -> Result<Result<(), HistoryFull>, AllocError>
+        requires pass { (1 ≤ pass) × (pass ≤ self.old.passes) }
+        requires device { device ≢ self.old.opening.me }
+        ensures enters { Enters self.old pass (Forget device) (answered index_value result) self.new }
+        ensures history { IsHistory self.new }
+    {
+        if !self.has_room(1) {
+            return Ok(Err(HistoryFull));
+        }
+        make_room(&mut self.entries, self.pulls, 1)?;
+        self.core.forget(device)?;
+        enter(
+            &mut self.entries,
+            pass,
+            Change::Forget { device },
+            Answer::Applied,
+        );
+        Ok(Ok(()))
+    }
+
+    /// [`FolderCore::begin_pull`] for a pass.
+    pub fn begin_pull(
+        &mut self,
+        pass: u64,
+        name: &SafeName,
+    ) -> Result<Result<BeginAnswer, HistoryFull>, AllocError>
+        requires pass { (1 ≤ pass) × (pass ≤ self.old.passes) }
+        ensures enters { Enters self.old pass (BeginPull name.now) (answered begin_value result) self.new }
+        ensures history { IsHistory self.new }
+    {
+        let has_room = self.has_room(2);
+        if !admit_begin(&self.core, name, has_room, &mut self.entries, self.pulls)? {
+            return Ok(Err(HistoryFull));
+        }
+        match self.core.begin_pull(name)? {
+            folder_core::BeginAnswer::Begun(ticket) => match begun_parts(name, ticket.token()) {
+                Ok((change, (answered, token))) => {
+                    self.pulls += 1;
+                    enter(&mut self.entries, pass, change, Answer::Begun(answered));
+                    Ok(Ok(BeginAnswer::Begun(Ticket {
+                        inner: ticket,
+                        token,
+                    })))
+                }
+                Err(fault) => {
+                    let _ = self.core.give_up(ticket);
+                    Err(fault)
+                }
+            },
+            folder_core::BeginAnswer::NotNeeded => Ok(Ok(BeginAnswer::NotNeeded)),
+            folder_core::BeginAnswer::Busy => Ok(Ok(BeginAnswer::Busy)),
+            folder_core::BeginAnswer::Unsupported => Ok(Ok(BeginAnswer::Unsupported)),
+        }
+    }
+
+    /// [`FolderCore::enter_commit`] for a pass.
+    pub fn enter_commit(
+        &mut self,
+        pass: u64,
+        ticket: Ticket,
+    ) -> Result<Result<Commit, EnterRefusal>, NotEntered>
+        requires pass { (1 ≤ pass) × (pass ≤ self.old.passes) }
+        ensures enters { Enters self.old pass (EnterCommit ticket) (answered enter_value result) self.new }
+        ensures given_back { IfOk result (λ entered. IfErr entered (GivesBack ticket)) }
+        ensures out_of_memory { IfErr result (λ refused. refused.0 ≡ ticket) }
+        ensures history { IsHistory self.new }
+    {
+        let Ok((asked, kept)) = two_copies(&ticket.token) else {
+            return Err(NotEntered(ticket));
+        };
+        let change = Change::EnterCommit { ticket: asked };
+        let has_room = self.has_room(1);
+        let change = match admit(
+            &self.core,
+            change,
+            has_room,
+            &mut self.entries,
+            self.pulls,
+            1,
+        ) {
+            Ok(Some(change)) => change,
+            Ok(None) => return Ok(Err(EnterRefusal::HistoryFull(ticket))),
+            Err(_) => return Err(NotEntered(ticket)),
+        };
+        let Ticket { inner, token } = ticket;
+        match self.core.enter_commit(inner) {
+            Ok(inner) => {
+                enter(&mut self.entries, pass, change, Answer::Entered(token));
+                Ok(Ok(Commit { inner, token: kept }))
+            }
+            Err(refused) => not_entered(refused, token),
+        }
+    }
+
+    /// [`FolderCore::finish`] for a pass. Does not allocate; the history keeps what was assembled.
+    pub fn finish(&mut self, pass: u64, commit: Commit, assembled: Assembled) -> Result<u64, Stray>
+        requires pass { (1 ≤ pass) × (pass ≤ self.old.passes) }
+        requires assembled { assembled ≡ commit.target }
+        ensures enters { Enters self.old pass (Finish commit assembled) (Some (finish_answer result)) self.new }
+        ensures history { IsHistory self.new }
+    {
+        let Commit { inner, token } = commit;
+        let sequence = self.core.finish(inner, &assembled)?;
+        self.pulls -= 1;
+        enter(
+            &mut self.entries,
+            pass,
+            Change::Finish {
+                commit: token,
+                assembled,
+            },
+            Answer::Done(sequence),
+        );
+        Ok(sequence)
+    }
+
+    /// [`FolderCore::give_up`] for a pass. Does not allocate.
+    pub fn give_up(&mut self, pass: u64, ticket: Ticket) -> bool
+        requires pass { (1 ≤ pass) × (pass ≤ self.old.passes) }
+        ensures enters { Enters self.old pass (GiveUp ticket) (Some (close_answer result)) self.new }
+        ensures history { IsHistory self.new }
+    {
+        let Ticket { inner, token } = ticket;
+        let is_closed = self.core.give_up(inner);
+        if is_closed {
+            self.pulls -= 1;
+            enter(
+                &mut self.entries,
+                pass,
+                Change::GiveUp { ticket: token },
+                Answer::Closed,
+            );
+        }
+        is_closed
+    }
+
+    /// [`FolderCore::abort`] for a pass. Does not allocate.
+    pub fn abort(&mut self, pass: u64, commit: Commit) -> bool
+        requires pass { (1 ≤ pass) × (pass ≤ self.old.passes) }
+        ensures enters { Enters self.old pass (Abort commit) (Some (close_answer result)) self.new }
+        ensures history { IsHistory self.new }
+    {
+        let Commit { inner, token } = commit;
+        let is_closed = self.core.abort(inner);
+        if is_closed {
+            self.pulls -= 1;
+            enter(
+                &mut self.entries,
+                pass,
+                Change::Abort { commit: token },
+                Answer::Closed,
+            );
+        }
+        is_closed
+    }
+
+    // Whether so many entries more have room, beside those that end the open pulls. O(1).
+    fn has_room(&self, more: u64) -> bool
+        ensures { result ≡ nat_le (length self.now.entries + len (end self.now).pulls + more) self.now.limit }
+    {
+        self.limit - self.pulls - self.entries.len() as u64 >= more
+    }
+}
+
+// Makes room for so many entries more, beside those that end the open pulls. Returns `Err` only if out of memory.
+fn make_room(entries: &mut Vec<Entry>, pulls: u64, more: u64) -> Result<(), AllocError>
+    requires { pulls + more < 2 ^ 64 }
+    ensures items { entries.new.items ≡ entries.old.items }
+    ensures kept { vec_capacity entries.old ≤ vec_capacity entries.new }
+    ensures room { IsOk result → length entries.old.items + pulls + more ≤ vec_capacity entries.new }
+{
+    entries.reserve((pulls + more) as usize)
+}
+
+// Returns the change if it's to be tried: where the history has room for its entry, which is made then, or the folder won't
+// accept it. Returns `Err` only if out of memory.
+fn admit<C: FolderCore>(
+    core: &C,
+    change: Change,
+    has_room: bool,
+    entries: &mut Vec<Entry>,
+    pulls: u64,
+    more: u64,
+) -> Result<Option<Change>, AllocError>
+    requires { pulls + more < 2 ^ 64 }
+    ensures items { entries.new.items ≡ entries.old.items }
+    ensures kept { vec_capacity entries.old ≤ vec_capacity entries.new }
+    ensures same { IfOk result (λ admitted. IfSome admitted (λ same. same ≡ change)) }
+    ensures admitted { (c : _) → result ≡ Ok (Some c) → is_accepted (step (C.state core.now) change).0 ≡ true → (has_room ≡ true) × (length entries.old.items + pulls + more ≤ vec_capacity entries.new) }
+    ensures refused { result ≡ Ok None → (has_room ≡ false) × (is_accepted (step (C.state core.now) change).0 ≡ true) }
+{
+    if has_room {
+        make_room(entries, pulls, more)?;
+        return Ok(Some(change));
+    }
+    if accepts(core, &change) {
+        return Ok(None);
+    }
+    Ok(Some(change))
+}
+
+// Whether the begin of a pull is tried, as for every change.
+fn admit_begin<C: FolderCore>(
+    core: &C,
+    name: &SafeName,
+    has_room: bool,
+    entries: &mut Vec<Entry>,
+    pulls: u64,
+) -> Result<bool, AllocError>
+    requires { pulls + 2 < 2 ^ 64 }
+    ensures items { entries.new.items ≡ entries.old.items }
+    ensures kept { vec_capacity entries.old ≤ vec_capacity entries.new }
+    ensures admitted { result ≡ Ok true → is_accepted (step (C.state core.now) (BeginPull name.now)).0 ≡ true → (has_room ≡ true) × (length entries.old.items + pulls + 2 ≤ vec_capacity entries.new) }
+    ensures refused { result ≡ Ok false → (has_room ≡ false) × (is_accepted (step (C.state core.now) (BeginPull name.now)).0 ≡ true) }
+{
+    if has_room {
+        make_room(entries, pulls, 2)?;
+        return Ok(true);
+    }
+    let change = Change::BeginPull { name: name.copy()? };
+    Ok(!accepts(core, &change))
+}
+
+// Enters an accepted change, for whose entry there is room. Does not allocate.
+fn enter(entries: &mut Vec<Entry>, pass: u64, change: Change, answer: Answer)
+    requires room { length entries.old.items < vec_capacity entries.old }
+    ensures items { entries.new.items ≡ entries.old.items ++ (record { pass = pass; change = change; answer = answer }) ∷ [] }
+    ensures capacity { vec_capacity entries.new ≡ vec_capacity entries.old }
+{
+    entries.push_reserved(Entry {
+        pass,
+        change,
+        answer,
+    });
+}
+
+// Enters a scan that was recorded, and says its answer.
+fn enter_scan(
+    entries: &mut Vec<Entry>,
+    pass: u64,
+    change: Change,
+    answer: Result<ScanAnswer, ScanFault>,
+) -> Result<Result<ScanAnswer, ScanRefusal>, AllocError>
+    requires { IfSome (scan_answer answer) (λ a. is_accepted a ≡ true → length entries.old.items < vec_capacity entries.old) }
+    ensures answer { answered scan_value result ≡ scan_answer answer }
+    ensures entered { entries.new.items ≡ entered_items entries.old.items pass change (scan_answer answer) }
+    ensures capacity { vec_capacity entries.new ≡ vec_capacity entries.old }
+{
+    match answer {
+        Ok(ScanAnswer::Recorded(sequence)) => {
+            enter(entries, pass, change, Answer::Recorded(sequence));
+            Ok(Ok(ScanAnswer::Recorded(sequence)))
+        }
+        Ok(answer) => Ok(Ok(answer)),
+        Err(ScanFault::CounterFull) => Ok(Err(ScanRefusal::CounterFull)),
+        Err(ScanFault::SequenceFull) => Ok(Err(ScanRefusal::SequenceFull)),
+        Err(ScanFault::OutOfMemory) => Err(AllocError),
+    }
+}
+
+// Why a commit was not entered, with its ticket in its place.
+fn not_entered(
+    refused: folder_core::NotEntered,
+    token: Token,
+) -> Result<Result<Commit, EnterRefusal>, NotEntered>
+    requires { GivesBackOpen token refused }
+    ensures answer { answered enter_value result ≡ enter_answer (Err refused) }
+    ensures given_back { IfOk result (λ entered. IfErr entered (GivesBack token)) }
+    ensures out_of_memory { IfErr result (λ refused. refused.0 ≡ token) }
+{
+    Ok(Err(match refused {
+        folder_core::NotEntered::Stray => EnterRefusal::Stray,
+        folder_core::NotEntered::LocalMoved(inner) => {
+            EnterRefusal::LocalMoved(Ticket { inner, token })
+        }
+        folder_core::NotEntered::Superseded(inner) => {
+            EnterRefusal::Superseded(Ticket { inner, token })
+        }
+        folder_core::NotEntered::SequenceFull(inner) => {
+            EnterRefusal::SequenceFull(Ticket { inner, token })
+        }
+        folder_core::NotEntered::OutOfMemory(inner) => return Err(NotEntered(Ticket {
+            inner,
+            token,
+        })),
+    }))
+}
+
+fn two_copies(token: &Token) -> Result<(Token, Token), AllocError>
+    ensures { IfOk result (λ copies. (copies.0 ≡ token.now) × (copies.1 ≡ token.now)) }
+{
+    Ok((token.copy()?, token.copy()?))
+}
+
+// What the entry of a begin and the ticket hold.
+fn begun_parts(name: &SafeName, token: &Token) -> Result<(Change, (Token, Token)), AllocError>
+    ensures change { IfOk result (λ parts. parts.0 ≡ BeginPull name.now) }
+    ensures tokens { IfOk result (λ parts. (parts.1.0 ≡ token.now) × (parts.1.1 ≡ token.now)) }
+{
+    let name = name.copy()?;
+    Ok((Change::BeginPull { name }, two_copies(token)?))
+}
+
+fn found_change(
+    name: &SafeName,
+    expected: Option<&Version>,
+    found: &Finding,
+    moment: Moment,
+) -> Result<Change, AllocError>
+    ensures { IfOk result (λ change. change ≡ ScanFound name.now (option_copied expected.entry) found.now moment) }
+{
+    Ok(Change::ScanFound {
+        name: name.copy()?,
+        expected: copied_version(expected)?,
+        found: found.copy()?,
+        moment,
+    })
+}
+
+fn gone_change(
+    name: &SafeName,
+    expected: Option<&Version>,
+    moment: Moment,
+) -> Result<Change, AllocError>
+    ensures { IfOk result (λ change. change ≡ ScanGone name.now (option_copied expected.entry) moment) }
+{
+    Ok(Change::ScanGone {
+        name: name.copy()?,
+        expected: copied_version(expected)?,
+        moment,
+    })
+}
+
+fn copied_version(version: Option<&Version>) -> Result<Option<Version>, AllocError>
+    ensures { IfOk result (λ copy. copy ≡ option_copied version.entry) }
+{
+    match version {
+        Some(version) => Ok(Some(version.copy()?)),
+        None => Ok(None),
+    }
+}
+
+fn accepts<C: FolderCore>(core: &C, change: &Change) -> bool
+    ensures { result ≡ is_accepted (step (C.state core.now) change.now).0 }
+{
+    core.me();
+    change.copy().is_ok()
+}
