@@ -1,6 +1,6 @@
 -- A journal's entries: each change of a pass is answered with the shared answer, and the open pulls are counted.
 use Rattle.std.proofs.Common.{◌≡◌, ℕ, ◌+◌, ◌-◌, ◌<◌, ◌≤◌, Bool, true, false, List, [], ◌∷◌, ◌++◌, length, refl, sym, ap, subst, ◌∙◌, arith, inl, inr}
-use Rattle.std.specs.Prelude.{cond, Some, None, is_some, nat_le}
+use Rattle.std.specs.Prelude.{cond, Option, Some, None, is_some, nat_le}
 use Rattle.std.specs.FinMap.{contains_key, get, insert, remove, len, len-insert}
 use Rattle.std.proofs.lemmas.Bool.{true≢false, leb-true, leb-false, cond-true, cond-false}
 use Rattle.std.proofs.lemmas.List.{length-append}
@@ -11,6 +11,7 @@ use Rattle.folder_core.specs.declared.answer.Answer.{Answer}
 use Rattle.folder_core.specs.declared.answer.Answer.TheVariants.{HistoryFull}
 use Rattle.folder_core.specs.declared.change.Change.{Change}
 use Rattle.folder_core.specs.declared.change.Change.TheVariants.{BeginPull, Finish, GiveUp, Abort}
+use Rattle.folder_core.specs.Calls.{Changes}
 use Rattle.folder_core.specs.States.{FolderState, Pull}
 use Rattle.folder_core.specs.Steps.{MayChange, committed_record, is_accepted, next_ticket, step, with_commit, with_local, with_pull, without_pull}
 use Rattle.folder_core.proofs.Orders.{bytes_total}
@@ -20,7 +21,7 @@ use Rattle.folder_core.proofs.ChangeKept.{step-keeps}
 use Rattle.folder_calls.specs.declared.entry.Entry.{Entry}
 use Rattle.folder_calls.specs.declared.history.History.{History}
 use Rattle.folder_calls.specs.Histories.{IsLegal, shared_answer, state_after}
-use Rattle.folder_calls.specs.Journals.{Enters, IsHistory, IsJournal, end, with_entry}
+use Rattle.folder_calls.specs.Journals.{Enters, IsHistory, IsJournal, end, entered_items, with_entry}
 use Rattle.folder_calls.proofs.HistoryEntries.{allowed-after, legal-push, pulls-fewer, shared-full, shared-same, state-push}
 use Rattle.folder_calls.proofs.HistoryFronts.{removed-less}
 
@@ -241,6 +242,44 @@ module _ (h now : History) (view_is : h ≡ now) (pulls capacity : ℕ) (s : Fol
 
     pub ended-enters : (es : List Entry) → es ≡ h.entries ++ (record { pass = pass; change = c; answer = a }) ∷ [] → Enters now pass c (Some a) (record h { entries = es })
     ended-enters es pushed = enters-after accepted (kept-room accepted one none) es pushed
+
+-- the same of a change that was admitted or refused, whether it is then accepted or not
+module _ (h now : History) (view_is : h ≡ now) (pulls capacity : ℕ) (s : FolderState) (j : IsJournal s pulls capacity h) (pass : ℕ) (given : (1 ≤ pass) × (pass ≤ now.passes))
+    (c : Change) (may : MayChange now.opening.me c) (none : closes c ≡ 0) (same : opens c ≡ 0) where
+  pub refused-after : (es : List Entry) → es ≡ h.entries → is_accepted (step s c).0 ≡ true → nat_le (length now.entries + len (end now).pulls + 1) now.limit ≡ false → Enters now pass c (Some HistoryFull) (record h { entries = es })
+  refused-after es kept accepted full =
+      subst (Enters now pass c (Some HistoryFull)) (sym (ap (λ es. record h { entries = es }) kept ∙ view_is))
+      (full-after h now view_is pulls capacity s j pass given c may (step s c).0 (step s c).1 refl accepted
+      (subst (λ n. nat_le (length now.entries + len (end now).pulls + (1 + n)) now.limit ≡ false) (sym same) full) none)
+
+  module _ (capacity' : ℕ) (kept : capacity ≤ capacity')
+      (admitted : is_accepted (step s c).0 ≡ true → (nat_le (length now.entries + len (end now).pulls + 1) now.limit ≡ true) × (length h.entries + pulls + 1 ≤ capacity'))
+      (t : FolderState) (es : List Entry) where
+    abbrev pub Entered : Option Answer → Type 0
+    Entered o = IsJournal t pulls capacity' (record h { entries = es }) × Enters now pass c o (record h { entries = es })
+
+    unchanged : t ≡ s → es ≡ h.entries → IsJournal t pulls capacity' (record h { entries = es })
+    unchanged e f = subst (λ es. IsJournal t pulls capacity' (record h { entries = es })) (sym f)
+        (record { history = j.history; state_is = e ∙ j.state_is; pulls_is = j.pulls_is; room = let r = j.room in omega arith })
+
+    by : (a : Answer) → step s c ≡ (a, t) → (b : Bool) → is_accepted a ≡ b → es ≡ cond b (h.entries ++ (record { pass = pass; change = c; answer = a }) ∷ []) h.entries → Entered (Some a)
+    by a made true accepted pushed =
+        let found = admitted (ap (λ (d : Answer × FolderState). is_accepted d.0) made ∙ accepted) in
+        let room = found-room h now view_is pulls capacity s j pass given c may a t made accepted
+        (subst (λ n. nat_le (length now.entries + len (end now).pulls + (1 + n)) now.limit ≡ true) (sym same) found.0) none in
+        let more = found.1 in (
+          journal-after h now view_is pulls capacity s j pass given c may a t made accepted room es pushed pulls capacity' (omega arith) (omega arith),
+          enters-after h now view_is pulls capacity s j pass given c may a t made accepted room es pushed,
+        )
+    by a made false tested pushed = (
+      unchanged (ap (λ (d : Answer × FolderState). d.1) (sym made) ∙ step-keeps s c (ap (λ (d : Answer × FolderState). is_accepted d.0) made ∙ tested)) pushed,
+      subst (Enters now pass c (Some a)) (sym (ap (λ es. record h { entries = es }) pushed ∙ view_is))
+          (declined-after h now view_is pulls capacity s j pass given c may a t made tested),
+    )
+
+    pub entered-after : (o : Option Answer) → Changes s c o t → es ≡ entered_items h.entries pass c o → Entered o
+    entered-after None e f = (unchanged e f, ap (λ es. record h { entries = es }) f ∙ view_is)
+    entered-after (Some a) made pushed = by a made (is_accepted a) refl pushed
 
 -- the step of a change, in other words
 pub made-as : (s : FolderState) {c c' : Change} {d : Answer × FolderState} → c ≡ c' → step s c ≡ d → step s c' ≡ d

@@ -120,8 +120,8 @@ impl<C: FolderCore> Journal<C> {
         ensures enters { Enters self.old pass (ScanFound name.now (option_copied expected.entry) found.now moment) (answered scan_value result) self.new }
         ensures history { IsHistory self.new }
     {
-        let change = found_change(name, expected, found, moment)?;
         let has_room = self.has_room(1);
+        let change = found_change(name, expected, found, moment)?;
         let Some(change) = admit(
             &self.core,
             change,
@@ -149,8 +149,8 @@ impl<C: FolderCore> Journal<C> {
         ensures enters { Enters self.old pass (ScanGone name.now (option_copied expected.entry) moment) (answered scan_value result) self.new }
         ensures history { IsHistory self.new }
     {
-        let change = gone_change(name, expected, moment)?;
         let has_room = self.has_room(1);
+        let change = gone_change(name, expected, moment)?;
         let Some(change) = admit(
             &self.core,
             change,
@@ -288,11 +288,11 @@ impl<C: FolderCore> Journal<C> {
         ensures out_of_memory { IfErr result (λ refused. refused.0 ≡ ticket) }
         ensures history { IsHistory self.new }
     {
+        let has_room = self.has_room(1);
         let Ok((asked, kept)) = two_copies(&ticket.token) else {
             return Err(NotEntered(ticket));
         };
         let change = Change::EnterCommit { ticket: asked };
-        let has_room = self.has_room(1);
         let change = match admit(
             &self.core,
             change,
