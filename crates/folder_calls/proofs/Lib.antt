@@ -3,6 +3,5 @@ pub mod HistoryFronts
 pub mod HistoryCommits
 pub mod HistoryShared
 pub mod JournalSteps
-pub mod JournalUndone
 pub mod Rows
 pub mod Same

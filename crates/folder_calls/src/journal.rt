@@ -1,19 +1,15 @@
 //! A folder with the history of its changes.
 ghost use Rattle.std.specs.Prelude.{◌≡◌, ◌≢◌, ◌≤◌, ◌+◌, ◌<◌, ◌++◌, ◌∷◌, [], ◌^◌, Err, IfErr, IfOk, IfSome, IsOk, IsTrue, None, Ok, Some, false, length, nat_le, option_copied, true, vec_capacity};
 ghost use Rattle.std.specs.FinMap.{len};
-ghost use Rattle.folder_core.specs.Calls.{GivesBack as GivesBackOpen, close_answer, enter_answer, finish_answer, scan_answer};
+ghost use Rattle.folder_core.specs.Calls.{close_answer, finish_answer, scan_answer};
 ghost use Rattle.folder_core.specs.Steps.{is_accepted, is_found, step};
-ghost use Rattle.folder_core.specs.declared.change.Change.TheVariants.{Forget, IndexFull, IndexMore, ScanFound, ScanGone, BeginPull, EnterCommit, Finish, GiveUp, Abort};
-ghost use Rattle.folder_calls.specs.Calls.{GivesBack, begin_value, enter_value, index_value, scan_value};
+ghost use Rattle.folder_core.specs.declared.change.Change.TheVariants.{Forget, IndexFull, IndexMore, ScanFound, ScanGone, Finish, GiveUp, Abort};
+ghost use Rattle.folder_calls.specs.Calls.{index_value, scan_value};
 ghost use Rattle.folder_calls.specs.Journals.{Enters, IsHistory, answered, end, entered_items, new_history};
 
-use crate::{
-    BeginAnswer, Commit, EnterRefusal, Entry, HistoryFull, NotEntered, ScanRefusal, Ticket,
-};
+use crate::{Commit, Entry, HistoryFull, ScanRefusal, Ticket};
 use bep_messages::{Copied, Items};
-use folder_core::{
-    Answer, Change, Finding, FolderCore, PlainFolder, ScanAnswer, ScanFault, Stray, Token,
-};
+use folder_core::{Answer, Change, Finding, FolderCore, PlainFolder, ScanAnswer, ScanFault, Stray};
 use std::alloc::{AllocError, Global};
 use std::marker::Model;
 use sync_names::SafeName;
@@ -24,7 +20,8 @@ use sync_version::{Moment, Version};
 ///
 /// Each change is made for a pass, whose number stands in its entry. A change that the folder would accept is refused with
 /// `HistoryFull` if there is no room for its entry and for those that end the pulls that are then open. The room for the
-/// entry that ends a pull is kept from its begin on, so that ending a pull does not allocate.
+/// entry that ends a pull is kept while the pull is open, so that ending it does not allocate. Pulls cannot be begun or
+/// entered here yet.
 #[derive(Drop)]
 pub struct Journal<C: FolderCore> {
     core: C,
@@ -241,80 +238,6 @@ impl<C: FolderCore> Journal<C> {
         Ok(Ok(()))
     }
 
-    /// [`FolderCore::begin_pull`] for a pass.
-    pub fn begin_pull(
-        &mut self,
-        pass: u64,
-        name: &SafeName,
-    ) -> Result<Result<BeginAnswer, HistoryFull>, AllocError>
-        requires pass { (1 ≤ pass) × (pass ≤ self.old.passes) }
-        ensures enters { Enters self.old pass (BeginPull name.now) (answered begin_value result) self.new }
-        ensures history { IsHistory self.new }
-    {
-        let has_room = self.has_room(2);
-        if !admit_begin(&self.core, name, has_room, &mut self.entries, self.pulls)? {
-            return Ok(Err(HistoryFull));
-        }
-        match self.core.begin_pull(name)? {
-            folder_core::BeginAnswer::Begun(ticket) => match begun_parts(name, ticket.token()) {
-                Ok((change, (answered, token))) => {
-                    self.pulls += 1;
-                    enter(&mut self.entries, pass, change, Answer::Begun(answered));
-                    Ok(Ok(BeginAnswer::Begun(Ticket {
-                        inner: ticket,
-                        token,
-                    })))
-                }
-                Err(fault) => {
-                    let _ = self.core.give_up(ticket);
-                    Err(fault)
-                }
-            },
-            folder_core::BeginAnswer::NotNeeded => Ok(Ok(BeginAnswer::NotNeeded)),
-            folder_core::BeginAnswer::Busy => Ok(Ok(BeginAnswer::Busy)),
-            folder_core::BeginAnswer::Unsupported => Ok(Ok(BeginAnswer::Unsupported)),
-        }
-    }
-
-    /// [`FolderCore::enter_commit`] for a pass.
-    pub fn enter_commit(
-        &mut self,
-        pass: u64,
-        ticket: Ticket,
-    ) -> Result<Result<Commit, EnterRefusal>, NotEntered>
-        requires pass { (1 ≤ pass) × (pass ≤ self.old.passes) }
-        ensures enters { Enters self.old pass (EnterCommit ticket) (answered enter_value result) self.new }
-        ensures given_back { IfOk result (λ entered. IfErr entered (GivesBack ticket)) }
-        ensures out_of_memory { IfErr result (λ refused. refused.0 ≡ ticket) }
-        ensures history { IsHistory self.new }
-    {
-        let has_room = self.has_room(1);
-        let Ok((asked, kept)) = two_copies(&ticket.token) else {
-            return Err(NotEntered(ticket));
-        };
-        let change = Change::EnterCommit { ticket: asked };
-        let change = match admit(
-            &self.core,
-            change,
-            has_room,
-            &mut self.entries,
-            self.pulls,
-            1,
-        ) {
-            Ok(Some(change)) => change,
-            Ok(None) => return Ok(Err(EnterRefusal::HistoryFull(ticket))),
-            Err(_) => return Err(NotEntered(ticket)),
-        };
-        let Ticket { inner, token } = ticket;
-        match self.core.enter_commit(inner) {
-            Ok(inner) => {
-                enter(&mut self.entries, pass, change, Answer::Entered(token));
-                Ok(Ok(Commit { inner, token: kept }))
-            }
-            Err(refused) => not_entered(refused, token),
-        }
-    }
-
     /// [`FolderCore::finish`] for a pass. Does not allocate; the history keeps what was assembled.
     pub fn finish(&mut self, pass: u64, commit: Commit, assembled: Assembled) -> Result<u64, Stray>
         requires pass { (1 ≤ pass) × (pass ≤ self.old.passes) }
@@ -395,8 +318,8 @@ fn make_room(entries: &mut Vec<Entry>, pulls: u64, more: u64) -> Result<(), Allo
     entries.reserve((pulls + more) as usize)
 }
 
-// Returns the change if it's to be tried: where the history has room for its entry, which is made then, or the folder won't
-// accept it. Returns `Err` only if out of memory.
+// Returns the change if the folder is to be asked: if the history has room for its entry, which is made then, or if the
+// folder does not accept it. Returns `Err` only if out of memory.
 fn admit<C: FolderCore>(
     core: &C,
     change: Change,
@@ -416,32 +339,10 @@ fn admit<C: FolderCore>(
         make_room(entries, pulls, more)?;
         return Ok(Some(change));
     }
-    if accepts(core, &change) {
+    if core.accepts(&change) {
         return Ok(None);
     }
     Ok(Some(change))
-}
-
-// Whether the begin of a pull is tried, as for every change.
-fn admit_begin<C: FolderCore>(
-    core: &C,
-    name: &SafeName,
-    has_room: bool,
-    entries: &mut Vec<Entry>,
-    pulls: u64,
-) -> Result<bool, AllocError>
-    requires { pulls + 2 < 2 ^ 64 }
-    ensures items { entries.new.items ≡ entries.old.items }
-    ensures kept { vec_capacity entries.old ≤ vec_capacity entries.new }
-    ensures admitted { result ≡ Ok true → is_accepted (step (C.state core.now) (BeginPull name.now)).0 ≡ true → (has_room ≡ true) × (length entries.old.items + pulls + 2 ≤ vec_capacity entries.new) }
-    ensures refused { result ≡ Ok false → (has_room ≡ false) × (is_accepted (step (C.state core.now) (BeginPull name.now)).0 ≡ true) }
-{
-    if has_room {
-        make_room(entries, pulls, 2)?;
-        return Ok(true);
-    }
-    let change = Change::BeginPull { name: name.copy()? };
-    Ok(!accepts(core, &change))
 }
 
 // Enters an accepted change, for whose entry there is room. Does not allocate.
@@ -481,49 +382,6 @@ fn enter_scan(
     }
 }
 
-// Why a commit was not entered, with its ticket in its place.
-fn not_entered(
-    refused: folder_core::NotEntered,
-    token: Token,
-) -> Result<Result<Commit, EnterRefusal>, NotEntered>
-    requires { GivesBackOpen token refused }
-    ensures answer { answered enter_value result ≡ enter_answer (Err refused) }
-    ensures given_back { IfOk result (λ entered. IfErr entered (GivesBack token)) }
-    ensures out_of_memory { IfErr result (λ refused. refused.0 ≡ token) }
-{
-    Ok(Err(match refused {
-        folder_core::NotEntered::Stray => EnterRefusal::Stray,
-        folder_core::NotEntered::LocalMoved(inner) => {
-            EnterRefusal::LocalMoved(Ticket { inner, token })
-        }
-        folder_core::NotEntered::Superseded(inner) => {
-            EnterRefusal::Superseded(Ticket { inner, token })
-        }
-        folder_core::NotEntered::SequenceFull(inner) => {
-            EnterRefusal::SequenceFull(Ticket { inner, token })
-        }
-        folder_core::NotEntered::OutOfMemory(inner) => return Err(NotEntered(Ticket {
-            inner,
-            token,
-        })),
-    }))
-}
-
-fn two_copies(token: &Token) -> Result<(Token, Token), AllocError>
-    ensures { IfOk result (λ copies. (copies.0 ≡ token.now) × (copies.1 ≡ token.now)) }
-{
-    Ok((token.copy()?, token.copy()?))
-}
-
-// What the entry of a begin and the ticket hold.
-fn begun_parts(name: &SafeName, token: &Token) -> Result<(Change, (Token, Token)), AllocError>
-    ensures change { IfOk result (λ parts. parts.0 ≡ BeginPull name.now) }
-    ensures tokens { IfOk result (λ parts. (parts.1.0 ≡ token.now) × (parts.1.1 ≡ token.now)) }
-{
-    let name = name.copy()?;
-    Ok((Change::BeginPull { name }, two_copies(token)?))
-}
-
 fn found_change(
     name: &SafeName,
     expected: Option<&Version>,
@@ -561,11 +419,4 @@ fn copied_version(version: Option<&Version>) -> Result<Option<Version>, AllocErr
         Some(version) => Ok(Some(version.copy()?)),
         None => Ok(None),
     }
-}
-
-fn accepts<C: FolderCore>(core: &C, change: &Change) -> bool
-    ensures { result ≡ is_accepted (step (C.state core.now) change.now).0 }
-{
-    core.me();
-    change.copy().is_ok()
 }

@@ -25,13 +25,6 @@ impl Model for Ticket {
 }
 
 impl Ticket {
-    /// All that is said of it. O(1).
-    pub fn token(&self) -> &Token
-        ensures { result.now ≡ self.now }
-    {
-        &self.token
-    }
-
     /// Its number; no two open pulls of a folder have the same one. O(1).
     pub fn number(&self) -> u64
         ensures { result ≡ self.now.number }
