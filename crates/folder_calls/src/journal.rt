@@ -103,6 +103,13 @@ impl<C: FolderCore> Journal<C> {
         self.entries.len() as u64
     }
 
+    /// How many passes were given out. O(1).
+    pub fn passes(&self) -> u64
+        ensures { result ≡ self.now.passes }
+    {
+        self.passes
+    }
+
     /// [`FolderCore::scan_found`] for a pass. O(n) memory for the size n of what is found.
     pub fn scan_found(
         &mut self,
