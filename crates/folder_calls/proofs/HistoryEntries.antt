@@ -101,7 +101,7 @@ module _ (limit : ℕ) (s : FolderState) (es : List Entry) (c : Change) where
 
 -- ---- what ends an open pull finds its room
 
-pulls-fewer : (s : FolderState) (n : Name) (p : Pull) → get s.pulls n ≡ Some p → len (remove s.pulls n) + 1 ≤ len s.pulls
+pub pulls-fewer : (s : FolderState) (n : Name) (p : Pull) → get s.pulls n ≡ Some p → len (remove s.pulls n) + 1 ≤ len s.pulls
 pulls-fewer s n p g = by (zero_or_above (len s.pulls))
   where
     less : len (remove s.pulls n) ≡ len s.pulls - 1

@@ -46,7 +46,7 @@ put-more s n p = by (contains_key s.pulls n) (len-insert bytes_total s.pulls n p
     by true e = omega arith
     by false e = omega arith
 
-removed-less : (s : FolderState) (n : Name) → len s.pulls ≤ len (remove s.pulls n) + 1
+pub removed-less : (s : FolderState) (n : Name) → len s.pulls ≤ len (remove s.pulls n) + 1
 removed-less s n = by (is_some (get s.pulls n)) (len-remove bytes_total s.pulls n)
   where
     by : (b : Bool) → len (remove s.pulls n) ≡ cond b (len s.pulls - 1) (len s.pulls) → len s.pulls ≤ len (remove s.pulls n) + 1

@@ -2,5 +2,6 @@ pub mod HistoryEntries
 pub mod HistoryFronts
 pub mod HistoryCommits
 pub mod HistoryShared
+pub mod JournalSteps
 pub mod Rows
 pub mod Same

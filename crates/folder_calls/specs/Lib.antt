@@ -1,8 +1,10 @@
 -- the rules
 pub mod Histories
 pub mod Shared
+pub mod Journals
 -- how calls say the rules
 pub mod Calls
+pub mod Codes
 pub mod Faults
 -- worked rows
 pub mod Samples

@@ -6,6 +6,8 @@
 mod at;
 mod calls;
 mod entry;
+mod history;
+mod journal;
 pub mod laws;
 mod pull;
 mod refusal;
@@ -15,5 +17,7 @@ mod tests;
 pub use at::At;
 pub use calls::FolderCalls;
 pub use entry::Entry;
+pub use history::History;
+pub use journal::Journal;
 pub use pull::{BeginAnswer, Commit, EnterRefusal, NotEntered, Ticket};
 pub use refusal::{HistoryFull, ScanRefusal};

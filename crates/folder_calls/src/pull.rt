@@ -11,7 +11,7 @@ use sync_record::Record;
 /// not allocate.
 #[derive(Debug)]
 pub struct Ticket {
-    pub(crate) open: folder_core::Ticket,
+    pub(crate) inner: folder_core::Ticket,
     pub(crate) token: Token,
 }
 
@@ -23,7 +23,7 @@ impl Model for Ticket {
 
     ghost view = { λ t. t.token };
 
-    ghost invariant = { λ t. t.open ≡ t.token };
+    ghost invariant = { λ t. t.inner ≡ t.token };
 }
 
 impl Ticket {
@@ -61,7 +61,7 @@ impl Ticket {
 /// of that needs.
 #[derive(Debug)]
 pub struct Commit {
-    pub(crate) open: folder_core::Commit,
+    pub(crate) inner: folder_core::Commit,
     pub(crate) token: Token,
 }
 
@@ -73,7 +73,7 @@ impl Model for Commit {
 
     ghost view = { λ c. c.token };
 
-    ghost invariant = { λ c. c.open ≡ c.token };
+    ghost invariant = { λ c. c.inner ≡ c.token };
 }
 
 impl Commit {

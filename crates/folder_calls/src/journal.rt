@@ -1,0 +1,429 @@
+//! A folder with the history of its changes.
+ghost use Rattle.std.specs.Prelude.{◌≡◌, ◌≢◌, ◌≤◌, ◌+◌, ◌<◌, ◌++◌, ◌∷◌, [], ◌^◌, Err, IfErr, IfOk, IfSome, IsOk, IsTrue, None, Ok, Some, false, length, nat_le, option_copied, true, vec_capacity};
+ghost use Rattle.std.specs.FinMap.{len};
+ghost use Rattle.folder_core.specs.Calls.{close_answer, finish_answer, scan_answer};
+ghost use Rattle.folder_core.specs.Steps.{is_accepted, is_found, step};
+ghost use Rattle.folder_core.specs.declared.change.Change.TheVariants.{Forget, IndexFull, IndexMore, ScanFound, ScanGone, Finish, GiveUp, Abort};
+ghost use Rattle.folder_calls.specs.Calls.{index_value, scan_value};
+ghost use Rattle.folder_calls.specs.Journals.{Enters, IsHistory, answered, end, entered_items, new_history};
+
+use crate::{Commit, Entry, HistoryFull, ScanRefusal, Ticket};
+use bep_messages::{Copied, Items};
+use folder_core::{Answer, Change, Finding, FolderCore, PlainFolder, ScanAnswer, ScanFault, Stray};
+use std::alloc::{AllocError, Global};
+use std::marker::Model;
+use sync_names::SafeName;
+use sync_record::{Assembled, DeviceId, Record};
+use sync_version::{Moment, Version};
+
+/// A folder, what it was when it was opened, and the history of its changes since.
+///
+/// Each change is made for a pass, whose number stands in its entry. A change that the folder would accept is refused with
+/// `HistoryFull` if there is no room for its entry and for those that end the pulls that are then open. The room for the
+/// entry that ends a pull is kept while the pull is open, so that ending it does not allocate. Pulls cannot be begun or
+/// entered here yet.
+#[derive(Drop)]
+pub struct Journal<C: FolderCore> {
+    core: C,
+    opening: PlainFolder,
+    entries: Vec<Entry>,
+    limit: u64,
+    passes: u64,
+    /// How many pulls are open.
+    pulls: u64,
+}
+
+impl<C: FolderCore> Model for Journal<C> {
+    ghost use Rattle.std.specs.Prelude.{vec_capacity};
+    ghost use Rattle.folder_calls.specs.declared.history.History.{History};
+    ghost use Rattle.folder_calls.specs.Journals.{IsJournal};
+
+    ghost Value = { History };
+
+    ghost use Rattle.folder_calls.specs.Codes.{coded_history};
+
+    ghost coded = { coded_history };
+
+    ghost view = { λ j. record { opening = j.opening; entries = j.entries.items; limit = j.limit; passes = j.passes } };
+
+    ghost invariant = { λ j. IsJournal (C.state j.core) j.pulls (vec_capacity j.entries) (record { opening = j.opening; entries = j.entries.items; limit = j.limit; passes = j.passes }) };
+}
+
+impl<C: FolderCore> Journal<C> {
+    /// The folder with an empty history. Returns `Err` with the folder only if its copy could not be allocated. O(n) time and
+    /// memory for n records, which share their memory.
+    pub fn open(alloc: Global, core: C, limit: u64, passes: u64) -> Result<Journal<C>, C>
+        requires { len (C.state core).pulls ≡ 0 }
+        ensures ok { IfOk result (λ journal. journal ≡ new_history (C.state core) limit passes) }
+        ensures err { IfErr result (λ back. C.state back ≡ C.state core) }
+    {
+        let _ = core.me();
+        let Ok(opening) = core.plain_copy() else {
+            return Err(core);
+        };
+        Ok(Journal {
+            core,
+            opening,
+            entries: Vec::new(alloc),
+            limit,
+            passes,
+            pulls: 0,
+        })
+    }
+
+    /// The folder, after the history. O(n) for n entries, which are dropped.
+    pub fn into_core(self) -> C
+        ensures core { C.state result ≡ end self }
+        ensures history { IsHistory self }
+    {
+        let Journal {
+            core,
+            opening: _,
+            entries: _,
+            limit: _,
+            passes: _,
+            pulls: _,
+        } = self;
+        core
+    }
+
+    /// The folder, after the history. O(1).
+    pub fn core(&self) -> &C
+        ensures core { C.state result.now ≡ end self.now }
+        ensures history { IsHistory self.now }
+    {
+        &self.core
+    }
+
+    /// The number of entries. O(1).
+    pub fn len(&self) -> u64
+        ensures len { result ≡ length self.now.entries }
+        ensures history { IsHistory self.now }
+    {
+        self.entries.len() as u64
+    }
+
+    /// How many passes were given out. O(1).
+    pub fn passes(&self) -> u64
+        ensures { result ≡ self.now.passes }
+    {
+        self.passes
+    }
+
+    /// [`FolderCore::scan_found`] for a pass. O(n) memory for the size n of what is found.
+    pub fn scan_found(
+        &mut self,
+        pass: u64,
+        name: &SafeName,
+        expected: Option<&Version>,
+        found: &Finding,
+        moment: Moment,
+    ) -> Result<Result<ScanAnswer, ScanRefusal>, AllocError>
+        requires pass { (1 ≤ pass) × (pass ≤ self.old.passes) }
+        requires found { IsTrue (is_found found.now.content) }
+        ensures enters { Enters self.old pass (ScanFound name.now (option_copied expected.entry) found.now moment) (answered scan_value result) self.new }
+        ensures history { IsHistory self.new }
+    {
+        let has_room = self.has_room(1);
+        let change = found_change(name, expected, found, moment)?;
+        let Some(change) = admit(
+            &self.core,
+            change,
+            has_room,
+            &mut self.entries,
+            self.pulls,
+            1,
+        )?
+        else {
+            return Ok(Err(ScanRefusal::HistoryFull));
+        };
+        let answer = self.core.scan_found(name, expected, found, moment);
+        enter_scan(&mut self.entries, pass, change, answer)
+    }
+
+    /// [`FolderCore::scan_gone`] for a pass.
+    pub fn scan_gone(
+        &mut self,
+        pass: u64,
+        name: &SafeName,
+        expected: Option<&Version>,
+        moment: Moment,
+    ) -> Result<Result<ScanAnswer, ScanRefusal>, AllocError>
+        requires pass { (1 ≤ pass) × (pass ≤ self.old.passes) }
+        ensures enters { Enters self.old pass (ScanGone name.now (option_copied expected.entry) moment) (answered scan_value result) self.new }
+        ensures history { IsHistory self.new }
+    {
+        let has_room = self.has_room(1);
+        let change = gone_change(name, expected, moment)?;
+        let Some(change) = admit(
+            &self.core,
+            change,
+            has_room,
+            &mut self.entries,
+            self.pulls,
+            1,
+        )?
+        else {
+            return Ok(Err(ScanRefusal::HistoryFull));
+        };
+        let answer = self.core.scan_gone(name, expected, moment);
+        enter_scan(&mut self.entries, pass, change, answer)
+    }
+
+    /// [`FolderCore::index_full`] for a pass. The history keeps the records too; they share their memory.
+    pub fn index_full(
+        &mut self,
+        pass: u64,
+        device: DeviceId,
+        records: Items<Record>,
+    ) -> Result<Result<(), HistoryFull>, AllocError>
+        requires pass { (1 ≤ pass) × (pass ≤ self.old.passes) }
+        requires device { device ≢ self.old.opening.me }
+        ensures enters { Enters self.old pass (IndexFull device records) (answered index_value result) self.new }
+        ensures history { IsHistory self.new }
+    {
+        if !self.has_room(1) {
+            return Ok(Err(HistoryFull));
+        }
+        make_room(&mut self.entries, self.pulls, 1)?;
+        let change = Change::IndexFull {
+            device,
+            records: records.copy()?,
+        };
+        self.core.index_full(device, records)?;
+        enter(&mut self.entries, pass, change, Answer::Applied);
+        Ok(Ok(()))
+    }
+
+    /// [`FolderCore::index_more`] for a pass. The history keeps the records too; they share their memory.
+    pub fn index_more(
+        &mut self,
+        pass: u64,
+        device: DeviceId,
+        records: Items<Record>,
+    ) -> Result<Result<(), HistoryFull>, AllocError>
+        requires pass { (1 ≤ pass) × (pass ≤ self.old.passes) }
+        requires device { device ≢ self.old.opening.me }
+        ensures enters { Enters self.old pass (IndexMore device records) (answered index_value result) self.new }
+        ensures history { IsHistory self.new }
+    {
+        if !self.has_room(1) {
+            return Ok(Err(HistoryFull));
+        }
+        make_room(&mut self.entries, self.pulls, 1)?;
+        let change = Change::IndexMore {
+            device,
+            records: records.copy()?,
+        };
+        self.core.index_more(device, records)?;
+        enter(&mut self.entries, pass, change, Answer::Applied);
+        Ok(Ok(()))
+    }
+
+    /// [`FolderCore::forget`] for a pass.
+    pub fn forget(
+        &mut self,
+        pass: u64,
+        device: DeviceId,
+    ) -> Result<Result<(), HistoryFull>, AllocError>
+        requires pass { (1 ≤ pass) × (pass ≤ self.old.passes) }
+        requires device { device ≢ self.old.opening.me }
+        ensures enters { Enters self.old pass (Forget device) (answered index_value result) self.new }
+        ensures history { IsHistory self.new }
+    {
+        if !self.has_room(1) {
+            return Ok(Err(HistoryFull));
+        }
+        make_room(&mut self.entries, self.pulls, 1)?;
+        self.core.forget(device)?;
+        enter(
+            &mut self.entries,
+            pass,
+            Change::Forget { device },
+            Answer::Applied,
+        );
+        Ok(Ok(()))
+    }
+
+    /// [`FolderCore::finish`] for a pass. Does not allocate; the history keeps what was assembled.
+    pub fn finish(&mut self, pass: u64, commit: Commit, assembled: Assembled) -> Result<u64, Stray>
+        requires pass { (1 ≤ pass) × (pass ≤ self.old.passes) }
+        requires assembled { assembled ≡ commit.target }
+        ensures enters { Enters self.old pass (Finish commit assembled) (Some (finish_answer result)) self.new }
+        ensures history { IsHistory self.new }
+    {
+        let Commit { inner, token } = commit;
+        let sequence = self.core.finish(inner, &assembled)?;
+        self.pulls -= 1;
+        enter(
+            &mut self.entries,
+            pass,
+            Change::Finish {
+                commit: token,
+                assembled,
+            },
+            Answer::Done(sequence),
+        );
+        Ok(sequence)
+    }
+
+    /// [`FolderCore::give_up`] for a pass. Does not allocate.
+    pub fn give_up(&mut self, pass: u64, ticket: Ticket) -> bool
+        requires pass { (1 ≤ pass) × (pass ≤ self.old.passes) }
+        ensures enters { Enters self.old pass (GiveUp ticket) (Some (close_answer result)) self.new }
+        ensures history { IsHistory self.new }
+    {
+        let Ticket { inner, token } = ticket;
+        let is_closed = self.core.give_up(inner);
+        if is_closed {
+            self.pulls -= 1;
+            enter(
+                &mut self.entries,
+                pass,
+                Change::GiveUp { ticket: token },
+                Answer::Closed,
+            );
+        }
+        is_closed
+    }
+
+    /// [`FolderCore::abort`] for a pass. Does not allocate.
+    pub fn abort(&mut self, pass: u64, commit: Commit) -> bool
+        requires pass { (1 ≤ pass) × (pass ≤ self.old.passes) }
+        ensures enters { Enters self.old pass (Abort commit) (Some (close_answer result)) self.new }
+        ensures history { IsHistory self.new }
+    {
+        let Commit { inner, token } = commit;
+        let is_closed = self.core.abort(inner);
+        if is_closed {
+            self.pulls -= 1;
+            enter(
+                &mut self.entries,
+                pass,
+                Change::Abort { commit: token },
+                Answer::Closed,
+            );
+        }
+        is_closed
+    }
+
+    // Whether so many entries more have room, beside those that end the open pulls. O(1).
+    fn has_room(&self, more: u64) -> bool
+        ensures { result ≡ nat_le (length self.now.entries + len (end self.now).pulls + more) self.now.limit }
+    {
+        self.limit - self.pulls - self.entries.len() as u64 >= more
+    }
+}
+
+// Makes room for so many entries more, beside those that end the open pulls. Returns `Err` only if out of memory.
+fn make_room(entries: &mut Vec<Entry>, pulls: u64, more: u64) -> Result<(), AllocError>
+    requires { pulls + more < 2 ^ 64 }
+    ensures items { entries.new.items ≡ entries.old.items }
+    ensures kept { vec_capacity entries.old ≤ vec_capacity entries.new }
+    ensures room { IsOk result → length entries.old.items + pulls + more ≤ vec_capacity entries.new }
+{
+    entries.reserve((pulls + more) as usize)
+}
+
+// Returns the change if the folder is to be asked: if the history has room for its entry, which is made then, or if the
+// folder does not accept it. Returns `Err` only if out of memory.
+fn admit<C: FolderCore>(
+    core: &C,
+    change: Change,
+    has_room: bool,
+    entries: &mut Vec<Entry>,
+    pulls: u64,
+    more: u64,
+) -> Result<Option<Change>, AllocError>
+    requires { pulls + more < 2 ^ 64 }
+    ensures items { entries.new.items ≡ entries.old.items }
+    ensures kept { vec_capacity entries.old ≤ vec_capacity entries.new }
+    ensures same { IfOk result (λ admitted. IfSome admitted (λ same. same ≡ change)) }
+    ensures admitted { (c : _) → result ≡ Ok (Some c) → is_accepted (step (C.state core.now) change).0 ≡ true → (has_room ≡ true) × (length entries.old.items + pulls + more ≤ vec_capacity entries.new) }
+    ensures refused { result ≡ Ok None → (has_room ≡ false) × (is_accepted (step (C.state core.now) change).0 ≡ true) }
+{
+    if has_room {
+        make_room(entries, pulls, more)?;
+        return Ok(Some(change));
+    }
+    if core.accepts(&change) {
+        return Ok(None);
+    }
+    Ok(Some(change))
+}
+
+// Enters an accepted change, for whose entry there is room. Does not allocate.
+fn enter(entries: &mut Vec<Entry>, pass: u64, change: Change, answer: Answer)
+    requires room { length entries.old.items < vec_capacity entries.old }
+    ensures items { entries.new.items ≡ entries.old.items ++ (record { pass = pass; change = change; answer = answer }) ∷ [] }
+    ensures capacity { vec_capacity entries.new ≡ vec_capacity entries.old }
+{
+    entries.push_reserved(Entry {
+        pass,
+        change,
+        answer,
+    });
+}
+
+// Enters a scan that was recorded, and says its answer.
+fn enter_scan(
+    entries: &mut Vec<Entry>,
+    pass: u64,
+    change: Change,
+    answer: Result<ScanAnswer, ScanFault>,
+) -> Result<Result<ScanAnswer, ScanRefusal>, AllocError>
+    requires { IfSome (scan_answer answer) (λ a. is_accepted a ≡ true → length entries.old.items < vec_capacity entries.old) }
+    ensures answer { answered scan_value result ≡ scan_answer answer }
+    ensures entered { entries.new.items ≡ entered_items entries.old.items pass change (scan_answer answer) }
+    ensures capacity { vec_capacity entries.new ≡ vec_capacity entries.old }
+{
+    match answer {
+        Ok(ScanAnswer::Recorded(sequence)) => {
+            enter(entries, pass, change, Answer::Recorded(sequence));
+            Ok(Ok(ScanAnswer::Recorded(sequence)))
+        }
+        Ok(answer) => Ok(Ok(answer)),
+        Err(ScanFault::CounterFull) => Ok(Err(ScanRefusal::CounterFull)),
+        Err(ScanFault::SequenceFull) => Ok(Err(ScanRefusal::SequenceFull)),
+        Err(ScanFault::OutOfMemory) => Err(AllocError),
+    }
+}
+
+fn found_change(
+    name: &SafeName,
+    expected: Option<&Version>,
+    found: &Finding,
+    moment: Moment,
+) -> Result<Change, AllocError>
+    ensures { IfOk result (λ change. change ≡ ScanFound name.now (option_copied expected.entry) found.now moment) }
+{
+    Ok(Change::ScanFound {
+        name: name.copy()?,
+        expected: copied_version(expected)?,
+        found: found.copy()?,
+        moment,
+    })
+}
+
+fn gone_change(
+    name: &SafeName,
+    expected: Option<&Version>,
+    moment: Moment,
+) -> Result<Change, AllocError>
+    ensures { IfOk result (λ change. change ≡ ScanGone name.now (option_copied expected.entry) moment) }
+{
+    Ok(Change::ScanGone {
+        name: name.copy()?,
+        expected: copied_version(expected)?,
+        moment,
+    })
+}
+
+fn copied_version(version: Option<&Version>) -> Result<Option<Version>, AllocError>
+    ensures { IfOk result (λ copy. copy ≡ option_copied version.entry) }
+{
+    match version {
+        Some(version) => Ok(Some(version.copy()?)),
+        None => Ok(None),
+    }
+}
