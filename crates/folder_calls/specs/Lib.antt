@@ -2,6 +2,7 @@
 pub mod Histories
 pub mod Shared
 pub mod Journals
+pub mod Alone
 -- how calls say the rules
 pub mod Calls
 pub mod Codes

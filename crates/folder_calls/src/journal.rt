@@ -1,6 +1,7 @@
 //! A folder with the history of its changes.
 ghost use Rattle.std.specs.Prelude.{◌≡◌, ◌≢◌, ◌≤◌, ◌+◌, ◌<◌, ◌++◌, ◌∷◌, [], ◌^◌, Err, IfErr, IfOk, IfSome, IsOk, IsTrue, None, Ok, Some, false, length, nat_le, option_copied, true, vec_capacity};
 ghost use Rattle.std.specs.FinMap.{len};
+ghost use Rattle.sync_record.specs.Assemblies.{IsAssembled};
 ghost use Rattle.folder_core.specs.Calls.{close_answer, finish_answer, scan_answer};
 ghost use Rattle.folder_core.specs.Steps.{is_accepted, is_found, step};
 ghost use Rattle.folder_core.specs.declared.change.Change.TheVariants.{Forget, IndexFull, IndexMore, ScanFound, ScanGone, Finish, GiveUp, Abort};
@@ -250,6 +251,7 @@ impl<C: FolderCore> Journal<C> {
         requires pass { (1 ≤ pass) × (pass ≤ self.old.passes) }
         requires assembled { assembled ≡ commit.target }
         ensures enters { Enters self.old pass (Finish commit assembled) (Some (finish_answer result)) self.new }
+        ensures assembled { IsAssembled assembled }
         ensures history { IsHistory self.new }
     {
         let Commit { inner, token } = commit;

@@ -1,0 +1,251 @@
+-- What a folder with one caller tells it, with and without a change of another caller just before.
+use Rattle.std.proofs.Common.{◌≡◌, ℕ, ◌+◌, ◌-◌, ◌≤◌, Bool, true, false, List, [], ◌∷◌, ◌++◌, length, refl, sym, ap, subst, ◌∙◌, arith, ◌⊎◌, inl, inr}
+use Rattle.std.specs.Prelude.{cond, drop, take, nat_le, Option, Some, None, IfOk, IfSome, MatchBool, Result, Ok, Err}
+use Rattle.std.specs.FinMap.{len}
+use Rattle.std.proofs.lemmas.Bool.{true≢false}
+use Rattle.std.proofs.lemmas.List.{length-append, take-append-drop, take-append-le, take_all}
+use Rattle.std.proofs.lemmas.Option.{none-some}
+use mathlib.Core.List.{IsPrefix}
+use Rattle.folder_core.specs.declared.answer.Answer.{Answer}
+use Rattle.folder_core.specs.declared.change.Change.{Change}
+use Rattle.folder_core.specs.Reads.{Query, Reply, Reads}
+use Rattle.folder_core.specs.States.{FolderState}
+use Rattle.folder_core.specs.Steps.{MayChange, is_accepted}
+use Rattle.folder_calls.specs.declared.alone.Alone.{Alone}
+use Rattle.folder_calls.specs.declared.alone.Plan.{Plan}
+use Rattle.folder_calls.specs.declared.at.At.{At}
+use Rattle.folder_calls.specs.declared.entry.Entry.{Entry}
+use Rattle.folder_calls.specs.declared.history.History.{History}
+use Rattle.folder_calls.specs.Calls.{told}
+use Rattle.folder_calls.specs.Alone.{ChangesAlone, GoesOn, IsAlone, IsAsked, IsLookedUp, IsMade, IsToldAt, ReadsAlone, change_of, seen_by}
+use Rattle.folder_calls.specs.Histories.{own_entries, shared_answer}
+use Rattle.folder_calls.specs.Journals.{Enters, IsHistory, answered, end, with_entry}
+use Rattle.folder_calls.specs.Shared.{IsLegalView, ReadsThere, Tells, View, own_entry, seeing}
+use Rattle.folder_calls.proofs.HistoryEntries.{own-push, own-skip}
+use Rattle.folder_calls.proofs.HistoryFronts.{view-front}
+use Rattle.folder_calls.proofs.HistoryShared.{declined-there, made-there, read-there}
+
+-- ---- what a change of some pass makes of a history
+
+-- the history is as before, or has one entry more
+pub on-entering : (P : History → Type 0) (old new : History) (pass : ℕ) (change : Change) (answer : Answer) → Enters old pass change (Some answer) new
+    → (is_accepted answer ≡ false → P old) → (is_accepted answer ≡ true → P (with_entry old pass change answer)) → P new
+on-entering P old new pass change answer entered tested made = subst P (sym entered.1) (by (is_accepted answer) refl)
+  where
+    by : (b : Bool) → is_accepted answer ≡ b → P (cond b (with_entry old pass change answer) old)
+    by true t = made t
+    by false t = tested t
+
+-- what a caller knows that has seen so many of the entries
+abbrev view_of : History → ℕ → View
+view_of h seen = record { opening = h.opening; limit = h.limit; pass = 1; seen = take seen h.entries }
+
+module _ (a : Alone) (alone : IsAlone a) where
+  abbrev es : List Entry
+  es = a.history.entries
+
+  seen-front : IsPrefix (take a.seen es) es
+  seen-front = (drop a.seen es, take-append-drop a.seen es)
+
+  all-legal : IsLegalView (seeing (seen_by a) es)
+  all-legal = record {
+    opening = alone.history.opening;
+    no_pull = alone.history.no_pull;
+    passes = a.history.passes;
+    given = (let p = alone.passes in omega arith, let p = alone.passes in omega arith);
+    legal = alone.history.legal;
+    room = alone.history.room;
+  }
+
+  all-seen : seeing (seen_by a) es ≡ view_of a.history (length es)
+  all-seen = ap (seeing (seen_by a)) (sym (take_all (length es) es (omega arith)))
+
+  -- what the caller has seen is legal
+  pub seen-legal : IsLegalView (seen_by a)
+  seen-legal = view-front (seen_by a) (take a.seen es) (drop a.seen es) (subst (λ xs. IsLegalView (seeing (seen_by a) xs)) (sym (take-append-drop a.seen es)) all-legal)
+
+  -- a change of its own
+  module _ (h : History) (change : Change) (answer : Answer) (entered : Enters a.history 1 change (Some answer) h) where
+    pub own-alone : IsHistory h → IsAlone (record a { history = h; seen = length h.entries })
+    own-alone history = record {
+      history = history;
+      passes = on-entering (λ h. h.passes ≡ 2) a.history h 1 change answer entered (λ _. alone.passes) (λ _. alone.passes);
+      seen = omega arith;
+      own = ap (own_entries 1) (sym (take_all (length h.entries) h.entries (omega arith)));
+      may = on-entering (λ h. IfSome a.plan (λ p. MayChange h.opening.me (change_of p.change))) a.history h 1 change answer entered (λ _. alone.may) (λ _. alone.may);
+      whole = λ none. (refl, (alone.whole none).1);
+    }
+
+    pub own-tells : MayChange a.history.opening.me change → Tells (seen_by a) change (Some (record { at = length h.entries; value = answer })) (view_of h (length h.entries))
+    own-tells may = on-entering (λ h. Tells (seen_by a) change (Some (record { at = length h.entries; value = answer })) (view_of h (length h.entries))) a.history h 1 change answer entered
+        (λ tested. subst (Tells (seen_by a) change (Some (record { at = length es; value = answer }))) all-seen
+        (declined-there (seen_by a) es seen-front alone.own all-legal change answer entered.0 tested))
+        (λ accepted. subst (λ n. Tells (seen_by a) change (Some (record { at = n; value = answer })) (view_of (with_entry a.history 1 change answer) n)) (sym (length-append es (own_entry (seen_by a) change answer ∷ [])))
+        (subst (λ xs. Tells (seen_by a) change (Some (record { at = length es + 1; value = answer })) (seeing (seen_by a) xs)) (sym (take_all (length es + 1) (es ++ own_entry (seen_by a) change answer ∷ []) (let l = length-append es (own_entry (seen_by a) change answer ∷ []) in omega arith)))
+        (made-there (seen_by a) es seen-front alone.own all-legal change answer may entered.0 accepted)))
+
+  -- a read
+  pub read-alone : IsAlone (record a { seen = length es })
+  read-alone = record {
+    history = alone.history;
+    passes = alone.passes;
+    seen = omega arith;
+    own = ap (own_entries 1) (sym (take_all (length es) es (omega arith)));
+    may = alone.may;
+    whole = λ none. (refl, (alone.whole none).1);
+  }
+
+  pub read-tells : (q : Query) (r : Reply q) → Reads (end a.history) q r → ReadsThere (seen_by a) q (Some (record { at = length es; value = r })) (view_of a.history (length es))
+  read-tells q r reads = subst (ReadsThere (seen_by a) q (Some (record { at = length es; value = r }))) all-seen (read-there (seen_by a) es seen-front alone.own all-legal q r reads)
+
+  -- a change of the other caller, which was planned
+  module _ (h : History) (change : Change) where
+    abbrev Other : History → Type 0
+    Other h =
+        (h.passes ≡ 2) × (a.seen ≤ length h.entries) × (own_entries 1 h.entries ≡ own_entries 1 (take a.seen h.entries))
+        × (view_of h a.seen ≡ seen_by a)
+
+    other : (answer : Option Answer) → Enters a.history 2 change answer h → Other h
+    other None same = subst Other (sym same) (alone.passes, alone.seen, alone.own, refl)
+    other (Some answer) entered = on-entering Other a.history h 2 change answer entered
+        (λ _. (alone.passes, alone.seen, alone.own, refl))
+        (λ _.
+        let e : Entry = record { pass = 2; change = change; answer = answer } in
+        let front = take-append-le a.seen es (e ∷ []) alone.seen in
+        (alone.passes, let l = length-append es (e ∷ []) in let s = alone.seen in omega arith,
+        own-skip 1 es e (λ (same : 2 ≡ 1). omega arith) ∙ alone.own ∙ ap (own_entries 1) (sym front),
+        ap (λ xs. record (seen_by a) { seen = xs }) front))
+
+    pub other-alone : (p : Plan) → a.plan ≡ Some p → (answer : Option Answer) → Enters a.history 2 change answer h → IsHistory h → IsAlone (record a { history = h; plan = None })
+    other-alone p planned answer entered history = let o = other answer entered in record {
+      history = history;
+      passes = o.0;
+      seen = o.1;
+      own = o.2;
+      may = tt;
+      whole = λ none. absurd (none-some p (sym (alone.whole none).1 ∙ planned));
+    }
+
+    pub other-seen : (answer : Option Answer) → Enters a.history 2 change answer h → view_of h a.seen ≡ seen_by a
+    other-seen answer entered = (other answer entered).3
+
+-- ---- whole calls, from what was planned before them
+
+-- the caller has not seen the change of the other
+pub unseen : (old new : Alone) → IsAlone old → GoesOn old.plan old new → seen_by new ≡ seen_by old
+unseen old new alone went = by old.plan went
+  where
+    by : (plan : Option Plan) → GoesOn plan old new → seen_by new ≡ seen_by old
+    by None same = ap seen_by same
+    by (Some p) went = on (nat_le p.call 1) went
+      where
+        on : (b : Bool) → MatchBool b (IsMade old p new) (new ≡ record old { plan = Some (record p { call = p.call - 1 }) }) → seen_by new ≡ seen_by old
+        on true made = ap seen_by made.2 ∙ other-seen old alone new.history (change_of p.change) made.0 made.1
+        on false later = ap seen_by later
+
+module _ (old point given : Alone) (view_is : point ≡ given) (alone : IsAlone point) (before : GoesOn old.plan old given) (unchanged : seen_by given ≡ seen_by old) where
+  went : GoesOn old.plan old point
+  went = subst (GoesOn old.plan old) (sym view_is) before
+
+  same : seen_by point ≡ seen_by old
+  same = ap seen_by view_is ∙ unchanged
+
+  may-here : (change : Change) → MayChange old.history.opening.me change → MayChange point.history.opening.me change
+  may-here change may = subst (λ (v : View). MayChange v.opening.me change) (sym same) may
+
+  -- a change that may be out of memory
+  module _ {X E : Type 0} (f : X → Answer) (change : Change) (h : History) (answer : Result X E) (entered : Enters point.history 1 change (answered f answer) h)
+      (result : Result (At X) E) (seen : ℕ) (is : IsToldAt (length h.entries) answer result point.seen seen) where
+    abbrev new : Alone
+    new = record { history = h; seen = seen; plan = point.plan; planned = point.planned }
+
+    pub change-alone : IsHistory h → IsAlone new
+    change-alone history = by answer entered is
+      where
+        by : (answer : Result X E) → Enters point.history 1 change (answered f answer) h → IsToldAt (length h.entries) answer result point.seen seen → IsAlone new
+        by (Ok x) entered is = subst (λ n. IsAlone (record point { history = h; seen = n })) (sym is.1) (own-alone point alone h change (f x) entered history)
+        by (Err e) entered is = subst IsAlone (ap (λ h. record point { history = h }) (sym entered) ∙ ap (λ n. record point { history = h; seen = n }) (sym is.1)) alone
+
+    pub change-tells : MayChange old.history.opening.me change → Tells (seen_by old) change (told f result) (seen_by new)
+    change-tells may = subst (λ v. Tells v change (told f result) (seen_by new)) same (by answer entered is)
+      where
+        by : (answer : Result X E) → Enters point.history 1 change (answered f answer) h → IsToldAt (length h.entries) answer result point.seen seen → Tells (seen_by point) change (told f result) (seen_by new)
+        by (Ok x) entered is = subst (λ r. Tells (seen_by point) change (told f r) (seen_by new)) (sym is.0)
+            (subst (λ n. Tells (seen_by point) change (Some (record { at = length h.entries; value = f x })) (view_of h n)) (sym is.1) (own-tells point alone h change (f x) entered (may-here change may)))
+        by (Err e) entered is = subst (λ r. Tells (seen_by point) change (told f r) (seen_by new)) (sym is.0)
+            (ap (λ (h : History). view_of h seen) entered ∙ ap (view_of point.history) is.1)
+
+    pub change-done : ChangesAlone old change (told f result) new
+    change-done = record { point = point; goes_on = went; asked = by answer entered is }
+      where
+        by : (answer : Result X E) → Enters point.history 1 change (answered f answer) h → IsToldAt (length h.entries) answer result point.seen seen → IsAsked point change (told f result) new
+        by (Ok x) entered is = subst (λ r. IsAsked point change (told f r) new) (sym is.0) (entered, refl, ap (λ n. record point { history = h; seen = n }) is.1)
+        by (Err e) entered is = subst (λ r. IsAsked point change (told f r) new) (sym is.0)
+            (ap (λ h. record point { history = h; seen = seen }) entered ∙ ap (λ n. record point { seen = n }) is.1)
+
+  -- a change that is never out of memory
+  module _ (change : Change) (h : History) (answer : Answer) (entered : Enters point.history 1 change (Some answer) h) (n : ℕ) (many : n ≡ length h.entries) where
+    abbrev ended : Alone
+    ended = record { history = h; seen = n; plan = point.plan; planned = point.planned }
+
+    pub end-alone : IsHistory h → IsAlone ended
+    end-alone history = subst (λ n. IsAlone (record point { history = h; seen = n })) (sym many) (own-alone point alone h change answer entered history)
+
+    pub end-tells : MayChange old.history.opening.me change → Tells (seen_by old) change (Some (record { at = n; value = answer })) (seen_by ended)
+    end-tells may = subst (λ n. Tells (seen_by old) change (Some (record { at = n; value = answer })) (view_of h n)) (sym many)
+        (subst (λ v. Tells v change (Some (record { at = length h.entries; value = answer })) (view_of h (length h.entries))) same (own-tells point alone h change answer entered (may-here change may)))
+
+    pub end-done : ChangesAlone old change (Some (record { at = n; value = answer })) ended
+    end-done = record { point = point; goes_on = went; asked = (entered, many, refl) }
+
+  -- a read that may be out of memory
+  module _ {s : FolderState} (state_is : s ≡ end point.history) {X E : Type 0} (q : Query) (f : X → Reply q) (answer : Result X E) (given_reads : IfOk answer (λ x. Reads s q (f x)))
+      (result : Result (At X) E) (seen : ℕ) (is : IsToldAt (length point.history.entries) answer result point.seen seen) where
+    abbrev looked : Alone
+    looked = record { history = point.history; seen = seen; plan = point.plan; planned = point.planned }
+
+    abbrev HasRead : Result X E → Type 0
+    HasRead answer = IfOk answer (λ x. Reads (end point.history) q (f x))
+
+    reads : HasRead answer
+    reads = subst (λ s. IfOk answer (λ x. Reads s q (f x))) state_is given_reads
+
+    pub look-alone : IsAlone looked
+    look-alone = by answer is
+      where
+        by : (answer : Result X E) → IsToldAt (length point.history.entries) answer result point.seen seen → IsAlone looked
+        by (Ok x) is = subst (λ n. IsAlone (record point { seen = n })) (sym is.1) (read-alone point alone)
+        by (Err e) is = subst (λ n. IsAlone (record point { seen = n })) (sym is.1) alone
+
+    pub look-tells : ReadsThere (seen_by old) q (told f result) (seen_by looked)
+    look-tells = subst (λ v. ReadsThere v q (told f result) (seen_by looked)) same (by answer reads is)
+      where
+        by : (answer : Result X E) → HasRead answer → IsToldAt (length point.history.entries) answer result point.seen seen → ReadsThere (seen_by point) q (told f result) (seen_by looked)
+        by (Ok x) read is = subst (λ r. ReadsThere (seen_by point) q (told f r) (seen_by looked)) (sym is.0)
+            (subst (λ n. ReadsThere (seen_by point) q (Some (record { at = length point.history.entries; value = f x })) (view_of point.history n)) (sym is.1) (read-tells point alone q (f x) read))
+        by (Err e) read is = subst (λ r. ReadsThere (seen_by point) q (told f r) (seen_by looked)) (sym is.0) (ap (view_of point.history) is.1)
+
+    pub look-done : ReadsAlone old q (told f result) looked
+    look-done = record { point = point; goes_on = went; looked_up = by answer reads is }
+      where
+        by : (answer : Result X E) → HasRead answer → IsToldAt (length point.history.entries) answer result point.seen seen → IsLookedUp point q (told f result) looked
+        by (Ok x) read is = subst (λ r. IsLookedUp point q (told f r) looked) (sym is.0) (read, refl, ap (λ n. record point { seen = n }) is.1)
+        by (Err e) read is = subst (λ r. IsLookedUp point q (told f r) looked) (sym is.0) (ap (λ n. record point { seen = n }) is.1)
+
+  -- a read that is never out of memory
+  module _ {s : FolderState} (state_is : s ≡ end point.history) (q : Query) (r : Reply q) (given_reads : Reads s q r) (n : ℕ) (many : n ≡ length point.history.entries) where
+    abbrev counted : Alone
+    counted = record { history = point.history; seen = n; plan = point.plan; planned = point.planned }
+
+    known-reads : Reads (end point.history) q r
+    known-reads = subst (λ s. Reads s q r) state_is given_reads
+
+    pub count-alone : IsAlone counted
+    count-alone = subst (λ n. IsAlone (record point { seen = n })) (sym many) (read-alone point alone)
+
+    pub count-tells : ReadsThere (seen_by old) q (Some (record { at = n; value = r })) (seen_by counted)
+    count-tells = subst (λ n. ReadsThere (seen_by old) q (Some (record { at = n; value = r })) (view_of point.history n)) (sym many)
+        (subst (λ v. ReadsThere v q (Some (record { at = length point.history.entries; value = r })) (view_of point.history (length point.history.entries))) same (read-tells point alone q r known-reads))
+
+    pub count-done : ReadsAlone old q (Some (record { at = n; value = r })) counted
+    count-done = record { point = point; goes_on = went; looked_up = (known-reads, many, refl) }

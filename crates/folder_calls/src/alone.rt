@@ -1,0 +1,21 @@
+use crate::{History, Outside};
+
+/// What a [`Lone`](crate::Lone) keeps, as contracts see it; no value of it is made.
+pub struct Alone {
+    /// The folder's history. The caller is pass 1, and whoever makes what is planned is pass 2.
+    pub history: History,
+    /// How many of the entries the caller has seen.
+    pub seen: u64,
+    /// The change that another caller is to make.
+    pub plan: Option<Plan>,
+    /// Whether a change of another caller was ever planned.
+    pub planned: bool,
+}
+
+/// A change that another caller is to make.
+#[derive(Debug, PartialEq, Eq, Drop)]
+pub struct Plan {
+    /// Before which call from now on: 1 is the next.
+    pub call: u64,
+    pub change: Outside,
+}
