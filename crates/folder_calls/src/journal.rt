@@ -1,16 +1,21 @@
 //! A folder with the history of its changes.
-ghost use Rattle.std.specs.Prelude.{◌≡◌, ◌≢◌, ◌≤◌, ◌+◌, ◌<◌, ◌++◌, ◌∷◌, [], ◌^◌, Err, IfErr, IfOk, IfSome, IsOk, IsTrue, None, Ok, Some, false, length, nat_le, option_copied, true, vec_capacity};
+ghost use Rattle.std.specs.Prelude.{◌≡◌, ◌≢◌, ◌≤◌, ◌+◌, ◌<◌, ◌++◌, ◌∷◌, [], ◌^◌, Err, IfErr, IfOk, IfSome, IsOk, IsTrue, None, Ok, Some, false, if◌then◌else◌, is_some, length, nat_le, option_copied, option_map, true, vec_capacity};
 ghost use Rattle.std.specs.FinMap.{len};
 ghost use Rattle.sync_record.specs.Assemblies.{IsAssembled};
-ghost use Rattle.folder_core.specs.Calls.{close_answer, finish_answer, scan_answer};
+ghost use Rattle.folder_core.specs.Calls.{Changes, GivesBack as GivesBackOpen, close_answer, enter_answer, finish_answer, scan_answer};
 ghost use Rattle.folder_core.specs.Steps.{is_accepted, is_found, step};
-ghost use Rattle.folder_core.specs.declared.change.Change.TheVariants.{Forget, IndexFull, IndexMore, ScanFound, ScanGone, Finish, GiveUp, Abort};
-ghost use Rattle.folder_calls.specs.Calls.{index_value, scan_value};
+ghost use Rattle.folder_core.specs.declared.answer.Answer.TheVariants.{Begun};
+ghost use Rattle.folder_core.specs.declared.change.Change.TheVariants.{Forget, IndexFull, IndexMore, ScanFound, ScanGone, BeginPull, EnterCommit, Finish, GiveUp, Abort};
+ghost use Rattle.folder_calls.specs.Calls.{GivesBack, begin_value, enter_value, index_value, scan_value};
 ghost use Rattle.folder_calls.specs.Journals.{Enters, IsHistory, answered, end, entered_items, new_history};
 
-use crate::{Commit, Entry, HistoryFull, ScanRefusal, Ticket};
+use crate::{
+    BeginAnswer, Commit, EnterRefusal, Entry, HistoryFull, NotEntered, ScanRefusal, Ticket,
+};
 use bep_messages::{Copied, Items};
-use folder_core::{Answer, Change, Finding, FolderCore, PlainFolder, ScanAnswer, ScanFault, Stray};
+use folder_core::{
+    Answer, Change, Finding, FolderCore, PlainFolder, ScanAnswer, ScanFault, Stray, Token,
+};
 use std::alloc::{AllocError, Global};
 use std::marker::Model;
 use sync_names::SafeName;
@@ -21,8 +26,7 @@ use sync_version::{Moment, Version};
 ///
 /// Each change is made for a pass, whose number stands in its entry. A change that the folder would accept is refused with
 /// `HistoryFull` if there is no room for its entry and for those that end the pulls that are then open. The room for the
-/// entry that ends a pull is kept while the pull is open, so that ending it does not allocate. Pulls cannot be begun or
-/// entered here yet.
+/// entry that ends a pull is kept while the pull is open, so that ending it does not allocate.
 #[derive(Drop)]
 pub struct Journal<C: FolderCore> {
     core: C,
@@ -246,6 +250,63 @@ impl<C: FolderCore> Journal<C> {
         Ok(Ok(()))
     }
 
+    /// [`FolderCore::begin_pull`] for a pass. A pull that would begin is refused with `HistoryFull` if there is no room for its
+    /// entry and for the one that will end it. Returns `Err` only if out of memory; then no pull was begun. O(n) memory for n
+    /// bytes of the name, beside what the folder takes; the records share their memory.
+    pub fn begin_pull(
+        &mut self,
+        pass: u64,
+        name: &SafeName,
+    ) -> Result<Result<BeginAnswer, HistoryFull>, AllocError>
+        requires pass { (1 ≤ pass) × (pass ≤ self.old.passes) }
+        ensures enters { Enters self.old pass (BeginPull name.now) (answered begin_value result) self.new }
+        ensures history { IsHistory self.new }
+    {
+        let has_room = self.has_room(2);
+        let Some(change) = admit_begin(&self.core, name, has_room, &mut self.entries, self.pulls)?
+        else {
+            return Ok(Err(HistoryFull));
+        };
+        let (answer, copy) = begin(&mut self.core, name)?;
+        self.pulls += enter_begin(&mut self.entries, pass, change, copy);
+        Ok(Ok(answer))
+    }
+
+    /// [`FolderCore::enter_commit`] for a pass. Every ticket but a stray one comes back where it fails. O(n) memory for n bytes
+    /// of the name, beside what the folder takes; the records share their memory.
+    pub fn enter_commit(
+        &mut self,
+        pass: u64,
+        ticket: Ticket,
+    ) -> Result<Result<Commit, EnterRefusal>, NotEntered>
+        requires pass { (1 ≤ pass) × (pass ≤ self.old.passes) }
+        ensures enters { Enters self.old pass (EnterCommit ticket) (answered enter_value result) self.new }
+        ensures given_back { IfOk result (λ entered. IfErr entered (GivesBack ticket)) }
+        ensures out_of_memory { IfErr result (λ refused. refused.0 ≡ ticket) }
+        ensures history { IsHistory self.new }
+    {
+        let has_room = self.has_room(1);
+        let Ok((asked, copy)) = two_copies(&ticket.token) else {
+            return Err(NotEntered(ticket));
+        };
+        let change = Change::EnterCommit { ticket: asked };
+        let change = match admit(
+            &self.core,
+            change,
+            has_room,
+            &mut self.entries,
+            self.pulls,
+            1,
+        ) {
+            Ok(Some(change)) => change,
+            Ok(None) => return Ok(Err(EnterRefusal::HistoryFull(ticket))),
+            Err(AllocError) => return Err(NotEntered(ticket)),
+        };
+        let Ticket { inner, token } = ticket;
+        let entered = self.core.enter_commit(inner);
+        enter_entrance(&mut self.entries, pass, change, copy, token, entered)
+    }
+
     /// [`FolderCore::finish`] for a pass. Does not allocate; the history keeps what was assembled.
     pub fn finish(&mut self, pass: u64, commit: Commit, assembled: Assembled) -> Result<u64, Stray>
         requires pass { (1 ≤ pass) × (pass ≤ self.old.passes) }
@@ -354,6 +415,49 @@ fn admit<C: FolderCore>(
     Ok(Some(change))
 }
 
+// Admits the begin of a pull, whose entry comes with one that ends it.
+fn admit_begin<C: FolderCore>(
+    core: &C,
+    name: &SafeName,
+    has_room: bool,
+    entries: &mut Vec<Entry>,
+    pulls: u64,
+) -> Result<Option<Change>, AllocError>
+    requires { pulls + 2 < 2 ^ 64 }
+    ensures items { entries.new.items ≡ entries.old.items }
+    ensures kept { vec_capacity entries.old ≤ vec_capacity entries.new }
+    ensures same { IfOk result (λ admitted. IfSome admitted (λ change. change ≡ BeginPull name.now)) }
+    ensures admitted { (c : _) → result ≡ Ok (Some c) → is_accepted (step (C.state core.now) (BeginPull name.now)).0 ≡ true → (has_room ≡ true) × (length entries.old.items + pulls + 2 ≤ vec_capacity entries.new) }
+    ensures refused { result ≡ Ok None → (has_room ≡ false) × (is_accepted (step (C.state core.now) (BeginPull name.now)).0 ≡ true) }
+{
+    let change = Change::BeginPull { name: name.copy()? };
+    admit(core, change, has_room, entries, pulls, 2)
+}
+
+// Begins a pull in the folder. Returns the answer, and the entry's copy of the ticket if the pull is open then. Returns
+// `Err` only if out of memory, and has then given up a pull that was begun.
+fn begin<C: FolderCore>(
+    core: &mut C,
+    name: &SafeName,
+) -> Result<(BeginAnswer, Option<Token>), AllocError>
+    ensures change { Changes (C.state core.old) (BeginPull name.now) (answered (λ begun. begin_value (Ok begun.0)) result) (C.state core.new) }
+    ensures begun { IfOk result (λ begun. IfSome begun.1 (λ ticket. begin_value (Ok begun.0) ≡ Begun ticket)) }
+    ensures other { IfOk result (λ begun. begun.1 ≡ None → is_accepted (begin_value (Ok begun.0)) ≡ false) }
+{
+    match core.begin_pull(name)? {
+        folder_core::BeginAnswer::Begun(inner) => {
+            let Ok((copy, token)) = two_tokens(&inner) else {
+                let _ = core.give_up(inner);
+                return Err(AllocError);
+            };
+            Ok((BeginAnswer::Begun(Ticket { inner, token }), Some(copy)))
+        }
+        folder_core::BeginAnswer::NotNeeded => Ok((BeginAnswer::NotNeeded, None)),
+        folder_core::BeginAnswer::Busy => Ok((BeginAnswer::Busy, None)),
+        folder_core::BeginAnswer::Unsupported => Ok((BeginAnswer::Unsupported, None)),
+    }
+}
+
 // Enters an accepted change, for whose entry there is room. Does not allocate.
 fn enter(entries: &mut Vec<Entry>, pass: u64, change: Change, answer: Answer)
     requires room { length entries.old.items < vec_capacity entries.old }
@@ -365,6 +469,20 @@ fn enter(entries: &mut Vec<Entry>, pass: u64, change: Change, answer: Answer)
         change,
         answer,
     });
+}
+
+// Enters the begin of a pull that is open then, and returns how many it opened.
+fn enter_begin(entries: &mut Vec<Entry>, pass: u64, change: Change, ticket: Option<Token>) -> u64
+    requires { IfSome ticket (λ _. length entries.old.items < vec_capacity entries.old) }
+    ensures opened { result ≡ if is_some ticket then 1 else 0 }
+    ensures entered { entries.new.items ≡ entered_items entries.old.items pass change (option_map Begun ticket) }
+    ensures capacity { vec_capacity entries.new ≡ vec_capacity entries.old }
+{
+    let Some(ticket) = ticket else {
+        return 0;
+    };
+    enter(entries, pass, change, Answer::Begun(ticket));
+    1
 }
 
 // Enters a scan that was recorded, and says its answer.
@@ -389,6 +507,73 @@ fn enter_scan(
         Err(ScanFault::SequenceFull) => Ok(Err(ScanRefusal::SequenceFull)),
         Err(ScanFault::OutOfMemory) => Err(AllocError),
     }
+}
+
+// Enters a commit that was entered, and says its answer.
+fn enter_entrance(
+    entries: &mut Vec<Entry>,
+    pass: u64,
+    change: Change,
+    copy: Token,
+    token: Token,
+    entered: Result<folder_core::Commit, folder_core::NotEntered>,
+) -> Result<Result<Commit, EnterRefusal>, NotEntered>
+    requires room { IfSome (enter_answer entered) (λ a. is_accepted a ≡ true → length entries.old.items < vec_capacity entries.old) }
+    requires same { IfOk entered (λ commit. (commit ≡ copy) × (commit ≡ token)) }
+    requires given_back { IfErr entered (GivesBackOpen token) }
+    ensures answer { answered enter_value result ≡ enter_answer entered }
+    ensures given_back { IfOk result (λ entered. IfErr entered (GivesBack token)) }
+    ensures out_of_memory { IfErr result (λ refused. refused.0 ≡ token) }
+    ensures entered { entries.new.items ≡ entered_items entries.old.items pass change (enter_answer entered) }
+    ensures capacity { vec_capacity entries.new ≡ vec_capacity entries.old }
+{
+    Ok(Err(match entered {
+        Ok(inner) => {
+            enter(entries, pass, change, Answer::Entered(copy));
+            return Ok(Ok(Commit { inner, token }));
+        }
+        Err(folder_core::NotEntered::Stray) => EnterRefusal::Stray,
+        Err(folder_core::NotEntered::LocalMoved(inner)) => {
+            EnterRefusal::LocalMoved(Ticket { inner, token })
+        }
+        Err(folder_core::NotEntered::Superseded(inner)) => {
+            EnterRefusal::Superseded(Ticket { inner, token })
+        }
+        Err(folder_core::NotEntered::SequenceFull(inner)) => {
+            EnterRefusal::SequenceFull(Ticket { inner, token })
+        }
+        Err(folder_core::NotEntered::OutOfMemory(inner)) => {
+            return Err(NotEntered(Ticket { inner, token }));
+        }
+    }))
+}
+
+fn two_copies(token: &Token) -> Result<(Token, Token), AllocError>
+    ensures { IfOk result (λ copies. (copies.0 ≡ token.now) × (copies.1 ≡ token.now)) }
+{
+    Ok((token.copy()?, token.copy()?))
+}
+
+fn two_tokens(ticket: &folder_core::Ticket) -> Result<(Token, Token), AllocError>
+    ensures { IfOk result (λ tokens. (tokens.0 ≡ ticket.now) × (tokens.1 ≡ ticket.now)) }
+{
+    let token = token_of(ticket)?;
+    Ok((token.copy()?, token))
+}
+
+fn token_of(ticket: &folder_core::Ticket) -> Result<Token, AllocError>
+    ensures { IfOk result (λ token. token ≡ ticket.now) }
+{
+    let base = match ticket.base() {
+        Some(record) => Some(record.copy()?),
+        None => None,
+    };
+    Ok(Token {
+        number: ticket.number(),
+        name: ticket.name().copy()?,
+        base,
+        target: ticket.target().copy()?,
+    })
 }
 
 fn found_change(

@@ -1,0 +1,154 @@
+-- Of a journal's pulls: a commit that was entered has its ticket's token, a pull that is given up at once leaves the folder as it
+-- was, and one that begins is entered with room for the entry that ends it.
+use Rattle.std.proofs.Common.{◌≡◌, ℕ, ◌+◌, ◌<◌, ◌≤◌, Bool, true, false, List, [], ◌∷◌, ◌++◌, length, refl, sym, ap, subst, ◌∙◌, arith}
+use Rattle.std.specs.Prelude.{cond, if◌then◌else◌, ⊤, nat_le, Option, None, Some, is_some, option_map, unwrap_or, Result, Ok, Err, IfOk, IfSome}
+use Rattle.std.specs.Cmp.{Equal-is, tied_itself}
+use Rattle.std.specs.FinMap.{get, get-insert, get-remove, insert, len, remove, same_map}
+use Rattle.std.specs.Ordering.{eq_by_cmp, is_eq}
+use Rattle.std.proofs.lemmas.Bool.{true≢false}
+use Rattle.std.proofs.lemmas.Map.Lookups.{exact_bytes}
+use Rattle.sync_record.specs.Devices.{bytes_cmp}
+use Rattle.sync_record.specs.Records.{Name}
+use Rattle.folder_core.specs.Calls.{Changes, close_answer, enter_answer}
+use Rattle.folder_core.specs.States.{FolderState, Pull}
+use Rattle.folder_core.specs.Steps.{close_pull, is_accepted, next_ticket, step, with_pull}
+use Rattle.folder_core.specs.declared.answer.Answer.{Answer}
+use Rattle.folder_core.specs.declared.answer.Answer.TheVariants.{Begun, Entered, HistoryFull}
+use Rattle.folder_core.specs.declared.change.Change.{Change}
+use Rattle.folder_core.specs.declared.change.Change.TheVariants.{BeginPull, EnterCommit, GiveUp}
+use Rattle.folder_core.specs.declared.pull.NotEntered.{NotEntered}
+use Rattle.folder_core.specs.declared.stage.Stage.TheVariants.{Pulling}
+use Rattle.folder_core.specs.declared.token.Token.{Token}
+use Rattle.folder_core.proofs.ChangeAnswers.{ticket-found}
+use Rattle.folder_core.proofs.ChangeCases.{step-cases}
+use Rattle.folder_core.proofs.ChangeKept.{step-keeps}
+use Rattle.folder_core.proofs.Orders.{bytes_total}
+use Rattle.folder_calls.specs.declared.entry.Entry.{Entry}
+use Rattle.folder_calls.specs.declared.history.History.{History}
+use Rattle.folder_calls.specs.Journals.{Enters, IsJournal, end, entered_items}
+use Rattle.folder_calls.proofs.JournalSteps.{declined-after, enters-after, found-room, full-after, journal-after}
+
+-- ---- entered
+
+abbrev ticket_of : Change → Option Token
+ticket_of (EnterCommit t) = Some t
+ticket_of _ = None
+
+abbrev IsTicket : Option Token → Answer → Type 0
+IsTicket o (Entered t) = unwrap_or o t ≡ t
+IsTicket o _ = ⊤
+
+unentered : (o : Option Token) (a : Answer) → is_accepted a ≡ false → IsTicket o a
+unentered o (Entered t) unmade = absurd (true≢false unmade)
+unentered o _ unmade = tt
+
+its-ticket : (s : FolderState) (c : Change) → IsTicket (ticket_of c) (step s c).0
+its-ticket s = step-cases s (λ c d. IsTicket (ticket_of c) d.0) (record {
+  tested = λ c a unmade. unentered (ticket_of c) a unmade;
+  found = λ n expected f moment _. tt;
+  gone = λ n expected moment r _ _. tt;
+  full = λ d rs. tt;
+  more = λ d rs. tt;
+  forgotten = λ d. tt;
+  begun = λ n b _ _. tt;
+  entered = λ t p found _. refl;
+  finished = λ t assembled p found. tt;
+  given_up = λ t p found. tt;
+  aborted = λ t p found. tt;
+})
+
+-- two copies of the ticket are copies of the commit
+pub commit-copies : (s after : FolderState) (t one two : Token) (r : Result Token NotEntered) → one ≡ t → two ≡ t
+    → Changes s (EnterCommit t) (enter_answer r) after → IfOk r (λ commit. (commit ≡ one) × (commit ≡ two))
+commit-copies s after t one two (Ok commit) e f made =
+    let same : commit ≡ t = sym (subst (λ (d : Answer × FolderState). IsTicket (Some t) d.0) made (its-ticket s (EnterCommit t))) in
+    (same ∙ sym e, same ∙ sym f)
+commit-copies s after t one two (Err refused) e f made = tt
+
+-- ---- begun and given up
+
+none-there : (o : Option Pull) → is_some o ≡ false → o ≡ None
+none-there None e = refl
+none-there (Some p) e = absurd (true≢false e)
+
+back-at : (s : FolderState) (n : Name) (p : Pull) → is_some (get s.pulls n) ≡ false → (q : Name) (b : Bool) → eq_by_cmp bytes_cmp q n ≡ b → cond b None (get (insert s.pulls n p) q) ≡ get s.pulls q
+back-at s n p free q true t = sym (ap (get s.pulls) (exact_bytes q n ((Equal-is (bytes_cmp q n)).0 t)) ∙ none-there (get s.pulls n) free)
+back-at s n p free q false t = get-insert bytes_total s.pulls n p q ∙ ap (λ b. cond b (Some p) (get s.pulls q)) t
+
+taken-back : (s : FolderState) (n : Name) (p : Pull) → is_some (get s.pulls n) ≡ false → remove (insert s.pulls n p) n ≡ s.pulls
+taken-back s n p free =
+    same_map bytes_total exact_bytes (remove (insert s.pulls n p) n) s.pulls (λ q.
+    get-remove bytes_total (insert s.pulls n p) n q ∙ back-at s n p free q (eq_by_cmp bytes_cmp q n) refl)
+
+put-there : (s : FolderState) (n : Name) (p : Pull) → get (insert s.pulls n p) n ≡ Some p
+put-there s n p = get-insert bytes_total s.pulls n p n ∙ ap (λ b. cond b (Some p) (get s.pulls n)) (ap is_eq (tied_itself bytes_total n))
+
+closed-again : (s : FolderState) (t : Token) → is_some (get s.pulls t.name) ≡ false → (step (with_pull s t Pulling) (GiveUp t)).1 ≡ s
+closed-again s t free =
+    let p : Pull = record { number = t.number; base = option_map (λ r. r.version) t.base; target = t.target; stage = Pulling } in
+    ap (λ o. (close_pull (with_pull s t Pulling) t o).1) (ticket-found (with_pull s t Pulling) t Pulling p (record { open_pull = put-there s t.name p; at_stage = refl; number = refl; target = refl }))
+    ∙ ap (λ m. record s { pulls = m }) (taken-back s t.name p free)
+
+abbrev Undone : FolderState → FolderState → Answer → Type 0
+Undone s begun (Begun t) = (step begun (GiveUp t)).1 ≡ s
+Undone s begun _ = ⊤
+
+untouched : (s : FolderState) (a : Answer) → is_accepted a ≡ false → Undone s s a
+untouched s (Begun t) unmade = absurd (true≢false unmade)
+untouched s _ unmade = tt
+
+undone : (s : FolderState) (c : Change) → Undone s (step s c).1 (step s c).0
+undone s = step-cases s (λ c d. Undone s d.1 d.0) (record {
+  tested = λ c a unmade. untouched s a unmade;
+  found = λ n expected f moment _. tt;
+  gone = λ n expected moment r _ _. tt;
+  full = λ d rs. tt;
+  more = λ d rs. tt;
+  forgotten = λ d. tt;
+  begun = λ n b _ fails. closed-again s (next_ticket s n b.1) fails.0;
+  entered = λ t p found _. tt;
+  finished = λ t assembled p found. tt;
+  given_up = λ t p found. tt;
+  aborted = λ t p found. tt;
+})
+
+pub given-back : (s begun after : FolderState) (n : Name) (t : Token) (a : Answer) → step s (BeginPull n) ≡ (Begun t, begun) → step begun (GiveUp t) ≡ (a, after) → after ≡ s
+given-back s begun after n t a began gave =
+    sym (ap (λ (d : Answer × FolderState). d.1) gave) ∙ subst (λ (d : Answer × FolderState). Undone s d.1 d.0) began (undone s (BeginPull n))
+
+-- ---- begun
+
+module _ (h now : History) (view_is : h ≡ now) (pulls capacity : ℕ) (s : FolderState) (j : IsJournal s pulls capacity h) (pass : ℕ) (given : (1 ≤ pass) × (pass ≤ now.passes))
+    (n : Name) where
+  pub full-begin : (es : List Entry) → es ≡ h.entries → is_accepted (step s (BeginPull n)).0 ≡ true → nat_le (length now.entries + len (end now).pulls + 2) now.limit ≡ false → Enters now pass (BeginPull n) (Some HistoryFull) (record h { entries = es })
+  full-begin es kept accepted full =
+      subst (Enters now pass (BeginPull n) (Some HistoryFull)) (sym (ap (λ es. record h { entries = es }) kept ∙ view_is))
+      (full-after h now view_is pulls capacity s j pass given (BeginPull n) tt (step s (BeginPull n)).0 (step s (BeginPull n)).1 refl accepted full refl)
+
+  module _ (capacity' : ℕ) (kept : capacity ≤ capacity')
+      (admitted : is_accepted (step s (BeginPull n)).0 ≡ true → (nat_le (length now.entries + len (end now).pulls + 2) now.limit ≡ true) × (length h.entries + pulls + 2 ≤ capacity'))
+      (t : FolderState) (a : Answer) (made : step s (BeginPull n) ≡ (a, t)) where
+    let-in : is_accepted a ≡ true → (nat_le (length now.entries + len (end now).pulls + 2) now.limit ≡ true) × (length h.entries + pulls + 2 ≤ capacity')
+    let-in accepted = admitted (ap (λ (d : Answer × FolderState). is_accepted d.0) made ∙ accepted)
+
+    pub begin-after : (copy : Option Token) → IfSome copy (λ ticket. a ≡ Begun ticket) → (copy ≡ None → is_accepted a ≡ false)
+        → (es : List Entry) → es ≡ entered_items h.entries pass (BeginPull n) (option_map Begun copy)
+        → IsJournal t (pulls + (if is_some copy then 1 else 0)) capacity' (record h { entries = es }) × Enters now pass (BeginPull n) (Some a) (record h { entries = es })
+    begin-after None same other es pushed =
+        let tested = other refl in
+        let unmade : t ≡ s = ap (λ (d : Answer × FolderState). d.1) (sym made) ∙ step-keeps s (BeginPull n) (ap (λ (d : Answer × FolderState). is_accepted d.0) made ∙ tested) in (
+          subst (λ es. IsJournal t (pulls + 0) capacity' (record h { entries = es })) (sym pushed)
+              (record { history = j.history; state_is = unmade ∙ j.state_is; pulls_is = let r = j.pulls_is in omega arith; room = let r = j.room in omega arith }),
+          subst (Enters now pass (BeginPull n) (Some a)) (sym (ap (λ es. record h { entries = es }) pushed ∙ view_is))
+              (declined-after h now view_is pulls capacity s j pass given (BeginPull n) tt a t made tested),
+        )
+    begin-after (Some ticket) same other es pushed =
+        let accepted : is_accepted a ≡ true = ap is_accepted same in
+        let found = let-in accepted in
+        let more = found.1 in
+        let room = found-room h now view_is pulls capacity s j pass given (BeginPull n) tt a t made accepted found.0 refl in
+        let entered : es ≡ h.entries ++ (record { pass = pass; change = BeginPull n; answer = a }) ∷ [] =
+        pushed ∙ ap (λ b. h.entries ++ (record { pass = pass; change = BeginPull n; answer = b }) ∷ []) (sym same) in (
+          journal-after h now view_is pulls capacity s j pass given (BeginPull n) tt a t made accepted room es entered (pulls + 1) capacity' (omega arith) (omega arith),
+          enters-after h now view_is pulls capacity s j pass given (BeginPull n) tt a t made accepted room es entered,
+        )
