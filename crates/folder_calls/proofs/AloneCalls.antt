@@ -18,11 +18,12 @@ use Rattle.folder_calls.specs.declared.entry.Entry.{Entry}
 use Rattle.folder_calls.specs.declared.history.History.{History}
 use Rattle.folder_calls.specs.Calls.{told}
 use Rattle.folder_calls.specs.Alone.{ChangesAlone, GoesOn, IsAlone, IsAsked, IsLookedUp, IsMade, IsToldAt, ReadsAlone, change_of, seen_by}
-use Rattle.folder_calls.specs.Histories.{own_entries, shared_answer}
+use Rattle.folder_calls.specs.Histories.{IsLegal, own_entries, shared_answer}
 use Rattle.folder_calls.specs.Journals.{Enters, IsHistory, answered, end, with_entry}
-use Rattle.folder_calls.specs.Shared.{IsLegalView, ReadsThere, Tells, View, own_entry, seeing}
+use Rattle.folder_calls.specs.Shared.{Closes, IsLegalView, ReadsThere, Tells, View, own_entry, seeing}
 use Rattle.folder_calls.proofs.HistoryEntries.{own-push, own-skip}
 use Rattle.folder_calls.proofs.HistoryFronts.{view-front}
+use Rattle.folder_calls.proofs.HistoryMeetings.{may-close}
 use Rattle.folder_calls.proofs.HistoryShared.{declined-there, made-there, read-there}
 
 -- ---- what a change of some pass makes of a history
@@ -249,3 +250,10 @@ module _ (old point given : Alone) (view_is : point ≡ given) (alone : IsAlone 
 
     pub count-done : ReadsAlone old q (Some (record { at = n; value = r })) counted
     count-done = record { point = point; goes_on = went; looked_up = (known-reads, many, refl) }
+
+-- ---- closing
+
+pub alone-closes : (a : Alone) → IsAlone a → Closes a.history.opening a.history.limit 2 (seen_by a ∷ []) (end a.history)
+alone-closes a alone =
+    may-close 2 (seen_by a) a.history.entries (seen-front a alone) alone.own
+    (subst (λ n. IsLegal n a.history.opening a.history.entries) alone.passes alone.history.legal) alone.history.room (inl (omega arith))

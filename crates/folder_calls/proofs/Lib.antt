@@ -2,6 +2,7 @@ pub mod HistoryEntries
 pub mod HistoryFronts
 pub mod HistoryCommits
 pub mod HistoryShared
+pub mod HistoryMeetings
 pub mod JournalPulls
 pub mod JournalSteps
 pub mod AloneCalls

@@ -1,5 +1,5 @@
 -- What a caller of a shared folder knows, and what each of its calls tells it.
-use Rattle.std.specs.Prelude.{◌≡◌, ℕ, ◌+◌, ◌≤◌, List, [], ◌∷◌, ◌++◌, length, Option, Some, None, MatchBool}
+use Rattle.std.specs.Prelude.{◌≡◌, ℕ, ◌+◌, ◌≤◌, ◌⊎◌, List, [], ◌∷◌, ◌++◌, length, Contains, Option, Some, None, MatchBool}
 use Rattle.std.specs.FinMap.{len}
 use mathlib.Core.List.{IsPrefix}
 use Rattle.folder_core.specs.States.{FolderState, IsFolder}
@@ -77,3 +77,20 @@ pub record IsRead (old : View) (q : Query) (told : At (Reply q)) (new : View) : 
 abbrev pub ReadsThere : View → (q : Query) → Option (At (Reply q)) → View → Type 0
 ReadsThere old q None new = new ≡ old
 ReadsThere old q (Some told) new = IsRead old q told new
+
+-- Two callers meet: each sees the history go on, to what one of them had seen.
+pub record Meets (one other one' other' : View) : Type 0 where
+  pub one_sees : Sees one one'
+  pub other_sees : Sees other other'
+  pub same : one'.seen ≡ other'.seen
+  pub known : (one'.seen ≡ one.seen) ⊎ (one'.seen ≡ other.seen)
+
+-- A folder is closed that so many passes were given out of, these callers' among them: it is then after a legal history, which
+-- goes on from what each of them had seen, without entries of its own. If these are all passes, one of them had seen it all.
+pub record Closes (opening : FolderState) (limit passes : ℕ) (callers : List View) (end : FolderState) : Type 0 where
+  pub history : List Entry
+  pub legal : IsLegal passes opening history
+  pub room : length history + len end.pulls ≤ limit
+  pub state_is : end ≡ state_after opening history
+  pub each : (v : View) → Contains callers v → (v.opening ≡ opening) × (v.limit ≡ limit) × Sees v (seeing v history)
+  pub whole : length callers ≡ passes → (v : View) × Contains callers v × (v.seen ≡ history)

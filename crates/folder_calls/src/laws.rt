@@ -3,6 +3,7 @@
 
 mod calls;
 mod histories;
+mod meetings;
 mod rows;
 mod values;
 
@@ -13,5 +14,6 @@ pub use histories::{
     commits_are_legal, histories_keep_folders, histories_keep_room, histories_may_be_divided,
     legal_histories_grow, local_records_go_on, own_entries_are_those_of_the_pass,
 };
+pub use meetings::{callers_who_meet_know_the_longer_history, closing_keeps_what_callers_saw};
 pub use rows::histories_in_rows;
 pub use values::comparison_is_equality;

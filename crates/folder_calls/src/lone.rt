@@ -1,5 +1,5 @@
 //! A folder for one caller.
-ghost use Rattle.std.specs.Prelude.{IsTrue, ◌≢◌, map, ◌≡◌, ◌≤◌, IfErr, IfOk, IfSome, None, Option, Some, false, length, option_copied, option_map, true};
+ghost use Rattle.std.specs.Prelude.{IsTrue, ◌≢◌, ◌∷◌, [], map, ◌≡◌, ◌≤◌, IfErr, IfOk, IfSome, None, Option, Some, false, length, option_copied, option_map, true};
 ghost use Rattle.std.specs.FinMap.{len};
 ghost use Rattle.folder_core.specs.Calls.{close_answer, finish_answer};
 ghost use Rattle.folder_core.specs.Reads.{Bests, Best as BestOf, CountAll, FindBlock, Known, Local, LocalSince, Need};
@@ -9,7 +9,7 @@ ghost use Rattle.folder_core.specs.declared.change.Change.TheVariants.{Forget, I
 ghost use Rattle.folder_calls.specs.Alone.{ChangesAlone, GoesOn, IsToldAt, ReadsAlone, change_of, new_alone, seen_by};
 ghost use Rattle.folder_calls.specs.Calls.{GivesBack, begin_value, enter_value, found, index_value, scan_value, told, told_at};
 ghost use Rattle.folder_calls.specs.Journals.{Enters, IsHistory, end};
-ghost use Rattle.folder_calls.specs.Shared.{ReadsThere, Tells};
+ghost use Rattle.folder_calls.specs.Shared.{Closes, ReadsThere, Tells};
 
 use crate::{
     At, BeginAnswer, Commit, EnterRefusal, FolderCalls, HistoryFull, Journal, NotEntered, Outside,
@@ -71,6 +71,7 @@ impl<C: FolderCore> Lone<C> {
     pub fn close(self) -> C
         ensures core { C.state result ≡ end self.history }
         ensures history { IsHistory self.history }
+        ensures closes { Closes self.history.opening self.history.limit 2 (seen_by self ∷ []) (C.state result) }
         ensures whole { self.planned ≡ false → self.seen ≡ length self.history.entries }
     {
         let Lone {
