@@ -11,10 +11,9 @@ use Rattle.folder_core.specs.declared.answer.Answer.TheVariants.{HistoryFull}
 use Rattle.folder_core.specs.declared.change.Change.{Change}
 use Rattle.folder_core.specs.Steps.{MayChange, is_accepted, step}
 use Rattle.folder_core.specs.Reads.{Query, Reply, Reads}
-use Rattle.folder_calls.specs.declared.at.At.{At}
 use Rattle.folder_calls.specs.declared.entry.Entry.{Entry}
 use Rattle.folder_calls.specs.Histories.{IsLegal, state_after, is_over, shared_answer, own_entries}
-use Rattle.folder_calls.specs.Shared.{View, Sees, Makes, Declines, IsAnswered, IsLegalView, IsRead, ReadsThere, Tells, own_entry, seeing}
+use Rattle.folder_calls.specs.Shared.{View, Sees, Makes, Declines, IsLegalView, ReadsThere, Tells, own_entry, seeing}
 use Rattle.folder_calls.proofs.HistoryEntries.{allowed-after, own-push, legal-push, shared-room, state-push}
 
 -- the view is of the same caller and the same folder

@@ -1,6 +1,6 @@
 -- Of a journal's pulls: a commit that was entered has its ticket's token, a pull that is given up at once leaves the folder as it
 -- was, and one that begins is entered with room for the entry that ends it.
-use Rattle.std.proofs.Common.{◌≡◌, ℕ, ◌+◌, ◌<◌, ◌≤◌, Bool, true, false, List, [], ◌∷◌, ◌++◌, length, refl, sym, ap, subst, ◌∙◌, arith}
+use Rattle.std.proofs.Common.{◌≡◌, ℕ, ◌+◌, ◌≤◌, Bool, true, false, List, [], ◌∷◌, ◌++◌, length, refl, sym, ap, subst, ◌∙◌, arith}
 use Rattle.std.specs.Prelude.{cond, if◌then◌else◌, ⊤, nat_le, Option, None, Some, is_some, option_map, unwrap_or, Result, Ok, Err, IfOk, IfSome}
 use Rattle.std.specs.Cmp.{Equal-is, tied_itself}
 use Rattle.std.specs.FinMap.{get, get-insert, get-remove, insert, len, remove, same_map}
@@ -9,7 +9,7 @@ use Rattle.std.proofs.lemmas.Bool.{true≢false}
 use Rattle.std.proofs.lemmas.Map.Lookups.{exact_bytes}
 use Rattle.sync_record.specs.Devices.{bytes_cmp}
 use Rattle.sync_record.specs.Records.{Name}
-use Rattle.folder_core.specs.Calls.{Changes, close_answer, enter_answer}
+use Rattle.folder_core.specs.Calls.{Changes, enter_answer}
 use Rattle.folder_core.specs.States.{FolderState, Pull}
 use Rattle.folder_core.specs.Steps.{close_pull, is_accepted, next_ticket, step, with_pull}
 use Rattle.folder_core.specs.declared.answer.Answer.{Answer}

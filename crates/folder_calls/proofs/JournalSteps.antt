@@ -1,10 +1,9 @@
 -- A journal's entries: each change of a pass is answered with the shared answer, and the open pulls are counted.
 use Rattle.std.proofs.Common.{◌≡◌, ℕ, ◌+◌, ◌-◌, ◌<◌, ◌≤◌, Bool, true, false, List, [], ◌∷◌, ◌++◌, length, refl, sym, ap, subst, ◌∙◌, arith, inl, inr}
 use Rattle.std.specs.Prelude.{cond, Option, Some, None, is_some, nat_le}
-use Rattle.std.specs.FinMap.{contains_key, get, insert, remove, len, len-insert}
+use Rattle.std.specs.FinMap.{get, insert, remove, len, len-insert}
 use Rattle.std.proofs.lemmas.Bool.{true≢false, leb-true, leb-false, cond-true, cond-false}
 use Rattle.std.proofs.lemmas.List.{length-append}
-use Rattle.sync_record.specs.Devices.{bytes_cmp}
 use Rattle.sync_record.specs.Records.{Name}
 use Rattle.folder_core.specs.declared.stage.Stage.TheVariants.{Pulling, Committing}
 use Rattle.folder_core.specs.declared.answer.Answer.{Answer}
@@ -20,7 +19,6 @@ use Rattle.folder_core.proofs.ChangeCases.{step-cases}
 use Rattle.folder_core.proofs.ChangeKept.{step-keeps}
 use Rattle.folder_calls.specs.declared.entry.Entry.{Entry}
 use Rattle.folder_calls.specs.declared.history.History.{History}
-use Rattle.folder_calls.specs.Histories.{IsLegal, shared_answer, state_after}
 use Rattle.folder_calls.specs.Journals.{Enters, IsHistory, IsJournal, end, entered_items, with_entry}
 use Rattle.folder_calls.proofs.HistoryEntries.{allowed-after, legal-push, pulls-fewer, shared-full, shared-same, state-push}
 use Rattle.folder_calls.proofs.HistoryFronts.{removed-less}

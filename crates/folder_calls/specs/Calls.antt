@@ -1,5 +1,5 @@
 -- The answers of the calls of a folder with a history: what each result of the code says in the words of the rules.
-use Rattle.std.specs.Prelude.{◌≡◌, ℕ, ⊤, Bool, true, false, List, Option, Some, None, option_map, Result, Ok, Err}
+use Rattle.std.specs.Prelude.{◌≡◌, ⊤, Option, Some, None, Result, Ok, Err}
 use Rattle.folder_core.specs.declared.answer.Answer.{Answer}
 use Rattle.folder_core.specs.declared.answer.Answer.TheVariants.{Busy, Moved, Unchanged, Recorded, CounterFull, SequenceFull, HistoryFull, Applied, NotNeeded, Unsupported, Begun, Stray, LocalMoved, Superseded, Entered}
 use Rattle.folder_core.specs.declared.best.Best.{Best}

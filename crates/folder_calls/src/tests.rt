@@ -1,4 +1,6 @@
 //! Entries of a history, and how many a journal takes.
+mod pulls;
+
 use crate::{Entry, Journal, ScanRefusal};
 use folder_core::{Answer, Change, Finding, FolderCore, FoundContent, PlainFolder, ScanAnswer};
 use std::alloc::AllocError;

@@ -1,4 +1,4 @@
-use Rattle.std.proofs.Common.{◌≡◌, refl, sym, ap, subst, ◌∙◌}
+use Rattle.std.proofs.Common.{subst}
 use Rattle.std.specs.Prelude.{Ok}
 use Rattle.folder_core.specs.Calls.{Changes, begin_answer}
 use Rattle.folder_core.specs.declared.change.Change.TheVariants.{BeginPull}

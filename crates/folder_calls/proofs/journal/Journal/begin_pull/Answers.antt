@@ -1,4 +1,4 @@
-use Rattle.std.proofs.Common.{◌≡◌, ◌+◌, refl, sym, ap, subst, ◌∙◌}
+use Rattle.std.proofs.Common.{◌≡◌, ◌+◌, sym, ap, subst, ◌∙◌}
 use Rattle.std.specs.Prelude.{IfSome, Ok, option_map, vec_capacity}
 use Rattle.folder_core.specs.declared.answer.Answer.TheVariants.{Begun}
 use Rattle.folder_core.specs.declared.change.Change.TheVariants.{BeginPull}

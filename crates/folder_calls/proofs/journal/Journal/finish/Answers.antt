@@ -1,4 +1,4 @@
-use Rattle.std.proofs.Common.{◌≡◌, refl, ap, subst, ◌∙◌}
+use Rattle.std.proofs.Common.{refl, ap, subst, ◌∙◌}
 use Rattle.sync_record.specs.Assemblies.{IsAssembled}
 use Rattle.folder_core.specs.declared.change.Change.TheVariants.{Finish}
 use Rattle.folder_calls.proofs.JournalSteps.{ended-enters, ended-history, ended-journal, ended-pulls, ended-room, made-as, pushed-as, tested-journal}

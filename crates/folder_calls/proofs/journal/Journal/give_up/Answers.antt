@@ -1,4 +1,4 @@
-use Rattle.std.proofs.Common.{◌≡◌, refl, sym, ap, ◌∙◌}
+use Rattle.std.proofs.Common.{refl, sym, ap, ◌∙◌}
 use Rattle.folder_core.specs.Calls.{close_answer}
 use Rattle.folder_core.specs.Steps.{is_accepted}
 use Rattle.folder_core.specs.declared.change.Change.TheVariants.{GiveUp}

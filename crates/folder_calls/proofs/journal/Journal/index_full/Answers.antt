@@ -1,4 +1,4 @@
-use Rattle.std.proofs.Common.{◌≡◌, refl, sym, ap, ◌∙◌, arith}
+use Rattle.std.proofs.Common.{refl, sym, ap, ◌∙◌, arith}
 use Rattle.folder_core.specs.States.{FolderState}
 use Rattle.folder_core.specs.declared.answer.Answer.TheVariants.{Applied}
 use Rattle.folder_core.specs.declared.change.Change.TheVariants.{IndexFull}
