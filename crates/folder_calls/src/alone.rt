@@ -13,7 +13,7 @@ pub struct Alone {
 }
 
 /// A change that another caller is to make.
-#[derive(Debug, PartialEq, Eq, Drop)]
+#[derive(Debug, Drop)]
 pub struct Plan {
     /// Before which call from now on: 1 is the next.
     pub call: u64,

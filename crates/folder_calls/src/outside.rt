@@ -5,7 +5,7 @@ use sync_record::{DeviceId, Record};
 use sync_version::{Moment, Version};
 
 /// A change that another caller makes of the folder.
-#[derive(Debug, PartialEq, Eq, Drop)]
+#[derive(Debug, Drop)]
 pub enum Outside {
     /// This is found at the name, where the version was the local one when the scan began.
     ScanFound {

@@ -1,0 +1,17 @@
+//! Workers over the calls of a folder, whoever keeps it, and tests of `folder_calls` over its public calls.
+//!
+//! They stand in a crate of their own because a crate with tests is proved twice, once with them.
+#![tactic(auto)]
+
+mod workers;
+
+pub use workers::{begin_and_give_up, record_over};
+
+#[cfg(test)]
+mod entries;
+#[cfg(test)]
+mod limits;
+#[cfg(test)]
+mod plans;
+#[cfg(test)]
+mod values;
