@@ -14,8 +14,6 @@ mod lone;
 mod outside;
 mod pull;
 mod refusal;
-#[cfg(test)]
-mod tests;
 
 pub use alone::{Alone, Plan};
 pub use at::At;

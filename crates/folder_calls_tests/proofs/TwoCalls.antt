@@ -37,11 +37,14 @@ module _ (old read new : View) (n : Name) (r : At (Option FileRecord)) (reads : 
   pub over-recorded : is_accepted t.value ≡ true → (es : List Entry) × IsPrefix old.seen es × IsPrefix es new.seen
       × (own_entries old.pass new.seen ≡ own_entries old.pass old.seen ++ own_entry old (ScanFound n (local_version (state_after old.opening es) n) f m) t.value ∷ [])
   over-recorded accepted =
-      let same = ap (λ (v : View). v.pass) reads.sees.same in
-      (read.seen, reads.sees.longer, (answered-longer read new (ScanFound n version f m) t.value tells.answered).0,
-      subst (λ p. own_entries p new.seen ≡ own_entries p read.seen ++ (record { pass = p; change = scan; answer = t.value }) ∷ []) same
-      (subst (λ c. own_entries read.pass new.seen ≡ own_entries read.pass read.seen ++ own_entry read c t.value ∷ []) scan-is (answered-entered read new (ScanFound n version f m) t.value tells.answered accepted).0)
-      ∙ ap (λ xs. xs ++ own_entry old scan t.value ∷ []) reads.sees.own)
+      let same = ap (λ (v : View). v.pass) reads.sees.same in (
+        read.seen,
+        reads.sees.longer,
+        (answered-longer read new (ScanFound n version f m) t.value tells.answered).0,
+        subst (λ p. own_entries p new.seen ≡ own_entries p read.seen ++ (record { pass = p; change = scan; answer = t.value }) ∷ []) same
+            (subst (λ c. own_entries read.pass new.seen ≡ own_entries read.pass read.seen ++ own_entry read c t.value ∷ []) scan-is (answered-entered read new (ScanFound n version f m) t.value tells.answered accepted).0)
+            ∙ ap (λ xs. xs ++ own_entry old scan t.value ∷ []) reads.sees.own,
+      )
 
 -- a pull that was begun and given up
 module _ (old middle new : View) (n : Name) (t : Token) (begun : At Answer) (begins : Tells old (BeginPull n) (Some begun) middle) (begun_is : begun.value ≡ Begun t)
@@ -54,9 +57,10 @@ module _ (old middle new : View) (n : Name) (t : Token) (begun : At Answer) (beg
   up-given is =
       let first = (answered-entered old middle (BeginPull n) begun.value begins.answered (ap is_accepted begun_is)).0 in
       let second = (answered-entered middle new (GiveUp t) closed.value ends.answered (ap is_accepted is)).0 in
-      let same = (answered-longer old middle (BeginPull n) begun.value begins.answered).1.2 in
-      (t,
-      subst (λ p. own_entries p new.seen ≡ own_entries p middle.seen ++ (record { pass = p; change = GiveUp t; answer = closed.value }) ∷ []) same second
-      ∙ ap (λ xs. xs ++ own_entry old (GiveUp t) closed.value ∷ []) (first ∙ ap (λ a. own_entries old.pass old.seen ++ own_entry old (BeginPull n) a ∷ []) begun_is)
-      ∙ append_assoc (own_entries old.pass old.seen) (own_entry old (BeginPull n) (Begun t) ∷ []) (own_entry old (GiveUp t) closed.value ∷ [])
-      ∙ ap (λ a. own_entries old.pass old.seen ++ own_entry old (BeginPull n) (Begun t) ∷ own_entry old (GiveUp t) a ∷ []) is)
+      let same = (answered-longer old middle (BeginPull n) begun.value begins.answered).1.2 in (
+        t,
+        subst (λ p. own_entries p new.seen ≡ own_entries p middle.seen ++ (record { pass = p; change = GiveUp t; answer = closed.value }) ∷ []) same second
+            ∙ ap (λ xs. xs ++ own_entry old (GiveUp t) closed.value ∷ []) (first ∙ ap (λ a. own_entries old.pass old.seen ++ own_entry old (BeginPull n) a ∷ []) begun_is)
+            ∙ append_assoc (own_entries old.pass old.seen) (own_entry old (BeginPull n) (Begun t) ∷ []) (own_entry old (GiveUp t) closed.value ∷ [])
+            ∙ ap (λ a. own_entries old.pass old.seen ++ own_entry old (BeginPull n) (Begun t) ∷ own_entry old (GiveUp t) a ∷ []) is,
+      )

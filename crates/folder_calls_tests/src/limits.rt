@@ -1,1 +1,130 @@
-//! x
+//! How many entries a history takes, with those that end its open pulls; and what is left after a call that was out of memory.
+use crate::values::{announces, is_directory, lone, name, scans};
+use folder_calls::{
+    At, BeginAnswer, Commit, EnterRefusal, FolderCalls, HistoryFull, NotEntered, Ticket,
+};
+use folder_core::FolderCore;
+use std::alloc::AllocError;
+use std::process::Abort;
+use sync_record::Assembled;
+
+#[test]
+fn takes_as_many_entries_as_its_limit(rt: HostRuntime) {
+    let mut lone = lone(&rt, 2);
+    assert_eq!(rt; scans(&rt, &mut lone, "x"), ("Recorded", 1));
+    assert_eq!(rt; scans(&rt, &mut lone, "x"), ("Moved", 0));
+    assert_eq!(rt; scans(&rt, &mut lone, "y"), ("Recorded", 2));
+    assert_eq!(rt; scans(&rt, &mut lone, "z"), ("HistoryFull", 0));
+    assert_eq!(rt; scans(&rt, &mut lone, "x"), ("Moved", 0));
+    assert_eq!(rt; lone.counts().at, 2);
+    assert_eq!(rt; lone.close().counts().last, 2);
+}
+
+#[test]
+fn keeps_room_for_the_finish(rt: HostRuntime) {
+    let mut lone = lone(&rt, 4);
+    announces(&rt, &mut lone);
+    let ticket = begins(&rt, &mut lone);
+    let commit = enters(&rt, &mut lone, ticket);
+    assert_eq!(rt; scans(&rt, &mut lone, "y"), ("HistoryFull", 0));
+    finishes(&rt, &mut lone, commit);
+    assert_eq!(rt; lone.counts().at, 4);
+}
+
+#[test]
+fn returns_the_ticket_when_full(rt: HostRuntime) {
+    let mut lone = lone(&rt, 3);
+    announces(&rt, &mut lone);
+    let ticket = begins(&rt, &mut lone);
+    match enter_commit(&rt, &mut lone, ticket) {
+        Err(EnterRefusal::HistoryFull(ticket)) => assert!(rt; lone.give_up(ticket).value),
+        answer => panic!(&rt; "{answer:?}"),
+    }
+    assert_eq!(rt; lone.counts().at, 3);
+}
+
+#[test]
+fn begins_no_pull_without_room_for_its_end(rt: HostRuntime) {
+    let mut lone = lone(&rt, 2);
+    announces(&rt, &mut lone);
+    match begin_pull(&rt, &mut lone) {
+        Err(HistoryFull) => {}
+        Ok(answer) => panic!(&rt; "{answer:?}"),
+    }
+    let counted = lone.counts();
+    assert_eq!(rt; counted.at, 1);
+    assert_eq!(rt; counted.value.pulls, 0);
+}
+
+#[test]
+fn begins_one_pull_of_a_name(rt: HostRuntime) {
+    let mut lone = lone(&rt, 3);
+    announces(&rt, &mut lone);
+    let ticket = begins(&rt, &mut lone);
+    assert_eq!(rt; ticket.number(), 1);
+    match begin_pull(&rt, &mut lone) {
+        Ok(BeginAnswer::Busy) => {}
+        answer => panic!(&rt; "{answer:?}"),
+    }
+    assert!(rt; lone.give_up(ticket).value);
+    assert_eq!(rt; lone.counts().at, 3);
+}
+
+fn begins<W: FolderCalls>(rt: &(impl AllocGlobal + Abort), calls: &mut W) -> Ticket {
+    match begin_pull(rt, calls) {
+        Ok(BeginAnswer::Begun(ticket)) => ticket,
+        answer => panic!(rt; "{answer:?}"),
+    }
+}
+
+/// Begins to pull x, once more where the first call was out of memory, which changed nothing.
+fn begin_pull<W: FolderCalls>(
+    rt: &(impl AllocGlobal + Abort),
+    calls: &mut W,
+) -> Result<BeginAnswer, HistoryFull> {
+    let name = name(rt, "x");
+    let before = calls.counts();
+    match calls.begin_pull(&name) {
+        Ok(At { at: _, value }) => value,
+        Err(AllocError) => {
+            assert!(rt; calls.counts() == before);
+            let At { at: _, value } = calls.begin_pull(&name).expect(rt, "an answer");
+            value
+        }
+    }
+}
+
+fn enters<W: FolderCalls>(rt: &impl Abort, calls: &mut W, ticket: Ticket) -> Commit {
+    match enter_commit(rt, calls, ticket) {
+        Ok(commit) => commit,
+        answer => panic!(rt; "{answer:?}"),
+    }
+}
+
+/// Enters the commit, once more where the first call was out of memory, which changed nothing.
+fn enter_commit<W: FolderCalls>(
+    rt: &impl Abort,
+    calls: &mut W,
+    ticket: Ticket,
+) -> Result<Commit, EnterRefusal> {
+    let before = calls.counts();
+    let told = match calls.enter_commit(ticket) {
+        Ok(told) => Ok(told),
+        Err(NotEntered(ticket)) => {
+            assert!(rt; calls.counts() == before);
+            calls.enter_commit(ticket)
+        }
+    };
+    match told {
+        Ok(At { at: _, value }) => value,
+        Err(refused) => panic!(rt; "OutOfMemory: {refused:?}"),
+    }
+}
+
+/// Finishes the commit of a directory, under sequence 1.
+fn finishes<W: FolderCalls>(rt: &impl Abort, calls: &mut W, commit: Commit) {
+    let target = commit.target().copy().expect(rt, "a copy");
+    assert!(rt; target.is_deleted() || is_directory(&target));
+    let assembled = Assembled::plain(target);
+    assert_eq!(rt; calls.finish(commit, assembled).value, Ok(1));
+}

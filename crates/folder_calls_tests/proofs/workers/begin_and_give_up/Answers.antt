@@ -9,7 +9,7 @@ pub returns-in-Ok-Begun-clause-grows : goal.returns-in-Ok-Begun-clause-grows
 returns-in-Ok-Begun-clause-grows g c =
     up-longer _ _ _ _ c.in-Ok-Begun.ticket _ c.in_ok-value.ensures.tells (ap begin_value c.in-Ok-Begun.is ∙ ap (λ b. begin_value (Ok b)) c.in-Ok-Begun.field-0-is) _ c.give_up.ensures.tells
 
-is_closed : Option Bool → Bool
+abbrev is_closed : Option Bool → Bool
 is_closed None = false
 is_closed (Some b) = b
 
