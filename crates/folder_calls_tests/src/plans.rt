@@ -1,5 +1,6 @@
 //! Changes of another caller between two calls of a worker.
 ghost use Rattle.std.specs.Prelude.{◌≤◌};
+
 use crate::values::{
     announces, device, directory, lone, moment, name, one_directory, scanned_as, scans,
 };
