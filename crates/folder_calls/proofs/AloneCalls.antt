@@ -1,8 +1,6 @@
 -- What a folder with one caller tells it, with and without a change of another caller just before.
-use Rattle.std.proofs.Common.{◌≡◌, ℕ, ◌+◌, ◌-◌, ◌≤◌, Bool, true, false, List, [], ◌∷◌, ◌++◌, length, refl, sym, ap, subst, ◌∙◌, arith, ◌⊎◌, inl, inr}
+use Rattle.std.proofs.Common.{◌≡◌, ℕ, ◌+◌, ◌-◌, ◌≤◌, Bool, true, false, List, [], ◌∷◌, ◌++◌, length, refl, sym, ap, subst, ◌∙◌, arith, inl}
 use Rattle.std.specs.Prelude.{cond, drop, take, nat_le, Option, Some, None, IfOk, IfSome, MatchBool, Result, Ok, Err}
-use Rattle.std.specs.FinMap.{len}
-use Rattle.std.proofs.lemmas.Bool.{true≢false}
 use Rattle.std.proofs.lemmas.List.{length-append, take-append-drop, take-append-le, take_all}
 use Rattle.std.proofs.lemmas.Option.{none-some}
 use mathlib.Core.List.{IsPrefix}
@@ -18,10 +16,10 @@ use Rattle.folder_calls.specs.declared.entry.Entry.{Entry}
 use Rattle.folder_calls.specs.declared.history.History.{History}
 use Rattle.folder_calls.specs.Calls.{told}
 use Rattle.folder_calls.specs.Alone.{ChangesAlone, GoesOn, IsAlone, IsAsked, IsLookedUp, IsMade, IsToldAt, ReadsAlone, change_of, seen_by}
-use Rattle.folder_calls.specs.Histories.{IsLegal, own_entries, shared_answer}
+use Rattle.folder_calls.specs.Histories.{IsLegal, own_entries}
 use Rattle.folder_calls.specs.Journals.{Enters, IsHistory, answered, end, with_entry}
 use Rattle.folder_calls.specs.Shared.{Closes, IsLegalView, ReadsThere, Tells, View, own_entry, seeing}
-use Rattle.folder_calls.proofs.HistoryEntries.{own-push, own-skip}
+use Rattle.folder_calls.proofs.HistoryEntries.{own-skip}
 use Rattle.folder_calls.proofs.HistoryFronts.{view-front}
 use Rattle.folder_calls.proofs.HistoryMeetings.{may-close}
 use Rattle.folder_calls.proofs.HistoryShared.{declined-there, made-there, read-there}
@@ -112,10 +110,12 @@ module _ (a : Alone) (alone : IsAlone a) where
         (λ _. (alone.passes, alone.seen, alone.own, refl))
         (λ _.
         let e : Entry = record { pass = 2; change = change; answer = answer } in
-        let front = take-append-le a.seen es (e ∷ []) alone.seen in
-        (alone.passes, let l = length-append es (e ∷ []) in let s = alone.seen in omega arith,
-        own-skip 1 es e (λ (same : 2 ≡ 1). omega arith) ∙ alone.own ∙ ap (own_entries 1) (sym front),
-        ap (λ xs. record (seen_by a) { seen = xs }) front))
+        let front = take-append-le a.seen es (e ∷ []) alone.seen in (
+          alone.passes,
+          let l = length-append es (e ∷ []) in let s = alone.seen in omega arith,
+          own-skip 1 es e (λ (same : 2 ≡ 1). omega arith) ∙ alone.own ∙ ap (own_entries 1) (sym front),
+          ap (λ xs. record (seen_by a) { seen = xs }) front,
+        ))
 
     pub other-alone : (p : Plan) → a.plan ≡ Some p → (answer : Option Answer) → Enters a.history 2 change answer h → IsHistory h → IsAlone (record a { history = h; plan = None })
     other-alone p planned answer entered history = let o = other answer entered in record {

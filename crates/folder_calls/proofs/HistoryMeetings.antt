@@ -14,9 +14,10 @@ use Rattle.folder_calls.proofs.HistoryFronts.{own-divided}
 -- more passes leave a history legal
 legal-more : (passes more : ℕ) (s : FolderState) (es : List Entry) → passes ≤ more → IsLegal passes s es → IsLegal more s es
 legal-more passes more s [] le legal = tt
-legal-more passes more s (e ∷ es) le legal =
-    (record { given = (legal.0.given.0, let g = legal.0.given.1 in omega arith); allowed = legal.0.allowed; answered = legal.0.answered; accepted = legal.0.accepted },
-    legal-more passes more (after s e) es le legal.1)
+legal-more passes more s (e ∷ es) le legal = (
+  record { given = (legal.0.given.0, let g = legal.0.given.1 in omega arith); allowed = legal.0.allowed; answered = legal.0.answered; accepted = legal.0.accepted },
+  legal-more passes more (after s e) es le legal.1,
+)
 
 -- a view that sees what another had seen
 view-of : (one other : View) → one.opening ≡ other.opening → one.limit ≡ other.limit → IsLegalView one → IsLegalView other → IsLegalView (seeing one other.seen)
@@ -66,9 +67,10 @@ stays v = record { longer = ([], append-nil v.seen); own = refl; same = refl }
 pub may-meet : (one other : View) → IsPrefix one.seen other.seen → own_entries one.pass other.seen ≡ own_entries one.pass one.seen
     → Meets one other (seeing one other.seen) other × Meets other one other (seeing one other.seen)
 may-meet one other longer own =
-    let saw : Sees one (seeing one other.seen) = record { longer = longer; own = own; same = refl } in
-    (record { one_sees = saw; other_sees = stays other; same = refl; known = inr refl },
-    record { one_sees = stays other; other_sees = saw; same = refl; known = inl refl })
+    let saw : Sees one (seeing one other.seen) = record { longer = longer; own = own; same = refl } in (
+      record { one_sees = saw; other_sees = stays other; same = refl; known = inr refl },
+      record { one_sees = stays other; other_sees = saw; same = refl; known = inl refl },
+    )
 
 -- ---- closing
 
@@ -76,11 +78,12 @@ module _ (opening : FolderState) (limit passes : ℕ) (callers : List View) (end
   pub close-follows : (v : View) → Contains callers v → (rest : List Entry) × (end ≡ state_after v.opening (v.seen ++ rest)) × (own_entries v.pass rest ≡ [])
   close-follows v one =
       let k = c.each v one in
-      let p = k.2.longer in
-      (p.0,
-      c.state_is ∙ ap (λ s. state_after s c.history) (sym k.0) ∙ ap (state_after v.opening) (sym p.1),
-      append_cancel_left (own_entries v.pass v.seen) (own_entries v.pass p.0) []
-      (sym (own-divided v.pass v.seen p.0) ∙ ap (own_entries v.pass) p.1 ∙ k.2.own ∙ sym (append-nil (own_entries v.pass v.seen))))
+      let p = k.2.longer in (
+        p.0,
+        c.state_is ∙ ap (λ s. state_after s c.history) (sym k.0) ∙ ap (state_after v.opening) (sym p.1),
+        append_cancel_left (own_entries v.pass v.seen) (own_entries v.pass p.0) []
+            (sym (own-divided v.pass v.seen p.0) ∙ ap (own_entries v.pass) p.1 ∙ k.2.own ∙ sym (append-nil (own_entries v.pass v.seen))),
+      )
 
   pub close-folder : IsFolder opening → IsFolder end × (len end.pulls ≤ limit)
   close-folder folder = (subst IsFolder (sym c.state_is) (legal-folder passes opening c.history folder c.legal), let r = c.room in omega arith)

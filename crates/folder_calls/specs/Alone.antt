@@ -1,5 +1,5 @@
 -- A folder with one caller, and a change that is planned for another. Own rule.
-use Rattle.std.specs.Prelude.{◌≡◌, ℕ, ◌-◌, ◌≤◌, nat_le, Bool, false, List, length, take, Option, Some, None, IfSome, MatchBool, Result, Ok, Err}
+use Rattle.std.specs.Prelude.{◌≡◌, ℕ, ◌-◌, ◌≤◌, nat_le, false, length, take, Option, Some, None, IfSome, MatchBool, Result, Ok, Err}
 use Rattle.folder_core.specs.declared.answer.Answer.{Answer}
 use Rattle.folder_core.specs.declared.change.Change.{Change}
 use Rattle.folder_core.specs.declared.change.Change.TheVariants.{ScanFound, ScanGone, IndexFull, IndexMore, Forget}

@@ -197,7 +197,10 @@ impl<C: FolderCore> FolderCalls for Lone<C> {
         told_here(&self.journal, &mut self.seen, answer)
     }
 
-    fn begin_pull(&mut self, name: &SafeName) -> Result<At<Result<BeginAnswer, HistoryFull>>, AllocError>
+    fn begin_pull(
+        &mut self,
+        name: &SafeName,
+    ) -> Result<At<Result<BeginAnswer, HistoryFull>>, AllocError>
         ensures home { self.new.planned ≡ self.old.planned }
         ensures tells { Tells (seen_by self.old) (BeginPull name.now) (told begin_value result) (seen_by self.new) }
         ensures alone { ChangesAlone self.old (BeginPull name.now) (told begin_value result) self.new }
