@@ -30,6 +30,14 @@ pub state-divided : (s : FolderState) (es fs : List Entry) → state_after s (es
 state-divided s [] fs = refl
 state-divided s (e ∷ es) fs = state-divided (after s e) es fs
 
+-- more passes leave a history legal
+pub legal-more : (passes more : ℕ) (s : FolderState) (es : List Entry) → passes ≤ more → IsLegal passes s es → IsLegal more s es
+legal-more passes more s [] le legal = tt
+legal-more passes more s (e ∷ es) le legal = (
+  record { given = (legal.0.given.0, let g = legal.0.given.1 in omega arith); allowed = legal.0.allowed; answered = legal.0.answered; accepted = legal.0.accepted },
+  legal-more passes more (after s e) es le legal.1,
+)
+
 pub own-divided : (pass : ℕ) (es fs : List Entry) → own_entries pass (es ++ fs) ≡ own_entries pass es ++ own_entries pass fs
 own-divided pass es fs = filter-append (λ e. e.pass == pass) es fs
 

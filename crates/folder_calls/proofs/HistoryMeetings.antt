@@ -6,18 +6,10 @@ use Rattle.std.proofs.lemmas.List.{append-nil, append_cancel_left}
 use mathlib.Core.List.{IsPrefix}
 use Rattle.folder_core.specs.States.{FolderState, IsFolder}
 use Rattle.folder_calls.specs.declared.entry.Entry.{Entry}
-use Rattle.folder_calls.specs.Histories.{IsLegal, after, own_entries, state_after}
+use Rattle.folder_calls.specs.Histories.{IsLegal, own_entries, state_after}
 use Rattle.folder_calls.specs.Shared.{Closes, IsLegalView, Meets, Sees, View, seeing}
 use Rattle.folder_calls.proofs.HistoryEntries.{legal-folder}
-use Rattle.folder_calls.proofs.HistoryFronts.{own-divided}
-
--- more passes leave a history legal
-legal-more : (passes more : ℕ) (s : FolderState) (es : List Entry) → passes ≤ more → IsLegal passes s es → IsLegal more s es
-legal-more passes more s [] le legal = tt
-legal-more passes more s (e ∷ es) le legal = (
-  record { given = (legal.0.given.0, let g = legal.0.given.1 in omega arith); allowed = legal.0.allowed; answered = legal.0.answered; accepted = legal.0.accepted },
-  legal-more passes more (after s e) es le legal.1,
-)
+use Rattle.folder_calls.proofs.HistoryFronts.{legal-more, own-divided}
 
 -- a view that sees what another had seen
 view-of : (one other : View) → one.opening ≡ other.opening → one.limit ≡ other.limit → IsLegalView one → IsLegalView other → IsLegalView (seeing one other.seen)

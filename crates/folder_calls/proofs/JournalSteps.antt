@@ -1,5 +1,5 @@
 -- A journal's entries: each change of a pass is answered with the shared answer, and the open pulls are counted.
-use Rattle.std.proofs.Common.{◌≡◌, ℕ, ◌+◌, ◌-◌, ◌<◌, ◌≤◌, Bool, true, false, List, [], ◌∷◌, ◌++◌, length, refl, sym, ap, subst, ◌∙◌, arith, inl, inr}
+use Rattle.std.proofs.Common.{◌≡◌, ℕ, ◌+◌, ◌-◌, ◌^◌, ◌<◌, ◌≤◌, Bool, true, false, List, [], ◌∷◌, ◌++◌, length, refl, sym, ap, subst, ◌∙◌, arith, inl, inr}
 use Rattle.std.specs.Prelude.{cond, Option, Some, None, is_some, nat_le}
 use Rattle.std.specs.FinMap.{get, insert, remove, len, len-insert}
 use Rattle.std.proofs.lemmas.Bool.{true≢false, leb-true, leb-false, cond-true, cond-false}
@@ -21,7 +21,7 @@ use Rattle.folder_calls.specs.declared.entry.Entry.{Entry}
 use Rattle.folder_calls.specs.declared.history.History.{History}
 use Rattle.folder_calls.specs.Journals.{Enters, IsHistory, IsJournal, end, entered_items, with_entry}
 use Rattle.folder_calls.proofs.HistoryEntries.{allowed-after, legal-push, pulls-fewer, shared-full, shared-same, state-push}
-use Rattle.folder_calls.proofs.HistoryFronts.{removed-less}
+use Rattle.folder_calls.proofs.HistoryFronts.{legal-more, removed-less}
 
 -- how many pulls an accepted change opens, and how many it closes
 abbrev pub opens : Change → ℕ
@@ -58,6 +58,19 @@ step-open s = step-cases s (λ c d. is_accepted d.0 ≡ true → len d.1.pulls +
   aborted = λ t p found _. let e : len (without_pull s t.name).pulls + 1 ≡ len s.pulls = removed s t.name p (pull_of-is s t Committing p found).0 in omega arith;
 })
 
+-- one more pass is given out
+pub more-passes : (h : History) → IsHistory h → h.passes < 2 ^ 32 → IsHistory (record h { passes = h.passes + 1 })
+more-passes h history below = record {
+  opening = history.opening;
+  no_pull = history.no_pull;
+  legal = legal-more h.passes (h.passes + 1) h.opening h.entries (omega arith) history.legal;
+  room = history.room;
+  few = omega arith;
+}
+
+pub more-passes-journal : (h : History) (pulls capacity : ℕ) (s : FolderState) → IsJournal s pulls capacity h → h.passes < 2 ^ 32 → IsJournal s pulls capacity (record h { passes = h.passes + 1 })
+more-passes-journal h pulls capacity s j below = record { history = more-passes h j.history below; state_is = j.state_is; pulls_is = j.pulls_is; room = j.room }
+
 module _ (h : History) (pass : ℕ) (c : Change) (history : IsHistory h) (given : (1 ≤ pass) × (pass ≤ h.passes)) (may : MayChange h.opening.me c) where
   abbrev made : Answer × FolderState
   made = step (end h) c
@@ -71,6 +84,7 @@ module _ (h : History) (pass : ℕ) (c : Change) (history : IsHistory h) (given 
     entered-history = record {
       opening = history.opening;
       no_pull = history.no_pull;
+      few = history.few;
       legal = legal-push h.passes h.opening h.entries _ history.legal (record { given = given; allowed = allowed-after h.opening h.entries c may; answered = refl; accepted = accepted });
       room =
           let l = length-append h.entries ((record { pass = pass; change = c; answer = made.0 }) ∷ []) in

@@ -1,5 +1,5 @@
 -- A folder that was opened, and the history of its changes since.
-use Rattle.std.specs.Prelude.{◌≡◌, ℕ, ◌+◌, ◌≤◌, if◌then◌else◌, List, [], ◌∷◌, ◌++◌, length, Option, Some, None, Result, Ok, Err}
+use Rattle.std.specs.Prelude.{◌≡◌, ℕ, ◌+◌, ◌^◌, ◌≤◌, if◌then◌else◌, List, [], ◌∷◌, ◌++◌, length, Option, Some, None, Result, Ok, Err}
 use Rattle.std.specs.FinMap.{len}
 use Rattle.folder_core.specs.States.{FolderState, IsFolder}
 use Rattle.folder_core.specs.declared.answer.Answer.{Answer}
@@ -13,12 +13,14 @@ use Rattle.folder_calls.specs.Histories.{IsLegal, state_after, shared_answer}
 abbrev pub end : History → FolderState
 end h = state_after h.opening h.entries
 
--- The folder was opened without open pulls, its history is legal, and there is room for the entries that end the open pulls.
+-- The folder was opened without open pulls, its history is legal, and there is room for the entries that end the open pulls. At most
+-- 2^32 passes were given out.
 pub record IsHistory (h : History) : Type 0 where
   pub opening : IsFolder h.opening
   pub no_pull : len h.opening.pulls ≡ 0
   pub legal : IsLegal h.passes h.opening h.entries
   pub room : length h.entries + len (end h).pulls ≤ h.limit
+  pub few : h.passes ≤ 2 ^ 32
 
 -- this folder was opened, and nothing was changed since
 abbrev pub new_history : FolderState → ℕ → ℕ → History

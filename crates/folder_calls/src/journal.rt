@@ -58,7 +58,8 @@ impl<C: FolderCore> Journal<C> {
     /// The folder with an empty history. Returns `Err` with the folder only if its copy could not be allocated. O(n) time and
     /// memory for n records, which share their memory.
     pub fn open(alloc: Global, core: C, limit: u64, passes: u64) -> Result<Journal<C>, C>
-        requires { len (C.state core).pulls ≡ 0 }
+        requires pulls { len (C.state core).pulls ≡ 0 }
+        requires passes { passes ≤ 2 ^ 32 }
         ensures ok { IfOk result (λ journal. journal ≡ new_history (C.state core) limit passes) }
         ensures err { IfErr result (λ back. C.state back ≡ C.state core) }
     {
@@ -113,6 +114,19 @@ impl<C: FolderCore> Journal<C> {
         ensures { result ≡ self.now.passes }
     {
         self.passes
+    }
+
+    /// Gives out one more pass, and returns its number; none if 2^32 were given out. O(1).
+    pub fn add_pass(&mut self) -> Option<u64>
+        ensures given { IfSome result (λ number. (self.old.passes < 2 ^ 32) × (number ≡ self.old.passes + 1) × (self.new ≡ record self.old { passes = number })) }
+        ensures full { result ≡ None → (self.old.passes ≡ 2 ^ 32) × (self.new ≡ self.old) }
+        ensures history { IsHistory self.new }
+    {
+        if self.passes >= 1 << 32 {
+            return None;
+        }
+        self.passes += 1;
+        Some(self.passes)
     }
 
     /// [`FolderCore::scan_found`] for a pass. O(n) memory for the size n of what is found.

@@ -1,5 +1,5 @@
 -- What workers may say of two calls, one after the other.
-use Rattle.std.proofs.Common.{◌≡◌, ℕ, true, List, [], ◌∷◌, ◌++◌, refl, sym, ap, subst, ◌∙◌, append_assoc}
+use Rattle.std.proofs.Common.{◌≡◌, ℕ, true, List, [], ◌∷◌, ◌++◌, sym, ap, subst, ◌∙◌, append_assoc}
 use Rattle.std.specs.Prelude.{Option, Some, option_map}
 use mathlib.Core.List.{IsPrefix}
 use Rattle.sync_version.specs.Versions.{Vector}
@@ -16,7 +16,7 @@ use Rattle.folder_core.specs.Steps.{is_accepted}
 use Rattle.folder_calls.specs.declared.at.At.{At}
 use Rattle.folder_calls.specs.declared.entry.Entry.{Entry}
 use Rattle.folder_calls.specs.Histories.{own_entries, state_after}
-use Rattle.folder_calls.specs.Shared.{IsAnswered, IsRead, ReadsThere, Tells, View, own_entry}
+use Rattle.folder_calls.specs.Shared.{ReadsThere, Tells, View, own_entry}
 use Rattle.folder_calls.proofs.HistoryShared.{answered-entered, answered-longer}
 
 pub prefix-on : (xs ys zs : List Entry) → IsPrefix xs ys → IsPrefix ys zs → IsPrefix xs zs
