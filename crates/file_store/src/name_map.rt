@@ -1,0 +1,68 @@
+//! Values by name.
+ghost use Rattle.std.specs.Prelude.{◌≡◌, List, ℕ, Option, Some, None, is_some, if◌then◌else◌, MatchResult, option_copied};
+ghost use Rattle.file_store.specs.Maps.{found_at, put_at};
+
+use std::alloc::{AllocError, Global};
+use std::collections::BTreeMap;
+
+/// Values by name. Contracts see what is at each name.
+#[derive(Drop)]
+pub struct NameMap<V> {
+    map: BTreeMap<String, V>,
+}
+
+impl<V> NameMap<V> {
+    /// No values. Does not allocate.
+    pub(crate) fn new(alloc: Global) -> NameMap<V>
+        ensures { (q : List ℕ) → found_at result q ≡ None }
+    {
+        NameMap {
+            map: BTreeMap::new(alloc),
+        }
+    }
+
+    /// What is at a name. O(log n).
+    pub(crate) fn get(&self, name: &str) -> Option<&V>
+        ensures { option_copied result ≡ found_at self.now name.now }
+    {
+        self.map.get(name)
+    }
+
+    /// Whether something is at a name. O(log n).
+    pub(crate) fn contains(&self, name: &str) -> bool
+        ensures { result ≡ is_some (found_at self.now name.now) }
+    {
+        self.map.contains_key(name)
+    }
+}
+
+impl<V: Drop> NameMap<V> {
+    /// Puts a value at a name, in place of what is there. Out of memory changes nothing. O(log n).
+    pub(crate) fn insert(&mut self, alloc: Global, name: &str, value: V) -> Result<(), AllocError>
+        ensures { MatchResult result
+            (λ _. found_at self.new ≡ put_at name.now (Some value) (found_at self.old))
+            (λ _. found_at self.new ≡ found_at self.old) }
+    {
+        let key = String::from_str(alloc, name)?;
+        self.map.insert(key, value)?;
+        Ok(())
+    }
+
+    /// Takes out what is at a name. O(log n).
+    pub(crate) fn remove(&mut self, name: &str) -> Option<V>
+        ensures taken { result ≡ found_at self.old name.now }
+        ensures left { found_at self.new ≡ put_at name.now None (found_at self.old) }
+    {
+        self.map.remove(name)
+    }
+
+    /// Puts a value in place of what is at a name; where nothing is there, changes nothing. Does not allocate. O(log n).
+    pub(crate) fn replace(&mut self, name: &str, value: V)
+        ensures { found_at self.new
+            ≡ (if is_some (found_at self.old name.now) then put_at name.now (Some value) (found_at self.old) else found_at self.old) }
+    {
+        if let Some(place) = self.map.get_mut(name) {
+            *place = value;
+        }
+    }
+}

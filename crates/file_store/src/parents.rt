@@ -1,0 +1,14 @@
+//! The parents of a name.
+ghost use Rattle.std.specs.Prelude.{◌≡◌, ◌<◌, ◌||◌, false, bytes_eq, length, MatchOption, IfSome};
+ghost use Rattle.file_store.specs.Names.{Name, is_parent};
+
+/// The directory that a name is in, if it has a parent. O(n).
+pub(crate) fn parent_of(name: &str) -> Option<&str>
+    ensures parents { MatchOption result
+        ((q : Name) → is_parent q name.now ≡ false)
+        (λ p. (q : Name) → is_parent q name.now ≡ (bytes_eq p.now q || is_parent q p.now)) }
+    ensures shorter { IfSome result (λ p. length p.now < length name.now) }
+{
+    let slash = name.rfind('/')?;
+    Some(name.split_at(slash).0)
+}
