@@ -1,2 +1,4 @@
 pub mod WriteLemmas
 pub mod ParentLemmas
+pub mod BetweenLemmas
+pub mod PutLemmas

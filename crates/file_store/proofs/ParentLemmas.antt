@@ -27,7 +27,7 @@ pub parent_none : (q : List ℕ) → is_parent q [] ≡ false
 parent_none [] = refl
 parent_none (p ∷ ps) = refl
 
-turned : (a b : List ℕ) → bytes_eq a b ≡ bytes_eq b a
+pub turned : (a b : List ℕ) → bytes_eq a b ≡ bytes_eq b a
 turned a b = one_answer (bytes_eq a b) (bytes_eq b a) (bytes_eq-Decides a b) (λ e. sym ((bytes_eq-Decides b a).0 e), λ e. (bytes_eq-Decides b a).1 (sym e))
 
 or_false : (b : Bool) → (b || false) ≡ b

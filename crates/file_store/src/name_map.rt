@@ -1,7 +1,9 @@
 //! Values by name.
-ghost use Rattle.std.specs.Prelude.{◌≡◌, List, ℕ, Option, Some, None, is_some, if◌then◌else◌, MatchResult, option_copied};
+ghost use Rattle.std.specs.Prelude.{◌≡◌, List, ℕ, Option, Some, None, is_some, IsSome, unwrap_or, [], if◌then◌else◌, MatchResult, MatchOption, option_copied};
+ghost use Rattle.file_store.specs.Contents.{overwritten};
 ghost use Rattle.file_store.specs.Maps.{found_at, put_at};
 
+use crate::Content;
 use std::alloc::{AllocError, Global};
 use std::collections::BTreeMap;
 
@@ -63,6 +65,30 @@ impl<V: Drop> NameMap<V> {
     {
         if let Some(place) = self.map.get_mut(name) {
             *place = value;
+        }
+    }
+}
+
+impl NameMap<Content> {
+    /// Writes a piece to the content at a name, as [`Content::write_at`]; `None` if nothing is there. O(log n), and O(m) for m written
+    /// bytes.
+    pub(crate) fn write_at(
+        &mut self,
+        name: &str,
+        offset: usize,
+        piece: &[u8],
+    ) -> Option<Result<(), AllocError>>
+        ensures none { MatchOption result (found_at self.old name.now ≡ None) (λ _. IsSome (found_at self.old name.now)) }
+        ensures left { MatchOption result
+            (found_at self.new ≡ found_at self.old)
+            (λ written. MatchResult written
+                (λ _. found_at self.new
+                    ≡ put_at name.now (Some (overwritten (unwrap_or (found_at self.old name.now) []) offset piece.now)) (found_at self.old))
+                (λ _. found_at self.new ≡ found_at self.old)) }
+    {
+        match self.map.get_mut(name) {
+            Some(content) => Some(content.write_at(offset, piece)),
+            None => None,
         }
     }
 }
