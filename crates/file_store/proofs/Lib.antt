@@ -2,3 +2,4 @@ pub mod WriteLemmas
 pub mod ParentLemmas
 pub mod BetweenLemmas
 pub mod PutLemmas
+pub mod ListingLemmas

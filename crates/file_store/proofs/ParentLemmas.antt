@@ -75,3 +75,29 @@ module _ (n : List ℕ) (q : List ℕ) where
       ∙ ap (is_parent q) (take_more n i 0 h) ∙ parent_push q (take i n) (get_or n i 0)
       ∙ or_turned (is_parent q (take i n)) (bytes_eq q (take i n)) (nat_eq (get_or n i 0) 47) (eq-eqb _ _ slash)
       ∙ ap (λ b. b || is_parent q (take i n)) (turned q (take i n))
+
+-- by the byte after the beginning
+pub parent_by_byte : (d n : List ℕ) → length d < length n → is_parent d n ≡ (nat_eq (get_or n (length d) 0) 47 && bytes_eq (take (length d) n) d)
+parent_by_byte [] [] h = absurd (omega arith)
+parent_by_byte [] (y ∷ ys) h = and_true (nat_eq y 47)
+  where
+    and_true : (b : Bool) → b ≡ (b && true)
+    and_true true = refl
+    and_true false = refl
+parent_by_byte (x ∷ xs) [] h = absurd (omega arith)
+parent_by_byte (x ∷ xs) (y ∷ ys) h =
+    ap (λ b. nat_eq x y && b) (parent_by_byte xs ys (omega arith)) ∙ spread (nat_eq x y) (nat_eq y x) _ _ (nat_turned x y)
+  where
+    spread : (a a' b c : Bool) → a ≡ a' → (a && (b && c)) ≡ (b && (a' && c))
+    spread a a' true c e = ap (λ m. m && c) e
+    spread true a' false c e = refl
+    spread false a' false c e = refl
+
+    nat_turned : (x y : ℕ) → nat_eq x y ≡ nat_eq y x
+    nat_turned x y = grind (arith)
+
+pub no_parent_of_short : (d n : List ℕ) → length n ≤ length d → is_parent d n ≡ false
+no_parent_of_short [] [] h = refl
+no_parent_of_short [] (y ∷ ys) h = absurd (omega arith)
+no_parent_of_short (x ∷ xs) [] h = refl
+no_parent_of_short (x ∷ xs) (y ∷ ys) h = ap (λ b. nat_eq x y && b) (no_parent_of_short xs ys (omega arith)) ∙ and_false (nat_eq x y)

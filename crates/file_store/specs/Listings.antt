@@ -11,7 +11,6 @@ use Rattle.file_store.specs.declared.node.Listed.{Listed}
 use Rattle.file_store.specs.declared.node.Node.{Node}
 use Rattle.file_store.specs.declared.node.Node.TheVariants.{Directory, File}
 use Rattle.file_store.specs.Names.{Name}
-use Rattle.file_store.specs.Trees.{Tree}
 
 abbrev pub kind_of : Node → Kind
 kind_of Directory = kind.Directory
@@ -26,6 +25,6 @@ abbrev pub listed_at : List Listed → Name → Option Kind
 listed_at entries q = lookup (bytes_eq q) (map (λ e. (e.name, e.kind)) entries)
 
 -- the names ascend by their bytes, and exactly the safe names of files and directories are listed, each with its kind
-pub record IsListing (t : Tree) (entries : List Listed) : Type 0 where
+pub record IsListing (names : Name → Option Node) (entries : List Listed) : Type 0 where
   pub order : IsStrictlySortedBy (slice_cmp nat_cmp) (map (λ e. e.name) entries)
-  pub each : (q : Name) → listed_at entries q ≡ (if is_none (refusal q) then kind_at (t.names q) else None)
+  pub each : (q : Name) → listed_at entries q ≡ (if is_none (refusal q) then kind_at (names q) else None)

@@ -3,6 +3,7 @@
 
 mod changes;
 mod content;
+mod listing;
 mod mem;
 mod missing;
 mod name_map;

@@ -1,9 +1,13 @@
 //! Values by name.
-ghost use Rattle.std.specs.Prelude.{◌≡◌, List, ℕ, Option, Some, None, is_some, IsSome, unwrap_or, [], if◌then◌else◌, MatchResult, MatchOption, option_copied};
+ghost use Rattle.std.specs.Prelude.{◌≡◌, true, false, IfOk, IsTrue, List, ℕ, Option, Some, None, is_some, IsSome, unwrap_or, [], if◌then◌else◌, MatchResult, MatchOption, option_copied};
 ghost use Rattle.file_store.specs.Contents.{overwritten};
+ghost use Rattle.file_store.specs.Listings.{IsListing};
 ghost use Rattle.file_store.specs.Maps.{found_at, put_at};
+ghost use Rattle.file_store.specs.Names.{Name, is_parent};
 
-use crate::Content;
+use crate::listing::{kind_of, safe_name};
+use crate::parents::is_below;
+use crate::{Content, Listed, Node};
 use std::alloc::{AllocError, Global};
 use std::collections::BTreeMap;
 
@@ -35,6 +39,37 @@ impl<V> NameMap<V> {
         ensures { result ≡ is_some (found_at self.now name.now) }
     {
         self.map.contains_key(name)
+    }
+
+    /// Whether something is below a directory. O(n).
+    pub(crate) fn has_below(&self, dir: &str) -> bool
+        ensures some { IsTrue result → (q : Name) × (is_parent dir.now q ≡ true) × IsSome (found_at self.now q) }
+        ensures none { result ≡ false → (q : Name) → is_parent dir.now q ≡ true → found_at self.now q ≡ None }
+    {
+        for (name, _) in self.map.iter() {
+            if is_below(name.as_str(), dir) {
+                return true;
+            }
+        }
+        false
+    }
+}
+
+impl NameMap<Node> {
+    /// The safe names among all, with their kinds, in the order of their bytes. O(n), and the test of each name.
+    pub(crate) fn list(&self, alloc: Global) -> Result<Vec<Listed>, AllocError>
+        ensures { IfOk result (λ listing. IsListing (found_at self.now) listing.items) }
+    {
+        let mut listing = Vec::new(alloc);
+        for (text, node) in self.map.iter() {
+            if let Some(name) = safe_name(alloc, text.as_str())? {
+                listing.push(Listed {
+                    name,
+                    kind: kind_of(node),
+                })?;
+            }
+        }
+        Ok(listing)
     }
 }
 

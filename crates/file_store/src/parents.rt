@@ -12,3 +12,17 @@ pub(crate) fn parent_of(name: &str) -> Option<&str>
     let slash = name.rfind('/')?;
     Some(name.split_at(slash).0)
 }
+
+/// Whether a name is below a directory. O(n).
+pub(crate) fn is_below(name: &str, dir: &str) -> bool
+    ensures { result ≡ is_parent dir.now name.now }
+{
+    let (name, dir) = (name.as_bytes(), dir.as_bytes());
+    if name.len() <= dir.len() {
+        return false;
+    }
+    if name[dir.len()] != b'/' {
+        return false;
+    }
+    &name[..dir.len()] == dir
+}

@@ -36,7 +36,7 @@ pub trait FileStore {
 
     /// The safe names of all files and directories, in the order of their bytes. All else is left out.
     fn list(&mut self) -> Result<Vec<Listed>, StoreRefusal>
-        ensures lists { keeps → IfOk result (λ listing. IsListing (tree self.old) listing.items) }
+        ensures lists { keeps → IfOk result (λ listing. IsListing (tree self.old).names listing.items) }
         ensures failed { keeps → IfErr result (λ refusal. refusal ≡ StoreFault → fails) }
         ensures kept { keeps → tree self.new ≡ tree self.old }
         ensures refusals { IfErr result IsPlain }
