@@ -3,3 +3,5 @@ pub mod ParentLemmas
 pub mod BetweenLemmas
 pub mod PutLemmas
 pub mod ListingLemmas
+pub mod TreeLemmas
+pub mod MemLemmas
