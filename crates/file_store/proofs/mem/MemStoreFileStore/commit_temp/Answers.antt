@@ -1,14 +1,15 @@
-use Rattle.std.proofs.Common.{rules, ◌≡◌, Some, None, [], false, true}
-use Rattle.std.specs.Prelude.{unwrap_or, IsSome}
+use Rattle.std.proofs.Common.{rules, inl, refl, sym, subst, ◌≡◌, Some, None, [], false, true}
+use Rattle.std.specs.Prelude.{unwrap_or, IsSome, IsNone}
 use Rattle.file_store.specs.declared.node.Node.TheVariants.{File}
 use Rattle.file_store.specs.Maps.{found_at, put_at}
-use Rattle.file_store.specs.Trees.{is_directory}
+use Rattle.file_store.specs.Trees.{is_directory, tree_of}
+use Rattle.file_store.specs.Calls.{CommitRefused}
 use Rattle.file_store.proofs.MemLemmas.{changed_tree}
 use Rattle.file_store.proofs.TreeLemmas.{committed_tree}
 use Rattle.file_store.proofs.mem.MemStoreFileStore.commit_temp.Goals as goal
 
-pub invariant_of-self-3 : goal.invariant_of-self-3
-invariant_of-self-3 c =
+pub invariant_of-self-2 : goal.invariant_of-self-2
+invariant_of-self-2 c =
     let n = c.as_str-name.result.now in
     let F = found_at c.args.self.now.names in
     let S = found_at c.args.self.now.temps in
@@ -20,3 +21,9 @@ invariant_of-self-3 c =
       sound = changed_tree c.commit_temp.result F (put_at n file F) (found_at c.commit_temp.new.names) S (put_at n None S) (found_at c.commit_temp.new.temps)
           c.commit_temp.ensures.names c.commit_temp.ensures.temps (committed_tree F S k n file there none) k;
     }
+
+pub returns-then-not-contains-clause-commits : goal.returns-then-not-contains-clause-commits
+returns-then-not-contains-clause-commits c =
+    let S = found_at c.args.self.now.temps in
+    let none : IsNone (S c.args.name.now) = search rules in
+    λ k. (0, inl (subst (CommitRefused (tree_of (found_at c.args.self.now.names) S) c.args.name.now) (sym c.fault.ensures.refusal) (inl none), refl))
