@@ -102,7 +102,7 @@ module _ {X : Type 0} (name : Name) (x : Option X) (f : Name → Option X) where
   between_up p rest last reach q =
       step_bool (bytes_eq p q) (is_parent q name) (is_parent q rest) (is_parent q p) x (f q) (last q)
       (λ e. let same = same_name p q e in
-       reached_parent rest name reach q (last q ∙ or_left _ _ e))
+      reached_parent rest name reach q (last q ∙ or_left _ _ e))
       (λ e. ap (λ m. is_parent m p) (sym (same_name p q e)) ∙ not_own_parent p)
 
 -- what the loop that makes directories keeps

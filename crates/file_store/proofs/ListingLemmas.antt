@@ -45,7 +45,7 @@ module _ {Y V : Type 0} where
       → ((q : Name) → is_parent dir q ≡ true → f q ≡ left_at rest q) → IsSome (f (string_bytes e.0))
   left_found dir f e es rest is below h =
       ap is_some (h (string_bytes e.0) below ∙ ap (λ l. left_at l (string_bytes e.0)) is ∙ left_more e es (string_bytes e.0)
-        ∙ ap (λ b. cond b (Some e.1) (left_at es (string_bytes e.0))) (same_bytes (string_bytes e.0)))
+      ∙ ap (λ b. cond b (Some e.1) (left_at es (string_bytes e.0))) (same_bytes (string_bytes e.0)))
 
 -- the first, or else the second
 abbrev pub or_else : {V : Type 0} → Option V → Option V → Option V
@@ -134,8 +134,8 @@ module _ {Y : Type 0} (names : Name → Option Node) where
       each = λ q. k.each q ∙ ap (or_else (listed_at out q)) (at_left q)
           ∙ go_safe (is_none (refusal q)) (bytes_eq q (string_bytes e.0)) (listed_at out q) e.1 (left_at es q) (λ t. ap (λ m. is_none (refusal m)) (same_name _ _ t) ∙ safe)
           ∙ ap (λ o. or_else o (safe_kind q (left_at es q)))
-            (ap (λ m. or_else (listed_at out q) (cond (bytes_eq q m) (Some (kind_of e.1)) None)) (sym name)
-              ∙ ap (λ m. or_else (listed_at out q) (cond (bytes_eq q l.name) (Some m) None)) (sym kind) ∙ sym (listed_more out l q));
+          (ap (λ m. or_else (listed_at out q) (cond (bytes_eq q m) (Some (kind_of e.1)) None)) (sym name)
+          ∙ ap (λ m. or_else (listed_at out q) (cond (bytes_eq q l.name) (Some m) None)) (sym kind) ∙ sym (listed_more out l q));
       order = subst (IsStrictlySortedBy (slice_cmp nat_cmp)) (ap (λ m. map listed_name out ++ m ∷ map entry_name es) (sym name) ∙ sym (names_more out l (map entry_name es))) in_order;
     }
 

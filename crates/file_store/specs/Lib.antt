@@ -6,3 +6,4 @@ pub mod Refusals
 pub mod Calls
 pub mod Listings
 pub mod Laws
+pub mod Failing

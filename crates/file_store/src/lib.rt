@@ -3,6 +3,7 @@
 
 mod changes;
 mod content;
+mod failing;
 mod listing;
 mod mem;
 mod missing;
@@ -13,6 +14,7 @@ mod refusal;
 mod store;
 
 pub use content::Content;
+pub use failing::{FailingStore, FailureTime};
 pub use mem::MemStore;
 pub use name_map::NameMap;
 pub use node::{Kind, Listed, Node, Stat};

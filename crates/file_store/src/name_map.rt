@@ -117,9 +117,9 @@ impl NameMap<Content> {
         ensures left { MatchOption result
             (found_at self.new ≡ found_at self.old)
             (λ written. MatchResult written
-                (λ _. found_at self.new
-                    ≡ put_at name.now (Some (overwritten (unwrap_or (found_at self.old name.now) []) offset piece.now)) (found_at self.old))
-                (λ _. found_at self.new ≡ found_at self.old)) }
+            (λ _. found_at self.new
+            ≡ put_at name.now (Some (overwritten (unwrap_or (found_at self.old name.now) []) offset piece.now)) (found_at self.old))
+            (λ _. found_at self.new ≡ found_at self.old)) }
     {
         match self.map.get_mut(name) {
             Some(content) => Some(content.write_at(offset, piece)),

@@ -12,8 +12,7 @@ loop-rest-preserved c =
     let r = c.loop-rest.rest.now in
     let k = c.loop-rest.invariant in
     let last : IsLast p r = c.in-Some.ensures.parents in
-    let below : length c.args.top.now < length r = search rules in
-    (
+    let below : length c.args.top.now < length r = search rules in (
       search rules,
       reach_up p r last n k.1,
       reach_down p r last c.args.top.now k.2 below,
@@ -26,4 +25,4 @@ returns c =
     let k = c.loop-rest.invariant in
     let low : length c.loop-rest.rest.now ≤ length c.args.top.now = search rules in
     λ q. k.3 q ∙ ap (λ t. cond (is_parent q c.args.name.now && not (is_parent q t)) None (found_at c.args.names.now q))
-        (reached c.args.top.now c.loop-rest.rest.now k.2 low)
+    (reached c.args.top.now c.loop-rest.rest.now k.2 low)
