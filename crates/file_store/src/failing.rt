@@ -52,11 +52,12 @@ impl<S> FailingStore<S> {
 }
 
 impl<S: FileStore> FileStore for FailingStore<S> {
-    ghost use Rattle.std.specs.Prelude.{⊤};
+    ghost use Rattle.std.specs.Prelude.{◌⊎◌, IsTrue};
+    ghost use Rattle.file_store.specs.Failing.{is_next};
 
     ghost keeps = { S.keeps };
 
-    ghost fails = { ⊤ };
+    ghost fails = { λ s. IsTrue (is_next s.left) ⊎ S.fails s.inner };
 
     ghost tree = { λ s. S.tree s.inner };
 

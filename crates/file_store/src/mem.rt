@@ -47,7 +47,7 @@ impl FileStore for MemStore {
 
     ghost keeps = { ⊤ };
 
-    ghost fails = { ⊥ };
+    ghost fails = { λ _. ⊥ };
 
     ghost tree = { λ s. tree_of (found_at s.names) (found_at s.temps) };
 
