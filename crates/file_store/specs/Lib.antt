@@ -7,3 +7,4 @@ pub mod Calls
 pub mod Listings
 pub mod Laws
 pub mod Failing
+pub mod Stores

@@ -52,12 +52,17 @@ impl<S> FailingStore<S> {
 }
 
 impl<S: FileStore> FileStore for FailingStore<S> {
-    ghost use Rattle.std.specs.Prelude.{◌⊎◌, IsTrue};
-    ghost use Rattle.file_store.specs.Failing.{is_next};
+    ghost use Rattle.std.specs.Prelude.{◌≡◌, ◌≢◌, ◌≤◌, length, Err, IfOk, IfErr, IsTrue};
+    ghost use Rattle.file_store.specs.declared.refusal.StoreRefusal.TheVariants.{StoreFault, NotEmpty, BadParent};
+    ghost use Rattle.file_store.specs.Calls.{Stats, Reads, MakesTemp, Writes, Commits, Drops, Renames, Removes, MakesDir, RemovesDir};
+    ghost use Rattle.file_store.specs.Failing.{MayFail, after_one, is_next};
+    ghost use Rattle.file_store.specs.Listings.{IsListing};
+    ghost use Rattle.file_store.specs.Refusals.{count_after, IsPlain};
+    ghost use Rattle.file_store.specs.Trees.{IsTree};
 
     ghost keeps = { S.keeps };
 
-    ghost fails = { λ s. IsTrue (is_next s.left) ⊎ S.fails s.inner };
+    ghost fails = { λ s. MayFail s.left (S.fails s.inner) };
 
     ghost tree = { λ s. S.tree s.inner };
 
@@ -68,7 +73,16 @@ impl<S: FileStore> FileStore for FailingStore<S> {
         self.faults
     }
 
-    fn list(&mut self) -> Result<Vec<Listed>, StoreRefusal> {
+    fn list(&mut self) -> Result<Vec<Listed>, StoreRefusal>
+        ensures due { IsTrue (is_next self.old.left) → result ≡ Err StoreFault }
+        ensures left { self.new.left ≡ after_one self.old.left }
+        ensures lists { S.keeps → IfOk result (λ listing. IsListing (S.tree self.old.inner).names listing.items) }
+        ensures failed { S.keeps → IfErr result (λ refusal. refusal ≡ StoreFault → MayFail self.old.left (S.fails self.old.inner)) }
+        ensures kept { S.keeps → S.tree self.new.inner ≡ S.tree self.old.inner }
+        ensures refusals { IfErr result IsPlain }
+        ensures counted { self.new.faults ≡ count_after result self.old.faults }
+        ensures tree { S.keeps → IsTree (S.tree self.new.inner) }
+    {
         let due = is_due(&mut self.left);
         if due && self.time == FailureTime::Before {
             return Err(fail(&self.inner, &mut self.faults));
@@ -77,7 +91,14 @@ impl<S: FileStore> FileStore for FailingStore<S> {
         settle(&mut self.faults, due, answer)
     }
 
-    fn stat(&mut self, name: &SafeName) -> Result<Stat, StoreRefusal> {
+    fn stat(&mut self, name: &SafeName) -> Result<Stat, StoreRefusal>
+        ensures due { IsTrue (is_next self.old.left) → result ≡ Err StoreFault }
+        ensures left { self.new.left ≡ after_one self.old.left }
+        ensures stats { S.keeps → Stats (MayFail self.old.left (S.fails self.old.inner)) (S.tree self.old.inner) name.now result (S.tree self.new.inner) }
+        ensures refusals { IfErr result IsPlain }
+        ensures counted { self.new.faults ≡ count_after result self.old.faults }
+        ensures tree { S.keeps → IsTree (S.tree self.new.inner) }
+    {
         let due = is_due(&mut self.left);
         if due && self.time == FailureTime::Before {
             return Err(fail(&self.inner, &mut self.faults));
@@ -91,7 +112,15 @@ impl<S: FileStore> FileStore for FailingStore<S> {
         name: &SafeName,
         offset: u64,
         buffer: &mut [u8],
-    ) -> Result<usize, StoreRefusal> {
+    ) -> Result<usize, StoreRefusal>
+        ensures due { IsTrue (is_next self.old.left) → result ≡ Err StoreFault }
+        ensures left { self.new.left ≡ after_one self.old.left }
+        ensures bound { IfOk result (λ k. k ≤ length buffer.new) }
+        ensures reads { S.keeps → Reads (MayFail self.old.left (S.fails self.old.inner)) (S.tree self.old.inner) name.now offset buffer.old buffer.new result (S.tree self.new.inner) }
+        ensures refusals { IfErr result IsPlain }
+        ensures counted { self.new.faults ≡ count_after result self.old.faults }
+        ensures tree { S.keeps → IsTree (S.tree self.new.inner) }
+    {
         let due = is_due(&mut self.left);
         if due && self.time == FailureTime::Before {
             return Err(fail(&self.inner, &mut self.faults));
@@ -100,7 +129,14 @@ impl<S: FileStore> FileStore for FailingStore<S> {
         settle(&mut self.faults, due, answer)
     }
 
-    fn make_temp(&mut self, name: &SafeName) -> Result<(), StoreRefusal> {
+    fn make_temp(&mut self, name: &SafeName) -> Result<(), StoreRefusal>
+        ensures due { IsTrue (is_next self.old.left) → result ≡ Err StoreFault }
+        ensures left { self.new.left ≡ after_one self.old.left }
+        ensures makes { S.keeps → MakesTemp (MayFail self.old.left (S.fails self.old.inner)) (S.tree self.old.inner) name.now result (S.tree self.new.inner) }
+        ensures refusals { result ≢ Err NotEmpty }
+        ensures counted { self.new.faults ≡ count_after result self.old.faults }
+        ensures tree { S.keeps → IsTree (S.tree self.new.inner) }
+    {
         let due = is_due(&mut self.left);
         if due && self.time == FailureTime::Before {
             return Err(fail(&self.inner, &mut self.faults));
@@ -109,7 +145,14 @@ impl<S: FileStore> FileStore for FailingStore<S> {
         settle(&mut self.faults, due, answer)
     }
 
-    fn write_at(&mut self, name: &SafeName, offset: u64, bytes: &[u8]) -> Result<(), StoreRefusal> {
+    fn write_at(&mut self, name: &SafeName, offset: u64, bytes: &[u8]) -> Result<(), StoreRefusal>
+        ensures due { IsTrue (is_next self.old.left) → result ≡ Err StoreFault }
+        ensures left { self.new.left ≡ after_one self.old.left }
+        ensures writes { S.keeps → Writes (MayFail self.old.left (S.fails self.old.inner)) (S.tree self.old.inner) name.now offset bytes.now result (S.tree self.new.inner) }
+        ensures refusals { IfErr result IsPlain }
+        ensures counted { self.new.faults ≡ count_after result self.old.faults }
+        ensures tree { S.keeps → IsTree (S.tree self.new.inner) }
+    {
         let due = is_due(&mut self.left);
         if due && self.time == FailureTime::Before {
             return Err(fail(&self.inner, &mut self.faults));
@@ -118,7 +161,14 @@ impl<S: FileStore> FileStore for FailingStore<S> {
         settle(&mut self.faults, due, answer)
     }
 
-    fn commit_temp(&mut self, name: &SafeName) -> Result<(), StoreRefusal> {
+    fn commit_temp(&mut self, name: &SafeName) -> Result<(), StoreRefusal>
+        ensures due { IsTrue (is_next self.old.left) → result ≡ Err StoreFault }
+        ensures left { self.new.left ≡ after_one self.old.left }
+        ensures commits { S.keeps → Commits (MayFail self.old.left (S.fails self.old.inner)) (S.tree self.old.inner) name.now result (S.tree self.new.inner) }
+        ensures refusals { IfErr result IsPlain }
+        ensures counted { self.new.faults ≡ count_after result self.old.faults }
+        ensures tree { S.keeps → IsTree (S.tree self.new.inner) }
+    {
         let due = is_due(&mut self.left);
         if due && self.time == FailureTime::Before {
             return Err(fail(&self.inner, &mut self.faults));
@@ -127,7 +177,14 @@ impl<S: FileStore> FileStore for FailingStore<S> {
         settle(&mut self.faults, due, answer)
     }
 
-    fn drop_temp(&mut self, name: &SafeName) -> Result<(), StoreRefusal> {
+    fn drop_temp(&mut self, name: &SafeName) -> Result<(), StoreRefusal>
+        ensures due { IsTrue (is_next self.old.left) → result ≡ Err StoreFault }
+        ensures left { self.new.left ≡ after_one self.old.left }
+        ensures drops { S.keeps → Drops (MayFail self.old.left (S.fails self.old.inner)) (S.tree self.old.inner) name.now result (S.tree self.new.inner) }
+        ensures refusals { IfErr result IsPlain }
+        ensures counted { self.new.faults ≡ count_after result self.old.faults }
+        ensures tree { S.keeps → IsTree (S.tree self.new.inner) }
+    {
         let due = is_due(&mut self.left);
         if due && self.time == FailureTime::Before {
             return Err(fail(&self.inner, &mut self.faults));
@@ -136,7 +193,14 @@ impl<S: FileStore> FileStore for FailingStore<S> {
         settle(&mut self.faults, due, answer)
     }
 
-    fn rename(&mut self, from: &SafeName, to: &SafeName) -> Result<(), StoreRefusal> {
+    fn rename(&mut self, from: &SafeName, to: &SafeName) -> Result<(), StoreRefusal>
+        ensures due { IsTrue (is_next self.old.left) → result ≡ Err StoreFault }
+        ensures left { self.new.left ≡ after_one self.old.left }
+        ensures renames { S.keeps → Renames (MayFail self.old.left (S.fails self.old.inner)) (S.tree self.old.inner) from.now to.now result (S.tree self.new.inner) }
+        ensures refusals { result ≢ Err NotEmpty }
+        ensures counted { self.new.faults ≡ count_after result self.old.faults }
+        ensures tree { S.keeps → IsTree (S.tree self.new.inner) }
+    {
         let due = is_due(&mut self.left);
         if due && self.time == FailureTime::Before {
             return Err(fail(&self.inner, &mut self.faults));
@@ -145,7 +209,14 @@ impl<S: FileStore> FileStore for FailingStore<S> {
         settle(&mut self.faults, due, answer)
     }
 
-    fn remove(&mut self, name: &SafeName) -> Result<(), StoreRefusal> {
+    fn remove(&mut self, name: &SafeName) -> Result<(), StoreRefusal>
+        ensures due { IsTrue (is_next self.old.left) → result ≡ Err StoreFault }
+        ensures left { self.new.left ≡ after_one self.old.left }
+        ensures removes { S.keeps → Removes (MayFail self.old.left (S.fails self.old.inner)) (S.tree self.old.inner) name.now result (S.tree self.new.inner) }
+        ensures refusals { IfErr result IsPlain }
+        ensures counted { self.new.faults ≡ count_after result self.old.faults }
+        ensures tree { S.keeps → IsTree (S.tree self.new.inner) }
+    {
         let due = is_due(&mut self.left);
         if due && self.time == FailureTime::Before {
             return Err(fail(&self.inner, &mut self.faults));
@@ -154,7 +225,14 @@ impl<S: FileStore> FileStore for FailingStore<S> {
         settle(&mut self.faults, due, answer)
     }
 
-    fn make_dir(&mut self, name: &SafeName) -> Result<(), StoreRefusal> {
+    fn make_dir(&mut self, name: &SafeName) -> Result<(), StoreRefusal>
+        ensures due { IsTrue (is_next self.old.left) → result ≡ Err StoreFault }
+        ensures left { self.new.left ≡ after_one self.old.left }
+        ensures makes { S.keeps → MakesDir (MayFail self.old.left (S.fails self.old.inner)) (S.tree self.old.inner) name.now result (S.tree self.new.inner) }
+        ensures refusals { result ≢ Err NotEmpty }
+        ensures counted { self.new.faults ≡ count_after result self.old.faults }
+        ensures tree { S.keeps → IsTree (S.tree self.new.inner) }
+    {
         let due = is_due(&mut self.left);
         if due && self.time == FailureTime::Before {
             return Err(fail(&self.inner, &mut self.faults));
@@ -163,7 +241,14 @@ impl<S: FileStore> FileStore for FailingStore<S> {
         settle(&mut self.faults, due, answer)
     }
 
-    fn remove_dir(&mut self, name: &SafeName) -> Result<(), StoreRefusal> {
+    fn remove_dir(&mut self, name: &SafeName) -> Result<(), StoreRefusal>
+        ensures due { IsTrue (is_next self.old.left) → result ≡ Err StoreFault }
+        ensures left { self.new.left ≡ after_one self.old.left }
+        ensures removes { S.keeps → RemovesDir (MayFail self.old.left (S.fails self.old.inner)) (S.tree self.old.inner) name.now result (S.tree self.new.inner) }
+        ensures refusals { result ≢ Err BadParent }
+        ensures counted { self.new.faults ≡ count_after result self.old.faults }
+        ensures tree { S.keeps → IsTree (S.tree self.new.inner) }
+    {
         let due = is_due(&mut self.left);
         if due && self.time == FailureTime::Before {
             return Err(fail(&self.inner, &mut self.faults));

@@ -41,15 +41,18 @@ impl MemStore {
 }
 
 impl FileStore for MemStore {
-    ghost use Rattle.std.specs.Prelude.{⊤};
-    ghost use Rattle.file_store.specs.Maps.{found_at};
-    ghost use Rattle.file_store.specs.Trees.{tree_of};
+    ghost use Rattle.std.specs.Prelude.{◌≡◌, ◌≢◌, ◌≤◌, ◌-◌, ⊤, length, min, Ok, Err, IfOk, IfErr};
+    ghost use Rattle.file_store.specs.declared.refusal.StoreRefusal.TheVariants.{BadParent, OutOfMemory};
+    ghost use Rattle.file_store.specs.Calls.{Stats, Reads, Commits, Drops, Removes, RemovesDir, committed, stat_of};
+    ghost use Rattle.file_store.specs.Refusals.{count_after, IsPlain};
+    ghost use Rattle.file_store.specs.Stores.{mem_tree};
+    ghost use Rattle.file_store.specs.Trees.{IsTree, bytes_of};
 
     ghost keeps = { ⊤ };
 
     ghost fails = { λ _. ⊥ };
 
-    ghost tree = { λ s. tree_of (found_at s.names) (found_at s.temps) };
+    ghost tree = { mem_tree };
 
     ghost fault_count = { λ s. s.faults };
 
@@ -61,7 +64,13 @@ impl FileStore for MemStore {
         Ok(self.names.list(self.alloc)?)
     }
 
-    fn stat(&mut self, name: &SafeName) -> Result<Stat, StoreRefusal> {
+    fn stat(&mut self, name: &SafeName) -> Result<Stat, StoreRefusal>
+        ensures value { result ≡ Ok (stat_of ((mem_tree self.old).names name.now)) }
+        ensures stats { ⊤ → Stats ⊥ (mem_tree self.old) name.now result (mem_tree self.new) }
+        ensures refusals { IfErr result IsPlain }
+        ensures counted { self.new.faults ≡ count_after result self.old.faults }
+        ensures tree { ⊤ → IsTree (mem_tree self.new) }
+    {
         Ok(stat_of(self.names.get(name.as_str())))
     }
 
@@ -70,7 +79,14 @@ impl FileStore for MemStore {
         name: &SafeName,
         offset: u64,
         buffer: &mut [u8],
-    ) -> Result<usize, StoreRefusal> {
+    ) -> Result<usize, StoreRefusal>
+        ensures value { result ≡ Ok (min (length buffer.old) (length (bytes_of ((mem_tree self.old).names name.now)) - offset)) }
+        ensures bound { IfOk result (λ k. k ≤ length buffer.new) }
+        ensures reads { ⊤ → Reads ⊥ (mem_tree self.old) name.now offset buffer.old buffer.new result (mem_tree self.new) }
+        ensures refusals { IfErr result IsPlain }
+        ensures counted { self.new.faults ≡ count_after result self.old.faults }
+        ensures tree { ⊤ → IsTree (mem_tree self.new) }
+    {
         match self.names.get(name.as_str()) {
             Some(Node::File(content, _)) => Ok(content.read_at(offset as usize, buffer)),
             _ => Ok(0),
@@ -94,7 +110,13 @@ impl FileStore for MemStore {
         }
     }
 
-    fn commit_temp(&mut self, name: &SafeName) -> Result<(), StoreRefusal> {
+    fn commit_temp(&mut self, name: &SafeName) -> Result<(), StoreRefusal>
+        ensures epoch { IfOk result (λ _. mem_tree self.new ≡ committed (mem_tree self.old) name.now 0) }
+        ensures commits { ⊤ → Commits ⊥ (mem_tree self.old) name.now result (mem_tree self.new) }
+        ensures refusals { IfErr result IsPlain }
+        ensures counted { self.new.faults ≡ count_after result self.old.faults }
+        ensures tree { ⊤ → IsTree (mem_tree self.new) }
+    {
         let name = name.as_str();
         if !self.temps.contains(name) {
             return Err(fault(&mut self.faults));
@@ -106,7 +128,13 @@ impl FileStore for MemStore {
         Ok(())
     }
 
-    fn drop_temp(&mut self, name: &SafeName) -> Result<(), StoreRefusal> {
+    fn drop_temp(&mut self, name: &SafeName) -> Result<(), StoreRefusal>
+        ensures value { result ≡ Ok tt }
+        ensures drops { ⊤ → Drops ⊥ (mem_tree self.old) name.now result (mem_tree self.new) }
+        ensures refusals { IfErr result IsPlain }
+        ensures counted { self.new.faults ≡ count_after result self.old.faults }
+        ensures tree { ⊤ → IsTree (mem_tree self.new) }
+    {
         self.temps.remove(name.as_str());
         Ok(())
     }
@@ -123,7 +151,13 @@ impl FileStore for MemStore {
         Ok(())
     }
 
-    fn remove(&mut self, name: &SafeName) -> Result<(), StoreRefusal> {
+    fn remove(&mut self, name: &SafeName) -> Result<(), StoreRefusal>
+        ensures ample { result ≢ Err OutOfMemory }
+        ensures removes { ⊤ → Removes ⊥ (mem_tree self.old) name.now result (mem_tree self.new) }
+        ensures refusals { IfErr result IsPlain }
+        ensures counted { self.new.faults ≡ count_after result self.old.faults }
+        ensures tree { ⊤ → IsTree (mem_tree self.new) }
+    {
         if !is_file(self.names.get(name.as_str())) {
             return Err(fault(&mut self.faults));
         }
@@ -143,7 +177,13 @@ impl FileStore for MemStore {
         Ok(())
     }
 
-    fn remove_dir(&mut self, name: &SafeName) -> Result<(), StoreRefusal> {
+    fn remove_dir(&mut self, name: &SafeName) -> Result<(), StoreRefusal>
+        ensures ample { result ≢ Err OutOfMemory }
+        ensures removes { ⊤ → RemovesDir ⊥ (mem_tree self.old) name.now result (mem_tree self.new) }
+        ensures refusals { result ≢ Err BadParent }
+        ensures counted { self.new.faults ≡ count_after result self.old.faults }
+        ensures tree { ⊤ → IsTree (mem_tree self.new) }
+    {
         let name = name.as_str();
         if !is_directory(self.names.get(name)) {
             return Err(fault(&mut self.faults));
