@@ -5,3 +5,4 @@ pub mod PutLemmas
 pub mod ListingLemmas
 pub mod TreeLemmas
 pub mod MemLemmas
+pub mod LeavesLemmas

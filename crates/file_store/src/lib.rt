@@ -4,6 +4,7 @@
 mod changes;
 mod content;
 mod failing;
+pub mod laws;
 mod listing;
 mod mem;
 mod missing;
