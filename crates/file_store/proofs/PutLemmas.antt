@@ -1,14 +1,14 @@
 -- Maps that are changed at one name after another.
-use Rattle.std.proofs.Common.{◌≡◌, ℕ, ◌⊎◌, Bool, true, false, cond, inl, inr, List, [], ◌∷◌, ◌++◌, refl, sym, ap, subst, ◌∙◌, Some, None, Option, Result, Ok, Err}
+use Rattle.std.proofs.Common.{◌≡◌, ℕ, Bool, true, false, cond, inl, inr, List, [], ◌∷◌, ◌++◌, refl, sym, ap, subst, ◌∙◌, Some, None, Option, Result, Ok, Err}
 use Rattle.std.specs.Prelude.{bytes_eq, nat_eq, ◌&&◌, ◌||◌, IsSome, is_some, unwrap_or, MatchResult}
-use Rattle.std.proofs.lemmas.Bool.{both_ways, cases_Bool, false≢true, false_from_ne_true}
+use Rattle.std.proofs.lemmas.Bool.{cases_Bool, false≢true, false_from_ne_true}
 use Rattle.file_store.specs.declared.node.Node.{Node}
-use Rattle.file_store.specs.declared.node.Node.TheVariants.{Directory, File}
+use Rattle.file_store.specs.declared.node.Node.TheVariants.{Directory}
 use Rattle.file_store.specs.Contents.{overwritten}
 use Rattle.file_store.specs.Maps.{put_at}
 use Rattle.file_store.specs.Names.{Name, is_parent}
 use Rattle.file_store.specs.Trees.{or_directory, with_parents}
-use Rattle.file_store.proofs.BetweenLemmas.{same_bytes, same_name, not_own_parent}
+use Rattle.file_store.proofs.BetweenLemmas.{same_bytes, same_name}
 use Rattle.file_store.proofs.ParentLemmas.{parent_push, turned}
 
 cond_twice : {X : Type 0} (b : Bool) (x y z : X) → cond b x (cond b y z) ≡ cond b x z

@@ -1,14 +1,14 @@
 -- Trees stay trees.
-use Rattle.std.proofs.Common.{◌≡◌, ℕ, ◌⊎◌, Bool, true, false, cond, inl, inr, List, [], refl, sym, ap, subst, ◌∙◌, Some, None, Option}
-use Rattle.std.specs.Prelude.{bytes_eq, IsSome, IsNone, is_some}
+use Rattle.std.proofs.Common.{◌≡◌, ℕ, Bool, true, false, cond, inl, inr, List, [], refl, sym, ap, subst, ◌∙◌, Some, None, Option}
+use Rattle.std.specs.Prelude.{bytes_eq, IsSome, is_some}
 use Rattle.std.proofs.lemmas.Bool.{both_ways, cases_Bool, false≢true}
 use Rattle.file_store.specs.declared.node.Node.{Node}
 use Rattle.file_store.specs.declared.node.Node.TheVariants.{Directory, File}
 use Rattle.file_store.specs.Maps.{put_at}
 use Rattle.file_store.specs.Names.{Name, is_parent}
 use Rattle.file_store.specs.Trees.{AreGrounded, IsTree, tree_of, is_file, is_directory, or_directory, with_parents}
-use Rattle.file_store.proofs.BetweenLemmas.{same_bytes, same_name, not_own_parent, parent_trans}
-use Rattle.file_store.proofs.PutLemmas.{put_here, put_elsewhere}
+use Rattle.file_store.proofs.BetweenLemmas.{same_name, parent_trans}
+use Rattle.file_store.proofs.PutLemmas.{put_elsewhere}
 
 -- no parent of the name is a file
 abbrev pub IsFree : (Name → Option Node) → Name → Type 0

@@ -1,5 +1,5 @@
 -- No parent that the loop has passed is a file.
-use Rattle.std.proofs.Common.{ℕ, length}
+use Rattle.std.proofs.Common.{length}
 use denote.Text.{Utf8}
 use denote.Shadow.{shadow}
 use Rattle.file_store.specs.Maps.{found_at}

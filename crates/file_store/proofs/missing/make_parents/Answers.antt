@@ -1,4 +1,4 @@
-use Rattle.std.proofs.Common.{rules, ◌≡◌, false, true, Some, None, ap, ◌∙◌}
+use Rattle.std.proofs.Common.{rules, ◌≡◌, false, Some, None, ap, ◌∙◌}
 use Rattle.std.specs.Prelude.{is_some}
 use Rattle.file_store.specs.declared.node.Node.TheVariants.{Directory}
 use Rattle.file_store.specs.Maps.{found_at, put_at}

@@ -1,5 +1,5 @@
 -- The parents that the loop has passed were missing, and are made.
-use Rattle.std.proofs.Common.{ℕ, length}
+use Rattle.std.proofs.Common.{length}
 use denote.Text.{Utf8}
 use denote.Shadow.{shadow}
 use Rattle.file_store.specs.Maps.{found_at}

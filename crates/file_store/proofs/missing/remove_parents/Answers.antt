@@ -1,4 +1,4 @@
-use Rattle.std.proofs.Common.{rules, arith, ◌≡◌, ◌<◌, ◌≤◌, length, ap, sym, ◌∙◌, None, cond}
+use Rattle.std.proofs.Common.{rules, ◌<◌, ◌≤◌, length, ap, ◌∙◌, None, cond}
 use Rattle.std.specs.Prelude.{bytes_eq, ◌&&◌, not}
 use Rattle.file_store.specs.Maps.{found_at}
 use Rattle.file_store.specs.Names.{is_parent}

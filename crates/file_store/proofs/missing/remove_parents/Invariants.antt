@@ -1,5 +1,5 @@
 -- The parents that the loop has passed are removed.
-use Rattle.std.proofs.Common.{◌≡◌, ℕ, length, None}
+use Rattle.std.proofs.Common.{◌≡◌, length, None}
 use denote.Text.{Utf8}
 use denote.Shadow.{shadow}
 use Rattle.file_store.specs.Maps.{found_at}

@@ -1,4 +1,4 @@
-use Rattle.std.proofs.Common.{rules, arith, ◌≡◌, ◌<◌, ◌≤◌, length, true, false, get_or, take, sym, ap, ◌∙◌}
+use Rattle.std.proofs.Common.{rules, ◌≡◌, ◌<◌, ◌≤◌, length, true, false, get_or, take, sym, ap, ◌∙◌}
 use Rattle.std.specs.Prelude.{bytes_eq, nat_eq, ◌&&◌}
 use Rattle.file_store.proofs.ParentLemmas.{no_parent_of_short, parent_by_byte}
 use Rattle.file_store.proofs.parents.is_below.Goals as goal

@@ -1,4 +1,4 @@
-use Rattle.std.proofs.Common.{◌≡◌, ap, sym, ◌∙◌, lit<, refl}
+use Rattle.std.proofs.Common.{ap, sym, ◌∙◌, lit<}
 use Rattle.std.specs.Prelude.{bytes_eq, ◌||◌}
 use Rattle.std.proofs.lemmas.Option.{MatchOption-at_some, MatchOption-at_none}
 use Rattle.std.proofs.lemmas.Str.Pattern.{rfind_char}

@@ -1,4 +1,4 @@
-use Rattle.std.proofs.Common.{◌≡◌, ◌≢◌, ◌+◌, ◌-◌, ◌++◌, [], take, drop, length, rules, arith, ap, sym, ◌∙◌}
+use Rattle.std.proofs.Common.{◌≡◌, ◌≢◌, ◌+◌, ◌-◌, ◌++◌, [], take, drop, length, rules, ◌∙◌}
 use Rattle.std.specs.Prelude.{replicate}
 use Rattle.file_store.proofs.WriteLemmas.{spliced, written}
 use Rattle.file_store.proofs.content.Content.write_at.Goals as goal

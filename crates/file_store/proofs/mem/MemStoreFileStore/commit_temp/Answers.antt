@@ -1,4 +1,4 @@
-use Rattle.std.proofs.Common.{rules, ap, ◌∙◌, inl, refl, sym, subst, ◌≡◌, Some, None, [], false, true}
+use Rattle.std.proofs.Common.{rules, ap, ◌∙◌, inl, refl, sym, subst, ◌≡◌, Some, None, [], false}
 use Rattle.std.specs.Prelude.{unwrap_or, IsSome, IsNone}
 use Rattle.file_store.specs.declared.node.Node.TheVariants.{File}
 use Rattle.file_store.specs.Maps.{found_at, put_at}

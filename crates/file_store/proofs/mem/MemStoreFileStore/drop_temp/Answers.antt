@@ -1,4 +1,4 @@
-use Rattle.std.proofs.Common.{◌≡◌, None, refl, ap, ◌∙◌}
+use Rattle.std.proofs.Common.{None, refl}
 use Rattle.file_store.specs.Maps.{found_at, put_at}
 use Rattle.file_store.proofs.MemLemmas.{still_tree}
 use Rattle.file_store.proofs.TreeLemmas.{temp_dropped_tree}

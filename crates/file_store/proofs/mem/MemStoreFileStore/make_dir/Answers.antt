@@ -1,8 +1,8 @@
-use Rattle.std.proofs.Common.{rules, ◌≡◌, Some, None, Err, refl, ap}
+use Rattle.std.proofs.Common.{rules, ◌≡◌, Some, None, Err, refl}
 use Rattle.file_store.specs.declared.node.Node.TheVariants.{Directory}
 use Rattle.file_store.specs.declared.refusal.StoreRefusal.TheVariants.{OutOfMemory}
 use Rattle.file_store.specs.Maps.{found_at, put_at}
-use Rattle.file_store.specs.Trees.{tree_of, with_parents}
+use Rattle.file_store.specs.Trees.{with_parents}
 use Rattle.file_store.proofs.MemLemmas.{ran_out, renewed_tree, same_tree}
 use Rattle.file_store.proofs.TreeLemmas.{dir_made_tree}
 use Rattle.file_store.proofs.mem.MemStoreFileStore.make_dir.Goals as goal

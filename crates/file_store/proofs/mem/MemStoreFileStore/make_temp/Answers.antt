@@ -1,4 +1,4 @@
-use Rattle.std.proofs.Common.{◌≡◌, Some, [], false}
+use Rattle.std.proofs.Common.{Some, []}
 use Rattle.file_store.specs.Maps.{found_at, put_at}
 use Rattle.file_store.specs.Trees.{with_parents}
 use Rattle.file_store.proofs.MemLemmas.{changed_tree}

@@ -1,5 +1,5 @@
-use Rattle.std.proofs.Common.{rules, ◌⊎◌, ◌∙◌, inl, false, sym, subst, ◌≡◌, Some, None, Err, refl, ap, true}
-use Rattle.std.specs.Prelude.{IsTrue, IsSome}
+use Rattle.std.proofs.Common.{rules, ◌∙◌, inl, false, sym, subst, ◌≡◌, Some, None, Err, refl, true}
+use Rattle.std.specs.Prelude.{IsTrue}
 use Rattle.file_store.specs.declared.refusal.StoreRefusal.TheVariants.{StoreFault, OutOfMemory}
 use Rattle.file_store.specs.Maps.{found_at, put_at}
 use Rattle.file_store.specs.Trees.{is_file, tree_of}

@@ -1,4 +1,4 @@
-use Rattle.std.proofs.Common.{Global, rules, ◌≡◌, [], ◌∷◌, ◌++◌, true, false, string_bytes, refl, sym, ap, subst, ◌∙◌}
+use Rattle.std.proofs.Common.{Global, rules, ◌≡◌, [], ◌∷◌, ◌++◌, true, false, string_bytes, refl, sym, subst}
 use Rattle.std.specs.Prelude.{is_none}
 use Rattle.std.specs.List.Sorted.{IsStrictlySortedBy}
 use Rattle.std.specs.Map.{keys_of}
@@ -7,9 +7,8 @@ use Rattle.std.specs.declared.string.String.{String}
 use Rattle.file_store.specs.declared.node.Listed.{Listed}
 use Rattle.file_store.specs.declared.node.Node.{Node}
 use Rattle.sync_names.specs.Refusal.{refusal}
-use Rattle.file_store.specs.Listings.{kind_of}
 use Rattle.file_store.specs.Maps.{found_at}
-use Rattle.file_store.proofs.ListingLemmas.{IsListed, left_at, listing_adds, listing_begins, listing_skips}
+use Rattle.file_store.proofs.ListingLemmas.{IsListed, listing_adds, listing_begins, listing_skips}
 use Rattle.file_store.proofs.name_map.NameMap+Node.list.Goals as goal
 
 pub loop-text-init : goal.loop-text-init
