@@ -27,12 +27,14 @@ pub struct FailingStore<S> {
 }
 
 impl<S> FailingStore<S> {
+    ghost use Rattle.file_store.specs.Failing.{calls_left, failure_time, own_faults, wrapped};
+
     /// Fails the call after `left` others. Does not allocate.
     pub fn new(inner: S, left: u64, time: FailureTime) -> FailingStore<S>
-        ensures inner { result.inner ≡ inner }
-        ensures left { result.left ≡ Some left }
-        ensures time { result.time ≡ time }
-        ensures faults { result.faults ≡ 0 }
+        ensures inner { wrapped result ≡ inner }
+        ensures left { calls_left result ≡ Some left }
+        ensures time { failure_time result ≡ time }
+        ensures faults { own_faults result ≡ 0 }
     {
         FailingStore {
             inner,
@@ -44,7 +46,7 @@ impl<S> FailingStore<S> {
 
     /// The store that it wraps.
     pub fn into_inner(self) -> S
-        ensures { result ≡ self.inner }
+        ensures { result ≡ wrapped self }
     {
         let FailingStore { inner, .. } = self;
         inner
@@ -52,21 +54,21 @@ impl<S> FailingStore<S> {
 }
 
 impl<S: FileStore> FileStore for FailingStore<S> {
-    ghost use Rattle.std.specs.Prelude.{◌≡◌, ◌≢◌, ◌≤◌, length, Err, IfOk, IfErr, IsTrue};
+    ghost use Rattle.std.specs.Prelude.{◌≡◌, ◌≢◌, ◌≤◌, length, Err, IfOk, IfErr};
     ghost use Rattle.file_store.specs.declared.refusal.StoreRefusal.TheVariants.{StoreFault, NotEmpty, BadParent};
     ghost use Rattle.file_store.specs.Calls.{Stats, Reads, MakesTemp, Writes, Commits, Drops, Renames, Removes, MakesDir, RemovesDir};
-    ghost use Rattle.file_store.specs.Failing.{MayFail, after_one, is_next};
+    ghost use Rattle.file_store.specs.Failing.{IsCounted, MayFail, calls_left, own_faults, wrapped};
     ghost use Rattle.file_store.specs.Listings.{IsListing};
     ghost use Rattle.file_store.specs.Refusals.{count_after, IsPlain};
     ghost use Rattle.file_store.specs.Trees.{IsTree};
 
     ghost keeps = { S.keeps };
 
-    ghost fails = { λ s. MayFail s.left (S.fails s.inner) };
+    ghost fails = { λ s. MayFail (calls_left s) (S.fails (wrapped s)) };
 
-    ghost tree = { λ s. S.tree s.inner };
+    ghost tree = { λ s. S.tree (wrapped s) };
 
-    ghost fault_count = { λ s. s.faults };
+    ghost fault_count = { own_faults };
 
     fn faults(&self) -> u64 {
         let _ = self.inner.faults();
@@ -74,14 +76,13 @@ impl<S: FileStore> FileStore for FailingStore<S> {
     }
 
     fn list(&mut self) -> Result<Vec<Listed>, StoreRefusal>
-        ensures due { IsTrue (is_next self.old.left) → result ≡ Err StoreFault }
-        ensures left { self.new.left ≡ after_one self.old.left }
-        ensures lists { S.keeps → IfOk result (λ listing. IsListing (S.tree self.old.inner).names listing.items) }
-        ensures failed { S.keeps → IfErr result (λ refusal. refusal ≡ StoreFault → MayFail self.old.left (S.fails self.old.inner)) }
-        ensures kept { S.keeps → S.tree self.new.inner ≡ S.tree self.old.inner }
+        ensures call { IsCounted self.old self.new (result ≡ Err StoreFault) }
+        ensures lists { S.keeps → IfOk result (λ listing. IsListing (S.tree (wrapped self.old)).names listing.items) }
+        ensures failed { S.keeps → IfErr result (λ refusal. refusal ≡ StoreFault → MayFail (calls_left self.old) (S.fails (wrapped self.old))) }
+        ensures kept { S.keeps → S.tree (wrapped self.new) ≡ S.tree (wrapped self.old) }
         ensures refusals { IfErr result IsPlain }
-        ensures counted { self.new.faults ≡ count_after result self.old.faults }
-        ensures tree { S.keeps → IsTree (S.tree self.new.inner) }
+        ensures counted { own_faults self.new ≡ count_after result (own_faults self.old) }
+        ensures tree { S.keeps → IsTree (S.tree (wrapped self.new)) }
     {
         let due = is_due(&mut self.left);
         if due && self.time == FailureTime::Before {
@@ -92,12 +93,11 @@ impl<S: FileStore> FileStore for FailingStore<S> {
     }
 
     fn stat(&mut self, name: &SafeName) -> Result<Stat, StoreRefusal>
-        ensures due { IsTrue (is_next self.old.left) → result ≡ Err StoreFault }
-        ensures left { self.new.left ≡ after_one self.old.left }
-        ensures stats { S.keeps → Stats (MayFail self.old.left (S.fails self.old.inner)) (S.tree self.old.inner) name.now result (S.tree self.new.inner) }
+        ensures call { IsCounted self.old self.new (result ≡ Err StoreFault) }
+        ensures stats { S.keeps → Stats (MayFail (calls_left self.old) (S.fails (wrapped self.old))) (S.tree (wrapped self.old)) name.now result (S.tree (wrapped self.new)) }
         ensures refusals { IfErr result IsPlain }
-        ensures counted { self.new.faults ≡ count_after result self.old.faults }
-        ensures tree { S.keeps → IsTree (S.tree self.new.inner) }
+        ensures counted { own_faults self.new ≡ count_after result (own_faults self.old) }
+        ensures tree { S.keeps → IsTree (S.tree (wrapped self.new)) }
     {
         let due = is_due(&mut self.left);
         if due && self.time == FailureTime::Before {
@@ -113,13 +113,12 @@ impl<S: FileStore> FileStore for FailingStore<S> {
         offset: u64,
         buffer: &mut [u8],
     ) -> Result<usize, StoreRefusal>
-        ensures due { IsTrue (is_next self.old.left) → result ≡ Err StoreFault }
-        ensures left { self.new.left ≡ after_one self.old.left }
+        ensures call { IsCounted self.old self.new (result ≡ Err StoreFault) }
         ensures bound { IfOk result (λ k. k ≤ length buffer.new) }
-        ensures reads { S.keeps → Reads (MayFail self.old.left (S.fails self.old.inner)) (S.tree self.old.inner) name.now offset buffer.old buffer.new result (S.tree self.new.inner) }
+        ensures reads { S.keeps → Reads (MayFail (calls_left self.old) (S.fails (wrapped self.old))) (S.tree (wrapped self.old)) name.now offset buffer.old buffer.new result (S.tree (wrapped self.new)) }
         ensures refusals { IfErr result IsPlain }
-        ensures counted { self.new.faults ≡ count_after result self.old.faults }
-        ensures tree { S.keeps → IsTree (S.tree self.new.inner) }
+        ensures counted { own_faults self.new ≡ count_after result (own_faults self.old) }
+        ensures tree { S.keeps → IsTree (S.tree (wrapped self.new)) }
     {
         let due = is_due(&mut self.left);
         if due && self.time == FailureTime::Before {
@@ -130,12 +129,11 @@ impl<S: FileStore> FileStore for FailingStore<S> {
     }
 
     fn make_temp(&mut self, name: &SafeName) -> Result<(), StoreRefusal>
-        ensures due { IsTrue (is_next self.old.left) → result ≡ Err StoreFault }
-        ensures left { self.new.left ≡ after_one self.old.left }
-        ensures makes { S.keeps → MakesTemp (MayFail self.old.left (S.fails self.old.inner)) (S.tree self.old.inner) name.now result (S.tree self.new.inner) }
+        ensures call { IsCounted self.old self.new (result ≡ Err StoreFault) }
+        ensures makes { S.keeps → MakesTemp (MayFail (calls_left self.old) (S.fails (wrapped self.old))) (S.tree (wrapped self.old)) name.now result (S.tree (wrapped self.new)) }
         ensures refusals { result ≢ Err NotEmpty }
-        ensures counted { self.new.faults ≡ count_after result self.old.faults }
-        ensures tree { S.keeps → IsTree (S.tree self.new.inner) }
+        ensures counted { own_faults self.new ≡ count_after result (own_faults self.old) }
+        ensures tree { S.keeps → IsTree (S.tree (wrapped self.new)) }
     {
         let due = is_due(&mut self.left);
         if due && self.time == FailureTime::Before {
@@ -146,12 +144,11 @@ impl<S: FileStore> FileStore for FailingStore<S> {
     }
 
     fn write_at(&mut self, name: &SafeName, offset: u64, bytes: &[u8]) -> Result<(), StoreRefusal>
-        ensures due { IsTrue (is_next self.old.left) → result ≡ Err StoreFault }
-        ensures left { self.new.left ≡ after_one self.old.left }
-        ensures writes { S.keeps → Writes (MayFail self.old.left (S.fails self.old.inner)) (S.tree self.old.inner) name.now offset bytes.now result (S.tree self.new.inner) }
+        ensures call { IsCounted self.old self.new (result ≡ Err StoreFault) }
+        ensures writes { S.keeps → Writes (MayFail (calls_left self.old) (S.fails (wrapped self.old))) (S.tree (wrapped self.old)) name.now offset bytes.now result (S.tree (wrapped self.new)) }
         ensures refusals { IfErr result IsPlain }
-        ensures counted { self.new.faults ≡ count_after result self.old.faults }
-        ensures tree { S.keeps → IsTree (S.tree self.new.inner) }
+        ensures counted { own_faults self.new ≡ count_after result (own_faults self.old) }
+        ensures tree { S.keeps → IsTree (S.tree (wrapped self.new)) }
     {
         let due = is_due(&mut self.left);
         if due && self.time == FailureTime::Before {
@@ -162,12 +159,11 @@ impl<S: FileStore> FileStore for FailingStore<S> {
     }
 
     fn commit_temp(&mut self, name: &SafeName) -> Result<(), StoreRefusal>
-        ensures due { IsTrue (is_next self.old.left) → result ≡ Err StoreFault }
-        ensures left { self.new.left ≡ after_one self.old.left }
-        ensures commits { S.keeps → Commits (MayFail self.old.left (S.fails self.old.inner)) (S.tree self.old.inner) name.now result (S.tree self.new.inner) }
+        ensures call { IsCounted self.old self.new (result ≡ Err StoreFault) }
+        ensures commits { S.keeps → Commits (MayFail (calls_left self.old) (S.fails (wrapped self.old))) (S.tree (wrapped self.old)) name.now result (S.tree (wrapped self.new)) }
         ensures refusals { IfErr result IsPlain }
-        ensures counted { self.new.faults ≡ count_after result self.old.faults }
-        ensures tree { S.keeps → IsTree (S.tree self.new.inner) }
+        ensures counted { own_faults self.new ≡ count_after result (own_faults self.old) }
+        ensures tree { S.keeps → IsTree (S.tree (wrapped self.new)) }
     {
         let due = is_due(&mut self.left);
         if due && self.time == FailureTime::Before {
@@ -178,12 +174,11 @@ impl<S: FileStore> FileStore for FailingStore<S> {
     }
 
     fn drop_temp(&mut self, name: &SafeName) -> Result<(), StoreRefusal>
-        ensures due { IsTrue (is_next self.old.left) → result ≡ Err StoreFault }
-        ensures left { self.new.left ≡ after_one self.old.left }
-        ensures drops { S.keeps → Drops (MayFail self.old.left (S.fails self.old.inner)) (S.tree self.old.inner) name.now result (S.tree self.new.inner) }
+        ensures call { IsCounted self.old self.new (result ≡ Err StoreFault) }
+        ensures drops { S.keeps → Drops (MayFail (calls_left self.old) (S.fails (wrapped self.old))) (S.tree (wrapped self.old)) name.now result (S.tree (wrapped self.new)) }
         ensures refusals { IfErr result IsPlain }
-        ensures counted { self.new.faults ≡ count_after result self.old.faults }
-        ensures tree { S.keeps → IsTree (S.tree self.new.inner) }
+        ensures counted { own_faults self.new ≡ count_after result (own_faults self.old) }
+        ensures tree { S.keeps → IsTree (S.tree (wrapped self.new)) }
     {
         let due = is_due(&mut self.left);
         if due && self.time == FailureTime::Before {
@@ -194,12 +189,11 @@ impl<S: FileStore> FileStore for FailingStore<S> {
     }
 
     fn rename(&mut self, from: &SafeName, to: &SafeName) -> Result<(), StoreRefusal>
-        ensures due { IsTrue (is_next self.old.left) → result ≡ Err StoreFault }
-        ensures left { self.new.left ≡ after_one self.old.left }
-        ensures renames { S.keeps → Renames (MayFail self.old.left (S.fails self.old.inner)) (S.tree self.old.inner) from.now to.now result (S.tree self.new.inner) }
+        ensures call { IsCounted self.old self.new (result ≡ Err StoreFault) }
+        ensures renames { S.keeps → Renames (MayFail (calls_left self.old) (S.fails (wrapped self.old))) (S.tree (wrapped self.old)) from.now to.now result (S.tree (wrapped self.new)) }
         ensures refusals { result ≢ Err NotEmpty }
-        ensures counted { self.new.faults ≡ count_after result self.old.faults }
-        ensures tree { S.keeps → IsTree (S.tree self.new.inner) }
+        ensures counted { own_faults self.new ≡ count_after result (own_faults self.old) }
+        ensures tree { S.keeps → IsTree (S.tree (wrapped self.new)) }
     {
         let due = is_due(&mut self.left);
         if due && self.time == FailureTime::Before {
@@ -210,12 +204,11 @@ impl<S: FileStore> FileStore for FailingStore<S> {
     }
 
     fn remove(&mut self, name: &SafeName) -> Result<(), StoreRefusal>
-        ensures due { IsTrue (is_next self.old.left) → result ≡ Err StoreFault }
-        ensures left { self.new.left ≡ after_one self.old.left }
-        ensures removes { S.keeps → Removes (MayFail self.old.left (S.fails self.old.inner)) (S.tree self.old.inner) name.now result (S.tree self.new.inner) }
+        ensures call { IsCounted self.old self.new (result ≡ Err StoreFault) }
+        ensures removes { S.keeps → Removes (MayFail (calls_left self.old) (S.fails (wrapped self.old))) (S.tree (wrapped self.old)) name.now result (S.tree (wrapped self.new)) }
         ensures refusals { IfErr result IsPlain }
-        ensures counted { self.new.faults ≡ count_after result self.old.faults }
-        ensures tree { S.keeps → IsTree (S.tree self.new.inner) }
+        ensures counted { own_faults self.new ≡ count_after result (own_faults self.old) }
+        ensures tree { S.keeps → IsTree (S.tree (wrapped self.new)) }
     {
         let due = is_due(&mut self.left);
         if due && self.time == FailureTime::Before {
@@ -226,12 +219,11 @@ impl<S: FileStore> FileStore for FailingStore<S> {
     }
 
     fn make_dir(&mut self, name: &SafeName) -> Result<(), StoreRefusal>
-        ensures due { IsTrue (is_next self.old.left) → result ≡ Err StoreFault }
-        ensures left { self.new.left ≡ after_one self.old.left }
-        ensures makes { S.keeps → MakesDir (MayFail self.old.left (S.fails self.old.inner)) (S.tree self.old.inner) name.now result (S.tree self.new.inner) }
+        ensures call { IsCounted self.old self.new (result ≡ Err StoreFault) }
+        ensures makes { S.keeps → MakesDir (MayFail (calls_left self.old) (S.fails (wrapped self.old))) (S.tree (wrapped self.old)) name.now result (S.tree (wrapped self.new)) }
         ensures refusals { result ≢ Err NotEmpty }
-        ensures counted { self.new.faults ≡ count_after result self.old.faults }
-        ensures tree { S.keeps → IsTree (S.tree self.new.inner) }
+        ensures counted { own_faults self.new ≡ count_after result (own_faults self.old) }
+        ensures tree { S.keeps → IsTree (S.tree (wrapped self.new)) }
     {
         let due = is_due(&mut self.left);
         if due && self.time == FailureTime::Before {
@@ -242,12 +234,11 @@ impl<S: FileStore> FileStore for FailingStore<S> {
     }
 
     fn remove_dir(&mut self, name: &SafeName) -> Result<(), StoreRefusal>
-        ensures due { IsTrue (is_next self.old.left) → result ≡ Err StoreFault }
-        ensures left { self.new.left ≡ after_one self.old.left }
-        ensures removes { S.keeps → RemovesDir (MayFail self.old.left (S.fails self.old.inner)) (S.tree self.old.inner) name.now result (S.tree self.new.inner) }
+        ensures call { IsCounted self.old self.new (result ≡ Err StoreFault) }
+        ensures removes { S.keeps → RemovesDir (MayFail (calls_left self.old) (S.fails (wrapped self.old))) (S.tree (wrapped self.old)) name.now result (S.tree (wrapped self.new)) }
         ensures refusals { result ≢ Err BadParent }
-        ensures counted { self.new.faults ≡ count_after result self.old.faults }
-        ensures tree { S.keeps → IsTree (S.tree self.new.inner) }
+        ensures counted { own_faults self.new ≡ count_after result (own_faults self.old) }
+        ensures tree { S.keeps → IsTree (S.tree (wrapped self.new)) }
     {
         let due = is_due(&mut self.left);
         if due && self.time == FailureTime::Before {

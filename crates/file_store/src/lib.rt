@@ -1,4 +1,8 @@
-//! Files behind one interface: a store is asked for files by their safe names.
+//! Files and directories behind one interface.
+//!
+//! A [`FileStore`] is asked by safe names. What is written goes to a temporary file beside the file, and is put in its place
+//! when it is whole. [`MemStore`] keeps everything in memory; [`FailingStore`] fails one call of a store that it wraps.
+//! The definitions in `specs/` say what each call does to the tree of what is there (`Calls.antt`).
 #![tactic(auto)]
 
 mod changes;

@@ -25,11 +25,12 @@ pub struct MemStore {
 }
 
 impl MemStore {
+    ghost use Rattle.file_store.specs.Stores.{empty_tree, mem_faults, mem_tree};
+
     /// An empty store. Does not allocate.
     pub fn new(alloc: Global) -> MemStore
-        ensures names { (q : Name) → found_at result.names q ≡ None }
-        ensures temps { (q : Name) → found_at result.temps q ≡ None }
-        ensures faults { result.faults ≡ 0 }
+        ensures tree { mem_tree result ≡ empty_tree }
+        ensures faults { mem_faults result ≡ 0 }
     {
         MemStore {
             alloc,
@@ -45,7 +46,7 @@ impl FileStore for MemStore {
     ghost use Rattle.file_store.specs.declared.refusal.StoreRefusal.TheVariants.{BadParent, OutOfMemory};
     ghost use Rattle.file_store.specs.Calls.{Stats, Reads, Commits, Drops, Removes, RemovesDir, committed, stat_of};
     ghost use Rattle.file_store.specs.Refusals.{count_after, IsPlain};
-    ghost use Rattle.file_store.specs.Stores.{mem_tree};
+    ghost use Rattle.file_store.specs.Stores.{mem_faults, mem_tree};
     ghost use Rattle.file_store.specs.Trees.{IsTree, bytes_of};
 
     ghost keeps = { ⊤ };
@@ -54,7 +55,7 @@ impl FileStore for MemStore {
 
     ghost tree = { mem_tree };
 
-    ghost fault_count = { λ s. s.faults };
+    ghost fault_count = { mem_faults };
 
     fn faults(&self) -> u64 {
         self.faults
@@ -68,7 +69,7 @@ impl FileStore for MemStore {
         ensures value { result ≡ Ok (stat_of ((mem_tree self.old).names name.now)) }
         ensures stats { ⊤ → Stats ⊥ (mem_tree self.old) name.now result (mem_tree self.new) }
         ensures refusals { IfErr result IsPlain }
-        ensures counted { self.new.faults ≡ count_after result self.old.faults }
+        ensures counted { mem_faults self.new ≡ count_after result (mem_faults self.old) }
         ensures tree { ⊤ → IsTree (mem_tree self.new) }
     {
         Ok(stat_of(self.names.get(name.as_str())))
@@ -84,7 +85,7 @@ impl FileStore for MemStore {
         ensures bound { IfOk result (λ k. k ≤ length buffer.new) }
         ensures reads { ⊤ → Reads ⊥ (mem_tree self.old) name.now offset buffer.old buffer.new result (mem_tree self.new) }
         ensures refusals { IfErr result IsPlain }
-        ensures counted { self.new.faults ≡ count_after result self.old.faults }
+        ensures counted { mem_faults self.new ≡ count_after result (mem_faults self.old) }
         ensures tree { ⊤ → IsTree (mem_tree self.new) }
     {
         match self.names.get(name.as_str()) {
@@ -114,7 +115,7 @@ impl FileStore for MemStore {
         ensures epoch { IfOk result (λ _. mem_tree self.new ≡ committed (mem_tree self.old) name.now 0) }
         ensures commits { ⊤ → Commits ⊥ (mem_tree self.old) name.now result (mem_tree self.new) }
         ensures refusals { IfErr result IsPlain }
-        ensures counted { self.new.faults ≡ count_after result self.old.faults }
+        ensures counted { mem_faults self.new ≡ count_after result (mem_faults self.old) }
         ensures tree { ⊤ → IsTree (mem_tree self.new) }
     {
         let name = name.as_str();
@@ -132,7 +133,7 @@ impl FileStore for MemStore {
         ensures value { result ≡ Ok tt }
         ensures drops { ⊤ → Drops ⊥ (mem_tree self.old) name.now result (mem_tree self.new) }
         ensures refusals { IfErr result IsPlain }
-        ensures counted { self.new.faults ≡ count_after result self.old.faults }
+        ensures counted { mem_faults self.new ≡ count_after result (mem_faults self.old) }
         ensures tree { ⊤ → IsTree (mem_tree self.new) }
     {
         self.temps.remove(name.as_str());
@@ -155,7 +156,7 @@ impl FileStore for MemStore {
         ensures ample { result ≢ Err OutOfMemory }
         ensures removes { ⊤ → Removes ⊥ (mem_tree self.old) name.now result (mem_tree self.new) }
         ensures refusals { IfErr result IsPlain }
-        ensures counted { self.new.faults ≡ count_after result self.old.faults }
+        ensures counted { mem_faults self.new ≡ count_after result (mem_faults self.old) }
         ensures tree { ⊤ → IsTree (mem_tree self.new) }
     {
         if !is_file(self.names.get(name.as_str())) {
@@ -181,7 +182,7 @@ impl FileStore for MemStore {
         ensures ample { result ≢ Err OutOfMemory }
         ensures removes { ⊤ → RemovesDir ⊥ (mem_tree self.old) name.now result (mem_tree self.new) }
         ensures refusals { result ≢ Err BadParent }
-        ensures counted { self.new.faults ≡ count_after result self.old.faults }
+        ensures counted { mem_faults self.new ≡ count_after result (mem_faults self.old) }
         ensures tree { ⊤ → IsTree (mem_tree self.new) }
     {
         let name = name.as_str();
