@@ -1,6 +1,7 @@
 //! The suite over a store in memory, and over stores that fail. The expected answers are those of the rules of stores.
 use crate::tests::calls::{
-    commit_temp, faults, is_file, is_missing, make_dir, make_temp, name, read_at, rename, write_at,
+    commit_temp, faults, is_file, is_missing, make_dir, make_temp, name, put, read_at, remove,
+    rename, write_at,
 };
 use crate::{FailingStore, FailureTime, FileStore, MemStore, StoreRefusal};
 use std::process::Abort;
@@ -91,39 +92,33 @@ fn out_of_memory_changes_nothing(rt: HostRuntime) {
     faults(&rt, &store, 0);
 }
 
-/// An empty store that fails the call after so many.
-fn failing(
-    rt: &(impl AllocGlobal + Abort),
-    left: u64,
-    time: FailureTime,
-) -> FailingStore<MemStore> {
-    FailingStore::new(MemStore::new(rt.alloc()), left, time)
+/// A store with the file a, that fails the call after the next.
+fn failing(rt: &(impl AllocGlobal + Abort), time: FailureTime) -> FailingStore<MemStore> {
+    let mut store = MemStore::new(rt.alloc());
+    put(rt, &mut store, "a", "xyz");
+    FailingStore::new(store, 1, time)
 }
 
 #[test]
 fn fails_before_a_call(rt: HostRuntime) {
-    let mut store = failing(&rt, 2, FailureTime::Before);
-    make_temp(&rt, &mut store, "a", 0);
-    write_at(&rt, &mut store, "a", 0, "xyz", 0);
-    commit_temp(&rt, &mut store, "a", 40);
+    let mut store = failing(&rt, FailureTime::Before);
+    is_file(&rt, &mut store, "a", 3);
+    remove(&rt, &mut store, "a", 40);
     faults(&rt, &store, 1);
+    is_file(&rt, &mut store, "a", 3);
+    remove(&rt, &mut store, "a", 0);
     is_missing(&rt, &mut store, "a");
-    commit_temp(&rt, &mut store, "a", 0);
-    read_at(&rt, &mut store, "a", 0, 8, "xyz");
     faults(&rt, &store, 1);
 }
 
 #[test]
 fn fails_after_a_call(rt: HostRuntime) {
-    let mut store = failing(&rt, 2, FailureTime::After);
-    make_temp(&rt, &mut store, "a", 0);
-    write_at(&rt, &mut store, "a", 0, "xyz", 0);
-    commit_temp(&rt, &mut store, "a", 40);
-    faults(&rt, &store, 1);
+    let mut store = failing(&rt, FailureTime::After);
     is_file(&rt, &mut store, "a", 3);
-    commit_temp(&rt, &mut store, "a", 40);
+    remove(&rt, &mut store, "a", 40);
+    faults(&rt, &store, 1);
+    is_missing(&rt, &mut store, "a");
+    remove(&rt, &mut store, "a", 40);
     faults(&rt, &store, 2);
-    let mut inner = store.into_inner();
-    read_at(&rt, &mut inner, "a", 0, 8, "xyz");
-    faults(&rt, &inner, 1);
+    faults(&rt, &store.into_inner(), 1);
 }

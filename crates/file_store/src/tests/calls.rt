@@ -17,6 +17,10 @@ fn number(answer: Result<(), StoreRefusal>) -> u8 {
 }
 
 fn answered(rt: &impl Abort, path: &str, answer: u8, expected: u8) {
+    if answer == 33 {
+        let ended: Result<(), StoreRefusal> = Err(StoreRefusal::OutOfMemory);
+        ended.expect(rt, "an answer");
+    }
     assert_eq!(rt; answer, expected, "of {path:?}");
 }
 
