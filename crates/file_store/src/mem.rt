@@ -1,0 +1,261 @@
+//! A store in memory.
+ghost use Rattle.std.specs.Prelude.{◌≡◌, ◌⊎◌, ◌+◌, ◌-◌, ◌^◌, ℕ, List, [], true, false, min, take, drop, length, Option, Some, None, is_some, option_copied, IsTrue, IsSome};
+ghost use Rattle.file_store.specs.declared.refusal.StoreRefusal.TheVariants.{StoreFault};
+ghost use Rattle.file_store.specs.declared.node.Node.TheVariants.{Directory, File};
+ghost use Rattle.file_store.specs.Calls.{stat_of};
+ghost use Rattle.file_store.specs.Maps.{found_at, put_at};
+ghost use Rattle.file_store.specs.Names.{Name, is_parent};
+ghost use Rattle.file_store.specs.Trees.{AreGrounded, IsTree, is_directory, is_file, tree_of};
+
+use crate::missing::has_bad_parent;
+use crate::name_map::NameMap;
+use crate::parents::parent_of;
+use crate::{Content, FileStore, Listed, Node, Stat, StoreRefusal, changes};
+use std::alloc::Global;
+use sync_names::SafeName;
+
+/// A store in memory. A file that it commits was modified at 1970-01-01T00:00:00Z.
+#[derive(Drop)]
+pub struct MemStore {
+    alloc: Global,
+    names: NameMap<Node>,
+    temps: NameMap<Content>,
+    faults: u64,
+    ghost sound: { IsTree (tree_of (found_at names) (found_at temps)) },
+}
+
+impl MemStore {
+    ghost use Rattle.file_store.specs.Stores.{empty_tree, mem_faults, mem_tree};
+
+    /// An empty store. Does not allocate.
+    pub fn new(alloc: Global) -> MemStore
+        ensures tree { mem_tree result ≡ empty_tree }
+        ensures faults { mem_faults result ≡ 0 }
+    {
+        MemStore {
+            alloc,
+            names: NameMap::new(alloc),
+            temps: NameMap::new(alloc),
+            faults: 0,
+        }
+    }
+}
+
+impl FileStore for MemStore {
+    ghost use Rattle.std.specs.Prelude.{◌≡◌, ◌≢◌, ◌≤◌, ◌-◌, ⊤, length, min, Ok, Err, IfOk, IfErr};
+    ghost use Rattle.file_store.specs.declared.refusal.StoreRefusal.TheVariants.{BadParent, OutOfMemory};
+    ghost use Rattle.file_store.specs.Calls.{Stats, Reads, Commits, Drops, Removes, RemovesDir, committed, stat_of};
+    ghost use Rattle.file_store.specs.Refusals.{count_after, IsPlain};
+    ghost use Rattle.file_store.specs.Stores.{mem_faults, mem_tree};
+    ghost use Rattle.file_store.specs.Trees.{IsTree, bytes_of};
+
+    ghost keeps = { ⊤ };
+
+    ghost fails = { λ _. ⊥ };
+
+    ghost tree = { mem_tree };
+
+    ghost fault_count = { mem_faults };
+
+    fn faults(&self) -> u64 {
+        self.faults
+    }
+
+    fn list(&mut self) -> Result<Vec<Listed>, StoreRefusal> {
+        Ok(self.names.list(self.alloc)?)
+    }
+
+    fn stat(&mut self, name: &SafeName) -> Result<Stat, StoreRefusal>
+        ensures value { result ≡ Ok (stat_of ((mem_tree self.old).names name.now)) }
+        ensures stats { ⊤ → Stats ⊥ (mem_tree self.old) name.now result (mem_tree self.new) }
+        ensures refusals { IfErr result IsPlain }
+        ensures counted { mem_faults self.new ≡ count_after result (mem_faults self.old) }
+        ensures tree { ⊤ → IsTree (mem_tree self.new) }
+    {
+        Ok(stat_of(self.names.get(name.as_str())))
+    }
+
+    fn read_at(
+        &mut self,
+        name: &SafeName,
+        offset: u64,
+        buffer: &mut [u8],
+    ) -> Result<usize, StoreRefusal>
+        ensures value { result ≡ Ok (min (length buffer.old) (length (bytes_of ((mem_tree self.old).names name.now)) - offset)) }
+        ensures bound { IfOk result (λ k. k ≤ length buffer.new) }
+        ensures reads { ⊤ → Reads ⊥ (mem_tree self.old) name.now offset buffer.old buffer.new result (mem_tree self.new) }
+        ensures refusals { IfErr result IsPlain }
+        ensures counted { mem_faults self.new ≡ count_after result (mem_faults self.old) }
+        ensures tree { ⊤ → IsTree (mem_tree self.new) }
+    {
+        match self.names.get(name.as_str()) {
+            Some(Node::File(content, _)) => Ok(content.read_at(offset as usize, buffer)),
+            _ => Ok(0),
+        }
+    }
+
+    fn make_temp(&mut self, name: &SafeName) -> Result<(), StoreRefusal> {
+        let name = name.as_str();
+        if has_bad_parent(&self.names, name) {
+            return Err(StoreRefusal::BadParent);
+        }
+        changes::make_temp(self.alloc, &mut self.names, &mut self.temps, name)?;
+        Ok(())
+    }
+
+    fn write_at(&mut self, name: &SafeName, offset: u64, bytes: &[u8]) -> Result<(), StoreRefusal> {
+        match self.temps.write_at(name.as_str(), offset as usize, bytes) {
+            Some(Ok(())) => Ok(()),
+            Some(Err(_)) => Err(StoreRefusal::OutOfMemory),
+            None => Err(fault(&mut self.faults)),
+        }
+    }
+
+    fn commit_temp(&mut self, name: &SafeName) -> Result<(), StoreRefusal>
+        ensures epoch { IfOk result (λ _. mem_tree self.new ≡ committed (mem_tree self.old) name.now 0) }
+        ensures commits { ⊤ → Commits ⊥ (mem_tree self.old) name.now result (mem_tree self.new) }
+        ensures refusals { IfErr result IsPlain }
+        ensures counted { mem_faults self.new ≡ count_after result (mem_faults self.old) }
+        ensures tree { ⊤ → IsTree (mem_tree self.new) }
+    {
+        let name = name.as_str();
+        if !self.temps.contains(name) {
+            return Err(fault(&mut self.faults));
+        }
+        if is_directory(self.names.get(name)) {
+            return Err(fault(&mut self.faults));
+        }
+        changes::commit_temp(self.alloc, &mut self.names, &mut self.temps, name)?;
+        Ok(())
+    }
+
+    fn drop_temp(&mut self, name: &SafeName) -> Result<(), StoreRefusal>
+        ensures value { result ≡ Ok tt }
+        ensures drops { ⊤ → Drops ⊥ (mem_tree self.old) name.now result (mem_tree self.new) }
+        ensures refusals { IfErr result IsPlain }
+        ensures counted { mem_faults self.new ≡ count_after result (mem_faults self.old) }
+        ensures tree { ⊤ → IsTree (mem_tree self.new) }
+    {
+        self.temps.remove(name.as_str());
+        Ok(())
+    }
+
+    fn rename(&mut self, from: &SafeName, to: &SafeName) -> Result<(), StoreRefusal> {
+        let (from, to) = (from.as_str(), to.as_str());
+        if has_bad_parent(&self.names, to) {
+            return Err(StoreRefusal::BadParent);
+        }
+        if !can_move(&self.names, from, to) {
+            return Err(fault(&mut self.faults));
+        }
+        changes::rename(self.alloc, &mut self.names, from, to)?;
+        Ok(())
+    }
+
+    fn remove(&mut self, name: &SafeName) -> Result<(), StoreRefusal>
+        ensures ample { result ≢ Err OutOfMemory }
+        ensures removes { ⊤ → Removes ⊥ (mem_tree self.old) name.now result (mem_tree self.new) }
+        ensures refusals { IfErr result IsPlain }
+        ensures counted { mem_faults self.new ≡ count_after result (mem_faults self.old) }
+        ensures tree { ⊤ → IsTree (mem_tree self.new) }
+    {
+        if !is_file(self.names.get(name.as_str())) {
+            return Err(fault(&mut self.faults));
+        }
+        self.names.remove(name.as_str());
+        Ok(())
+    }
+
+    fn make_dir(&mut self, name: &SafeName) -> Result<(), StoreRefusal> {
+        let name = name.as_str();
+        if has_bad_parent(&self.names, name) {
+            return Err(StoreRefusal::BadParent);
+        }
+        if self.names.contains(name) {
+            return Err(fault(&mut self.faults));
+        }
+        changes::make_dir(self.alloc, &mut self.names, name)?;
+        Ok(())
+    }
+
+    fn remove_dir(&mut self, name: &SafeName) -> Result<(), StoreRefusal>
+        ensures ample { result ≢ Err OutOfMemory }
+        ensures removes { ⊤ → RemovesDir ⊥ (mem_tree self.old) name.now result (mem_tree self.new) }
+        ensures refusals { result ≢ Err BadParent }
+        ensures counted { mem_faults self.new ≡ count_after result (mem_faults self.old) }
+        ensures tree { ⊤ → IsTree (mem_tree self.new) }
+    {
+        let name = name.as_str();
+        if !is_directory(self.names.get(name)) {
+            return Err(fault(&mut self.faults));
+        }
+        if self.names.has_below(name) || self.temps.has_below(name) {
+            return Err(StoreRefusal::NotEmpty);
+        }
+        self.names.remove(name);
+        Ok(())
+    }
+}
+
+/// A fault, which is counted.
+pub(crate) fn fault(faults: &mut u64) -> StoreRefusal
+    ensures refusal { result ≡ StoreFault }
+    ensures counted { faults.new ≡ min (faults.old + 1) (2 ^ 64 - 1) }
+{
+    *faults = faults.saturating_add(1);
+    StoreRefusal::StoreFault
+}
+
+fn stat_of(node: Option<&Node>) -> Stat
+    ensures { result ≡ stat_of (option_copied node.entry) }
+{
+    match node {
+        None => Stat::Missing,
+        Some(Node::Directory) => Stat::Directory,
+        Some(Node::File(content, modified)) => Stat::File(content.len() as u64, *modified),
+    }
+}
+
+fn is_file(node: Option<&Node>) -> bool
+    ensures { result ≡ is_file (option_copied node.entry) }
+{
+    matches!(node, Some(Node::File(..)))
+}
+
+fn is_directory(node: Option<&Node>) -> bool
+    ensures { result ≡ is_directory (option_copied node.entry) }
+{
+    matches!(node, Some(Node::Directory))
+}
+
+/// Whether a file is at `from`, nothing is at `to`, and the parents of `to`, of which none is a file, are there.
+fn can_move(names: &NameMap<Node>, from: &str, to: &str) -> bool
+    requires grounded { AreGrounded (found_at names.now) (found_at names.now) }
+    requires free { (p : Name) → is_parent p to.now ≡ true → is_file (found_at names.now p) ≡ false }
+    ensures file { IsTrue result → is_file (found_at names.now from.now) ≡ true }
+    ensures room { IsTrue result → found_at names.now to.now ≡ None }
+    ensures parents { IsTrue result → (p : Name) → is_parent p to.now ≡ true → found_at names.now p ≡ Some Directory }
+    ensures refused { result ≡ false → (is_file (found_at names.now from.now) ≡ false) ⊎ IsSome (found_at names.now to.now)
+        ⊎ ((p : Name) × (is_parent p to.now ≡ true) × (found_at names.now p ≡ None)) }
+{
+    if !is_file(names.get(from)) {
+        return false;
+    }
+    if names.contains(to) {
+        return false;
+    }
+    !misses_parent(names, to)
+}
+
+/// Whether a parent of the name is missing, where none is a file.
+fn misses_parent(names: &NameMap<Node>, name: &str) -> bool
+    requires grounded { AreGrounded (found_at names.now) (found_at names.now) }
+    requires free { (p : Name) → is_parent p name.now ≡ true → is_file (found_at names.now p) ≡ false }
+    ensures missing { IsTrue result → (p : Name) × (is_parent p name.now ≡ true) × (found_at names.now p ≡ None) }
+    ensures there { result ≡ false → (p : Name) → is_parent p name.now ≡ true → found_at names.now p ≡ Some Directory }
+{
+    match parent_of(name) {
+        Some(parent) => !names.contains(parent),
+        None => false,
+    }
+}

@@ -1,0 +1,223 @@
+//! The calls of a store, each with what it must answer: 0 for `Ok`, or the number of a refusal. A call that is out of memory is
+//! made again.
+use crate::{FileStore, Kind, Listed, Stat, StoreRefusal};
+use std::process::Abort;
+use sync_names::SafeName;
+use sync_version::Moment;
+
+pub(crate) fn name(rt: &(impl AllocGlobal + Abort), path: &str) -> SafeName {
+    SafeName::parse(rt.alloc(), path).expect(rt, "a name")
+}
+
+fn number(answer: Result<(), StoreRefusal>) -> u8 {
+    match answer {
+        Ok(()) => 0,
+        Err(refusal) => refusal.number(),
+    }
+}
+
+fn answered(rt: &impl Abort, path: &str, answer: u8, expected: u8) {
+    if answer == 33 {
+        let ended: Result<(), StoreRefusal> = Err(StoreRefusal::OutOfMemory);
+        ended.expect(rt, "an answer");
+    }
+    assert_eq!(rt; answer, expected, "of {path:?}");
+}
+
+pub(crate) fn make_temp<S: FileStore>(
+    rt: &(impl AllocGlobal + Abort),
+    store: &mut S,
+    path: &str,
+    expected: u8,
+) {
+    let name = name(rt, path);
+    let first = number(store.make_temp(&name));
+    let answer = if first == 33 {
+        number(store.make_temp(&name))
+    } else {
+        first
+    };
+    answered(rt, path, answer, expected);
+}
+
+pub(crate) fn write_at<S: FileStore>(
+    rt: &(impl AllocGlobal + Abort),
+    store: &mut S,
+    path: &str,
+    offset: u64,
+    text: &str,
+    expected: u8,
+) {
+    let name = name(rt, path);
+    let first = number(store.write_at(&name, offset, text.as_bytes()));
+    let answer = if first == 33 {
+        number(store.write_at(&name, offset, text.as_bytes()))
+    } else {
+        first
+    };
+    answered(rt, path, answer, expected);
+}
+
+pub(crate) fn commit_temp<S: FileStore>(
+    rt: &(impl AllocGlobal + Abort),
+    store: &mut S,
+    path: &str,
+    expected: u8,
+) {
+    let name = name(rt, path);
+    let first = number(store.commit_temp(&name));
+    let answer = if first == 33 {
+        number(store.commit_temp(&name))
+    } else {
+        first
+    };
+    answered(rt, path, answer, expected);
+}
+
+pub(crate) fn drop_temp<S: FileStore>(
+    rt: &(impl AllocGlobal + Abort),
+    store: &mut S,
+    path: &str,
+    expected: u8,
+) {
+    answered(rt, path, number(store.drop_temp(&name(rt, path))), expected);
+}
+
+pub(crate) fn rename<S: FileStore>(
+    rt: &(impl AllocGlobal + Abort),
+    store: &mut S,
+    from: &str,
+    to: &str,
+    expected: u8,
+) {
+    let (old, new) = (name(rt, from), name(rt, to));
+    let first = number(store.rename(&old, &new));
+    let answer = if first == 33 {
+        number(store.rename(&old, &new))
+    } else {
+        first
+    };
+    answered(rt, from, answer, expected);
+}
+
+pub(crate) fn remove<S: FileStore>(
+    rt: &(impl AllocGlobal + Abort),
+    store: &mut S,
+    path: &str,
+    expected: u8,
+) {
+    answered(rt, path, number(store.remove(&name(rt, path))), expected);
+}
+
+pub(crate) fn make_dir<S: FileStore>(
+    rt: &(impl AllocGlobal + Abort),
+    store: &mut S,
+    path: &str,
+    expected: u8,
+) {
+    let name = name(rt, path);
+    let first = number(store.make_dir(&name));
+    let answer = if first == 33 {
+        number(store.make_dir(&name))
+    } else {
+        first
+    };
+    answered(rt, path, answer, expected);
+}
+
+pub(crate) fn remove_dir<S: FileStore>(
+    rt: &(impl AllocGlobal + Abort),
+    store: &mut S,
+    path: &str,
+    expected: u8,
+) {
+    answered(
+        rt,
+        path,
+        number(store.remove_dir(&name(rt, path))),
+        expected,
+    );
+}
+
+pub(crate) fn put<S: FileStore>(
+    rt: &(impl AllocGlobal + Abort),
+    store: &mut S,
+    path: &str,
+    text: &str,
+) {
+    make_temp(rt, store, path, 0);
+    write_at(rt, store, path, 0, text, 0);
+    commit_temp(rt, store, path, 0);
+}
+
+/// Nothing is at the name.
+pub(crate) fn is_missing<S: FileStore>(rt: &(impl AllocGlobal + Abort), store: &mut S, path: &str) {
+    let stat = store.stat(&name(rt, path)).expect(rt, "what is there");
+    assert_eq!(rt; stat, Stat::Missing, "{path:?}");
+}
+
+/// A directory is at the name.
+pub(crate) fn is_directory<S: FileStore>(
+    rt: &(impl AllocGlobal + Abort),
+    store: &mut S,
+    path: &str,
+) {
+    let stat = store.stat(&name(rt, path)).expect(rt, "what is there");
+    assert_eq!(rt; stat, Stat::Directory, "{path:?}");
+}
+
+/// A file of so many bytes is at the name, and the store knows no time of it.
+pub(crate) fn is_file<S: FileStore>(
+    rt: &(impl AllocGlobal + Abort),
+    store: &mut S,
+    path: &str,
+    size: u64,
+) {
+    let stat = store.stat(&name(rt, path)).expect(rt, "what is there");
+    let epoch = Moment::new(0).expect(rt, "a moment");
+    assert_eq!(rt; stat, Stat::File(size, epoch), "{path:?}");
+}
+
+/// A read into a buffer of `room` bytes, at most eight, gives this text.
+pub(crate) fn read_at<S: FileStore>(
+    rt: &(impl AllocGlobal + Abort),
+    store: &mut S,
+    path: &str,
+    offset: u64,
+    room: usize,
+    text: &str,
+) {
+    let mut bytes = [0; 8];
+    let buffer = &mut bytes[..room.min(8)];
+    let count = store
+        .read_at(&name(rt, path), offset, buffer)
+        .expect(rt, "bytes");
+    assert_eq!(rt; &bytes[..count.min(8)], text.as_bytes(), "{path:?}");
+}
+
+/// Only these names are listed.
+pub(crate) fn list<S: FileStore>(
+    rt: &(impl AllocGlobal + Abort),
+    store: &mut S,
+    expected: &[(&str, Kind)],
+) {
+    let listing = match store.list() {
+        Err(StoreRefusal::OutOfMemory) => store.list(),
+        listing => listing,
+    };
+    let listing = listing.expect(rt, "a listing");
+    assert_eq!(rt; listing.len(), expected.len());
+    for (listed, row) in listing.iter().zip(expected) {
+        is_listed(rt, listed, row.0, row.1);
+    }
+}
+
+fn is_listed(rt: &impl Abort, listed: &Listed, path: &str, kind: Kind) {
+    assert_eq!(rt; listed.name.as_str(), path);
+    assert_eq!(rt; listed.kind, kind, "{path:?}");
+}
+
+/// The store has returned so many faults.
+pub(crate) fn faults<S: FileStore>(rt: &impl Abort, store: &S, expected: u64) {
+    assert_eq!(rt; store.faults(), expected);
+}
