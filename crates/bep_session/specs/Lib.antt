@@ -1,0 +1,4 @@
+pub mod Faults
+pub mod Times
+pub mod Ids
+pub mod Events
