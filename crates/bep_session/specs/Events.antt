@@ -1,6 +1,7 @@
--- What the messages of a connection mean (Block Exchange Protocol v1, "Post-authentication Messages"; the order of the first two and
--- the answers to Requests: own rule).
-use Rattle.std.specs.Prelude.{◌≡◌, ℕ, ℤ, List, [], ◌∷◌, ◌++◌, Option, Some, None, Result, Ok, Err, if◌then◌else◌, option_to_list}
+-- What the messages of a connection mean (Block Exchange Protocol v1, "Post-authentication Messages"; which may come first, and which
+-- Responses answer a Request: own rule).
+use Rattle.std.specs.Prelude.{ℕ, List, [], ◌∷◌, ◌++◌, Bool, true, false, Option, Some, None, Result, Ok, Err, if◌then◌else◌}
+use Rattle.std.specs.Option.{option_to_list}
 use Rattle.bep_messages.specs.declared.response.Response.{Response}
 use Rattle.bep_frames.specs.declared.fault.FrameFault.{FrameFault}
 use Rattle.bep_frames.specs.declared.frame.Frame.{Frame}
@@ -16,7 +17,7 @@ use Rattle.bep_session.specs.declared.talk.Stage.TheVariants.{Opening, Running, 
 use Rattle.bep_session.specs.declared.talk.Talk.{Talk}
 use Rattle.bep_session.specs.Ids.{closed, is_open}
 
--- what is left behind by a message, and the event that it is
+-- what a frame leaves behind, and the event that it is
 pub record Met : Type 0 where
   pub talk : Talk
   pub event : Option Event
@@ -27,13 +28,17 @@ silent t = record { talk = t; event = None }
 abbrev pub tells : Talk → Event → Met
 tells t e = record { talk = t; event = Some e }
 
+-- after the end nothing is read
+abbrev pub over : Talk → Talk
+over t = record t { stage = Over }
+
 -- a Response: its id is free again, if it was open
 abbrev pub answered : Talk → Response → Met
-answered t m = if is_open t.open m.id
-    then tells (record t { open = closed t.open m.id }) (Answered m)
+answered t m = if is_open t.asks m.id
+    then tells (record t { asks = closed t.asks m.id }) (Answered m)
     else tells t (UnknownResponse m.id)
 
--- a message after the first ClusterConfig
+-- a message that may come
 abbrev pub heard : Talk → Message → Met
 heard t (ClusterConfig m) = tells (record t { stage = Running }) (PeerConfig m)
 heard t (Index m) = tells t (Full m)
@@ -42,31 +47,65 @@ heard t (Request m) = tells t (Asked m)
 heard t (ResponseMessage m) = answered t m
 heard t (DownloadProgress m) = silent t
 heard t (Ping m) = silent t
-heard t (Close m) = tells (record t { stage = Over }) (PeerClosed m.reason)
+heard t (Close m) = tells (over t) (PeerClosed m.reason)
 
--- a message before it: only a ClusterConfig or a Close may come
-abbrev pub heard_first : Talk → Message → Met
-heard_first t (ClusterConfig m) = heard t (ClusterConfig m)
-heard_first t (Close m) = heard t (Close m)
-heard_first t (Index m) = tells (record t { stage = Over }) (Ended NotClusterConfigFirst)
-heard_first t (IndexUpdate m) = tells (record t { stage = Over }) (Ended NotClusterConfigFirst)
-heard_first t (Request m) = tells (record t { stage = Over }) (Ended NotClusterConfigFirst)
-heard_first t (ResponseMessage m) = tells (record t { stage = Over }) (Ended NotClusterConfigFirst)
-heard_first t (DownloadProgress m) = tells (record t { stage = Over }) (Ended NotClusterConfigFirst)
-heard_first t (Ping m) = tells (record t { stage = Over }) (Ended NotClusterConfigFirst)
+-- the messages that may come first
+abbrev pub may_begin : Message → Bool
+may_begin (ClusterConfig m) = true
+may_begin (Index m) = false
+may_begin (IndexUpdate m) = false
+may_begin (Request m) = false
+may_begin (ResponseMessage m) = false
+may_begin (DownloadProgress m) = false
+may_begin (Ping m) = false
+may_begin (Close m) = true
 
--- a message, by what came before it; after the end nothing is read
+-- a message, where a ClusterConfig is due and where one came
 abbrev pub heard_at : Stage → Talk → Message → Met
-heard_at Opening t m = heard_first t m
+heard_at Opening t m = if may_begin m then heard t m else tells (over t) (Ended NotClusterConfigFirst)
 heard_at Running t m = heard t m
 heard_at Over t m = silent t
 
--- a frame, by what came before it
+-- a frame
 abbrev pub framed : Stage → Talk → Frame → Met
-framed Over t f = silent t
-framed Opening t (Hello m) = tells t (PeerHello m)
-framed Opening t (Unknown kind) = tells t (Skipped kind)
-framed Opening t (MessageFrame m) = heard_first t m
-framed Running t (Hello m) = tells t (PeerHello m)
-framed Running t (Unknown kind) = tells t (Skipped kind)
-framed Running t (MessageFrame m) = heard t m
+framed stage t (Hello m) = tells t (PeerHello m)
+framed stage t (MessageFrame m) = heard_at stage t m
+framed stage t (Unknown kind) = tells t (Skipped kind)
+
+-- a frame that is received at a moment; after the end nothing is read
+abbrev pub met_at : Stage → ℕ → Talk → Frame → Met
+met_at Opening moment t f = framed Opening (record t { received = moment }) f
+met_at Running moment t f = framed Running (record t { received = moment }) f
+met_at Over moment t f = silent t
+
+unfoldable pub met : ℕ → Talk → Frame → Met
+met moment t f = met_at t.stage moment t f
+
+-- ---- streams
+
+-- what frames, or a whole stream, leave behind, and their events in order
+pub record Told : Type 0 where
+  pub talk : Talk
+  pub events : List Event
+
+abbrev pub met_then : Met → Told → Told
+met_then first later = record { talk = later.talk; events = option_to_list first.event ++ later.events }
+
+unfoldable pub frames_told : ℕ → Talk → List Frame → Told
+frames_told moment t [] = record { talk = t; events = [] }
+frames_told moment t (f ∷ frames) = met_then (met moment t f) (frames_told moment (met moment t f).talk frames)
+
+-- the end of a stream that has not been closed: a rest means nothing yet, a fault is the last event
+abbrev pub end_told : Told → Result (List ℕ) FrameFault → Told
+end_told told (Ok rest) = told
+end_told told (Err e) = record { talk = over told.talk; events = told.events ++ Ended (FrameEnd e) ∷ [] }
+
+abbrev pub end_told_at : Stage → Told → Result (List ℕ) FrameFault → Told
+end_told_at Opening told end = end_told told end
+end_told_at Running told end = end_told told end
+end_told_at Over told end = told
+
+unfoldable pub stream_told : ℕ → Talk → Stream → Told
+stream_told moment t s =
+    let told = frames_told moment t s.frames in
+    end_told_at told.talk.stage told s.end

@@ -53,18 +53,18 @@ impl Session {
     }
 
     pub fn ask(&mut self) -> Result<i32, AskRefusal> {
-        let Some(id) = self.talk.open.least_free() else {
+        let Some(id) = self.talk.asks.least_free() else {
             return Err(AskRefusal::TooManyAsks);
         };
-        self.talk.open.insert(id)?;
+        self.talk.asks.insert(id)?;
         Ok(id)
     }
 
     pub fn book(&mut self, id: i32) -> Result<bool, AllocError> {
-        if id < 1 || self.talk.open.len() >= MAX_ASKS || self.talk.open.contains(id) {
+        if id < 1 || self.talk.asks.len() >= MAX_ASKS || self.talk.asks.contains(id) {
             return Ok(false);
         }
-        self.talk.open.insert(id)?;
+        self.talk.asks.insert(id)?;
         Ok(true)
     }
 
