@@ -1,4 +1,5 @@
 ghost use Rattle.std.specs.Prelude.{◌≡◌, ◌≢◌, ℕ, pos, ◌+◌, ◌<◌, ◌≤◌, ◌↔◌, [], false, length, IfSome, IfNone, IsNone, OnOk, OnErr};
+ghost use Rattle.std.specs.Bool.{OnFalse};
 ghost use Rattle.bep_session.specs.Ids.{IsLeastFree, closed, is_open, max_asks, opened};
 
 use crate::bits::{BITS, Bits, clear, first_zero, set};
@@ -85,8 +86,9 @@ impl OpenIds {
 
     /// Frees an id, and returns whether it was open. Does not allocate. O(log n).
     pub(crate) fn remove(&mut self, id: i32) -> bool
-        ensures open { result ≡ is_open self.old id }
+        ensures was { result ≡ is_open self.old id }
         ensures ids { self.new ≡ closed self.old id }
+        ensures absent { OnFalse result (self.new ≡ self.old) }
     {
         let was = self.ids.remove(&id);
         if let Some(k) = low_place(id) {
