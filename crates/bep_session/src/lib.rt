@@ -1,14 +1,15 @@
 //! The protocol of one connection as a value without threads (Block Exchange Protocol v1): bytes go in, events come out, and it
-//! knows which Requests wait for their Response and when a Ping or a time-out is due.
+//! knows which Requests wait for their Response, and when a Ping or a time-out is due.
 //!
 //! The events are those of the stream's messages and of the ids that are open (`specs/Events.antt`, `specs/Sessions.antt`), however
-//! the stream is cut. What the definitions imply is proved in [`laws`].
+//! the stream is cut.
 #![tactic(auto)]
 
 mod bits;
 mod event;
 mod fault;
 mod ids;
+mod met;
 mod session;
 mod talk;
 #[cfg(test)]
