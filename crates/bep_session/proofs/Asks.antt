@@ -1,5 +1,5 @@
 -- The least id that isn't open, by the bits of the first ids.
-use Rattle.std.proofs.Common.{◌≡◌, ◌≢◌, ℕ, zero, suc, ◌+◌, ◌<◌, ◌≤◌, ℤ, pos, Bool, true, false, List, [], ◌∷◌, length, refl, sym, ap, subst, ◌∙◌, add-one, arith}
+use Rattle.std.proofs.Common.{◌≡◌, ◌≢◌, ℕ, zero, suc, ◌+◌, ◌<◌, ◌≤◌, ℤ, pos, negsuc, Bool, true, false, List, [], ◌∷◌, length, refl, sym, ap, subst, ◌∙◌, add-one, arith}
 use Rattle.std.specs.Prelude.{if◌then◌else◌, ◌||◌}
 use Rattle.std.specs.List.{AllByRecursion, IsDistinct, list_any}
 use Rattle.std.specs.Ordering.{eq_by_cmp, int_cmp}
@@ -80,3 +80,7 @@ many_open ids n known =
 
 pub all_open : (ids : List ℤ) (words : List ℕ) → IsIndexed ids words → ((k : ℕ) → k < 1024 → bit words k ≡ 1) → max_asks ≤ length ids
 all_open ids words indexed ones = many_open ids 1024 (λ k lt. open_at ids words k indexed lt (ones k lt))
+
+pub least_is_free : (ids : List ℤ) (id : ℤ) → IsLeastFree ids id → is_open ids id ≡ false
+least_is_free ids (pos n) h = h.1
+least_is_free ids (negsuc n) h = absurd h

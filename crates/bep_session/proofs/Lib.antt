@@ -1,3 +1,4 @@
 pub mod Words
 pub mod Asks
 pub mod Meets
+pub mod Told

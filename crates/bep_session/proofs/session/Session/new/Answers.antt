@@ -1,0 +1,8 @@
+use Rattle.std.proofs.Common.{◌≡◌, true, Ok, refl, sym, ap, subst}
+use Rattle.bep_frames.specs.State.{State, fed, remaining, start}
+use Rattle.bep_session.specs.Progress.{IsDrained}
+use Rattle.bep_session.proofs.Told.{start_drained}
+use Rattle.bep_session.proofs.session.Session.new.Goals as goal
+
+pub invariant_of-result : goal.invariant_of-result
+invariant_of-result c = subst IsDrained (sym c.new.ensures) (start_drained true)
