@@ -1,5 +1,5 @@
 -- The least id that isn't open, by the bits of the first ids.
-use Rattle.std.proofs.Common.{◌≡◌, ◌≢◌, ℕ, zero, suc, ◌+◌, ◌<◌, ◌≤◌, ℤ, pos, negsuc, Bool, true, false, List, [], ◌∷◌, length, refl, sym, ap, subst, ◌∙◌, add-one, arith}
+use Rattle.std.proofs.Common.{◌≡◌, ◌≢◌, ℕ, zero, suc, ◌+◌, ◌<◌, ◌≤◌, ℤ, pos, negsuc, ◌<ℤ◌, Bool, true, false, List, [], ◌∷◌, length, refl, sym, ap, subst, ◌∙◌, add-one, arith}
 use Rattle.std.specs.Prelude.{if◌then◌else◌, ◌||◌}
 use Rattle.std.specs.List.{AllByRecursion, IsDistinct, list_any}
 use Rattle.std.specs.Ordering.{eq_by_cmp, int_cmp}
@@ -10,7 +10,7 @@ use Rattle.std.proofs.lemmas.Map.Keys.{IsDistinct-cons}
 use Rattle.std.proofs.lemmas.Map.Lookups.{exact_signed}
 use Rattle.std.proofs.lemmas.Map.Made.{length-le_from_is_member}
 use Rattle.std.proofs.lemmas.Map.Views.{tells_apart}
-use Rattle.bep_session.specs.Ids.{IsIndexed, IsLeastFree, bit, is_open, max_asks}
+use Rattle.bep_session.specs.Ids.{can_book, IsIndexed, IsLeastFree, bit, is_open, max_asks}
 
 abbrev same : ℤ → ℤ → Bool
 same = eq_by_cmp int_cmp
@@ -84,3 +84,8 @@ all_open ids words indexed ones = many_open ids 1024 (λ k lt. open_at ids words
 pub least_is_free : (ids : List ℤ) (id : ℤ) → IsLeastFree ids id → is_open ids id ≡ false
 least_is_free ids (pos n) h = h.1
 least_is_free ids (negsuc n) h = absurd h
+
+pub bookable : (ids : List ℤ) (id : ℤ) → (id <ℤ pos 1 → ⊥) → (max_asks ≤ length ids → ⊥) → is_open ids id ≡ false → can_book ids id ≡ true
+bookable ids (pos zero) positive room free = absurd (positive ?)
+bookable ids (negsuc n) positive room free = absurd (positive ?)
+bookable ids (pos (suc n)) positive room free = ?

@@ -2,3 +2,4 @@ pub mod Words
 pub mod Asks
 pub mod Meets
 pub mod Told
+pub mod Feeds

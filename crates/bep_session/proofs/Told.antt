@@ -239,3 +239,8 @@ pushed_none l now o is none = is ∙ sym (append-nil l) ∙ ap (λ (x : Option E
 pub on_err : {T E : Type 0} (r : Result T E) (P : Type 0) → P → OnErr r P
 on_err (Ok x) P p = tt
 on_err (Err e) P p = p
+
+-- memory was out before the first frame
+pub cut_first : (moment : ℕ) (s : Stream) (t : Talk) → IsCutShort moment s t t
+unfolding frames_told
+cut_first moment s t = record { some = []; others = s.frames; split = refl; talk = refl }

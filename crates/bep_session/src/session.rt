@@ -70,20 +70,20 @@ impl Session {
         if self.talk.stage == Stage::Over || piece.is_empty() {
             return Ok(events);
         }
-        let taken = take_piece(
+        if let Err(error) = take_piece(
             &mut self.reader,
             &mut self.talk,
             piece,
             moment,
             &mut events,
-        );
-        if taken.is_err() {
+        ) {
             self.talk.stage = Stage::Over;
+            self.reader = FrameReader::after_hello(self.alloc);
+            return Err(error);
         }
         if self.talk.stage == Stage::Over {
             self.reader = FrameReader::after_hello(self.alloc);
         }
-        taken?;
         Ok(events)
     }
 
