@@ -1,10 +1,12 @@
 -- The least id that isn't open, by the bits of the first ids.
-use Rattle.std.proofs.Common.{◌≡◌, ◌≢◌, ℕ, zero, suc, ◌+◌, ◌<◌, ◌≤◌, ℤ, pos, negsuc, ◌<ℤ◌, Bool, true, false, List, [], ◌∷◌, length, refl, sym, ap, subst, ◌∙◌, add-one, arith}
-use Rattle.std.specs.Prelude.{if◌then◌else◌, ◌||◌}
+use Rattle.std.proofs.Common.{◌≡◌, ◌≢◌, ℕ, zero, suc, ◌+◌, ◌<◌, ◌≤◌, ℤ, pos, negsuc, Bool, true, false, List, [], ◌∷◌, length, refl, sym, ap, subst, ◌∙◌, add-one, arith}
+use Rattle.std.specs.Prelude.{if◌then◌else◌, ◌||◌, ◌&&◌, nat_lt, not}
+use Rattle.std.specs.Int.Signed.{lt_z}
 use Rattle.std.specs.List.{AllByRecursion, IsDistinct, list_any}
 use Rattle.std.specs.Ordering.{eq_by_cmp, int_cmp}
 use Rattle.std.specs.Set.{is_member}
 use Rattle.std.proofs.lemmas.Bool.{false≢true}
+use Rattle.std.proofs.lemmas.Bool.Decides.{nat_tests}
 use Rattle.std.proofs.lemmas.Cmp.{eq_by_cmp_equiv, int_cmp_total}
 use Rattle.std.proofs.lemmas.Map.Keys.{IsDistinct-cons}
 use Rattle.std.proofs.lemmas.Map.Lookups.{exact_signed}
@@ -28,10 +30,10 @@ open_at ids words k indexed lt e = on_one (is_open ids (pos (k + 1))) (bit words
 
 pub least : (ids : List ℤ) (words : List ℕ) (k : ℕ) → IsIndexed ids words → k < 1024 → bit words k ≡ 0 → ((j : ℕ) → j < k → bit words j ≡ 1) → IsLeastFree ids (pos (k + 1))
 least ids words k indexed lt e before = (
-    omega arith,
-    off_zero (is_open ids (pos (k + 1))) (bit words k) (indexed k lt) e,
-    λ n positive under. below n positive under
-  )
+  omega arith,
+  off_zero (is_open ids (pos (k + 1))) (bit words k) (indexed k lt) e,
+  λ n positive under. below n positive under,
+)
   where
     below : (n : ℕ) → 0 < n → n < k + 1 → is_open ids (pos n) ≡ true
     below zero positive under = absurd (omega arith)
@@ -85,7 +87,10 @@ pub least_is_free : (ids : List ℤ) (id : ℤ) → IsLeastFree ids id → is_op
 least_is_free ids (pos n) h = h.1
 least_is_free ids (negsuc n) h = absurd h
 
-pub bookable : (ids : List ℤ) (id : ℤ) → (id <ℤ pos 1 → ⊥) → (max_asks ≤ length ids → ⊥) → is_open ids id ≡ false → can_book ids id ≡ true
-bookable ids (pos zero) positive room free = absurd (positive ?)
-bookable ids (negsuc n) positive room free = absurd (positive ?)
-bookable ids (pos (suc n)) positive room free = ?
+pub bookable : (ids : List ℤ) (id : ℤ) → lt_z id (pos 1) ≡ false → length ids < max_asks → is_open ids id ≡ false → can_book ids id ≡ true
+bookable ids (pos zero) low room free = absurd (false≢true (sym low))
+bookable ids (negsuc n) low room free = absurd (false≢true (sym low))
+bookable ids (pos (suc n)) low room free = ap (λ (b : Bool). (true && not b) && nat_lt (length ids) max_asks) free ∙ below (length ids) max_asks room
+  where
+    below : (a b : ℕ) → a < b → nat_lt a b ≡ true
+    below a b lt = grind (arith, nat_tests)

@@ -96,8 +96,8 @@ module _ (reader new : State) (t u : Talk) (piece : List ℕ) (moment : ℕ) (be
   read_on h on =
       let more = h.goes_on on in
       session_given (view_of new u) h (left_live u.stage reader.hello given u on
-        ∙ ap (λ (b : Bool). record { hello = b; rest = rest_of given.end; talk = u }) (sym more.due_is)
-        ∙ ap (λ (end : Result (List ℕ) FrameFault). record { hello = new.hello; rest = rest_of end; talk = u }) more.end)
+      ∙ ap (λ (b : Bool). record { hello = b; rest = rest_of given.end; talk = u }) (sym more.due_is)
+      ∙ ap (λ (end : Result (List ℕ) FrameFault). record { hello = new.hello; rest = rest_of end; talk = u }) more.end)
 
   pub cut_short : IsCutShort moment given t u → StopsShort (view_of reader t) piece moment (ended_view (over u))
   cut_short h = record {

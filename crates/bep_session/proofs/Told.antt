@@ -42,7 +42,7 @@ told-append moment t [] b = refl
 told-append moment t (f ∷ a) b =
     ap (met_then (met moment t f)) (told-append moment (met moment t f).talk a b)
     ∙ ap (λ (l : List Event). record { talk = (frames_told moment (frames_told moment (met moment t f).talk a).talk b).talk; events = l })
-        (sym (append_assoc (option_to_list (met moment t f).event) (frames_told moment (met moment t f).talk a).events (frames_told moment (frames_told moment (met moment t f).talk a).talk b).events))
+    (sym (append_assoc (option_to_list (met moment t f).event) (frames_told moment (met moment t f).talk a).events (frames_told moment (frames_told moment (met moment t f).talk a).talk b).events))
 
 -- one more frame
 abbrev pub told_then : Told → Met → Told
@@ -53,7 +53,7 @@ unfolding frames_told
 told-push moment t a f =
     told-append moment t a (f ∷ [])
     ∙ ap (λ (l : List Event). record { talk = (met moment (frames_told moment t a).talk f).talk; events = (frames_told moment t a).events ++ l })
-        (append-nil (option_to_list (met moment (frames_told moment t a).talk f).event))
+    (append-nil (option_to_list (met moment (frames_told moment t a).talk f).event))
 
 pub still_due-push : (due : Bool) (frames : List Frame) (f : Frame) → still_due due (frames ++ f ∷ []) ≡ false
 still_due-push due [] f = refl
@@ -195,14 +195,14 @@ module _ (moment : ℕ) (old : State) (t : Talk) (before : List Event) where
             talk = h.talk ∙ ap (λ (x : Told). x.talk) (sym told);
             events = h.events ∙ ap (λ (x : Told). before ++ x.events) (sym told);
             goes_on = λ live. record {
-                drained = record {
-                  fault = ap (λ (r : State). r.fault) gives.2 ∙ gives.0;
-                  nothing = subst (λ (r : State). remaining (fed r []) ≡ ended (Ok r.rest)) (sym gives.2) end;
-                };
-                end = ap (λ (s : Stream). s.end) all ∙ ap (λ (r : State). Ok r.rest) (sym gives.2);
-                due_is = ap (λ (r : State). r.hello) gives.2 ∙ h.due ∙ ap (still_due old.hello) (sym (append-nil h.frames))
-                    ∙ ap (λ (s : Stream). still_due old.hello s.frames) (sym all);
+              drained = record {
+                fault = ap (λ (r : State). r.fault) gives.2 ∙ gives.0;
+                nothing = subst (λ (r : State). remaining (fed r []) ≡ ended (Ok r.rest)) (sym gives.2) end;
               };
+              end = ap (λ (s : Stream). s.end) all ∙ ap (λ (r : State). Ok r.rest) (sym gives.2);
+              due_is = ap (λ (r : State). r.hello) gives.2 ∙ h.due ∙ ap (still_due old.hello) (sym (append-nil h.frames))
+                  ∙ ap (λ (s : Stream). still_due old.hello s.frames) (sym all);
+            };
           }
 
       -- the stream shows a fault

@@ -48,19 +48,19 @@ returns-then-eq-clause-ok c =
     ] in
     let closed : c.meet.new.self.stage ≡ Over = search rules in
     reads_over c.args.moment c.args.reader.now c.args.talk.now c.args.events.now.items c.next.new.self c.meet.new.self c.match-meet.events.items
-      (goes_on c.args.moment c.args.reader.now c.args.talk.now c.args.events.now.items
-        loop.reader c.next.new.self loop.talk c.meet.new.self loop.events.items c.match-meet.events.items c.in-Ok.frame c.meet.result
-        loop.invariant.met gives c.meet.ensures pushed)
-      closed
+    (goes_on c.args.moment c.args.reader.now c.args.talk.now c.args.events.now.items
+    loop.reader c.next.new.self loop.talk c.meet.new.self loop.events.items c.match-meet.events.items c.in-Ok.frame c.meet.result
+    loop.invariant.met gives c.meet.ensures pushed)
+    closed
 
 pub returns-in_err-push-in-Ok-clause-err : goal.returns-in_err-push-in-Ok-clause-err
 returns-in_err-push-in-Ok-clause-err c =
     let gives = rw c.in-Ok.is at c.in-Some.ensures in
     let loop = c.loop-answer in
     on_err c.from_residual.result _
-      (cut_more c.args.moment c.args.reader.now c.args.talk.now c.args.events.now.items
-        loop.reader c.next.new.self loop.talk c.meet.new.self loop.events.items loop.events.items c.in-Ok.frame c.meet.result
-        loop.invariant.met gives c.meet.ensures)
+    (cut_more c.args.moment c.args.reader.now c.args.talk.now c.args.events.now.items
+    loop.reader c.next.new.self loop.talk c.meet.new.self loop.events.items loop.events.items c.in-Ok.frame c.meet.result
+    loop.invariant.met gives c.meet.ensures)
 
 pub returns-in-Err : goal.returns-in-Err
 returns-in-Err c =
@@ -76,4 +76,4 @@ pub returns-clause-ok : goal.returns-clause-ok
 returns-clause-ok c =
     let loop = c.loop-answer in
     reads_none c.args.moment c.args.reader.now c.args.talk.now c.args.events.now.items loop.reader loop.talk loop.events.items c.next.new.self
-      loop.invariant.met c.in_default.ensures
+    loop.invariant.met c.in_default.ensures

@@ -46,7 +46,7 @@ pub returns-clause-events : goal.returns-clause-events
 returns-clause-events c =
     let live : c.self.inside.talk.stage ≢ Over = search rules in
     read_events c.self.inside.reader c.take_piece.new.reader c.self.inside.talk c.take_piece.new.talk c.args.piece.now c.args.moment
-      c.new-events.result.items c.take_piece.new.events.items c.self.invariant live c.new-events.ensures.items c.in_default.ensures.ok
+    c.new-events.result.items c.take_piece.new.events.items c.self.invariant live c.new-events.ensures.items c.in_default.ensures.ok
     ∙ ap (λ (v : View). (fed v c.args.piece.now c.args.moment).events) c.self.view_is
 
 pub returns-clause-session : goal.returns-clause-session
@@ -59,12 +59,12 @@ returns-clause-session c =
           w.self-is
           ∙ ap (λ (r : State). view_of r c.take_piece.new.talk) w.after_hello-then-eq-2.ensures
           ∙ read_over c.self.inside.reader c.take_piece.new.reader c.self.inside.talk c.take_piece.new.talk c.args.piece.now c.args.moment
-              c.new-events.result.items c.take_piece.new.events.items c.self.invariant live c.in_default.ensures.ok closed
+          c.new-events.result.items c.take_piece.new.events.items c.self.invariant live c.in_default.ensures.ok closed
           ∙ now
       | else-eq-2 w ↦
           let on : c.take_piece.new.talk.stage ≢ Over = search rules in
           w.self-is
           ∙ read_on c.self.inside.reader c.take_piece.new.reader c.self.inside.talk c.take_piece.new.talk c.args.piece.now c.args.moment
-              c.new-events.result.items c.take_piece.new.events.items c.self.invariant live c.in_default.ensures.ok on
+          c.new-events.result.items c.take_piece.new.events.items c.self.invariant live c.in_default.ensures.ok on
           ∙ now
     ]

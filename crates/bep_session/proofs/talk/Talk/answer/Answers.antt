@@ -9,12 +9,12 @@ returns-then-remove c =
     let asks = c.args.self.now.asks in
     let back : to_z w32 (of_z w32 id) ≡ id = search rules in
     answered_open c.args.self.now c.args.response c.remove.new.self
-      (sym (c.if-remove.ensures.was ∙ ap (is_open asks) back))
-      (c.if-remove.ensures.ids ∙ ap (closed asks) back)
+    (sym (c.if-remove.ensures.was ∙ ap (is_open asks) back))
+    (c.if-remove.ensures.ids ∙ ap (closed asks) back)
 
 pub returns-else-remove : goal.returns-else-remove
 returns-else-remove c =
     let id = c.args.response.id in
     let back : to_z w32 (of_z w32 id) ≡ id = search rules in
     answered_unknown c.args.self.now c.args.response c.remove.new.self _
-      (sym (c.if-remove.ensures.was ∙ ap (is_open c.args.self.now.asks) back)) c.if-remove.ensures.absent back
+    (sym (c.if-remove.ensures.was ∙ ap (is_open c.args.self.now.asks) back)) c.if-remove.ensures.absent back

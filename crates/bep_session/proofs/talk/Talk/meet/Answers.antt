@@ -20,5 +20,5 @@ returns-in-Unknown c =
     let t = c.args.self.now in
     let back : to_z w32 (of_z w32 c.in-Unknown.kind) ≡ c.in-Unknown.kind = search rules in
     met_live c.args.moment t c.args.frame _ c.requires
-      (ap (λ (kind : ℤ). tells (record t { received = c.args.moment }) (Skipped kind)) back
-        ∙ sym (ap (framed t.stage (record t { received = c.args.moment })) c.in-Unknown.is))
+    (ap (λ (kind : ℤ). tells (record t { received = c.args.moment }) (Skipped kind)) back
+    ∙ sym (ap (framed t.stage (record t { received = c.args.moment })) c.in-Unknown.is))
