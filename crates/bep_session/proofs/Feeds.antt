@@ -48,7 +48,7 @@ told_nothing : (moment : ℕ) (t : Talk) (rest : List ℕ) → stream_told momen
 unfolding frames_told
 told_nothing moment t rest = told_rest moment t [] rest
 
-ended_live : (due : Bool) (t : Talk) (rest : List ℕ) (moment : ℕ) → t.stage ≢ Over → fed_stream due t (ended (Ok rest)) moment ≡ record { session = record { hello = due; rest = rest; talk = t }; events = [] }
+pub ended_live : (due : Bool) (t : Talk) (rest : List ℕ) (moment : ℕ) → t.stage ≢ Over → fed_stream due t (ended (Ok rest)) moment ≡ record { session = record { hello = due; rest = rest; talk = t }; events = [] }
 unfolding fed_stream
 ended_live due t rest moment live =
     ap (λ (told : Told). record { session = left_at told.talk.stage due (ended (Ok rest)) told.talk; events = told.events }) (told_nothing moment t rest)

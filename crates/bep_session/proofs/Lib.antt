@@ -3,3 +3,5 @@ pub mod Asks
 pub mod Meets
 pub mod Told
 pub mod Feeds
+pub mod Longer
+pub mod Cut

@@ -4,3 +4,4 @@ pub mod Ids
 pub mod Events
 pub mod Sessions
 pub mod Progress
+pub mod Runs

@@ -2,13 +2,14 @@
 //! knows which Requests wait for their Response, and when a Ping or a time-out is due.
 //!
 //! The events are those of the stream's messages and of the ids that are open (`specs/Events.antt`, `specs/Sessions.antt`), however
-//! the stream is cut.
+//! the stream is cut. What the definitions imply is proved in [`laws`].
 #![tactic(auto)]
 
 mod bits;
 mod event;
 mod fault;
 mod ids;
+pub mod laws;
 mod met;
 mod session;
 mod talk;

@@ -93,7 +93,8 @@ fn asking(rt: &(impl AllocGlobal + Abort)) -> Session {
 }
 
 /// The real peer's stream in pieces of so many bytes.
-fn expect_graves(rt: &(impl AllocGlobal + Abort), piece: usize) {
+fn expect_graves(rt: &(impl AllocGlobal + Abort), bytes: usize) {
+    assert!(rt; bytes > 0);
     let expected: [Sign; 9] = [
         ('c', 1),
         ('f', 12),
@@ -107,7 +108,7 @@ fn expect_graves(rt: &(impl AllocGlobal + Abort), piece: usize) {
     ];
     let mut session = asking(rt);
     let mut seen = 0;
-    for piece in GRAVES.chunks(piece) {
+    for piece in GRAVES.chunks(bytes) {
         let fed = session.feed(piece, Moment::new(0).expect(rt, "a moment"));
         if fed.is_err() {
             expect_over(rt, &mut session);
