@@ -54,7 +54,7 @@ fed_stream-front due t frames s moment =
 
 -- ---- after the end
 
-told_stopped : (moment : ℕ) (t : Talk) (s : Stream) → t.stage ≡ Over → stream_told moment t s ≡ record { talk = t; events = [] }
+pub told_stopped : (moment : ℕ) (t : Talk) (s : Stream) → t.stage ≡ Over → stream_told moment t s ≡ record { talk = t; events = [] }
 unfolding stream_told
 told_stopped moment t s closed =
     ap (λ (x : Told). end_told_at x.talk.stage x s.end) (told_over moment t s.frames closed) ∙ stopped t.stage s.end closed

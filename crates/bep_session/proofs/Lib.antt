@@ -5,3 +5,4 @@ pub mod Told
 pub mod Feeds
 pub mod Longer
 pub mod Cut
+pub mod Whole
