@@ -1,5 +1,5 @@
 -- A piece that is cut in two.
-use Rattle.std.proofs.Common.{◌≡◌, ◌≢◌, ℕ, Bool, true, false, List, [], ◌∷◌, ◌++◌, Result, Ok, Err, refl, sym, ap, ◌∙◌, append_assoc, append-nil}
+use Rattle.std.proofs.Common.{◌≡◌, ◌≢◌, ℕ, Bool, List, [], ◌∷◌, ◌++◌, Result, Ok, Err, refl, sym, ap, ◌∙◌, append_assoc, append-nil}
 use Rattle.bep_frames.specs.declared.fault.FrameFault.{FrameFault}
 use Rattle.bep_frames.specs.declared.frame.Frame.{Frame}
 use Rattle.bep_frames.specs.State.{with_front}
@@ -10,11 +10,11 @@ use Rattle.bep_session.specs.declared.fault.SessionFault.TheVariants.{Frame as F
 use Rattle.bep_session.specs.declared.talk.Stage.{Stage}
 use Rattle.bep_session.specs.declared.talk.Stage.TheVariants.{Opening, Running, Over}
 use Rattle.bep_session.specs.declared.talk.Talk.{Talk}
-use Rattle.bep_session.specs.Events.{Told, end_told, end_told_at, frames_told, over, stream_told}
-use Rattle.bep_session.specs.Sessions.{Fed, View, ended_view, fed, fed_at, fed_stream, left_at, rest_of, still_due}
-use Rattle.bep_session.proofs.Feeds.{ended_live, fed_live, fed_over, left_live, left_over}
+use Rattle.bep_session.specs.Events.{Told, end_told_at, frames_told, over, stream_told}
+use Rattle.bep_session.specs.Sessions.{Fed, View, ended_view, fed, fed_stream, left_at, rest_of, still_due}
+use Rattle.bep_session.proofs.Feeds.{ended_live, fed_live, fed_over, left_over}
 use Rattle.bep_session.proofs.Longer.{later, still_due-append, stream_longer}
-use Rattle.bep_session.proofs.Told.{told_fault, told-append, told_after, told_over, told_rest}
+use Rattle.bep_session.proofs.Told.{told_fault, told-append, told_over}
 
 -- events in front
 abbrev pub events_first : List Event → Told → Told
@@ -110,7 +110,7 @@ cut_stream due t s b moment =
     let first = frames_told moment t s.frames in
     let bare_due = still_due due s.frames in
     let whole : fed_stream due t s moment ≡ fed_first first.events (fed_stream bare_due first.talk (ended s.end) moment) =
-        ap (λ (l : List Frame). fed_stream due t (record { frames = l; end = s.end }) moment) (sym (append-nil s.frames)) ∙ fed_stream-front due t s.frames (ended s.end) moment in
+    ap (λ (l : List Frame). fed_stream due t (record { frames = l; end = s.end }) moment) (sym (append-nil s.frames)) ∙ fed_stream-front due t s.frames (ended s.end) moment in
     ap (λ (x : Fed). then_fed x b moment) whole
     ∙ first_then first.events (fed_stream bare_due first.talk (ended s.end) moment) b moment
     ∙ ap (fed_first first.events) (bare_at first.talk.stage bare_due first.talk s.end b moment refl)

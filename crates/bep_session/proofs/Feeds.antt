@@ -1,5 +1,5 @@
 -- A piece that is fed to a session, by what its reader gives.
-use Rattle.std.proofs.Common.{◌≡◌, ◌≢◌, ℕ, Bool, true, false, List, [], ◌∷◌, ◌++◌, Option, None, Some, Result, Ok, Err, refl, sym, ap, subst, ◌∙◌, append-nil}
+use Rattle.std.proofs.Common.{◌≡◌, ◌≢◌, ℕ, Bool, List, [], ◌++◌, Option, None, Result, Ok, refl, sym, ap, ◌∙◌}
 use Rattle.bep_frames.specs.declared.fault.FrameFault.{FrameFault}
 use Rattle.bep_frames.specs.State.{State, grown, remaining, to_give, fed as reader_fed}
 use Rattle.bep_frames.specs.Stream.{Stream, ended, stream}
@@ -8,7 +8,7 @@ use Rattle.bep_session.specs.declared.talk.Stage.{Stage}
 use Rattle.bep_session.specs.declared.talk.Stage.TheVariants.{Opening, Running, Over}
 use Rattle.bep_session.specs.declared.talk.Talk.{Talk}
 use Rattle.bep_session.specs.Events.{Told, frames_told, over, stream_told}
-use Rattle.bep_session.specs.Progress.{GoesOn, IsCutShort, IsDrained, IsRead}
+use Rattle.bep_session.specs.Progress.{IsCutShort, IsDrained, IsRead}
 use Rattle.bep_session.specs.Sessions.{Fed, StopsShort, View, ended_view, fed, fed_at, fed_stream, left_at, rest_of, still_due}
 use Rattle.bep_session.proofs.Told.{told_rest}
 

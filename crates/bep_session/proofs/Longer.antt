@@ -1,8 +1,7 @@
 -- A stream with more bytes at its end.
-use Rattle.std.proofs.Common.{◌≡◌, ℕ, Bool, true, false, List, [], ◌∷◌, ◌++◌, Result, Ok, Err, refl, sym, ap, ◌∙◌, append_assoc}
+use Rattle.std.proofs.Common.{◌≡◌, ℕ, Bool, false, List, [], ◌∷◌, ◌++◌, Result, Ok, Err, refl, sym, ap, ◌∙◌}
 use Rattle.bep_frames.specs.declared.fault.FrameFault.{FrameFault}
 use Rattle.bep_frames.specs.declared.frame.Frame.{Frame}
-use Rattle.bep_frames.specs.Grammar.{Begins}
 use Rattle.bep_frames.specs.State.{with_front}
 use Rattle.bep_frames.specs.Stream.{Splits, Stream, ended, first_then, stream}
 use Rattle.bep_frames.proofs.Readings.{broken_longer, stream_broken, stream_splits, stream_whole, whole_longer}

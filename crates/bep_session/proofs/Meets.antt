@@ -1,5 +1,5 @@
 -- What a frame and a Response mean, by cases.
-use Rattle.std.proofs.Common.{◌≡◌, ◌≢◌, ℕ, ℤ, Bool, true, false, List, Some, refl, sym, ap, ◌∙◌}
+use Rattle.std.proofs.Common.{◌≡◌, ◌≢◌, ℕ, ℤ, Bool, true, false, List, refl, sym, ap, ◌∙◌}
 use Rattle.std.specs.Prelude.{if◌then◌else◌}
 use Rattle.bep_messages.specs.declared.response.Response.{Response}
 use Rattle.bep_frames.specs.declared.frame.Frame.{Frame}

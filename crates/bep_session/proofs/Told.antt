@@ -1,12 +1,12 @@
 -- Frames that are met one after the other.
-use Rattle.std.proofs.Common.{◌≡◌, ◌≢◌, ℕ, Bool, true, false, List, [], ◌∷◌, ◌++◌, Option, None, Some, Result, Ok, Err, refl, sym, ap, subst, ◌∙◌, append_assoc, append-nil}
+use Rattle.std.proofs.Common.{◌≡◌, ◌≢◌, ℕ, Bool, false, List, [], ◌∷◌, ◌++◌, Option, None, Some, Result, Ok, Err, refl, sym, ap, subst, ◌∙◌, append_assoc, append-nil}
 use Rattle.std.specs.Prelude.{OnErr}
 use Rattle.std.specs.Option.{option_to_list}
 use Rattle.bep_frames.specs.declared.fault.FrameFault.{FrameFault}
 use Rattle.bep_frames.specs.declared.fault.FrameFault.TheVariants.{OutOfMemory}
 use Rattle.bep_frames.specs.declared.frame.Frame.{Frame}
 use Rattle.bep_frames.specs.State.{State, Gives, fed, remaining, start, with_front}
-use Rattle.bep_frames.specs.Stream.{Stream, ended, first_then}
+use Rattle.bep_frames.specs.Stream.{Stream, ended}
 use Rattle.bep_frames.proofs.Lemmas.{front_push, given_fault, given_frame, given_none}
 use Rattle.bep_frames.proofs.Readings.{empty_more, stream_more}
 use Rattle.bep_session.specs.declared.event.Event.{Event}
@@ -16,7 +16,7 @@ use Rattle.bep_session.specs.declared.talk.Stage.{Stage}
 use Rattle.bep_session.specs.declared.talk.Stage.TheVariants.{Opening, Running, Over}
 use Rattle.bep_session.specs.declared.talk.Talk.{Talk}
 use Rattle.bep_session.specs.Events.{Met, Told, end_told_at, frames_told, met, met_then, over, silent, stream_told}
-use Rattle.bep_session.specs.Progress.{GoesOn, IsCutShort, IsDrained, IsRead}
+use Rattle.bep_session.specs.Progress.{IsCutShort, IsDrained, IsRead}
 use Rattle.bep_session.specs.Sessions.{still_due}
 use Rattle.bep_session.proofs.Meets.{met_over}
 

@@ -7,7 +7,7 @@ use Rattle.bep_session.specs.declared.event.Event.{Event}
 use Rattle.bep_session.specs.declared.talk.Stage.{Stage}
 use Rattle.bep_session.specs.declared.talk.Stage.TheVariants.{Opening, Running, Over}
 use Rattle.bep_session.specs.declared.talk.Talk.{Talk}
-use Rattle.bep_session.specs.Events.{Told, frames_told, over, stream_told}
+use Rattle.bep_session.specs.Events.{frames_told, over, stream_told}
 use Rattle.bep_session.specs.Ids.{opened}
 
 -- whether the Hello is due, the bytes after the last whole frame, and what the frames so far left behind

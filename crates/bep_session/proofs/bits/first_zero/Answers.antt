@@ -1,4 +1,4 @@
-use Rattle.std.proofs.Common.{ℕ, ◌+◌, ◌<◌, get_or, arith}
+use Rattle.std.proofs.Common.{arith}
 use Rattle.bep_session.proofs.Words.{zero_in, ones_before, ones_through}
 use Rattle.bep_session.proofs.bits.first_zero.Goals as goal
 

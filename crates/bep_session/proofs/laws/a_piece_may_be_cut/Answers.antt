@@ -1,5 +1,4 @@
-use Rattle.std.proofs.Common.{List, ap}
-use Rattle.bep_session.specs.declared.event.Event.{Event}
+use Rattle.std.proofs.Common.{ap}
 use Rattle.bep_session.specs.Sessions.{Fed}
 use Rattle.bep_session.proofs.Cut.{cut_fed}
 use Rattle.bep_session.proofs.laws.a_piece_may_be_cut.Goals as goal

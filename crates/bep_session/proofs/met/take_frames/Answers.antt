@@ -1,9 +1,9 @@
-use Rattle.std.proofs.Common.{Vec, Global, ◌≡◌, ◌≢◌, ◌∷◌, [], ◌++◌, List, length, Some, None, sym, ap, ◌∙◌, append-nil, arith, rules}
+use Rattle.std.proofs.Common.{Vec, Global, ◌≡◌, ◌++◌, List, ap, ◌∙◌, rules}
 use Rattle.std.specs.Option.{option_to_list}
 use Rattle.bep_frames.proofs.Lemmas.{given_shorter}
 use Rattle.bep_session.specs.declared.event.Event.{Event}
 use Rattle.bep_session.specs.declared.talk.Stage.TheVariants.{Over}
-use Rattle.bep_session.proofs.Told.{begins, goes_on, cut_here, cut_more, on_err, pushed_none, pushed_some, reads_none, reads_over, reads_fault}
+use Rattle.bep_session.proofs.Told.{begins, goes_on, cut_more, on_err, pushed_none, pushed_some, reads_none, reads_over, reads_fault}
 use Rattle.bep_session.proofs.met.take_frames.Goals as goal
 use Rattle.bep_session.proofs.met.take_frames.Goals.{in-Some-meet+in_ok-push-in-Ok, in_default-meet}
 

@@ -1,4 +1,4 @@
-use Rattle.std.proofs.Common.{ℕ, length}
+use Rattle.std.proofs.Common.{length}
 use Rattle.std.specs.Prelude.{◌≢◌}
 use Rattle.bep_session.specs.declared.talk.Stage.TheVariants.{Over}
 use Rattle.bep_session.proofs.Told.{IsMet}

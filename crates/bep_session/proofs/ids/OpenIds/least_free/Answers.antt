@@ -1,4 +1,4 @@
-use Rattle.std.proofs.Common.{◌≡◌, ℕ, ◌+◌, ◌≤◌, ℤ, pos, ◌+ℤ◌, List, length, IsNone, to_z, of_z, w32, refl, sym, ap, subst, ◌∙◌, arith}
+use Rattle.std.proofs.Common.{◌≡◌, ◌+◌, ◌≤◌, ℤ, pos, ◌+ℤ◌, List, length, IsNone, to_z, of_z, w32, refl, sym, subst, arith}
 use Rattle.std.proofs.lemmas.Int.{ints}
 use Rattle.bep_session.specs.Ids.{IsLeastFree, max_asks}
 use Rattle.bep_session.proofs.Asks.{all_open, least}

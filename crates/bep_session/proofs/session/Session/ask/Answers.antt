@@ -1,4 +1,4 @@
-use Rattle.std.proofs.Common.{◌≡◌, ℤ, to_z, of_z, w32, false, sym, ap, ◌∙◌, rules}
+use Rattle.std.proofs.Common.{◌≡◌, to_z, of_z, w32, ap, ◌∙◌, rules}
 use Rattle.bep_session.specs.Ids.{is_open}
 use Rattle.bep_session.proofs.Asks.{least_is_free}
 use Rattle.bep_session.proofs.session.Session.ask.Goals as goal

@@ -2,7 +2,6 @@ use Rattle.std.proofs.Common.{◌≡◌, ℕ, ◌<◌, ℤ, List, pos, to_z, of_
 use Rattle.std.specs.Int.Signed.{lt_z}
 use Rattle.bep_session.specs.Ids.{can_book, is_open, max_asks, opened}
 use Rattle.bep_session.specs.Sessions.{View, with_open}
-use Rattle.bep_session.specs.declared.talk.Talk.{Talk}
 use Rattle.bep_session.proofs.Asks.{bookable}
 use Rattle.bep_session.proofs.Feeds.{view_of}
 use Rattle.bep_session.proofs.Told.{on_err}

@@ -1,11 +1,10 @@
-use Rattle.std.proofs.Common.{false, ◌≡◌, ◌≢◌, ◌++◌, [], List, ℕ, sym, ap, subst, ◌∙◌, rules}
+use Rattle.std.proofs.Common.{false, ◌≡◌, ◌≢◌, [], List, ℕ, sym, ap, subst, ◌∙◌, rules}
 use Rattle.std.proofs.lemmas.List.{nil_from_length}
 use Rattle.bep_frames.specs.State.{State}
-use Rattle.bep_session.specs.declared.event.Event.{Event}
 use Rattle.bep_session.specs.declared.talk.Stage.TheVariants.{Over}
 use Rattle.bep_session.specs.declared.talk.Talk.{Talk}
 use Rattle.bep_session.specs.Progress.{IsDrained}
-use Rattle.bep_session.specs.Sessions.{Fed, View, ended_view, fed}
+use Rattle.bep_session.specs.Sessions.{Fed, View, fed}
 use Rattle.bep_session.proofs.Feeds.{fed_over, nothing_fed, read_events, read_on, read_over, view_of}
 use Rattle.bep_session.proofs.Told.{start_drained}
 use Rattle.bep_session.proofs.session.Session.feed.Goals as goal

@@ -1,5 +1,4 @@
-use Rattle.std.proofs.Common.{◌≡◌, true, Ok, refl, sym, ap, subst}
-use Rattle.bep_frames.specs.State.{State, fed, remaining, start}
+use Rattle.std.proofs.Common.{true, sym, subst}
 use Rattle.bep_session.specs.Progress.{IsDrained}
 use Rattle.bep_session.proofs.Told.{start_drained}
 use Rattle.bep_session.proofs.session.Session.new.Goals as goal

@@ -1,4 +1,4 @@
-use Rattle.std.proofs.Common.{◌≡◌, ℤ, to_z, of_z, w32, sym, ap, ◌∙◌, rules}
+use Rattle.std.proofs.Common.{◌≡◌, to_z, of_z, w32, sym, ap, ◌∙◌, rules}
 use Rattle.bep_session.specs.Ids.{closed, is_open}
 use Rattle.bep_session.proofs.Meets.{answered_open, answered_unknown}
 use Rattle.bep_session.proofs.talk.Talk.answer.Goals as goal

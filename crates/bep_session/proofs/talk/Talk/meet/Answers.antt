@@ -1,5 +1,4 @@
 use Rattle.std.proofs.Common.{◌≡◌, ℤ, to_z, of_z, w32, sym, ap, ◌∙◌, rules}
-use Rattle.bep_frames.specs.declared.frame.Frame.{Frame}
 use Rattle.bep_session.specs.declared.event.Event.TheVariants.{Skipped}
 use Rattle.bep_session.specs.Events.{framed, tells}
 use Rattle.bep_session.proofs.Meets.{met_live}
