@@ -6,3 +6,4 @@ pub mod Feeds
 pub mod Longer
 pub mod Cut
 pub mod Whole
+pub mod Open

@@ -1,6 +1,9 @@
 //! Laws: functions without parameters that do nothing, of which the contract states what the definitions of sessions imply.
-ghost use Rattle.std.specs.Prelude.{◌≡◌, ℕ, ℤ, List, [], ◌++◌, Bool, true, false, not, ◌||◌, ◌&&◌};
+ghost use Rattle.std.specs.Prelude.{◌≡◌, ℕ, ℤ, List, [], ◌++◌, not, ◌||◌, ◌&&◌};
+ghost use Rattle.std.specs.List.{IsDistinct};
+ghost use Rattle.std.specs.Ordering.{eq_by_cmp, int_cmp};
 ghost use Rattle.bep_session.specs.declared.talk.Stage.TheVariants.{Over};
+ghost use Rattle.bep_session.specs.Ids.{closed, is_open, opened};
 ghost use Rattle.bep_session.specs.Runs.{Act, run, run_told};
 ghost use Rattle.bep_session.specs.Sessions.{View, begun, fed};
 
@@ -23,4 +26,11 @@ pub fn a_piece_may_be_cut()
 pub fn nothing_after_the_end()
     ensures { (v : View) (piece : List ℕ) (moment : ℕ) →
         v.talk.stage ≡ Over → fed v piece moment ≡ record { session = v; events = [] } }
+{}
+
+/// The ids that are open after one more was opened are that one and those before; after one was freed, those before without it.
+pub fn ids_that_are_open()
+    ensures opened { (ids : List ℤ) (id q : ℤ) → is_open (opened ids id) q ≡ (eq_by_cmp int_cmp q id || is_open ids q) }
+    ensures closed { (ids : List ℤ) (id q : ℤ) → IsDistinct (eq_by_cmp int_cmp) ids →
+        is_open (closed ids id) q ≡ (not (eq_by_cmp int_cmp q id) && is_open ids q) }
 {}

@@ -56,9 +56,9 @@ impl Session {
     /// Takes the next bytes of the peer's stream, received at this moment, and returns the events of the messages that are then
     /// whole, in order. After the event `Ended` or `PeerClosed` it returns none.
     ///
-    /// Returns `Err` if allocation fails, never for a piece without bytes nor after the end; then the session has ended, and
-    /// which of the piece's first messages were still met shows in the open ids alone. O(n) in the bytes, and O(log m) for
-    /// each Response where m ids are open.
+    /// Returns `Err` if allocation fails, never for a piece without bytes nor after the end; then the session has ended, and the
+    /// events of the piece are lost. O(n) in the bytes, and O(log m) for each Response where m ids are open; what the messages
+    /// hold is moved into the events.
     pub fn feed(&mut self, piece: &[u8], moment: Moment) -> Result<Vec<Event>, AllocError>
         ensures events { IfOk result (λ events. events.items ≡ (fed self.old piece.now moment).events) }
         ensures session { OnOk result (self.new ≡ (fed self.old piece.now moment).session) }
@@ -102,6 +102,7 @@ impl Session {
         ensures long { IsErrOf result WriteFault.TooLong → max_message_bytes < length (body_of message.now) }
         ensures err { OnErr result (out.new.items ≡ out.old.items) }
         ensures unchanged { OnErr result (self.new ≡ self.old) }
+        ensures capacity { vec_capacity out.old ≤ vec_capacity out.new }
         // Memory is missing only where the room for the frame was.
         ensures full { IsErrOf result WriteFault.OutOfMemory → vec_capacity out.old < vec_len out.old + length (message_frame message.now) }
     {
