@@ -7,3 +7,4 @@ pub mod Longer
 pub mod Cut
 pub mod Whole
 pub mod Open
+pub mod First
