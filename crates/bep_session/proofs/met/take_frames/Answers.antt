@@ -1,0 +1,79 @@
+use Rattle.std.proofs.Common.{Vec, Global, ◌≡◌, ◌++◌, List, ap, ◌∙◌, rules}
+use Rattle.std.specs.Option.{option_to_list}
+use Rattle.bep_frames.proofs.Lemmas.{given_shorter}
+use Rattle.bep_session.specs.declared.event.Event.{Event}
+use Rattle.bep_session.specs.declared.talk.Stage.TheVariants.{Over}
+use Rattle.bep_session.proofs.Told.{begins, goes_on, cut_more, on_err, pushed_none, pushed_some, reads_none, reads_over, reads_fault}
+use Rattle.bep_session.proofs.met.take_frames.Goals as goal
+use Rattle.bep_session.proofs.met.take_frames.Goals.{in-Some-meet+in_ok-push-in-Ok, in_default-meet}
+
+abbrev items : Vec Event Global → List Event
+items events = events.items
+
+pub loop-answer-init : goal.loop-answer-init
+loop-answer-init c = record {
+  met = begins c.args.moment c.args.reader.now c.args.talk.now c.args.events.now.items;
+  live = c.requires;
+}
+
+pub loop-answer-smaller : goal.loop-answer-smaller
+loop-answer-smaller c =
+    let gives = rw c.in-Ok.is at c.in-Some.ensures in
+    given_shorter c.loop-answer.reader c.next.new.self c.in-Ok.frame gives
+
+pub loop-answer-preserved : goal.loop-answer-preserved
+loop-answer-preserved c =
+    let gives = rw c.in-Ok.is at c.in-Some.ensures in
+    let loop = c.loop-answer in
+    let pushed : c.match-meet.events.items ≡ loop.events.items ++ option_to_list c.meet.result = elim c.match-meet.branch [
+      | in-Some-meet+in_ok-push-in-Ok w ↦ pushed_some loop.events.items c.match-meet.events.items w.in-Some-meet.event c.meet.result
+          (ap items w.events-is ∙ w.in_ok-push-in-Ok.ensures.items) w.in-Some-meet.is
+      | in_default-meet w ↦ pushed_none loop.events.items c.match-meet.events.items c.meet.result (ap items w.events-is) w.in_default-meet.is
+    ] in
+    record {
+      met = goes_on c.args.moment c.args.reader.now c.args.talk.now c.args.events.now.items
+          loop.reader c.next.new.self loop.talk c.meet.new.self loop.events.items c.match-meet.events.items c.in-Ok.frame c.meet.result
+          loop.invariant.met gives c.meet.ensures pushed;
+      live = search rules;
+    }
+
+pub returns-then-eq-clause-ok : goal.returns-then-eq-clause-ok
+returns-then-eq-clause-ok c =
+    let gives = rw c.in-Ok.is at c.in-Some.ensures in
+    let loop = c.loop-answer in
+    let pushed : c.match-meet.events.items ≡ loop.events.items ++ option_to_list c.meet.result = elim c.match-meet.branch [
+      | in-Some-meet+in_ok-push-in-Ok w ↦ pushed_some loop.events.items c.match-meet.events.items w.in-Some-meet.event c.meet.result
+          (ap items w.events-is ∙ w.in_ok-push-in-Ok.ensures.items) w.in-Some-meet.is
+      | in_default-meet w ↦ pushed_none loop.events.items c.match-meet.events.items c.meet.result (ap items w.events-is) w.in_default-meet.is
+    ] in
+    let closed : c.meet.new.self.stage ≡ Over = search rules in
+    reads_over c.args.moment c.args.reader.now c.args.talk.now c.args.events.now.items c.next.new.self c.meet.new.self c.match-meet.events.items
+    (goes_on c.args.moment c.args.reader.now c.args.talk.now c.args.events.now.items
+    loop.reader c.next.new.self loop.talk c.meet.new.self loop.events.items c.match-meet.events.items c.in-Ok.frame c.meet.result
+    loop.invariant.met gives c.meet.ensures pushed)
+    closed
+
+pub returns-in_err-push-in-Ok-clause-err : goal.returns-in_err-push-in-Ok-clause-err
+returns-in_err-push-in-Ok-clause-err c =
+    let gives = rw c.in-Ok.is at c.in-Some.ensures in
+    let loop = c.loop-answer in
+    on_err c.from_residual.result _
+    (cut_more c.args.moment c.args.reader.now c.args.talk.now c.args.events.now.items
+    loop.reader c.next.new.self loop.talk c.meet.new.self loop.events.items loop.events.items c.in-Ok.frame c.meet.result
+    loop.invariant.met gives c.meet.ensures)
+
+pub returns-in-Err : goal.returns-in-Err
+returns-in-Err c =
+    let gives = rw c.in-Err.is at c.in-Some.ensures in
+    let loop = c.loop-answer in
+    record {
+      ok = reads_fault c.args.moment c.args.reader.now c.args.talk.now c.args.events.now.items loop.reader loop.talk loop.events.items c.next.new.self
+          c.in-Err.fault c.push-in-Err.new.self.items loop.invariant.met loop.invariant.live gives (search rules) c.in_ok-push-in-Err.ensures.items;
+      err = tt;
+    }
+
+pub returns-clause-ok : goal.returns-clause-ok
+returns-clause-ok c =
+    let loop = c.loop-answer in
+    reads_none c.args.moment c.args.reader.now c.args.talk.now c.args.events.now.items loop.reader loop.talk loop.events.items c.next.new.self
+    loop.invariant.met c.in_default.ensures

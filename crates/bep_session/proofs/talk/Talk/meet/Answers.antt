@@ -1,0 +1,23 @@
+use Rattle.std.proofs.Common.{◌≡◌, ℤ, to_z, of_z, w32, sym, ap, ◌∙◌, rules}
+use Rattle.bep_session.specs.declared.event.Event.TheVariants.{Skipped}
+use Rattle.bep_session.specs.Events.{framed, tells}
+use Rattle.bep_session.proofs.Meets.{met_live}
+use Rattle.bep_session.proofs.talk.Talk.meet.Goals as goal
+
+pub returns-in-Hello : goal.returns-in-Hello
+returns-in-Hello c =
+    let t = c.args.self.now in
+    met_live c.args.moment t c.args.frame _ c.requires (sym (ap (framed t.stage (record t { received = c.args.moment })) c.in-Hello.is))
+
+pub returns-in-Message : goal.returns-in-Message
+returns-in-Message c =
+    let t = c.args.self.now in
+    met_live c.args.moment t c.args.frame _ c.requires (c.hear.ensures ∙ sym (ap (framed t.stage (record t { received = c.args.moment })) c.in-Message.is))
+
+pub returns-in-Unknown : goal.returns-in-Unknown
+returns-in-Unknown c =
+    let t = c.args.self.now in
+    let back : to_z w32 (of_z w32 c.in-Unknown.kind) ≡ c.in-Unknown.kind = search rules in
+    met_live c.args.moment t c.args.frame _ c.requires
+    (ap (λ (kind : ℤ). tells (record t { received = c.args.moment }) (Skipped kind)) back
+    ∙ sym (ap (framed t.stage (record t { received = c.args.moment })) c.in-Unknown.is))

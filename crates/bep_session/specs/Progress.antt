@@ -1,0 +1,34 @@
+-- How far the frames of a piece were met (own rule).
+use Rattle.std.specs.Prelude.{◌≡◌, ◌≢◌, ℕ, Bool, List, [], ◌++◌, None, Ok}
+use Rattle.bep_frames.specs.declared.frame.Frame.{Frame}
+use Rattle.bep_frames.specs.State.{State, fed, remaining}
+use Rattle.bep_frames.specs.Stream.{Stream, ended}
+use Rattle.bep_session.specs.declared.event.Event.{Event}
+use Rattle.bep_session.specs.declared.talk.Stage.TheVariants.{Over}
+use Rattle.bep_session.specs.declared.talk.Talk.{Talk}
+use Rattle.bep_session.specs.Events.{frames_told, over, stream_told}
+use Rattle.bep_session.specs.Sessions.{still_due}
+
+-- a reader has given all frames, and shows no fault
+pub record IsDrained (reader : State) : Type 0 where
+  pub fault : reader.fault ≡ None
+  pub nothing : remaining (fed reader []) ≡ ended (Ok reader.rest)
+
+-- where the session goes on, its reader has given the whole stream
+pub record GoesOn (due : Bool) (s : Stream) (reader : State) : Type 0 where
+  pub drained : IsDrained reader
+  pub end : s.end ≡ Ok reader.rest
+  pub due_is : reader.hello ≡ still_due due s.frames
+
+-- all frames of a stream were met
+pub record IsRead (moment : ℕ) (due : Bool) (s : Stream) (t u : Talk) (before after : List Event) (reader : State) : Type 0 where
+  pub talk : u ≡ (stream_told moment t s).talk
+  pub events : after ≡ before ++ (stream_told moment t s).events
+  pub goes_on : u.stage ≢ Over → GoesOn due s reader
+
+-- some of its first frames were
+pub record IsCutShort (moment : ℕ) (s : Stream) (t u : Talk) : Type 0 where
+  pub some : List Frame
+  pub others : List Frame
+  pub split : s.frames ≡ some ++ others
+  pub talk : over u ≡ over (frames_told moment t some).talk

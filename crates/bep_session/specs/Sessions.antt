@@ -1,0 +1,71 @@
+-- What a session is, and what its calls do to it (own rule).
+use Rattle.std.specs.Prelude.{◌≡◌, ℕ, ℤ, List, [], ◌∷◌, ◌++◌, Bool, true, false, Result, Ok, Err}
+use Rattle.bep_frames.specs.declared.fault.FrameFault.{FrameFault}
+use Rattle.bep_frames.specs.declared.frame.Frame.{Frame}
+use Rattle.bep_frames.specs.Stream.{Stream, stream}
+use Rattle.bep_session.specs.declared.event.Event.{Event}
+use Rattle.bep_session.specs.declared.talk.Stage.{Stage}
+use Rattle.bep_session.specs.declared.talk.Stage.TheVariants.{Opening, Running, Over}
+use Rattle.bep_session.specs.declared.talk.Talk.{Talk}
+use Rattle.bep_session.specs.Events.{frames_told, over, stream_told}
+use Rattle.bep_session.specs.Ids.{opened}
+
+-- whether the Hello is due, the bytes after the last whole frame, and what the frames so far left behind
+pub record View : Type 0 where
+  pub hello : Bool
+  pub rest : List ℕ
+  pub talk : Talk
+
+-- nothing was fed, said or asked yet
+abbrev pub begun : ℕ → View
+begun moment = record { hello = true; rest = []; talk = record { stage = Opening; asks = []; said = moment; received = moment } }
+
+-- one that has ended keeps no bytes
+abbrev pub ended_view : Talk → View
+ended_view t = record { hello = false; rest = []; talk = t }
+
+abbrev pub still_due : Bool → List Frame → Bool
+still_due due [] = due
+still_due due (f ∷ frames) = false
+
+abbrev pub rest_of : Result (List ℕ) FrameFault → List ℕ
+rest_of (Ok rest) = rest
+rest_of (Err e) = []
+
+abbrev pub left_at : Stage → Bool → Stream → Talk → View
+left_at Opening due s t = record { hello = still_due due s.frames; rest = rest_of s.end; talk = t }
+left_at Running due s t = record { hello = still_due due s.frames; rest = rest_of s.end; talk = t }
+left_at Over due s t = ended_view t
+
+-- a session after a piece came, and the events that came of it
+pub record Fed : Type 0 where
+  pub session : View
+  pub events : List Event
+
+-- the frames of a stream, where the Hello is due or not
+unfoldable pub fed_stream : Bool → Talk → Stream → ℕ → Fed
+fed_stream due t s moment =
+    let told = stream_told moment t s in
+    record { session = left_at told.talk.stage due s told.talk; events = told.events }
+
+abbrev pub fed_at : Stage → View → List ℕ → ℕ → Fed
+fed_at Opening v piece moment = fed_stream v.hello v.talk (stream v.hello (v.rest ++ piece)) moment
+fed_at Running v piece moment = fed_stream v.hello v.talk (stream v.hello (v.rest ++ piece)) moment
+fed_at Over v piece moment = record { session = v; events = [] }
+
+unfoldable pub fed : View → List ℕ → ℕ → Fed
+fed v piece moment = fed_at v.talk.stage v piece moment
+
+-- Memory was out somewhere in a piece: some of its first frames were met, and the session has ended.
+pub record StopsShort (old : View) (piece : List ℕ) (moment : ℕ) (new : View) : Type 0 where
+  pub some : List Frame
+  pub others : List Frame
+  pub split : (stream old.hello (old.rest ++ piece)).frames ≡ some ++ others
+  pub session : new ≡ ended_view (over (frames_told moment old.talk some).talk)
+
+-- after a message was said; after an id was opened
+abbrev pub said_at : View → ℕ → View
+said_at v moment = record v { talk = record v.talk { said = moment } }
+
+abbrev pub with_open : View → ℤ → View
+with_open v id = record v { talk = record v.talk { asks = opened v.talk.asks id } }

@@ -1,0 +1,162 @@
+ghost use Rattle.std.specs.Prelude.{◌≡◌, ◌≢◌, ◌≤◌, ◌<◌, ◌+◌, ◌++◌, ◌↔◌, [], None, true, length, vec_len, vec_capacity, if◌then◌else◌, IsErrOf, IsOk, IfOk, OnOk, OnErr};
+ghost use Rattle.bep_frames.specs.Grammar.{max_message_bytes};
+ghost use Rattle.bep_frames.specs.Written.{body_of, message_frame};
+ghost use Rattle.bep_session.specs.declared.talk.Stage.TheVariants.{Over};
+ghost use Rattle.bep_session.specs.Ids.{IsLeastFree, can_book, max_asks};
+ghost use Rattle.bep_session.specs.Sessions.{StopsShort, begun, fed, said_at, with_open};
+ghost use Rattle.bep_session.specs.Times.{tick_at};
+
+use crate::event::Event;
+use crate::fault::AskRefusal;
+use crate::ids::MAX_ASKS;
+use crate::met::take_piece;
+use crate::talk::{Stage, Talk};
+use crate::times::{Tick, ping_due, timed_out};
+use bep_frames::{FrameReader, Message, WriteFault, write_frame};
+use std::alloc::{AllocError, Global};
+use std::marker::Model;
+use sync_version::Moment;
+
+/// One connection, as a value: the peer's bytes go in, events come out. Contracts see whether the Hello is due, the bytes after
+/// the last whole frame, which ids are open, the moments of the last message said and the last frame received, and whether the
+/// peer's ClusterConfig is due or the session has ended.
+///
+/// Memory: that of a [`FrameReader`], and a few bytes for each open id.
+#[derive(Debug, Drop)]
+pub struct Session {
+    alloc: Global,
+    reader: FrameReader,
+    talk: Talk,
+}
+
+impl Model for Session {
+    ghost use Rattle.bep_session.specs.Sessions.{View};
+
+    ghost Value = { View };
+
+    ghost use Rattle.bep_session.specs.Progress.{IsDrained};
+
+    ghost view = { λ s. record { hello = s.reader.hello; rest = s.reader.rest; talk = s.talk } };
+
+    ghost invariant = { λ s. IsDrained s.reader };
+}
+
+impl Session {
+    /// A session of which nothing was fed, said or asked yet. Time counts from this moment. Does not allocate.
+    pub fn new(alloc: Global, moment: Moment) -> Session
+        ensures { result ≡ begun moment }
+    {
+        Session {
+            alloc,
+            reader: FrameReader::new(alloc),
+            talk: Talk::new(alloc, moment),
+        }
+    }
+
+    /// Takes the next bytes of the peer's stream, received at this moment, and returns the events of the messages that are then
+    /// whole, in order. After the event `Ended` or `PeerClosed` it returns none.
+    ///
+    /// Returns `Err` if allocation fails, never for a piece without bytes nor after the end; then the session has ended, and the
+    /// events of the piece are lost. O(n) in the bytes, and O(log m) for each Response where m ids are open; what the messages
+    /// hold is moved into the events.
+    pub fn feed(&mut self, piece: &[u8], moment: Moment) -> Result<Vec<Event>, AllocError>
+        ensures events { IfOk result (λ events. events.items ≡ (fed self.old piece.now moment).events) }
+        ensures session { OnOk result (self.new ≡ (fed self.old piece.now moment).session) }
+        ensures err { OnErr result (StopsShort self.old piece.now moment self.new) }
+        ensures over { self.old.talk.stage ≡ Over → IsOk result }
+        ensures nothing { piece.now ≡ [] → IsOk result }
+    {
+        let mut events = Vec::new(self.alloc);
+        if self.talk.stage == Stage::Over || piece.is_empty() {
+            return Ok(events);
+        }
+        if let Err(error) = take_piece(
+            &mut self.reader,
+            &mut self.talk,
+            piece,
+            moment,
+            &mut events,
+        ) {
+            self.talk.stage = Stage::Over;
+            self.reader = FrameReader::after_hello(self.alloc);
+            return Err(error);
+        }
+        if self.talk.stage == Stage::Over {
+            self.reader = FrameReader::after_hello(self.alloc);
+        }
+        Ok(events)
+    }
+
+    /// Appends the frame of a message to `out`, and counts it as said at this moment.
+    ///
+    /// Fails as [`write_frame`] does, with `TooLong` or `OutOfMemory`; then nothing has changed. O(n) in the bytes of the frame.
+    pub fn say(
+        &mut self,
+        message: &Message,
+        out: &mut Vec<u8>,
+        moment: Moment,
+    ) -> Result<(), WriteFault>
+        ensures ok { OnOk result (out.new.items ≡ out.old.items ++ message_frame message.now) }
+        ensures said { OnOk result (self.new ≡ said_at self.old moment) }
+        ensures short { OnOk result (length (body_of message.now) ≤ max_message_bytes) }
+        ensures long { IsErrOf result WriteFault.TooLong → max_message_bytes < length (body_of message.now) }
+        ensures err { OnErr result (out.new.items ≡ out.old.items) }
+        ensures unchanged { OnErr result (self.new ≡ self.old) }
+        ensures capacity { vec_capacity out.old ≤ vec_capacity out.new }
+        // Memory is missing only where the room for the frame was.
+        ensures full { IsErrOf result WriteFault.OutOfMemory → vec_capacity out.old < vec_len out.old + length (message_frame message.now) }
+    {
+        write_frame(message, out)?;
+        self.talk.said = moment;
+        Ok(())
+    }
+
+    /// Opens the least positive id that isn't open, for a Request that the caller then says.
+    ///
+    /// Fails with `TooManyAsks` exactly where [`MAX_ASKS`] ids are open, or with `OutOfMemory`; then nothing has changed. O(log n)
+    /// for n open ids.
+    pub fn ask(&mut self) -> Result<i32, AskRefusal>
+        ensures least { IfOk result (IsLeastFree self.old.talk.asks) }
+        ensures opened { IfOk result (λ id. self.new ≡ with_open self.old id) }
+        ensures room { IsOk result → length self.old.talk.asks < max_asks }
+        ensures many { IsErrOf result AskRefusal.TooManyAsks ↔ (max_asks ≤ length self.old.talk.asks) }
+        ensures err { OnErr result (self.new ≡ self.old) }
+    {
+        let Some(id) = self.talk.asks.least_free() else {
+            return Err(AskRefusal::TooManyAsks);
+        };
+        self.talk.asks.insert(id)?;
+        Ok(id)
+    }
+
+    /// Opens an id that was chosen elsewhere, and returns whether it could: it is positive, wasn't open, and fewer than
+    /// [`MAX_ASKS`] ids were.
+    ///
+    /// Returns `Err` if allocation fails, never where it couldn't; then nothing has changed. O(log n) for n open ids.
+    pub fn book(&mut self, id: i32) -> Result<bool, AllocError>
+        ensures booked { IfOk result (λ booked. booked ≡ can_book self.old.talk.asks id) }
+        ensures opened { IfOk result (λ booked. self.new ≡ (if booked then with_open self.old id else self.old)) }
+        ensures only { OnErr result (can_book self.old.talk.asks id ≡ true) }
+        ensures err { OnErr result (self.new ≡ self.old) }
+    {
+        if id < 1 || self.talk.asks.len() >= MAX_ASKS || self.talk.asks.contains(id) {
+            return Ok(false);
+        }
+        self.talk.asks.insert(id)?;
+        Ok(true)
+    }
+
+    /// What is due at a moment: the end of the connection where nothing was received for 300 seconds, else a Ping where nothing was
+    /// said for 90. O(1).
+    pub fn tick(&self, moment: Moment) -> Tick
+        ensures { result ≡ tick_at self.now.talk.received self.now.talk.said moment }
+    {
+        if timed_out(self.talk.received, moment) {
+            Tick::TimedOut
+        } else if ping_due(self.talk.said, moment) {
+            Tick::PingDue
+        } else {
+            Tick::Nothing
+        }
+    }
+}

@@ -1,0 +1,85 @@
+use crate::tests::{PING, at, expect_events, running, session};
+use crate::{Session, Tick, ping_due, timed_out};
+use bep_frames::Message;
+use bep_messages::Ping;
+use std::process::Abort;
+use std::test::Fail;
+
+fn expect_ticks(rt: &impl Abort, session: &Session, expected: &[(u64, Tick)]) {
+    for (seconds, tick) in expected {
+        assert_eq!(rt; session.tick(at(rt, *seconds)), *tick);
+    }
+}
+
+#[test]
+fn counts_from_the_start(rt: HostRuntime) -> Result<(), Fail> {
+    let session = session(&rt);
+    expect_ticks(
+        &rt,
+        &session,
+        &[
+            (0, Tick::Nothing),
+            (89, Tick::Nothing),
+            (90, Tick::PingDue),
+            (299, Tick::PingDue),
+            (300, Tick::TimedOut),
+        ],
+    );
+    Ok(())
+}
+
+#[test]
+fn counts_from_the_last_message_said(rt: HostRuntime) -> Result<(), Fail> {
+    let mut session = session(&rt);
+    let mut out = Vec::new(rt.alloc());
+    let ping = Message::Ping(Ping {});
+    if session.say(&ping, &mut out, at(&rt, 250)).is_err() {
+        assert!(rt; out.is_empty());
+        assert_eq!(rt; session.tick(at(&rt, 250)), Tick::PingDue);
+        session
+            .say(&ping, &mut out, at(&rt, 250))
+            .expect(&rt, "room");
+    }
+    assert_eq!(rt; out.as_slice(), PING.as_slice());
+    expect_ticks(
+        &rt,
+        &session,
+        // A moment before the last one is 0 seconds after it.
+        &[
+            (200, Tick::Nothing),
+            (299, Tick::Nothing),
+            (300, Tick::TimedOut),
+        ],
+    );
+    Ok(())
+}
+
+#[test]
+fn counts_from_the_last_frame_received(rt: HostRuntime) -> Result<(), Fail> {
+    let mut session = running(&rt);
+    // Half a Ping, and the other half.
+    let (front, after) = PING.split_at(4);
+    let events = session.feed(front, at(&rt, 100))?;
+    assert!(rt; events.is_empty());
+    assert_eq!(rt; session.tick(at(&rt, 300)), Tick::TimedOut);
+    let events = session.feed(after, at(&rt, 200))?;
+    assert!(rt; events.is_empty());
+    expect_ticks(
+        &rt,
+        &session,
+        &[(499, Tick::PingDue), (500, Tick::TimedOut)],
+    );
+    expect_events(&rt, &mut session, &[], &[]);
+    Ok(())
+}
+
+#[test]
+fn seconds_since_two_moments(rt: HostRuntime) -> Result<(), Fail> {
+    assert!(rt; !ping_due(at(&rt, 10), at(&rt, 99)));
+    assert!(rt; ping_due(at(&rt, 10), at(&rt, 100)));
+    assert!(rt; !ping_due(at(&rt, 100), at(&rt, 10)));
+    assert!(rt; !timed_out(at(&rt, 10), at(&rt, 309)));
+    assert!(rt; timed_out(at(&rt, 10), at(&rt, 310)));
+    assert!(rt; !timed_out(at(&rt, 1_000), at(&rt, 10)));
+    Ok(())
+}
