@@ -1,0 +1,37 @@
+-- The place of the token that all others are cut from.
+use Rattle.std.specs.Prelude.{◌≡◌, ℕ, Option, Some, None, [], ◌∷◌, slice_index, length}
+use mathlib.Core.Option.{some}
+use lib.ListN.{get_elem?}
+use Rattle.atomic_table.specs.Table.{State, Me}
+use Rattle.crossbeam_channel.specs.Claims.{Pass as Token, view}
+use Rattle.folder_calls.specs.declared.history.History.{History}
+use Rattle.folder_shared.specs.declared.known.Known.{Known}
+use Rattle.folder_shared.specs.declared.known.Stage.TheVariants.{Idle}
+use Rattle.folder_shared.specs.declared.mother.Origin.{Origin}
+use Rattle.folder_shared.specs.declared.shared.Mother.{Mother}
+use Rattle.folder_shared.specs.declared.mother.Loan.{Loan}
+use Rattle.folder_shared.specs.Rule.{IsSame}
+
+module _ {T V : Type 0} where
+  -- where the word is 0, the value is at home and fits; where it is 2, no value was put there yet
+  abbrev pub Guarded : (T → Type 0) → State (Option T) V → Type 0
+  Guarded fits s = (length s.words ≡ 1) × (slice_index s.words 0 ≡ 0 → (value : T) × (get_elem? s.homes 0 ≡ some (some (Some value))) × fits value) × (slice_index s.words 0 ≡ 2 → get_elem? s.homes 0 ≡ some (some None))
+
+  abbrev pub Seized : (T → Type 0) → Me (Option T) V → Type 0
+  Seized fits m = (value : T) × (m.1 ≡ (0, Some value) ∷ []) × fits value
+
+  abbrev pub HasOnly : Me (Option T) V → Type 0
+  HasOnly m = (held : Option T) × (m.1 ≡ (0, held) ∷ [])
+
+module _ {C : Type 0} where
+  -- a token of that channel which holds nothing and claims nothing
+  pub record IsMotherOf (o : Origin C) (t : Token History Known) : Type 0 where
+    pub table : t.table_id ≡ o.seat.value.table_id
+    pub of : t.me.0.of ≡ o.seat.value.me.0.of
+    pub free : t.me.1 ≡ []
+    pub idle : (view t).stage ≡ Idle
+    pub same : IsSame (view t).memo o.first.value
+    pub none : (view t).claims ≡ []
+
+  abbrev pub IsLoanOf : Mother C → Loan C → Type 0
+  IsLoanOf m l = (l.seat.table_id ≡ m.table.shared.table_id) × HasOnly l.seat.me

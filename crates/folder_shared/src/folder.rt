@@ -1,0 +1,136 @@
+//! Opening and closing a shared folder, and giving out its passes.
+ghost use Rattle.std.specs.Prelude.{◌≡◌, ◌<◌, ◌≤◌, ◌^◌, [], IfErr, IfOk, length, map, vec_len};
+ghost use Rattle.std.specs.FinMap.{len};
+ghost use mathlib.Core.Option.{some};
+ghost use lib.ListN.{get_elem?};
+ghost use Rattle.folder_calls.specs.Shared.{Closes};
+ghost use Rattle.folder_shared.specs.Passes.{IsPassOf, IsFullOf, claimed_of, limit_of, opening_of, seen_of, view_of};
+
+use crate::known::Known;
+use crate::lock::{put, take};
+use crate::mother::Origin;
+use crate::rule::{Blank, Both, Numbers, OneHistory, Opens, Puts};
+use crate::shared::{Mother, Pass, PassesFull, SharedFolder};
+use crossbeam_channel::bounded_with;
+use folder_calls::Journal;
+use folder_core::FolderCore;
+use std::alloc::Global;
+use std::snapshot::Snapshot;
+use std::sync::Wait;
+
+impl<C: FolderCore + Drop> PassesFull<C> {
+    /// The number under which programs report it: 35. O(1).
+    pub fn number(&self) -> u8
+        ensures { result ≡ 35 }
+    {
+        35
+    }
+}
+
+impl<C: FolderCore + Drop> Pass<C> {
+    /// The number of entries that the pass has seen, if it is a pass of some folder. O(1).
+    pub fn seen(&self) -> u64
+        ensures { self.now.seen ≤ length (claimed_of self.now) → result ≡ length (seen_of self.now) }
+    {
+        self.seen
+    }
+}
+
+impl<C: FolderCore + Drop> SharedFolder<C> {
+    /// The folder with an empty history, which takes as many entries as its limit. Returns `Err` with the folder only if memory
+    /// is out. O(n) time and memory for n records, which share their memory.
+    pub fn open<R: Wait>(
+        rt: &R,
+        alloc: Global,
+        core: C,
+        history_limit: u64,
+    ) -> Result<SharedFolder<C>, C>
+        requires { len (C.state core).pulls ≡ 0 }
+        ensures ok { IfOk result (λ folder. (opening_of folder ≡ C.state core) × (limit_of folder ≡ history_limit)) }
+        ensures err { IfErr result (λ back. C.state back ≡ C.state core) }
+    {
+        let journal = Journal::open(alloc, core, history_limit, 0)?;
+        let Ok((sender, receiver, mut keeper)) = bounded_with::<
+            Journal<C>,
+            Known,
+            OneHistory,
+            Global,
+        >(alloc, 1) else {
+            return Err(journal.into_core());
+        };
+        let origin = Origin {
+            seat: Snapshot::of(&keeper),
+            first: Snapshot::of(&journal),
+        };
+        let Ok((mother, loan)) = Mother::new(alloc, &origin) else {
+            return Err(journal.into_core());
+        };
+        put::<C, Opens, R>(rt, &sender, &mut keeper, journal);
+        mother.lay(keeper, loan);
+        Ok(SharedFolder {
+            sender,
+            receiver,
+            mother,
+        })
+    }
+
+    /// One more pass, which has seen nothing. They are numbered from 1 as they are given out. Returns `Err` only after 2^32 of
+    /// them.
+    pub fn pass<R: Wait>(&self, rt: &R) -> Result<Pass<C>, PassesFull<C>>
+        ensures pass { IfOk result (λ pass. IsPassOf self.now pass × (seen_of pass ≡ [])) }
+        ensures number { IfOk result (λ pass. (0 < pass.number) × (pass.number ≤ 2 ^ 32)) }
+        ensures full { IfErr result (IsFullOf self.now) }
+    {
+        let (mut mother, loan) = self.mother.lift(rt);
+        let mut token = self.sender.another::<Blank>(&mut mother);
+        self.mother.lay(mother, loan);
+        let mut journal = take::<C, R>(rt, &self.receiver, &mut token);
+        match journal.add_pass() {
+            Some(number) => {
+                put::<C, Numbers, R>(rt, &self.sender, &mut token, journal);
+                Ok(Pass {
+                    number,
+                    seen: 0,
+                    token,
+                })
+            }
+            None => {
+                put::<C, Puts, R>(rt, &self.sender, &mut token, journal);
+                Err(PassesFull { token })
+            }
+        }
+    }
+
+    /// The folder, and how many passes were given out. It is in the state after a history that goes on from what each of these
+    /// passes has seen, without further entries of theirs. Of passes that are not among them it may lack what only they had seen.
+    pub fn close<R: Wait>(self, rt: &R, mut passes: Vec<Pass<C>>) -> (C, u64)
+        requires some { 0 < vec_len passes }
+        requires passes { (i : ℕ) (p : _) → get_elem? passes.items i ≡ some p → IsPassOf self p }
+        ensures { Closes (opening_of self) (limit_of self) result.1 (map (view_of self) passes.items) (C.state result.0) }
+    {
+        let SharedFolder {
+            sender,
+            receiver,
+            mother: _,
+        } = self;
+        let Some(last) = passes.pop() else {
+            unreachable!()
+        };
+        let Pass {
+            number: _,
+            seen: _,
+            token: mut keeper,
+        } = last;
+        while let Some(pass) = passes.pop() {
+            let Pass {
+                number: _,
+                seen: _,
+                token,
+            } = pass;
+            sender.absorb::<Both>(&mut keeper, token);
+        }
+        let journal = take::<C, R>(rt, &receiver, &mut keeper);
+        let given = journal.passes();
+        (journal.into_core(), given)
+    }
+}

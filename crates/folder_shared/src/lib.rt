@@ -1,0 +1,18 @@
+//! One folder for all threads: under one lock, with one history of its accepted changes.
+//!
+//! Each caller has a [`Pass`], which knows a beginning of the history with all entries of its own. The rule of the lock
+//! (`specs/Rule.antt`) says how these fit together.
+#![tactic(auto)]
+
+mod folder;
+mod known;
+mod lock;
+mod mother;
+mod reads;
+mod rule;
+mod shared;
+
+pub use known::{Claim, Known, Stage};
+pub use mother::{Lying, Origin};
+pub use rule::OneHistory;
+pub use shared::{Mother, Pass, PassesFull, SharedFolder};
