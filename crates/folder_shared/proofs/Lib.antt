@@ -5,3 +5,4 @@ pub mod Puts
 pub mod Mothers
 pub mod Joins
 pub mod Calls
+pub mod Numbering

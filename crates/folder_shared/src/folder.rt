@@ -85,6 +85,7 @@ impl<C: FolderCore + Drop> SharedFolder<C> {
         let mut token = self.sender.another::<Blank>(&mut mother);
         self.mother.lay(mother, loan);
         let mut journal = take::<C, R>(rt, &self.receiver, &mut token);
+        let _ = journal.len();
         match journal.add_pass() {
             Some(number) => {
                 put::<C, Numbers, R>(rt, &self.sender, &mut token, journal);
