@@ -6,3 +6,4 @@ pub mod Mothers
 pub mod Joins
 pub mod Calls
 pub mod Numbering
+pub mod Closing

@@ -1,5 +1,5 @@
 //! Opening and closing a shared folder, and giving out its passes.
-ghost use Rattle.std.specs.Prelude.{◌≡◌, ◌<◌, ◌≤◌, ◌^◌, [], IfErr, IfOk, length, map, vec_len};
+ghost use Rattle.std.specs.Prelude.{ℕ, ◌≡◌, ◌<◌, ◌≤◌, ◌^◌, [], IfErr, IfOk, length, map};
 ghost use Rattle.std.specs.FinMap.{len};
 ghost use mathlib.Core.Option.{some};
 ghost use lib.ListN.{get_elem?};
@@ -105,7 +105,7 @@ impl<C: FolderCore + Drop> SharedFolder<C> {
     /// The folder, and how many passes were given out. It is in the state after a history that goes on from what each of these
     /// passes has seen, without further entries of theirs. Of passes that are not among them it may lack what only they had seen.
     pub fn close<R: Wait>(self, rt: &R, mut passes: Vec<Pass<C>>) -> (C, u64)
-        requires some { 0 < vec_len passes }
+        requires some { 0 < length passes.items }
         requires passes { (i : ℕ) (p : _) → get_elem? passes.items i ≡ some p → IsPassOf self p }
         ensures { Closes (opening_of self) (limit_of self) result.1 (map (view_of self) passes.items) (C.state result.0) }
     {
