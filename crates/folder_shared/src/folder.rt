@@ -4,7 +4,8 @@ ghost use Rattle.std.specs.FinMap.{len};
 ghost use mathlib.Core.Option.{some};
 ghost use lib.ListN.{get_elem?};
 ghost use Rattle.folder_calls.specs.Shared.{Closes};
-ghost use Rattle.folder_shared.specs.Passes.{IsPassOf, IsFullOf, claimed_of, limit_of, opening_of, seen_of, view_of};
+ghost use Rattle.folder_shared.specs.declared.shared.SharedFolder.{SharedFolder as Folder};
+ghost use Rattle.folder_shared.specs.Passes.{IsPassOf, IsFullOf, knows, limit_of, opening_of, seen_of, view_of};
 
 use crate::known::Known;
 use crate::lock::{put, take};
@@ -28,9 +29,9 @@ impl<C: FolderCore + Drop> PassesFull<C> {
 }
 
 impl<C: FolderCore + Drop> Pass<C> {
-    /// The number of entries that the pass has seen, if it is a pass of some folder. O(1).
+    /// The number of entries that it has seen. O(1).
     pub fn seen(&self) -> u64
-        ensures { self.now.seen ≤ length (claimed_of self.now) → result ≡ length (seen_of self.now) }
+        ensures { (folder : Folder C) → IsPassOf folder self.now → result ≡ length (seen_of self.now) }
     {
         self.seen
     }
@@ -74,11 +75,11 @@ impl<C: FolderCore + Drop> SharedFolder<C> {
         })
     }
 
-    /// One more pass, which has seen nothing. They are numbered from 1 as they are given out. Returns `Err` only after 2^32 of
+    /// One more pass, which has seen nothing of the history. They are numbered from 1 as they are given out. Returns `Err` only after 2^32 of
     /// them.
     pub fn pass<R: Wait>(&self, rt: &R) -> Result<Pass<C>, PassesFull<C>>
         ensures pass { IfOk result (λ pass. IsPassOf self.now pass × (seen_of pass ≡ [])) }
-        ensures number { IfOk result (λ pass. (0 < pass.number) × (pass.number ≤ 2 ^ 32)) }
+        ensures number { IfOk result (λ pass. (0 < pass.number) × (pass.number ≤ 2 ^ 32) × ((knows pass).memo.passes ≡ pass.number)) }
         ensures full { IfErr result (IsFullOf self.now) }
     {
         let (mut mother, loan) = self.mother.lift(rt);

@@ -11,6 +11,8 @@ mod mother;
 mod reads;
 mod rule;
 mod shared;
+#[cfg(test)]
+mod tests;
 
 pub use known::{Claim, Known, Stage};
 pub use mother::{Lying, Origin};

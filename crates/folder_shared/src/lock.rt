@@ -33,7 +33,11 @@ pub(crate) fn take<C: FolderCore + Drop, R: Wait>(
     unreachable!()
 }
 
-pub(crate) fn put<C: FolderCore + Drop, M: Outcome<Journal<C>, Known> + Lesson<Journal<C>, Known>, R: Wait>(
+pub(crate) fn put<
+    C: FolderCore + Drop,
+    M: Outcome<Journal<C>, Known> + Lesson<Journal<C>, Known>,
+    R: Wait,
+>(
     rt: &R,
     sender: &RuledSender<Journal<C>, Known, OneHistory>,
     token: &mut Token<C>,

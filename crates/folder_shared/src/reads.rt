@@ -95,7 +95,8 @@ impl<C: FolderCore + Drop> SharedFolder<C> {
         &self,
         rt: &R,
         pass: &mut Pass<C>,
-        sequence: u64, limit: usize,
+        sequence: u64,
+        limit: usize,
     ) -> Result<At<Items<Record>>, AllocError>
         requires { IsPassOf self.now pass.old }
         ensures pass { IsPassOf self.now pass.new × (pass.new.number ≡ pass.old.number) }
@@ -124,12 +125,7 @@ impl<C: FolderCore + Drop> SharedFolder<C> {
 
     /// The greatest sequence that the device announced, 0 without any; of this device the last one that it gave. Does not
     /// allocate.
-    pub fn known<R: Wait>(
-        &self,
-        rt: &R,
-        pass: &mut Pass<C>,
-        device: DeviceId,
-    ) -> At<u64>
+    pub fn known<R: Wait>(&self, rt: &R, pass: &mut Pass<C>, device: DeviceId) -> At<u64>
         requires { IsPassOf self.now pass.old }
         ensures pass { IsPassOf self.now pass.new × (pass.new.number ≡ pass.old.number) }
         ensures reads { ReadsThere (view_of self.now pass.old) (KnownOf device) (Some (told_at (λ sequence. sequence) result)) (view_of self.now pass.new) }
@@ -144,11 +140,7 @@ impl<C: FolderCore + Drop> SharedFolder<C> {
     }
 
     /// How much the folder has. Does not allocate.
-    pub fn counts<R: Wait>(
-        &self,
-        rt: &R,
-        pass: &mut Pass<C>,
-    ) -> At<Counts>
+    pub fn counts<R: Wait>(&self, rt: &R, pass: &mut Pass<C>) -> At<Counts>
         requires { IsPassOf self.now pass.old }
         ensures pass { IsPassOf self.now pass.new × (pass.new.number ≡ pass.old.number) }
         ensures reads { ReadsThere (view_of self.now pass.old) CountAll (Some (told_at (λ counts. counts) result)) (view_of self.now pass.new) }

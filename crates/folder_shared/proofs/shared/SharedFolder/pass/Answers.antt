@@ -18,6 +18,8 @@ put-requires-in-None-clause-rule g c = let n = c.in-None.ensures.full refl in
     (back-rule c.args.self.now c.lift-mother.result.0 c.lift-mother.ensures.mother _ c.another-token.ensures.rule.1 c.take-journal.result _ c.take-journal.ensures.taken c.add_pass.new.self n.1 _ _, λ items views k at. tt)
 
 pub returns-in-Some-clause-pass : goal.returns-in-Some-clause-pass
-returns-in-Some-clause-pass g c = let n = c.in-Some.ensures.given in
-    (numbered-pass c.args.self.now c.lift-mother.result.0 c.lift-mother.ensures.mother _ c.another-token.ensures.rule.1 c.take-journal.result _ c.take-journal.ensures.taken c.add_pass.new.self c.in-Some.number n.1 n.2
-    c.len.ensures.history (record { number = c.in-Some.number; seen = 0; token = c.put.new.token }) refl refl c.put.ensures.seat c.put.ensures.rule, refl)
+returns-in-Some-clause-pass g c = let n = c.in-Some.ensures.given in (
+  numbered-pass c.args.self.now c.lift-mother.result.0 c.lift-mother.ensures.mother _ c.another-token.ensures.rule.1 c.take-journal.result _ c.take-journal.ensures.taken c.add_pass.new.self c.in-Some.number n.1 n.2
+      c.len.ensures.history (record { number = c.in-Some.number; seen = 0; token = c.put.new.token }) refl refl c.put.ensures.seat c.put.ensures.rule,
+  refl,
+)
