@@ -3,9 +3,10 @@ ghost use Rattle.std.specs.Prelude.{ℕ, ◌≡◌, ◌<◌, ◌≤◌, ◌^◌,
 ghost use Rattle.std.specs.FinMap.{len};
 ghost use mathlib.Core.Option.{some};
 ghost use lib.ListN.{get_elem?};
+ghost use Rattle.folder_calls.specs.Journals.{new_history};
 ghost use Rattle.folder_calls.specs.Shared.{Closes};
 ghost use Rattle.folder_shared.specs.declared.shared.SharedFolder.{SharedFolder as Folder};
-ghost use Rattle.folder_shared.specs.Passes.{IsPassOf, IsFullOf, knows, limit_of, opening_of, seen_of, view_of};
+ghost use Rattle.folder_shared.specs.Passes.{IsPassOf, IsFullOf, knows, limit_of, opened_of, opening_of, seen_of, view_of};
 
 use crate::known::Known;
 use crate::lock::{put, take};
@@ -47,7 +48,7 @@ impl<C: FolderCore + Drop> SharedFolder<C> {
         history_limit: u64,
     ) -> Result<SharedFolder<C>, C>
         requires { len (C.state core).pulls ≡ 0 }
-        ensures ok { IfOk result (λ folder. (opening_of folder ≡ C.state core) × (limit_of folder ≡ history_limit)) }
+        ensures ok { IfOk result (λ folder. opened_of folder ≡ new_history (C.state core) history_limit 0) }
         ensures err { IfErr result (λ back. C.state back ≡ C.state core) }
     {
         let journal = Journal::open(alloc, core, history_limit, 0)?;
