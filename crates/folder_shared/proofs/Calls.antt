@@ -1,25 +1,22 @@
 -- What a call learns between taking the folder and putting it back unchanged.
-use Rattle.std.proofs.Common.{◌≡◌, ℕ, ◌+◌, ◌≤◌, List, [], ◌∷◌, ◌++◌, length, take, sym, refl, ap, ◌∙◌, subst, inl, arith}
+use Rattle.std.proofs.Common.{◌≡◌, ℕ, ◌≤◌, List, [], ◌∷◌, length, take, sym, refl, ap, ◌∙◌, subst, inl, arith}
 use Rattle.std.specs.Prelude.{Result, Ok, Err}
-use Rattle.std.specs.FinMap.{len}
 use Rattle.std.proofs.lemmas.List.{take_all}
 use mathlib.Core.List.{IsPrefix}
 use lib.ListN.{get_elem?}
-use Rattle.crossbeam_channel.specs.Claims.{view, IsSeatAt}
+use Rattle.crossbeam_channel.specs.Claims.{IsSeatAt}
 use Rattle.crossbeam_channel.specs.Ends.{sends_on}
 use Rattle.crossbeam_channel.specs.Fifo.{Pushes}
-use Rattle.folder_core.specs.States.{FolderState, IsFolder}
-use Rattle.folder_calls.specs.declared.entry.Entry.{Entry}
+use Rattle.folder_core.specs.States.{FolderState}
 use Rattle.folder_calls.specs.declared.history.History.{History}
-use Rattle.folder_calls.specs.Histories.{IsLegal, own_entries, state_after}
+use Rattle.folder_calls.specs.Histories.{own_entries}
 use Rattle.folder_calls.specs.Journals.{IsHistory}
-use Rattle.folder_calls.specs.Shared.{IsLegalView, Sees, View, seeing}
+use Rattle.folder_calls.specs.Shared.{IsLegalView, Sees, seeing}
 use Rattle.folder_shared.specs.declared.known.Claim.{Claim}
 use Rattle.folder_shared.specs.declared.known.Known.{Known}
-use Rattle.folder_shared.specs.declared.known.Stage.TheVariants.{Idle, Holding}
 use Rattle.folder_shared.specs.declared.shared.Pass.{Pass}
 use Rattle.folder_shared.specs.declared.shared.SharedFolder.{SharedFolder}
-use Rattle.folder_shared.specs.Rule.{claim, claimed, IsFit, IsSame, Kept, MayPut, PutBack, seen_all}
+use Rattle.folder_shared.specs.Rule.{claim, claimed, IsFit, IsSame, Kept, PutBack, seen_all}
 use Rattle.folder_shared.specs.Passes.{IsGivenBack, IsHeld, IsPassOf, claimed_of, knows, limit_of, opened_of, opening_of, seen_of, view_of}
 use Rattle.folder_shared.proofs.Histories.{length_starts, starts_trans, take_same, take_starts}
 use Rattle.folder_shared.proofs.Puts.{puts}

@@ -1,7 +1,7 @@
 -- The end of a folder.
-use Rattle.std.proofs.Common.{◌≡◌, ◌≢◌, ◌⊎◌, ℕ, zero, suc, ◌+◌, ◌<◌, ◌≤◌, ◌==◌, eqb, ◌||◌, Bool, true, false, cond, List, [], ◌∷◌, ◌++◌, length, map, take, drop, sym, refl, ap, ◌∙◌, subst, inl, inr, ⊎_elim, append-nil, append_assoc, arith, length-append}
+use Rattle.std.proofs.Common.{◌≡◌, ◌≢◌, ◌⊎◌, ℕ, zero, suc, ◌+◌, ◌<◌, ◌≤◌, ◌==◌, eqb, ◌||◌, Bool, true, false, cond, List, [], ◌∷◌, ◌++◌, length, map, sym, refl, ap, ◌∙◌, subst, inl, inr, ⊎_elim, append-nil, append_assoc, arith, length-append}
 use Rattle.std.proofs.lemmas.Bool.Decides.{nat_tests}
-use Rattle.std.proofs.lemmas.List.{length-map, take-append-drop}
+use Rattle.std.proofs.lemmas.List.{length-map}
 use Rattle.std.proofs.lemmas.Map.Steps.{length-le_from_distinct_below}
 use Rattle.std.specs.List.{IsDistinct, AllByRecursion, list_any}
 use Rattle.std.specs.Prelude.{Contains, slice_index_or}
@@ -23,7 +23,7 @@ use Rattle.folder_shared.specs.declared.known.Known.{Known}
 use Rattle.folder_shared.specs.declared.shared.Pass.{Pass}
 use Rattle.folder_shared.specs.Rule.{claim, IsFit, AreFit, AreApart, Taken}
 use Rattle.folder_shared.specs.declared.shared.SharedFolder.{SharedFolder}
-use Rattle.folder_shared.specs.Passes.{IsPassOf, claimed_of, limit_of, opened_of, opening_of, seen_of, view_of}
+use Rattle.folder_shared.specs.Passes.{IsPassOf, claimed_of, limit_of, opening_of, seen_of, view_of}
 use Rattle.folder_shared.proofs.Lists.{at_none, at_one, at_append}
 use Rattle.folder_shared.proofs.Histories.{starts_trans, take_starts}
 

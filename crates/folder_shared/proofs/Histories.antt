@@ -1,5 +1,5 @@
 -- Beginnings of histories, and the entries of a pass.
-use Rattle.std.proofs.Common.{◌≡◌, ℕ, ◌≤◌, List, [], ◌∷◌, ◌++◌, length, take, drop, sym, refl, ap, ◌∙◌, append-nil, append_assoc, arith, length-append}
+use Rattle.std.proofs.Common.{◌≡◌, ℕ, ◌≤◌, List, [], ◌++◌, length, take, drop, sym, ap, ◌∙◌, append-nil, append_assoc, arith, length-append}
 use Rattle.std.proofs.lemmas.List.{take-append-drop, take-append-le}
 use mathlib.Core.List.{IsPrefix}
 use Rattle.folder_calls.specs.declared.entry.Entry.{Entry}

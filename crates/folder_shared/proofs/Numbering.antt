@@ -1,5 +1,5 @@
 -- A pass is numbered: what may be put then, and that the pass is one of the folder, which has seen nothing.
-use Rattle.std.proofs.Common.{◌≡◌, ℕ, ◌+◌, ◌^◌, ◌<◌, ◌≤◌, ◌==◌, cond, List, [], ◌∷◌, ◌++◌, length, take, sym, refl, ap, ◌∙◌, subst, inl, arith}
+use Rattle.std.proofs.Common.{◌≡◌, ℕ, ◌+◌, ◌^◌, ◌<◌, cond, List, [], ◌∷◌, take, sym, refl, ap, ◌∙◌, subst, inl, arith}
 use Rattle.std.specs.FinMap.{len}
 use Rattle.std.proofs.lemmas.Bool.{ne_eqb}
 use Rattle.crossbeam_channel.specs.Claims.{Pass as Token, view, IsSeatAt}
@@ -12,13 +12,12 @@ use Rattle.folder_calls.specs.Histories.{IsLegal, after, own_entries}
 use Rattle.folder_calls.specs.Journals.{IsHistory}
 use Rattle.folder_calls.specs.Shared.{IsLegalView}
 use Rattle.folder_calls.proofs.HistoryShared.{view-opened}
-use Rattle.folder_shared.specs.declared.known.Claim.{Claim}
 use Rattle.folder_shared.specs.declared.known.Known.{Known}
-use Rattle.folder_shared.specs.declared.known.Stage.TheVariants.{Idle, Holding}
+use Rattle.folder_shared.specs.declared.known.Stage.TheVariants.{Holding}
 use Rattle.folder_shared.specs.declared.shared.Pass.{Pass}
 use Rattle.folder_shared.specs.declared.shared.PassesFull.{PassesFull}
 use Rattle.folder_shared.specs.declared.shared.SharedFolder.{SharedFolder}
-use Rattle.folder_shared.specs.Mother.{IsMotherOf}
+use Rattle.folder_shared.specs.Root.{IsRootOf}
 use Rattle.folder_shared.specs.Rule.{blank_of, claim, claimed, IsSame, Kept, MayNumber, Numbered, PutBack, Taken}
 use Rattle.folder_shared.specs.Passes.{IsFullOf, IsPassOf, claimed_of, knows, limit_of, opened_of, opening_of, seen_of}
 use Rattle.folder_shared.proofs.Puts.{numbers, puts}
@@ -30,7 +29,7 @@ none-given passes n s (e ∷ es) more legal =
     ap (λ b. cond b (e ∷ own_entries n es) (own_entries n es)) (ne_eqb e.pass n (λ same. let g = legal.0.given.1 in absurd (omega arith)))
     ∙ none-given passes n (after s e) es more legal.1
 
-module _ {C : Type 0} (s : SharedFolder C) (mother : Token History Known) (m : IsMotherOf s.mother.table.shared.key mother) (v : Known) (v_is : v ≡ blank_of (view mother)) (x : History) (w : Known) (t : Taken v x w) where
+module _ {C : Type 0} (s : SharedFolder C) (root : Token History Known) (m : IsRootOf s.root.table.shared.key root) (v : Known) (v_is : v ≡ blank_of (view root)) (x : History) (w : Known) (t : Taken v x w) where
   same-opened : IsSame x (opened_of s)
   same-opened = (t.same.0 ∙ ap (λ (u : Known). u.memo.opening) v_is ∙ m.same.0, t.same.1 ∙ ap (λ (u : Known). u.memo.limit) v_is ∙ m.same.1)
 

@@ -1,7 +1,7 @@
 -- What a clause says of a shared folder and of its passes.
 use Rattle.std.specs.Prelude.{◌≡◌, ℕ, ◌≤◌, ◌^◌, List, [], ◌∷◌, length, take, Result, Ok, Err}
 use Rattle.crossbeam_channel.specs.Claims.{view, IsSeatAt}
-use Rattle.crossbeam_channel.specs.Ends.{sends_on, receives_on}
+use Rattle.crossbeam_channel.specs.Ends.{sends_on}
 use Rattle.folder_core.specs.States.{FolderState}
 use Rattle.folder_calls.specs.declared.at.At.{At}
 use Rattle.folder_calls.specs.declared.entry.Entry.{Entry}
@@ -28,7 +28,7 @@ module _ {C : Type 0} where
 
   -- the history when the folder was opened
   abbrev pub opened_of : SharedFolder C → History
-  opened_of s = s.mother.table.shared.key.first.value
+  opened_of s = s.root.table.shared.key.first.value
 
   abbrev pub opening_of : SharedFolder C → FolderState
   opening_of s = (opened_of s).opening

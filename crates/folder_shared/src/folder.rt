@@ -10,9 +10,9 @@ ghost use Rattle.folder_shared.specs.Passes.{IsPassOf, IsFullOf, knows, limit_of
 
 use crate::known::Known;
 use crate::lock::{put, take};
-use crate::mother::Origin;
+use crate::root::Origin;
 use crate::rule::{Blank, Both, Numbers, OneHistory, Opens, Puts};
-use crate::shared::{Mother, Pass, PassesFull, SharedFolder};
+use crate::shared::{Pass, PassesFull, Root, SharedFolder};
 use crossbeam_channel::bounded_with;
 use folder_calls::Journal;
 use folder_core::FolderCore;
@@ -64,15 +64,15 @@ impl<C: FolderCore + Drop> SharedFolder<C> {
             seat: Snapshot::of(&keeper),
             first: Snapshot::of(&journal),
         };
-        let Ok((mother, loan)) = Mother::new(alloc, &origin) else {
+        let Ok((root, loan)) = Root::new(alloc, &origin) else {
             return Err(journal.into_core());
         };
         put::<C, Opens, R>(rt, &sender, &mut keeper, journal);
-        mother.lay(keeper, loan);
+        root.lay(keeper, loan);
         Ok(SharedFolder {
             sender,
             receiver,
-            mother,
+            root,
         })
     }
 
@@ -83,9 +83,9 @@ impl<C: FolderCore + Drop> SharedFolder<C> {
         ensures number { IfOk result (λ pass. (0 < pass.number) × (pass.number ≤ 2 ^ 32) × ((knows pass).memo.passes ≡ pass.number)) }
         ensures full { IfErr result (IsFullOf self.now) }
     {
-        let (mut mother, loan) = self.mother.lift(rt);
-        let mut token = self.sender.another::<Blank>(&mut mother);
-        self.mother.lay(mother, loan);
+        let (mut root, loan) = self.root.lift(rt);
+        let mut token = self.sender.another::<Blank>(&mut root);
+        self.root.lay(root, loan);
         let mut journal = take::<C, R>(rt, &self.receiver, &mut token);
         let _ = journal.len();
         match journal.add_pass() {
@@ -114,7 +114,7 @@ impl<C: FolderCore + Drop> SharedFolder<C> {
         let SharedFolder {
             sender,
             receiver,
-            mother: _,
+            root: _,
         } = self;
         let Some(last) = passes.pop() else {
             unreachable!()

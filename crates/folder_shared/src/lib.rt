@@ -7,14 +7,14 @@
 mod folder;
 mod known;
 mod lock;
-mod mother;
 mod reads;
+mod root;
 mod rule;
 mod shared;
 #[cfg(test)]
 mod tests;
 
 pub use known::{Claim, Known, Stage};
-pub use mother::{Lying, Origin};
+pub use root::{Lying, Origin};
 pub use rule::OneHistory;
-pub use shared::{Mother, Pass, PassesFull, SharedFolder};
+pub use shared::{Pass, PassesFull, Root, SharedFolder};

@@ -4,7 +4,7 @@ ghost use Rattle.crossbeam_channel.specs.Claims.{IsSeatAt};
 ghost use Rattle.crossbeam_channel.specs.Ends.{sends_on, receives_on};
 
 use crate::known::Known;
-use crate::mother::{Lying, Origin};
+use crate::root::{Lying, Origin};
 use crate::rule::OneHistory;
 use atomic_table::Table;
 use crossbeam_channel::{Pass as ChannelPass, RuledReceiver, RuledSender};
@@ -17,7 +17,7 @@ pub type Token<C> = ChannelPass<Journal<C>, Known>;
 
 /// The place of the token that all others are cut from. A call may have it out.
 #[derive(Drop)]
-pub struct Mother<C: FolderCore + Drop> {
+pub struct Root<C: FolderCore + Drop> {
     pub(crate) table: Table<Option<Token<C>>, Origin<C>, Origin<C>, Lying, Global>,
     ghost sized: { (table.shared.table_id.words ≡ 1) × (table.shared.table_id.slots ≡ 1) },
 }
@@ -27,9 +27,9 @@ pub struct Mother<C: FolderCore + Drop> {
 pub struct SharedFolder<C: FolderCore + Drop> {
     pub(crate) sender: RuledSender<Journal<C>, Known, OneHistory>,
     pub(crate) receiver: RuledReceiver<Journal<C>, Known, OneHistory>,
-    pub(crate) mother: Mother<C>,
+    pub(crate) root: Root<C>,
     ghost one: { receives_on receiver ≡ sends_on sender },
-    ghost of: { IsSeatAt (sends_on sender) mother.table.shared.key.seat.value },
+    ghost of: { IsSeatAt (sends_on sender) root.table.shared.key.seat.value },
 }
 
 /// One caller of a shared folder: its number, and how much of the history it has seen.

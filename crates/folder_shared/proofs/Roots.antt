@@ -1,4 +1,4 @@
--- Each step on the mother's place keeps its rule, and a token that was cut from may lie there again.
+-- Each step on the root's place keeps its rule, and a token that was cut from may lie there again.
 use Rattle.std.proofs.Common.{◌≡◌, ℕ, List, [], ◌∷◌, get_or, sym, refl, ap, ◌∙◌, subst, arith, Option, Some, None, length-set, get_or-set_same}
 use mathlib.Core.Logic.{dite}
 use mathlib.Core.Option.{some}
@@ -13,9 +13,9 @@ use Rattle.crossbeam_channel.specs.declared.flavors.array.Rows.{Rows}
 use Rattle.folder_calls.specs.declared.history.History.{History}
 use Rattle.folder_shared.specs.declared.known.Known.{Known}
 use Rattle.folder_shared.specs.declared.known.Stage.TheVariants.{Idle}
-use Rattle.folder_shared.specs.declared.mother.Origin.{Origin}
+use Rattle.folder_shared.specs.declared.root.Origin.{Origin}
 use Rattle.folder_shared.specs.Rule.{IsSame}
-use Rattle.folder_shared.specs.Mother.{Guarded, Seized, IsMotherOf}
+use Rattle.folder_shared.specs.Root.{Guarded, Seized, IsRootOf}
 
 module _ {T V : Type 0} (fits : T → Type 0) where
   pub frees : (id : ℕ) (m : Me (Option T) V) (v : V) (value : T) (more : List (ℕ × Option T)) → m ≡ (v, (0, Some value) ∷ more) → fits value
@@ -34,9 +34,9 @@ module _ {T V : Type 0} (fits : T → Type 0) where
 
 module _ {Q M L A C : Type 0} (c : Rows (Badge (Key History)) (Doing History Known) Q M (Key History) L A) (o : Origin C) where
   -- what the place asks of a token of the folder's channel
-  pub laid : (t : Token History Known) → IsSeatAt c o.seat.value → IsSeatAt c t → (view t).stage ≡ Idle → IsSame (view t).memo o.first.value → (view t).claims ≡ [] → IsMotherOf o t
+  pub laid : (t : Token History Known) → IsSeatAt c o.seat.value → IsSeatAt c t → (view t).stage ≡ Idle → IsSame (view t).memo o.first.value → (view t).claims ≡ [] → IsRootOf o t
   laid t at s idle same none = record { table = s.0 ∙ sym at.0; of = s.1 ∙ sym at.1; free = s.2; idle = idle; same = same; none = none }
 
   -- after a cut it is as it was
-  pub laid_again : (t u : Token History Known) → IsSeatAt c o.seat.value → IsSeatAt c u → view u ≡ view t → IsMotherOf o t → IsMotherOf o u
+  pub laid_again : (t u : Token History Known) → IsSeatAt c o.seat.value → IsSeatAt c u → view u ≡ view t → IsRootOf o t → IsRootOf o u
   laid_again t u at s is m = laid u at s (ap (λ (v : Known). v.stage) is ∙ m.idle) (ap (λ (v : Known). v.memo.opening) is ∙ m.same.0, ap (λ (v : Known). v.memo.limit) is ∙ m.same.1) (ap (λ (v : Known). v.claims) is ∙ m.none)

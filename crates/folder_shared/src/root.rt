@@ -1,8 +1,8 @@
-//! The mother, a blank token that each pass's is cut from, and its place, which calls share.
+//! The root, a blank token of the lock from which that of each pass is cut, and its place, which all calls share.
 ghost use Rattle.std.specs.Prelude.{◌≡◌, [], ◌∷◌, None, IfOk};
-ghost use Rattle.folder_shared.specs.Mother.{Guarded, Seized, IsMotherOf, IsLoanOf};
+ghost use Rattle.folder_shared.specs.Root.{Guarded, Seized, IsRootOf, IsLoanOf};
 
-use crate::shared::{Mother, Token};
+use crate::shared::{Root, Token};
 use atomic_table::{Play, Seat, Table, TableRule};
 use folder_calls::Journal;
 use folder_core::FolderCore;
@@ -17,11 +17,11 @@ pub struct Origin<C: FolderCore + Drop> {
     pub(crate) first: Snapshot<Journal<C>>,
 }
 
-/// The word is 0 where the mother lies in the slot, 1 where a call has it, and 2 until it is first laid there.
+/// The word is 0 where the root lies in the slot, 1 where a call has it, and 2 until it is first laid there.
 pub struct Lying;
 
 impl<C: FolderCore + Drop> TableRule<Option<Token<C>>, Origin<C>, Origin<C>> for Lying {
-    ghost holds = { λ origin. Guarded (IsMotherOf origin) };
+    ghost holds = { λ origin. Guarded (IsRootOf origin) };
 
     ghost first = { λ origin. origin };
 }
@@ -30,24 +30,24 @@ impl<C: FolderCore + Drop> TableRule<Option<Token<C>>, Origin<C>, Origin<C>> for
 pub struct Lifts;
 
 impl<C: FolderCore + Drop> Play<Option<Token<C>>, Origin<C>> for Lifts {
-    ghost then = { λ st m found n. (found ≡ 0 → Seized (IsMotherOf m.0) n) × (found ≡ 2 → n.1 ≡ (0, None) ∷ []) };
+    ghost then = { λ st m found n. (found ≡ 0 → Seized (IsRootOf m.0) n) × (found ≡ 2 → n.1 ≡ (0, None) ∷ []) };
 }
 
-/// A store of 0, which leaves the mother there.
+/// A store of 0, which leaves the root there.
 pub struct Frees;
 
 impl<C: FolderCore + Drop> Play<Option<Token<C>>, Origin<C>> for Frees {
     ghost then = { λ st m found n. Unit {0} };
 }
 
-// The mother is out. It has no `Drop`, so it ends in `lay`.
+// The root is out. It has no `Drop`, so it ends in `lay`.
 pub(crate) struct Loan<C: FolderCore + Drop> {
     seat: Seat<Option<Token<C>>, Origin<C>>,
 }
 
-impl<C: FolderCore + Drop> Mother<C> {
-    /// The place, with the mother still to be laid there.
-    pub(crate) fn new(alloc: Global, origin: &Origin<C>) -> Result<(Mother<C>, Loan<C>), AllocError>
+impl<C: FolderCore + Drop> Root<C> {
+    /// The place, with the root still to be laid there.
+    pub(crate) fn new(alloc: Global, origin: &Origin<C>) -> Result<(Root<C>, Loan<C>), AllocError>
         ensures { IfOk result (λ m. (m.0.table.shared.key ≡ origin.now) × IsLoanOf m.0 m.1) }
     {
         let (table, _) = Table::vacant(alloc, &[2], 1, origin)?;
@@ -56,12 +56,12 @@ impl<C: FolderCore + Drop> Mother<C> {
         if found != 2 {
             return Err(AllocError);
         }
-        Ok((Mother { table }, Loan { seat }))
+        Ok((Root { table }, Loan { seat }))
     }
 
-    /// Takes the mother, as soon as no other call has it.
+    /// Takes the root, as soon as no other call has it.
     pub(crate) fn lift<R: Wait>(&self, rt: &R) -> (Token<C>, Loan<C>)
-        ensures mother { IsMotherOf self.now.table.shared.key result.0 }
+        ensures root { IsRootOf self.now.table.shared.key result.0 }
         ensures loan { IsLoanOf self.now result.1 }
     {
         for _ in rt.forever() {
@@ -76,7 +76,7 @@ impl<C: FolderCore + Drop> Mother<C> {
 
     /// Lays it there again.
     pub(crate) fn lay(&self, token: Token<C>, loan: Loan<C>)
-        requires mother { IsMotherOf self.now.table.shared.key token }
+        requires root { IsRootOf self.now.table.shared.key token }
         requires loan { IsLoanOf self.now loan }
     {
         let Loan { mut seat } = loan;
