@@ -1,0 +1,9 @@
+pub mod Lists
+pub mod Histories
+pub mod Moves
+pub mod Puts
+pub mod Roots
+pub mod Joins
+pub mod Calls
+pub mod Numbering
+pub mod Closing

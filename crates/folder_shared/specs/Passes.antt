@@ -1,0 +1,73 @@
+-- What a clause says of a shared folder and of its passes.
+use Rattle.std.specs.Prelude.{◌≡◌, ℕ, ◌≤◌, ◌^◌, List, [], ◌∷◌, length, take, Result, Ok, Err}
+use Rattle.crossbeam_channel.specs.Claims.{view, IsSeatAt}
+use Rattle.crossbeam_channel.specs.Ends.{sends_on}
+use Rattle.folder_core.specs.States.{FolderState}
+use Rattle.folder_calls.specs.declared.at.At.{At}
+use Rattle.folder_calls.specs.declared.entry.Entry.{Entry}
+use Rattle.folder_calls.specs.declared.history.History.{History}
+use Rattle.folder_calls.specs.Histories.{own_entries}
+use Rattle.folder_calls.specs.Shared.{IsLegalView, Sees, View, seeing}
+use Rattle.folder_shared.specs.declared.known.Known.{Known}
+use Rattle.folder_shared.specs.declared.known.Stage.TheVariants.{Idle}
+use Rattle.folder_shared.specs.declared.shared.Pass.{Pass}
+use Rattle.folder_shared.specs.declared.shared.PassesFull.{PassesFull}
+use Rattle.folder_shared.specs.declared.shared.SharedFolder.{SharedFolder}
+use Rattle.folder_shared.specs.Rule.{claim, claimed, IsSame, Taken}
+
+module _ {C : Type 0} where
+  abbrev pub knows : Pass C → Known
+  knows p = view p.token
+
+  abbrev pub claimed_of : Pass C → List Entry
+  claimed_of p = claimed (knows p).claims
+
+  -- what the pass has seen
+  abbrev pub seen_of : Pass C → List Entry
+  seen_of p = take p.seen (claimed_of p)
+
+  -- the history when the folder was opened
+  abbrev pub opened_of : SharedFolder C → History
+  opened_of s = s.root.table.shared.key.first.value
+
+  abbrev pub opening_of : SharedFolder C → FolderState
+  opening_of s = (opened_of s).opening
+
+  abbrev pub limit_of : SharedFolder C → ℕ
+  limit_of s = (opened_of s).limit
+
+  -- what the pass knows
+  abbrev pub view_of : SharedFolder C → Pass C → View
+  view_of s p = record { opening = opening_of s; limit = limit_of s; pass = p.number; seen = seen_of p }
+
+  -- The pass is one of this folder. It claims what it has seen, with all its entries; it may claim more, after a call that was
+  -- out of memory.
+  pub record IsPassOf (s : SharedFolder C) (p : Pass C) : Type 0 where
+    pub seat : IsSeatAt (sends_on s.sender) p.token
+    pub idle : (knows p).stage ≡ Idle
+    pub same : IsSame (knows p).memo (opened_of s)
+    pub claims : (knows p).claims ≡ claim p.number (claimed_of p) ∷ []
+    pub counted : p.seen ≤ length (claimed_of p)
+    pub own : own_entries p.number (seen_of p) ≡ own_entries p.number (claimed_of p)
+    pub legal : IsLegalView (view_of s p)
+
+  -- The folder that the call put back has as many passes as there may be. By the rule it has no fewer from then on.
+  pub record IsFullOf (s : SharedFolder C) (e : PassesFull C) : Type 0 where
+    pub seat : IsSeatAt (sends_on s.sender) e.token
+    pub idle : (view e.token).stage ≡ Idle
+    pub same : IsSame (view e.token).memo (opened_of s)
+    pub full : (view e.token).memo.passes ≡ 2 ^ 32
+
+  -- a call has taken the folder, with this history, by the pass
+  pub record IsHeld (s : SharedFolder C) (before now : Pass C) (x : History) : Type 0 where
+    pub number : now.number ≡ before.number
+    pub seen : now.seen ≡ before.seen
+    pub seat : IsSeatAt (sends_on s.sender) now.token
+    pub taken : Taken (knows before) x (knows now)
+
+  -- the call got this of the folder, which is put back: the pass has then seen the history, if there is an answer
+  abbrev pub IsGivenBack : {X E : Type 0} → SharedFolder C → Pass C → History → Result X E → Result (At X) E → Pass C → Type 0
+  IsGivenBack s before x (Ok answer) result now =
+      (result ≡ Ok (record { at = length x.entries; value = answer })) × (view_of s now ≡ seeing (view_of s before) x.entries)
+      × Sees (view_of s before) (view_of s now)
+  IsGivenBack s before x (Err fault) result now = (result ≡ Err fault) × (view_of s now ≡ view_of s before)

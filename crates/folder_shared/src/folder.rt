@@ -1,0 +1,139 @@
+//! Opening and closing a shared folder, and giving out its passes.
+ghost use Rattle.std.specs.Prelude.{ℕ, ◌≡◌, ◌<◌, ◌≤◌, ◌^◌, [], IfErr, IfOk, length, map};
+ghost use Rattle.std.specs.FinMap.{len};
+ghost use mathlib.Core.Option.{some};
+ghost use lib.ListN.{get_elem?};
+ghost use Rattle.folder_calls.specs.Journals.{new_history};
+ghost use Rattle.folder_calls.specs.Shared.{Closes};
+ghost use Rattle.folder_shared.specs.declared.shared.SharedFolder.{SharedFolder as Folder};
+ghost use Rattle.folder_shared.specs.Passes.{IsPassOf, IsFullOf, knows, limit_of, opened_of, opening_of, seen_of, view_of};
+
+use crate::known::Known;
+use crate::lock::{put, take};
+use crate::root::Origin;
+use crate::rule::{Blank, Both, Numbers, OneHistory, Opens, Puts};
+use crate::shared::{Pass, PassesFull, Root, SharedFolder};
+use crossbeam_channel::bounded_with;
+use folder_calls::Journal;
+use folder_core::FolderCore;
+use std::alloc::Global;
+use std::snapshot::Snapshot;
+use std::sync::Wait;
+
+impl<C: FolderCore + Drop> PassesFull<C> {
+    /// The number under which programs report it: 35. O(1).
+    pub fn number(&self) -> u8
+        ensures { result ≡ 35 }
+    {
+        35
+    }
+}
+
+impl<C: FolderCore + Drop> Pass<C> {
+    /// The number of entries that it has seen. O(1).
+    pub fn seen(&self) -> u64
+        ensures { (folder : Folder C) → IsPassOf folder self.now → result ≡ length (seen_of self.now) }
+    {
+        self.seen
+    }
+}
+
+impl<C: FolderCore + Drop> SharedFolder<C> {
+    /// The folder with an empty history, which takes as many entries as its limit. Returns `Err` with the folder only if memory
+    /// is out. O(n) time and memory for n records, which share their memory.
+    pub fn open<R: Wait>(
+        rt: &R,
+        alloc: Global,
+        core: C,
+        history_limit: u64,
+    ) -> Result<SharedFolder<C>, C>
+        requires { len (C.state core).pulls ≡ 0 }
+        ensures ok { IfOk result (λ folder. opened_of folder ≡ new_history (C.state core) history_limit 0) }
+        ensures err { IfErr result (λ back. C.state back ≡ C.state core) }
+    {
+        let journal = Journal::open(alloc, core, history_limit, 0)?;
+        let Ok((sender, receiver, mut keeper)) = bounded_with::<
+            Journal<C>,
+            Known,
+            OneHistory,
+            Global,
+        >(alloc, 1) else {
+            return Err(journal.into_core());
+        };
+        let origin = Origin {
+            seat: Snapshot::of(&keeper),
+            first: Snapshot::of(&journal),
+        };
+        let Ok((root, loan)) = Root::new(alloc, &origin) else {
+            return Err(journal.into_core());
+        };
+        put::<C, Opens, R>(rt, &sender, &mut keeper, journal);
+        root.lay(keeper, loan);
+        Ok(SharedFolder {
+            sender,
+            receiver,
+            root,
+        })
+    }
+
+    /// One more pass, which has seen nothing of the history. They are numbered from 1 as they are given out. Returns `Err` only after 2^32 of
+    /// them.
+    pub fn pass<R: Wait>(&self, rt: &R) -> Result<Pass<C>, PassesFull<C>>
+        ensures pass { IfOk result (λ pass. IsPassOf self.now pass × (seen_of pass ≡ [])) }
+        ensures number { IfOk result (λ pass. (0 < pass.number) × (pass.number ≤ 2 ^ 32) × ((knows pass).memo.passes ≡ pass.number)) }
+        ensures full { IfErr result (IsFullOf self.now) }
+    {
+        let (mut root, loan) = self.root.lift(rt);
+        let mut token = self.sender.another::<Blank>(&mut root);
+        self.root.lay(root, loan);
+        let mut journal = take::<C, R>(rt, &self.receiver, &mut token);
+        let _ = journal.len();
+        match journal.add_pass() {
+            Some(number) => {
+                put::<C, Numbers, R>(rt, &self.sender, &mut token, journal);
+                Ok(Pass {
+                    number,
+                    seen: 0,
+                    token,
+                })
+            }
+            None => {
+                put::<C, Puts, R>(rt, &self.sender, &mut token, journal);
+                Err(PassesFull { token })
+            }
+        }
+    }
+
+    /// The folder, and how many passes were given out. It is in the state after a history that goes on from what each of these
+    /// passes has seen, without further entries of theirs. Of passes that are not among them it may lack what only they had seen.
+    pub fn close<R: Wait>(self, rt: &R, mut passes: Vec<Pass<C>>) -> (C, u64)
+        requires some { 0 < length passes.items }
+        requires passes { (i : ℕ) (p : _) → get_elem? passes.items i ≡ some p → IsPassOf self p }
+        ensures { Closes (opening_of self) (limit_of self) result.1 (map (view_of self) passes.items) (C.state result.0) }
+    {
+        let SharedFolder {
+            sender,
+            receiver,
+            root: _,
+        } = self;
+        let Some(last) = passes.pop() else {
+            unreachable!()
+        };
+        let Pass {
+            number: _,
+            seen: _,
+            token: mut keeper,
+        } = last;
+        while let Some(pass) = passes.pop() {
+            let Pass {
+                number: _,
+                seen: _,
+                token,
+            } = pass;
+            sender.absorb::<Both>(&mut keeper, token);
+        }
+        let journal = take::<C, R>(rt, &receiver, &mut keeper);
+        let given = journal.passes();
+        (journal.into_core(), given)
+    }
+}

@@ -1,0 +1,187 @@
+//! The reads of a shared folder.
+ghost use Rattle.std.specs.Prelude.{◌≡◌, Some, map, option_copied, option_map};
+ghost use Rattle.folder_core.specs.Reads.{Bests, Best as BestOf, CountAll, FindBlock, Known as KnownOf, Local, LocalSince, Need};
+ghost use Rattle.folder_calls.specs.Calls.{found, told, told_at};
+ghost use Rattle.folder_calls.specs.Shared.{ReadsThere};
+ghost use Rattle.folder_shared.specs.declared.shared.Pass.{Pass as PassOf};
+ghost use Rattle.folder_shared.specs.Passes.{IsGivenBack, IsHeld, IsPassOf, view_of};
+
+use crate::lock::{put, take};
+use crate::rule::Puts;
+use crate::{Pass, SharedFolder};
+use bep_messages::Items;
+use folder_calls::{At, Journal};
+use folder_core::{Best, Counts, FolderCore, Place};
+use std::alloc::AllocError;
+use std::convert::Infallible;
+use std::sync::Wait;
+use sync_names::SafeName;
+use sync_record::{DeviceId, Record};
+
+impl<C: FolderCore + Drop> SharedFolder<C> {
+    /// A copy of the best record of a name, and the devices whose valid record of the name has its version and its
+    /// content; `None` where no valid record of the name is announced.
+    pub fn best<R: Wait>(
+        &self,
+        rt: &R,
+        pass: &mut Pass<C>,
+        name: &SafeName,
+    ) -> Result<At<Option<Best>>, AllocError>
+        requires { IsPassOf self.now pass.old }
+        ensures pass { IsPassOf self.now pass.new × (pass.new.number ≡ pass.old.number) }
+        ensures reads { ReadsThere (view_of self.now pass.old) (BestOf name.now) (told (λ b. option_map found b) result) (view_of self.now pass.new) }
+    {
+        let journal = self.lend(rt, pass);
+        let answer = journal.core().best(name);
+        self.give_back(rt, pass, journal, answer)
+    }
+
+    /// The bests of the names greater than `after`, or of all names where it is `None`, in byte order of the names: the
+    /// first `limit` of them, or all where there are fewer.
+    pub fn bests<R: Wait>(
+        &self,
+        rt: &R,
+        pass: &mut Pass<C>,
+        after: Option<&SafeName>,
+        limit: usize,
+    ) -> Result<At<Items<Best>>, AllocError>
+        requires { IsPassOf self.now pass.old }
+        ensures pass { IsPassOf self.now pass.new × (pass.new.number ≡ pass.old.number) }
+        ensures reads { ReadsThere (view_of self.now pass.old) (Bests (option_copied after.entry) limit) (told (λ page. map found page) result) (view_of self.now pass.new) }
+    {
+        let journal = self.lend(rt, pass);
+        let answer = journal.core().bests(after, limit);
+        self.give_back(rt, pass, journal, answer)
+    }
+
+    /// The record that this device announces of a name, if there is one.
+    pub fn local<R: Wait>(
+        &self,
+        rt: &R,
+        pass: &mut Pass<C>,
+        name: &SafeName,
+    ) -> Result<At<Option<Record>>, AllocError>
+        requires { IsPassOf self.now pass.old }
+        ensures pass { IsPassOf self.now pass.new × (pass.new.number ≡ pass.old.number) }
+        ensures reads { ReadsThere (view_of self.now pass.old) (Local name.now) (told (λ r. r) result) (view_of self.now pass.new) }
+    {
+        let journal = self.lend(rt, pass);
+        let answer = journal.core().local(name);
+        self.give_back(rt, pass, journal, answer)
+    }
+
+    /// The names greater than `after`, or all names where it is `None`, that this device needs, in byte order: those whose
+    /// best is of another version than the local record, and those without a local record unless the best is deleted. The
+    /// first `limit` of them, or all where there are fewer.
+    pub fn need<R: Wait>(
+        &self,
+        rt: &R,
+        pass: &mut Pass<C>,
+        after: Option<&SafeName>,
+        limit: usize,
+    ) -> Result<At<Items<SafeName>>, AllocError>
+        requires { IsPassOf self.now pass.old }
+        ensures pass { IsPassOf self.now pass.new × (pass.new.number ≡ pass.old.number) }
+        ensures reads { ReadsThere (view_of self.now pass.old) (Need (option_copied after.entry) limit) (told (λ names. names) result) (view_of self.now pass.new) }
+    {
+        let journal = self.lend(rt, pass);
+        let answer = journal.core().need(after, limit);
+        self.give_back(rt, pass, journal, answer)
+    }
+
+    /// The local records of greater sequence, in rising sequence: the first `limit` of them, but no more than have
+    /// 1,000,000 blocks together, except that one record may have any number; or all where there are fewer.
+    pub fn local_since<R: Wait>(
+        &self,
+        rt: &R,
+        pass: &mut Pass<C>,
+        sequence: u64,
+        limit: usize,
+    ) -> Result<At<Items<Record>>, AllocError>
+        requires { IsPassOf self.now pass.old }
+        ensures pass { IsPassOf self.now pass.new × (pass.new.number ≡ pass.old.number) }
+        ensures reads { ReadsThere (view_of self.now pass.old) (LocalSince sequence limit) (told (λ page. page) result) (view_of self.now pass.new) }
+    {
+        let journal = self.lend(rt, pass);
+        let answer = journal.core().local_since(sequence, limit);
+        self.give_back(rt, pass, journal, answer)
+    }
+
+    /// A place of the block with this SHA-256 digest in a live local file, if there is one.
+    pub fn find_block<R: Wait>(
+        &self,
+        rt: &R,
+        pass: &mut Pass<C>,
+        hash: &[u8; 32],
+    ) -> Result<At<Option<Place>>, AllocError>
+        requires { IsPassOf self.now pass.old }
+        ensures pass { IsPassOf self.now pass.new × (pass.new.number ≡ pass.old.number) }
+        ensures reads { ReadsThere (view_of self.now pass.old) (FindBlock hash.now) (told (λ place. place) result) (view_of self.now pass.new) }
+    {
+        let journal = self.lend(rt, pass);
+        let answer = journal.core().find_block(hash);
+        self.give_back(rt, pass, journal, answer)
+    }
+
+    /// The greatest sequence that the device announced, 0 without any; of this device the last one that it gave. Does not
+    /// allocate.
+    pub fn known<R: Wait>(&self, rt: &R, pass: &mut Pass<C>, device: DeviceId) -> At<u64>
+        requires { IsPassOf self.now pass.old }
+        ensures pass { IsPassOf self.now pass.new × (pass.new.number ≡ pass.old.number) }
+        ensures reads { ReadsThere (view_of self.now pass.old) (KnownOf device) (Some (told_at (λ sequence. sequence) result)) (view_of self.now pass.new) }
+    {
+        let journal = self.lend(rt, pass);
+        let value = journal.core().known(device);
+        let told: Result<At<_>, Infallible> = self.give_back(rt, pass, journal, Ok(value));
+        match told {
+            Ok(told) => told,
+            Err(never) => match never {},
+        }
+    }
+
+    /// How much the folder has. Does not allocate.
+    pub fn counts<R: Wait>(&self, rt: &R, pass: &mut Pass<C>) -> At<Counts>
+        requires { IsPassOf self.now pass.old }
+        ensures pass { IsPassOf self.now pass.new × (pass.new.number ≡ pass.old.number) }
+        ensures reads { ReadsThere (view_of self.now pass.old) CountAll (Some (told_at (λ counts. counts) result)) (view_of self.now pass.new) }
+    {
+        let journal = self.lend(rt, pass);
+        let value = journal.core().counts();
+        let told: Result<At<_>, Infallible> = self.give_back(rt, pass, journal, Ok(value));
+        match told {
+            Ok(told) => told,
+            Err(never) => match never {},
+        }
+    }
+
+    // Takes the folder, as soon as no other call has it.
+    fn lend<R: Wait>(&self, rt: &R, pass: &mut Pass<C>) -> Journal<C>
+        requires { IsPassOf self.now pass.old }
+        ensures { IsHeld self.now pass.old pass.new result }
+    {
+        take::<C, R>(rt, &self.receiver, &mut pass.token)
+    }
+
+    // Puts the folder back as it was. The pass has then seen the history if there is an answer.
+    fn give_back<R: Wait, T, E>(
+        &self,
+        rt: &R,
+        pass: &mut Pass<C>,
+        journal: Journal<C>,
+        answer: Result<T, E>,
+    ) -> Result<At<T>, E>
+        requires { (before : PassOf C) × IsPassOf self.now before × IsHeld self.now before pass.old journal }
+        ensures pass { IsPassOf self.now pass.new × (pass.new.number ≡ pass.old.number) }
+        ensures given_back { (before : PassOf C) → IsPassOf self.now before → IsHeld self.now before pass.old journal → IsGivenBack self.now before journal answer result pass.new }
+    {
+        let at = journal.len();
+        put::<C, Puts, R>(rt, &self.sender, &mut pass.token, journal);
+        match answer {
+            Ok(value) => {
+                pass.seen = at;
+                Ok(At { at, value })
+            }
+            Err(fault) => Err(fault),
+        }
+    }
+}

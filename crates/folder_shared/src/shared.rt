@@ -1,0 +1,47 @@
+//! A folder that threads share, and the passes of its callers.
+ghost use Rattle.std.specs.Prelude.{◌≡◌};
+ghost use Rattle.crossbeam_channel.specs.Claims.{IsSeatAt};
+ghost use Rattle.crossbeam_channel.specs.Ends.{sends_on, receives_on};
+
+use crate::known::Known;
+use crate::root::{Lying, Origin};
+use crate::rule::OneHistory;
+use atomic_table::Table;
+use crossbeam_channel::{Pass as ChannelPass, RuledReceiver, RuledSender};
+use folder_calls::Journal;
+use folder_core::FolderCore;
+use std::alloc::Global;
+
+/// A token of the channel that is the lock.
+pub type Token<C> = ChannelPass<Journal<C>, Known>;
+
+/// The place of the token that all others are cut from. A call may have it out.
+#[derive(Drop)]
+pub struct Root<C: FolderCore + Drop> {
+    pub(crate) table: Table<Option<Token<C>>, Origin<C>, Origin<C>, Lying, Global>,
+    ghost sized: { (table.shared.table_id.words ≡ 1) × (table.shared.table_id.slots ≡ 1) },
+}
+
+/// A folder that threads share. Each call waits until no other has the folder, and then makes one change or one read of it.
+#[derive(Drop)]
+pub struct SharedFolder<C: FolderCore + Drop> {
+    pub(crate) sender: RuledSender<Journal<C>, Known, OneHistory>,
+    pub(crate) receiver: RuledReceiver<Journal<C>, Known, OneHistory>,
+    pub(crate) root: Root<C>,
+    ghost one: { receives_on receiver ≡ sends_on sender },
+    ghost of: { IsSeatAt (sends_on sender) root.table.shared.key.seat.value },
+}
+
+/// One caller of a shared folder: its number, and how much of the history it has seen.
+#[derive(Drop)]
+pub struct Pass<C: FolderCore + Drop> {
+    pub(crate) number: u64,
+    pub(crate) seen: u64,
+    pub(crate) token: Token<C>,
+}
+
+/// No pass is left: 2^32 were given out. Its token says so of the folder that the call put back.
+#[derive(Drop)]
+pub struct PassesFull<C: FolderCore + Drop> {
+    pub(crate) token: Token<C>,
+}
