@@ -202,6 +202,12 @@ module _ {C : Type 0} where
             (view_of s w.1, mapped (view_of s) ps w.0 w.1 w.2, sym w.3);
       }
 
+  -- a pass that is handed in was given out
+  pub closes-given : (x : History) (v w : Known) (ps : List (Pass C)) → Taken v x w → v.claims ≡ claims_back ps → (given : ℕ) → given ≡ x.passes → (i : ℕ) (p : Pass C) → get_elem? ps i ≡ some p → p.number ≤ given
+  closes-given x v w ps t claims given passes i p e =
+      let h = place ps i p e in
+      let f : IsFit x (claim_of p) = subst (AreFit x) claims t.fit h.0 (claim_of p) h.1 in (let b = f.3 in omega arith)
+
   pub at_back : (all l s tail : List (Pass C)) (p : Pass C) → all ≡ l ++ tail → l ≡ s ++ p ∷ [] → get_elem? all (length s) ≡ some p
   at_back all l s tail p is longer = ap (λ (m : List (Pass C)). get_elem? m (length s)) (is ∙ ap (λ (m : List (Pass C)). m ++ tail) longer) ∙ at_longer (s ++ p ∷ []) tail (length s) p (at_last s p (length s) refl)
 

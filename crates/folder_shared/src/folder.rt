@@ -109,7 +109,8 @@ impl<C: FolderCore + Drop> SharedFolder<C> {
     pub fn close<R: Wait>(self, rt: &R, mut passes: Vec<Pass<C>>) -> (C, u64)
         requires some { 0 < length passes.items }
         requires passes { (i : ℕ) (p : _) → get_elem? passes.items i ≡ some p → IsPassOf self p }
-        ensures { Closes (opening_of self) (limit_of self) result.1 (map (view_of self) passes.items) (C.state result.0) }
+        ensures closes { Closes (opening_of self) (limit_of self) result.1 (map (view_of self) passes.items) (C.state result.0) }
+        ensures given { (i : ℕ) (p : _) → get_elem? passes.items i ≡ some p → p.number ≤ result.1 }
     {
         let SharedFolder {
             sender,

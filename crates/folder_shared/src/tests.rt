@@ -81,7 +81,10 @@ fn shared(rt: &(impl AllocGlobal + Abort + Wait)) -> SharedFolder<PlainFolder> {
     assert!(rt; folder.counts().pulls == 0);
     match SharedFolder::open(rt, rt.alloc(), folder, 9) {
         Ok(folder) => folder,
-        Err(folder) => SharedFolder::open(rt, rt.alloc(), folder, 9).expect(rt, "a folder"),
+        Err(folder) => match SharedFolder::open(rt, rt.alloc(), folder, 9) {
+            Ok(folder) => folder,
+            Err(_) => panic!(rt; "OutOfMemory"),
+        },
     }
 }
 

@@ -3,7 +3,7 @@ use Rattle.crossbeam_channel.specs.Claims.{view}
 use Rattle.folder_shared.specs.declared.known.Known.{Known}
 use Rattle.folder_shared.specs.Passes.{IsPassOf}
 use Rattle.folder_shared.proofs.Joins.{joins}
-use Rattle.folder_shared.proofs.Closing.{claims_back, closes, at_back, back_more, back_all}
+use Rattle.folder_shared.proofs.Closing.{claims_back, closes, closes-given, at_back, back_more, back_all}
 use Rattle.folder_shared.proofs.shared.SharedFolder.close.Goals as goal
 
 pub loop-pass-init : goal.loop-pass-init
@@ -34,7 +34,12 @@ loop-pass-preserved g c = let i = c.loop-pass.invariant in let j = i.joined in
       joined = (c.in-Some-pop.pass ∷ j.0, back_more c.args.passes.items c.loop-pass.passes.items c.pop-in-loop-pass.new.self.items j.0 c.in-Some-pop.pass j.1 c.in-Some-pop.ensures.items, ap (λ (v : Known). v.claims) c.absorb.ensures.rule ∙ (λ k. j.2 k ++ p.claims k));
     }
 
-pub returns : goal.returns
-returns g c = let i = c.loop-pass.invariant in let j = i.joined in let t = c.take-journal.ensures.taken in
+pub returns-clause-closes : goal.returns-clause-closes
+returns-clause-closes g c = let i = c.loop-pass.invariant in let j = i.joined in let t = c.take-journal.ensures.taken in
     let all : j.0 ≡ c.args.passes.items = back_all c.args.passes.items c.loop-pass.passes.items j.0 j.1 (let k = c.in_default-pop.ensures.cases in let o = c.loop-pass.passes.ok in omega arith) in
     closes c.args.self c.take-journal.result (view c.loop-pass.keeper) _ c.args.passes.items t (j.2 ∙ ap claims_back all) (t.same.0 ∙ i.memo.0, t.same.1 ∙ i.memo.1) c.into_core.ensures.history c.requires.some c.requires.passes _ c.into_core.ensures.core _ c.passes-given.ensures
+
+pub returns-clause-given : goal.returns-clause-given
+returns-clause-given g c = let i = c.loop-pass.invariant in let j = i.joined in let t = c.take-journal.ensures.taken in
+    let all : j.0 ≡ c.args.passes.items = back_all c.args.passes.items c.loop-pass.passes.items j.0 j.1 (let k = c.in_default-pop.ensures.cases in let o = c.loop-pass.passes.ok in omega arith) in
+    closes-given c.take-journal.result (view c.loop-pass.keeper) _ c.args.passes.items t (j.2 ∙ ap claims_back all) _ c.passes-given.ensures
