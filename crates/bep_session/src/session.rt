@@ -42,7 +42,7 @@ impl Model for Session {
 }
 
 impl Session {
-    /// A session of which nothing was fed, said or asked yet. Time counts from this moment. Does not allocate.
+    /// A session to which nothing was fed yet, and by which nothing was said or asked. Time counts from this moment. Does not allocate.
     pub fn new(alloc: Global, moment: Moment) -> Session
         ensures { result ≡ begun moment }
     {
@@ -103,7 +103,7 @@ impl Session {
         ensures err { OnErr result (out.new.items ≡ out.old.items) }
         ensures unchanged { OnErr result (self.new ≡ self.old) }
         ensures capacity { vec_capacity out.old ≤ vec_capacity out.new }
-        // Memory is missing only where the room for the frame was.
+        // Out of memory only where `out` has no room for the frame.
         ensures full { IsErrOf result WriteFault.OutOfMemory → vec_capacity out.old < vec_len out.old + length (message_frame message.now) }
     {
         write_frame(message, out)?;
@@ -146,7 +146,7 @@ impl Session {
         Ok(true)
     }
 
-    /// What is due at a moment: the end of the connection where nothing was received for 300 seconds, else a Ping where nothing was
+    /// What is due at a moment: the end of the connection where no whole frame was received for 300 seconds, else a Ping where nothing was
     /// said for 90. O(1).
     pub fn tick(&self, moment: Moment) -> Tick
         ensures { result ≡ tick_at self.now.talk.received self.now.talk.said moment }

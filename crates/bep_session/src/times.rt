@@ -10,7 +10,7 @@ pub enum Tick {
     Nothing,
     /// A Ping, since nothing was said for 90 seconds.
     PingDue,
-    /// The end of the connection, since nothing was received for 300 seconds. Programs report it under the number 52.
+    /// The end of the connection, since no whole frame was received for 300 seconds. Programs report it under the number 52.
     TimedOut,
 }
 

@@ -9,10 +9,12 @@ use crate::mem::fault;
 use crate::{FileStore, Listed, Stat, StoreRefusal};
 use sync_names::SafeName;
 
-/// When a [`FailingStore`] fails its call: before the wrapped store is asked, or after it did the call.
+/// When a [`FailingStore`] fails its call: before the wrapped store is asked, or after.
 #[derive(Clone, Copy, Debug, PartialEq, Eq)]
 pub enum FailureTime {
+    /// The wrapped store is not asked.
     Before,
+    /// The wrapped store does the call, or refuses it, and then the call fails.
     After,
 }
 
@@ -71,6 +73,7 @@ impl<S: FileStore> FileStore for FailingStore<S> {
     ghost fault_count = { own_faults };
 
     fn faults(&self) -> u64 {
+        // That the wrapped store has a tree is known only after a call of it.
         let _ = self.inner.faults();
         self.faults
     }
