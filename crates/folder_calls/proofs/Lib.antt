@@ -3,6 +3,7 @@ pub mod HistoryFronts
 pub mod HistoryCommits
 pub mod HistoryShared
 pub mod HistoryMeetings
+pub mod HistoryHeadline
 pub mod JournalPulls
 pub mod JournalSteps
 pub mod AloneCalls
