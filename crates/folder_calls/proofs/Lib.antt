@@ -1,5 +1,6 @@
 pub mod HistoryEntries
 pub mod HistoryFronts
+pub mod HistoryReplays
 pub mod HistoryCommits
 pub mod HistoryShared
 pub mod HistoryMeetings

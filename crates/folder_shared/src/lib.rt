@@ -5,6 +5,7 @@
 #![tactic(auto)]
 
 mod changes;
+mod check;
 mod folder;
 mod known;
 mod lock;
