@@ -1,16 +1,15 @@
 -- A piece that is cut in two.
-use Rattle.std.proofs.Common.{◌≡◌, ◌≢◌, ℕ, Bool, List, [], ◌∷◌, ◌++◌, Result, Ok, Err, refl, sym, ap, ◌∙◌, append_assoc, append-nil}
+use Rattle.std.proofs.Common.{◌≡◌, ◌≢◌, ℕ, Bool, List, [], ◌++◌, Result, Ok, Err, refl, sym, ap, ◌∙◌, append_assoc, append-nil}
 use Rattle.bep_frames.specs.declared.fault.FrameFault.{FrameFault}
 use Rattle.bep_frames.specs.declared.frame.Frame.{Frame}
 use Rattle.bep_frames.specs.State.{with_front}
 use Rattle.bep_frames.specs.Stream.{Stream, ended, stream}
 use Rattle.bep_session.specs.declared.event.Event.{Event}
-use Rattle.bep_session.specs.declared.event.Event.TheVariants.{Ended}
-use Rattle.bep_session.specs.declared.fault.SessionFault.TheVariants.{Frame as FrameEnd}
 use Rattle.bep_session.specs.declared.talk.Stage.{Stage}
 use Rattle.bep_session.specs.declared.talk.Stage.TheVariants.{Opening, Running, Over}
 use Rattle.bep_session.specs.declared.talk.Talk.{Talk}
-use Rattle.bep_session.specs.Events.{Told, end_told_at, frames_told, over, stream_told}
+use Rattle.bep_session.specs.Events.{Told, end_told_at, fault_events, frames_told, over, stream_told}
+use Rattle.bep_session.specs.Faults.{session_fault}
 use Rattle.bep_session.specs.Sessions.{Fed, View, ended_view, fed, fed_stream, left_at, rest_of, still_due}
 use Rattle.bep_session.proofs.Feeds.{ended_live, fed_live, fed_over, left_over}
 use Rattle.bep_session.proofs.Longer.{later, still_due-append, stream_longer}
@@ -22,9 +21,9 @@ events_first events told = record { talk = told.talk; events = events ++ told.ev
 
 end_first : (stage : Stage) (events : List Event) (told : Told) (end : Result (List ℕ) FrameFault) → end_told_at stage (events_first events told) end ≡ events_first events (end_told_at stage told end)
 end_first Opening events told (Ok rest) = refl
-end_first Opening events told (Err e) = ap (λ (l : List Event). record { talk = over told.talk; events = l }) (append_assoc events told.events (Ended (FrameEnd e) ∷ []))
+end_first Opening events told (Err e) = ap (λ (l : List Event). record { talk = over told.talk; events = l }) (append_assoc events told.events (fault_events (session_fault e)))
 end_first Running events told (Ok rest) = refl
-end_first Running events told (Err e) = ap (λ (l : List Event). record { talk = over told.talk; events = l }) (append_assoc events told.events (Ended (FrameEnd e) ∷ []))
+end_first Running events told (Err e) = ap (λ (l : List Event). record { talk = over told.talk; events = l }) (append_assoc events told.events (fault_events (session_fault e)))
 end_first Over events told end = refl
 
 -- frames in front of a stream
@@ -75,7 +74,7 @@ stream_stopped due t s moment closed =
 abbrev pub then_fed : Fed → List ℕ → ℕ → Fed
 then_fed first b moment = fed_first first.events (fed first.session b moment)
 
-fault_live : (due : Bool) (t : Talk) (e : FrameFault) (moment : ℕ) → t.stage ≢ Over → fed_stream due t (ended (Err e)) moment ≡ record { session = ended_view (over t); events = Ended (FrameEnd e) ∷ [] }
+fault_live : (due : Bool) (t : Talk) (e : FrameFault) (moment : ℕ) → t.stage ≢ Over → fed_stream due t (ended (Err e)) moment ≡ record { session = ended_view (over t); events = fault_events (session_fault e) }
 unfolding fed_stream frames_told
 fault_live due t e moment live =
     ap (λ (x : Told). record { session = left_at x.talk.stage due (ended (Err e)) x.talk; events = x.events }) (told_fault moment t [] e live)
@@ -87,8 +86,10 @@ bare due t (Ok rest) b moment live =
     ∙ ap (fed_first []) (fed_live (record { hello = due; rest = rest; talk = t }) b moment live)
 bare due t (Err e) b moment live =
     let fault = fault_live due t e moment live in
+    let events = fault_events (session_fault e) in
     ap (λ (x : Fed). then_fed x b moment) fault
-    ∙ ap (fed_first (Ended (FrameEnd e) ∷ [])) (fed_over (ended_view (over t)) b moment refl)
+    ∙ ap (fed_first events) (fed_over (ended_view (over t)) b moment refl)
+    ∙ ap (λ (l : List Event). record { session = ended_view (over t); events = l }) (append-nil events)
     ∙ sym fault
 
 -- what more bytes make of a stream without frames

@@ -1,5 +1,5 @@
 -- A piece that is fed to a session, by what its reader gives.
-use Rattle.std.proofs.Common.{◌≡◌, ◌≢◌, ℕ, Bool, List, [], ◌++◌, Option, None, Result, Ok, refl, sym, ap, ◌∙◌}
+use Rattle.std.proofs.Common.{◌≡◌, ◌≢◌, ℕ, Bool, List, [], ◌++◌, Option, None, Result, Ok, refl, sym, ap, subst, ◌∙◌}
 use Rattle.bep_frames.specs.declared.fault.FrameFault.{FrameFault}
 use Rattle.bep_frames.specs.State.{State, grown, remaining, to_give, fed as reader_fed}
 use Rattle.bep_frames.specs.Stream.{Stream, ended, stream}
@@ -9,7 +9,7 @@ use Rattle.bep_session.specs.declared.talk.Stage.TheVariants.{Opening, Running, 
 use Rattle.bep_session.specs.declared.talk.Talk.{Talk}
 use Rattle.bep_session.specs.Events.{Told, frames_told, over, stream_told}
 use Rattle.bep_session.specs.Progress.{IsCutShort, IsDrained, IsRead}
-use Rattle.bep_session.specs.Sessions.{Fed, StopsShort, View, ended_view, fed, fed_at, fed_stream, left_at, rest_of, still_due}
+use Rattle.bep_session.specs.Sessions.{Fed, Leaves, StopsShort, View, ended_view, fed, fed_at, fed_stream, left_at, rest_of, still_due}
 use Rattle.bep_session.proofs.Told.{told_rest}
 
 -- ---- what `fed` is
@@ -99,10 +99,11 @@ module _ (reader new : State) (t u : Talk) (piece : List ℕ) (moment : ℕ) (be
       ∙ ap (λ (b : Bool). record { hello = b; rest = rest_of given.end; talk = u }) (sym more.due_is)
       ∙ ap (λ (end : Result (List ℕ) FrameFault). record { hello = new.hello; rest = rest_of end; talk = u }) more.end)
 
-  pub cut_short : IsCutShort moment given t u → StopsShort (view_of reader t) piece moment (ended_view (over u))
+  pub cut_short : IsCutShort moment reader.hello (reader_fed reader piece).rest t u → StopsShort (view_of reader t) piece moment (ended_view (over u))
   cut_short h = record {
-    some = h.some;
-    others = h.others;
-    split = ap (λ (s : Stream). s.frames) (sym (stream_of reader piece drained.fault)) ∙ h.split;
+    frames = h.frames;
+    left = h.left;
+    leaves = subst (λ (f : Option FrameFault). Leaves reader.hello (grown reader.rest piece f) h.frames h.left) drained.fault h.leaves;
+    needs = h.needs;
     session = ap ended_view h.talk;
   }

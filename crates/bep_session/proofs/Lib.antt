@@ -8,3 +8,4 @@ pub mod Cut
 pub mod Whole
 pub mod Open
 pub mod First
+pub mod Shown

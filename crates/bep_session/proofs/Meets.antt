@@ -2,7 +2,10 @@
 use Rattle.std.proofs.Common.{◌≡◌, ◌≢◌, ℕ, ℤ, Bool, true, false, List, refl, sym, ap, ◌∙◌}
 use Rattle.std.specs.Prelude.{if◌then◌else◌}
 use Rattle.bep_messages.specs.declared.response.Response.{Response}
+use Rattle.bep_messages.specs.declared.ping.Ping.{Ping}
 use Rattle.bep_frames.specs.declared.frame.Frame.{Frame}
+use Rattle.bep_frames.specs.declared.frame.Frame.TheVariants.{Message as MessageFrame}
+use Rattle.bep_frames.specs.declared.frame.Message.TheVariants.{Ping as PingMessage}
 use Rattle.bep_session.specs.declared.event.Event.TheVariants.{Answered, UnknownResponse}
 use Rattle.bep_session.specs.declared.talk.Stage.{Stage}
 use Rattle.bep_session.specs.declared.talk.Stage.TheVariants.{Opening, Running, Over}
@@ -38,3 +41,12 @@ over_at Over moment t f e = refl
 pub met_over : (moment : ℕ) (t : Talk) (f : Frame) → t.stage ≡ Over → met moment t f ≡ silent t
 unfolding met
 met_over moment t f e = over_at t.stage moment t f e
+
+ping_at : (stage : Stage) (moment : ℕ) (t : Talk) (m : Ping) → stage ≡ Running → silent (record t { received = moment }) ≡ met_at stage moment t (MessageFrame (PingMessage m))
+ping_at Opening moment t m e = absurd cc
+ping_at Running moment t m e = refl
+ping_at Over moment t m e = absurd cc
+
+pub met_ping : (moment : ℕ) (t : Talk) (f : Frame) (m : Ping) → t.stage ≡ Running → f ≡ MessageFrame (PingMessage m) → silent (record t { received = moment }) ≡ met moment t f
+unfolding met
+met_ping moment t f m running is = ping_at t.stage moment t m running ∙ sym (ap (met_at t.stage moment t) is)

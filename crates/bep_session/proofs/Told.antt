@@ -1,23 +1,28 @@
 -- Frames that are met one after the other.
-use Rattle.std.proofs.Common.{◌≡◌, ◌≢◌, ℕ, Bool, false, List, [], ◌∷◌, ◌++◌, Option, None, Some, Result, Ok, Err, refl, sym, ap, subst, ◌∙◌, append_assoc, append-nil}
+use Rattle.std.proofs.Common.{◌≡◌, ◌≢◌, ℕ, Bool, false, List, [], ◌∷◌, ◌++◌, Option, None, Some, Result, Ok, Err, refl, sym, ap, subst, ◌∙◌, inl, inr, append_assoc, append-nil}
 use Rattle.std.specs.Prelude.{OnErr}
 use Rattle.std.specs.Option.{option_to_list}
 use Rattle.bep_frames.specs.declared.fault.FrameFault.{FrameFault}
 use Rattle.bep_frames.specs.declared.fault.FrameFault.TheVariants.{OutOfMemory}
 use Rattle.bep_frames.specs.declared.frame.Frame.{Frame}
-use Rattle.bep_frames.specs.State.{State, Gives, fed, remaining, start, with_front}
+use Rattle.bep_frames.specs.Grammar.{Begins, Shows}
+use Rattle.bep_frames.specs.Memory.{FrameTakesMemory}
+use Rattle.bep_frames.specs.State.{State, Gives, GivesFault, fed, remaining, start, with_front}
 use Rattle.bep_frames.specs.Stream.{Stream, ended}
 use Rattle.bep_frames.proofs.Lemmas.{front_push, given_fault, given_frame, given_none}
 use Rattle.bep_frames.proofs.Readings.{empty_more, stream_more}
+use Rattle.bep_frames.proofs.Runs.{gives_fault}
 use Rattle.bep_session.specs.declared.event.Event.{Event}
 use Rattle.bep_session.specs.declared.event.Event.TheVariants.{Ended}
-use Rattle.bep_session.specs.declared.fault.SessionFault.TheVariants.{Frame as FrameEnd}
+use Rattle.bep_session.specs.declared.fault.SessionFault.{SessionFault}
 use Rattle.bep_session.specs.declared.talk.Stage.{Stage}
 use Rattle.bep_session.specs.declared.talk.Stage.TheVariants.{Opening, Running, Over}
 use Rattle.bep_session.specs.declared.talk.Talk.{Talk}
-use Rattle.bep_session.specs.Events.{Met, Told, end_told_at, frames_told, met, met_then, over, silent, stream_told}
+use Rattle.bep_session.specs.Events.{Met, Told, end_told_at, fault_events, frames_told, met, met_then, over, silent, stream_told}
+use Rattle.bep_session.specs.Faults.{session_fault}
 use Rattle.bep_session.specs.Progress.{IsCutShort, IsDrained, IsRead}
-use Rattle.bep_session.specs.Sessions.{still_due}
+use Rattle.bep_session.specs.Sessions.{Leaves, still_due}
+use Rattle.bep_session.proofs.Longer.{still_due_false}
 use Rattle.bep_session.proofs.Meets.{met_over}
 
 -- ---- lists of frames
@@ -71,7 +76,7 @@ over_told Opening told end e = absurd cc
 over_told Running told end e = absurd cc
 over_told Over told end e = refl
 
-fault_at : (stage : Stage) (told : Told) (e : FrameFault) → stage ≢ Over → end_told_at stage told (Err e) ≡ record { talk = over told.talk; events = told.events ++ Ended (FrameEnd e) ∷ [] }
+fault_at : (stage : Stage) (told : Told) (e : FrameFault) → stage ≢ Over → end_told_at stage told (Err e) ≡ record { talk = over told.talk; events = told.events ++ fault_events (session_fault e) }
 fault_at Opening told e live = refl
 fault_at Running told e live = refl
 fault_at Over told e live = absurd (live refl)
@@ -85,7 +90,7 @@ told_rest moment t frames rest =
     ap (λ (l : List Frame). end_of (frames_told moment t l) (Ok rest)) (append-nil frames) ∙ rest_at (frames_told moment t frames).talk.stage (frames_told moment t frames) rest
 
 pub told_fault : (moment : ℕ) (t : Talk) (frames : List Frame) (e : FrameFault) → (frames_told moment t frames).talk.stage ≢ Over
-    → stream_told moment t (with_front frames (ended (Err e))) ≡ record { talk = over (frames_told moment t frames).talk; events = (frames_told moment t frames).events ++ Ended (FrameEnd e) ∷ [] }
+    → stream_told moment t (with_front frames (ended (Err e))) ≡ record { talk = over (frames_told moment t frames).talk; events = (frames_told moment t frames).events ++ fault_events (session_fault e) }
 unfolding stream_told
 told_fault moment t frames e live =
     ap (λ (l : List Frame). end_of (frames_told moment t l) (Err e)) (append-nil frames) ∙ fault_at (frames_told moment t frames).talk.stage (frames_told moment t frames) e live
@@ -106,6 +111,9 @@ told_closed moment t frames more closed =
 
 -- ---- what a reader gave
 
+pub not_memory : (e : FrameFault) (f : SessionFault) → session_fault e ≡ Some f → e ≢ OutOfMemory
+not_memory e f is memory = let none = ap session_fault memory in cc
+
 -- the frames that the reader gave were met, and what it has yet to give is the rest of the stream
 pub record IsMet (moment : ℕ) (old new : State) (t u : Talk) (before after : List Event) : Type 0 where
   pub frames : List Frame
@@ -113,16 +121,33 @@ pub record IsMet (moment : ℕ) (old new : State) (t u : Talk) (before after : L
   pub talk : u ≡ (frames_told moment t frames).talk
   pub events : after ≡ before ++ (frames_told moment t frames).events
   pub due : new.hello ≡ still_due old.hello frames
+  pub leaves : Leaves old.hello old.rest frames new.rest
+  pub sound : new.fault ≡ None
+
+leaves-push : (due : Bool) (bytes : List ℕ) (frames : List Frame) (mid : List ℕ) (f : Frame) (left : List ℕ) → Leaves due bytes frames mid → Begins (still_due due frames) mid f left → Leaves due bytes (frames ++ f ∷ []) left
+leaves-push due bytes [] mid f left h b = (left, subst (λ (l : List ℕ). Begins due l f left) (sym h) b, refl)
+leaves-push due bytes (g ∷ frames) mid f left h b =
+    (h.0, h.1, leaves-push false h.0 frames mid f left h.2 (subst (λ (d : Bool). Begins d mid f left) (sym (still_due_false frames)) b))
+
+-- a fault that a reader gives is shown by its bytes
+fresh : (old new : State) (e : FrameFault) → old.fault ≡ None → GivesFault old e new → Shows old.hello old.rest e
+fresh old new e sound (inl before) = let is = sym sound ∙ before.0 in absurd cc
+fresh old new e sound (inr shown) = shown.1
+
+shown_by : (old new : State) (e : FrameFault) → old.fault ≡ None → e ≢ OutOfMemory → Gives old (Some (Err e)) new → Shows old.hello old.rest e
+shown_by old new e sound not gives = fresh old new e sound (gives_fault old new e gives not)
 
 module _ (moment : ℕ) (old : State) (t : Talk) (before : List Event) where
-  pub begins : IsMet moment old old t t before before
+  pub begins : old.fault ≡ None → IsMet moment old old t t before before
   unfolding frames_told
-  begins = record {
+  begins sound = record {
     frames = [];
     given = λ more. refl;
     talk = refl;
     events = sym (append-nil before);
     due = refl;
+    leaves = refl;
+    sound = sound;
   }
 
   module _ (new next : State) (u v : Talk) (after now : List Event) (f : Frame) (event : Option Event) where
@@ -135,6 +160,9 @@ module _ (moment : ℕ) (old : State) (t : Talk) (before : List Event) where
         ∙ ap (λ (w : Talk). told_then (frames_told moment t h.frames) (met moment w f)) (sym h.talk)
         ∙ ap (told_then (frames_told moment t h.frames)) (sym meets)
 
+    next_leaves : (h : IsMet moment old new t u before after) → Gives new (Some (Ok f)) next → Leaves old.hello old.rest (h.frames ++ f ∷ []) next.rest
+    next_leaves h gives = leaves-push old.hello old.rest h.frames new.rest f next.rest h.leaves (subst (λ (d : Bool). Begins d new.rest f next.rest) h.due gives.1)
+
     -- one more frame was met
     pub goes_on : IsMet moment old new t u before after → Gives new (Some (Ok f)) next → record { talk = v; event = event } ≡ met moment u f → now ≡ after ++ option_to_list event
         → IsMet moment old next t v before now
@@ -146,24 +174,46 @@ module _ (moment : ℕ) (old : State) (t : Talk) (before : List Event) where
           ∙ append_assoc before (frames_told moment t h.frames).events (option_to_list event)
           ∙ ap (λ (told : Told). before ++ told.events) (sym (more_told h meets));
       due = gives.2 ∙ sym (still_due-push old.hello h.frames f);
+      leaves = next_leaves h gives;
+      sound = gives.3;
     }
 
     -- it was met, and then memory was out
-    pub cut_more : IsMet moment old new t u before after → Gives new (Some (Ok f)) next → record { talk = v; event = event } ≡ met moment u f → IsCutShort moment (remaining (fed old [])) t v
-    cut_more h gives meets = record {
-      some = h.frames ++ f ∷ [];
-      others = (remaining (fed next [])).frames;
-      split = ap (λ (s : Stream). s.frames) (given_more h gives []);
+    pub cut_more : (e : Event) → IsMet moment old new t u before after → Gives new (Some (Ok f)) next → record { talk = v; event = event } ≡ met moment u f → event ≡ Some e → IsCutShort moment old.hello old.rest t v
+    cut_more e h gives meets some = record {
+      frames = h.frames ++ f ∷ [];
+      left = next.rest;
+      leaves = next_leaves h gives;
+      needs = inr (inl (record {
+        before = h.frames;
+        last = f;
+        split = refl;
+        event = λ none. let is = ap (λ (m : Met). m.event) meets ∙ ap (λ (w : Talk). (met moment w f).event) h.talk in cc;
+      }));
       talk = ap (λ (told : Told). over told.talk) (sym (more_told h meets));
     }
 
   module _ (new : State) (u : Talk) (after : List Event) where
+    live_after : (h : IsMet moment old new t u before after) → u.stage ≢ Over → (frames_told moment t h.frames).talk.stage ≢ Over
+    live_after h live = λ closed. live (ap (λ (w : Talk). w.stage) h.talk ∙ closed)
+
     -- memory was out before the next
-    pub cut_here : IsMet moment old new t u before after → IsCutShort moment (remaining (fed old [])) t u
-    cut_here h = record {
-      some = h.frames;
-      others = (remaining (fed new [])).frames;
-      split = ap (λ (s : Stream). s.frames) (h.given []);
+    pub cut_next : (next : State) → IsMet moment old new t u before after → u.stage ≢ Over → Gives new (Some (Err OutOfMemory)) next → IsCutShort moment old.hello old.rest t u
+    cut_next next h live gives = record {
+      frames = h.frames;
+      left = new.rest;
+      leaves = h.leaves;
+      needs = inr (inr (record { live = live_after h live; next = inl (subst (λ (d : Bool). FrameTakesMemory d new.rest) h.due gives.1) }));
+      talk = ap over h.talk;
+    }
+
+    -- it was out at the event of a fault
+    pub cut_fault : (next : State) (e : FrameFault) → IsMet moment old new t u before after → u.stage ≢ Over → Gives new (Some (Err e)) next → e ≢ OutOfMemory → IsCutShort moment old.hello old.rest t (over u)
+    cut_fault next e h live gives not = record {
+      frames = h.frames;
+      left = new.rest;
+      leaves = h.leaves;
+      needs = inr (inr (record { live = live_after h live; next = inr (e, subst (λ (d : Bool). Shows d new.rest e) h.due (shown_by new next e h.sound not gives)) }));
       talk = ap over h.talk;
     }
 
@@ -206,17 +256,17 @@ module _ (moment : ℕ) (old : State) (t : Talk) (before : List Event) where
           }
 
       -- the stream shows a fault
-      pub reads_fault : (e : FrameFault) (now : List Event) → IsMet moment old new t u before after → u.stage ≢ Over → Gives new (Some (Err e)) next → e ≢ OutOfMemory → now ≡ after ++ Ended (FrameEnd e) ∷ []
+      pub reads_fault : (e : FrameFault) (f : SessionFault) (now : List Event) → IsMet moment old new t u before after → u.stage ≢ Over → Gives new (Some (Err e)) next → session_fault e ≡ Some f → now ≡ after ++ Ended f ∷ []
           → IsRead moment old.hello (remaining (fed old [])) t (over u) before now next
-      reads_fault e now h live gives not pushed =
+      reads_fault e f now h live gives is pushed =
+          let not = not_memory e f is in
           let fault = given_fault new next e [] gives not in
           let end = sym fault.0 ∙ fault.1 in
-          let open_stage = λ (closed : (frames_told moment t h.frames).talk.stage ≡ Over). live (ap (λ (w : Talk). w.stage) h.talk ∙ closed) in
-          let told = told_is h (ended (Err e)) _ end (told_fault moment t h.frames e open_stage) in
+          let told = told_is h (ended (Err e)) _ end (told_fault moment t h.frames e (live_after h live)) in
           record {
             talk = ap over h.talk ∙ ap (λ (x : Told). x.talk) (sym told);
-            events = pushed ∙ ap (λ (l : List Event). l ++ Ended (FrameEnd e) ∷ []) h.events
-                ∙ append_assoc before (frames_told moment t h.frames).events (Ended (FrameEnd e) ∷ [])
+            events = pushed ∙ ap (λ (o : Option SessionFault). after ++ fault_events o) (sym is) ∙ ap (λ (l : List Event). l ++ fault_events (session_fault e)) h.events
+                ∙ append_assoc before (frames_told moment t h.frames).events (fault_events (session_fault e))
                 ∙ ap (λ (x : Told). before ++ x.events) (sym told);
             goes_on = λ never. absurd (never refl);
           }
@@ -241,6 +291,6 @@ on_err (Ok x) P p = tt
 on_err (Err e) P p = p
 
 -- memory was out before the first frame
-pub cut_first : (moment : ℕ) (s : Stream) (t : Talk) → IsCutShort moment s t t
+pub cut_first : (moment : ℕ) (due : Bool) (bytes : List ℕ) (t : Talk) → IsCutShort moment due bytes t t
 unfolding frames_told
-cut_first moment s t = record { some = []; others = s.frames; split = refl; talk = refl }
+cut_first moment due bytes t = record { frames = []; left = bytes; leaves = refl; needs = inl refl; talk = refl }

@@ -11,10 +11,12 @@ use Rattle.bep_frames.specs.declared.frame.Message.TheVariants.{ClusterConfig, I
 use Rattle.bep_frames.specs.Stream.{Stream}
 use Rattle.bep_session.specs.declared.event.Event.{Event}
 use Rattle.bep_session.specs.declared.event.Event.TheVariants.{PeerHello, PeerConfig, Full, More, Asked, Answered, UnknownResponse, Skipped, PeerClosed, Ended}
-use Rattle.bep_session.specs.declared.fault.SessionFault.TheVariants.{Frame as FrameEnd, NotClusterConfigFirst}
+use Rattle.bep_session.specs.declared.fault.SessionFault.{SessionFault}
+use Rattle.bep_session.specs.declared.fault.SessionFault.TheVariants.{NotClusterConfigFirst}
 use Rattle.bep_session.specs.declared.talk.Stage.{Stage}
 use Rattle.bep_session.specs.declared.talk.Stage.TheVariants.{Opening, Running, Over}
 use Rattle.bep_session.specs.declared.talk.Talk.{Talk}
+use Rattle.bep_session.specs.Faults.{session_fault}
 use Rattle.bep_session.specs.Ids.{closed, is_open}
 
 -- what a frame leaves behind, and the event that it is
@@ -95,10 +97,15 @@ unfoldable pub frames_told : ℕ → Talk → List Frame → Told
 frames_told moment t [] = record { talk = t; events = [] }
 frames_told moment t (f ∷ frames) = met_then (met moment t f) (frames_told moment (met moment t f).talk frames)
 
+-- the event of a fault
+abbrev pub fault_events : Option SessionFault → List Event
+fault_events None = []
+fault_events (Some fault) = Ended fault ∷ []
+
 -- the end of a stream that has not been closed: a rest means nothing yet, a fault is the last event
 abbrev pub end_told : Told → Result (List ℕ) FrameFault → Told
 end_told told (Ok rest) = told
-end_told told (Err e) = record { talk = over told.talk; events = told.events ++ Ended (FrameEnd e) ∷ [] }
+end_told told (Err e) = record { talk = over told.talk; events = told.events ++ fault_events (session_fault e) }
 
 abbrev pub end_told_at : Stage → Told → Result (List ℕ) FrameFault → Told
 end_told_at Opening told end = end_told told end

@@ -7,7 +7,7 @@ use Rattle.bep_session.specs.declared.event.Event.{Event}
 use Rattle.bep_session.specs.declared.talk.Stage.TheVariants.{Over}
 use Rattle.bep_session.specs.declared.talk.Talk.{Talk}
 use Rattle.bep_session.specs.Events.{frames_told, over, stream_told}
-use Rattle.bep_session.specs.Sessions.{still_due}
+use Rattle.bep_session.specs.Sessions.{Leaves, NeedsMemory, still_due}
 
 -- a reader has given all frames, and shows no fault
 pub record IsDrained (reader : State) : Type 0 where
@@ -26,9 +26,10 @@ pub record IsRead (moment : ℕ) (due : Bool) (s : Stream) (t u : Talk) (before 
   pub events : after ≡ before ++ (stream_told moment t s).events
   pub goes_on : u.stage ≢ Over → GoesOn due s reader
 
--- some of its first frames were
-pub record IsCutShort (moment : ℕ) (s : Stream) (t u : Talk) : Type 0 where
-  pub some : List Frame
-  pub others : List Frame
-  pub split : s.frames ≡ some ++ others
-  pub talk : over u ≡ over (frames_told moment t some).talk
+-- some of the first frames of these bytes were met, and then memory was out
+pub record IsCutShort (moment : ℕ) (due : Bool) (bytes : List ℕ) (t u : Talk) : Type 0 where
+  pub frames : List Frame
+  pub left : List ℕ
+  pub leaves : Leaves due bytes frames left
+  pub needs : NeedsMemory due moment t frames left
+  pub talk : over u ≡ over (frames_told moment t frames).talk

@@ -1,13 +1,15 @@
 -- What a session is, and what its calls do to it (own rule).
-use Rattle.std.specs.Prelude.{◌≡◌, ℕ, ℤ, List, [], ◌∷◌, ◌++◌, Bool, true, false, Result, Ok, Err}
+use Rattle.std.specs.Prelude.{◌≡◌, ◌≢◌, ◌⊎◌, ℕ, ℤ, List, [], ◌∷◌, ◌++◌, Bool, true, false, None, Result, Ok, Err}
 use Rattle.bep_frames.specs.declared.fault.FrameFault.{FrameFault}
 use Rattle.bep_frames.specs.declared.frame.Frame.{Frame}
+use Rattle.bep_frames.specs.Grammar.{Begins, Shows}
+use Rattle.bep_frames.specs.Memory.{FrameTakesMemory}
 use Rattle.bep_frames.specs.Stream.{Stream, stream}
 use Rattle.bep_session.specs.declared.event.Event.{Event}
 use Rattle.bep_session.specs.declared.talk.Stage.{Stage}
 use Rattle.bep_session.specs.declared.talk.Stage.TheVariants.{Opening, Running, Over}
 use Rattle.bep_session.specs.declared.talk.Talk.{Talk}
-use Rattle.bep_session.specs.Events.{frames_told, over, stream_told}
+use Rattle.bep_session.specs.Events.{frames_told, met, over, stream_told}
 use Rattle.bep_session.specs.Ids.{opened}
 
 -- whether the Hello is due, the bytes after the last whole frame, and what the frames so far left behind
@@ -56,12 +58,37 @@ fed_at Over v piece moment = record { session = v; events = [] }
 unfoldable pub fed : View → List ℕ → ℕ → Fed
 fed v piece moment = fed_at v.talk.stage v piece moment
 
--- Memory was out somewhere in a piece: some of its first frames were met, and the session has ended.
+-- ---- out of memory
+
+-- the bytes are the spellings of these frames, and then what is left
+abbrev pub Leaves : Bool → List ℕ → List Frame → List ℕ → Type 0
+Leaves due bytes [] left = bytes ≡ left
+Leaves due bytes (f ∷ frames) left = (next : List ℕ) × Begins due bytes f next × Leaves false next frames left
+
+-- the last of these frames has an event
+pub record EndsWithEvent (moment : ℕ) (t : Talk) (frames : List Frame) : Type 0 where
+  pub before : List Frame
+  pub last : Frame
+  pub split : frames ≡ before ++ last ∷ []
+  pub event : (met moment (frames_told moment t before).talk last).event ≢ None
+
+-- the session goes on after these frames, and what is left begins with a frame that takes memory, or shows a fault
+pub record GoesOnTo (due : Bool) (moment : ℕ) (t : Talk) (frames : List Frame) (left : List ℕ) : Type 0 where
+  pub live : (frames_told moment t frames).talk.stage ≢ Over
+  pub next : FrameTakesMemory (still_due due frames) left ⊎ ((e : FrameFault) × Shows (still_due due frames) left e)
+
+-- What takes memory after these frames: keeping the piece, before the first; the event of the last of them; the frame that is
+-- next; or the event of a fault.
+abbrev pub NeedsMemory : Bool → ℕ → Talk → List Frame → List ℕ → Type 0
+NeedsMemory due moment t frames left = (frames ≡ []) ⊎ EndsWithEvent moment t frames ⊎ GoesOnTo due moment t frames left
+
+-- Memory was out in a piece: some of its first frames were met, then memory was needed, and the session has ended.
 pub record StopsShort (old : View) (piece : List ℕ) (moment : ℕ) (new : View) : Type 0 where
-  pub some : List Frame
-  pub others : List Frame
-  pub split : (stream old.hello (old.rest ++ piece)).frames ≡ some ++ others
-  pub session : new ≡ ended_view (over (frames_told moment old.talk some).talk)
+  pub frames : List Frame
+  pub left : List ℕ
+  pub leaves : Leaves old.hello (old.rest ++ piece) frames left
+  pub needs : NeedsMemory old.hello moment old.talk frames left
+  pub session : new ≡ ended_view (over (frames_told moment old.talk frames).talk)
 
 -- after a message was said; after an id was opened
 abbrev pub said_at : View → ℕ → View

@@ -1,15 +1,20 @@
 //! Laws: functions without parameters that do nothing, of which the contract states what the definitions of sessions imply.
-ghost use Rattle.std.specs.Prelude.{◌≡◌, ℕ, ℤ, List, [], ◌++◌, Some, false, not, ◌||◌, ◌&&◌};
+ghost use Rattle.std.specs.Prelude.{◌≡◌, ℕ, ℤ, List, [], ◌++◌, Some, IsSome, Err, Bool, false, not, ◌||◌, ◌&&◌};
 ghost use Rattle.std.specs.List.{IsDistinct};
 ghost use Rattle.std.specs.Ordering.{eq_by_cmp, int_cmp};
+ghost use Rattle.bep_frames.specs.declared.fault.FrameFault.{FrameFault};
 ghost use Rattle.bep_frames.specs.declared.frame.Frame.{Frame};
 ghost use Rattle.bep_frames.specs.declared.frame.Frame.TheVariants.{Message as MessageFrame};
 ghost use Rattle.bep_frames.specs.declared.frame.Message.{Message};
+ghost use Rattle.bep_frames.specs.Faults.{frame_fault_name, frame_fault_number};
+ghost use Rattle.bep_frames.specs.Stream.{stream};
 ghost use Rattle.bep_session.specs.declared.event.Event.TheVariants.{Ended};
+ghost use Rattle.bep_session.specs.declared.fault.SessionFault.{SessionFault};
 ghost use Rattle.bep_session.specs.declared.fault.SessionFault.TheVariants.{NotClusterConfigFirst};
 ghost use Rattle.bep_session.specs.declared.talk.Stage.TheVariants.{Opening, Over};
 ghost use Rattle.bep_session.specs.declared.talk.Talk.{Talk};
 ghost use Rattle.bep_session.specs.Events.{may_begin, met};
+ghost use Rattle.bep_session.specs.Faults.{session_fault, session_fault_name, session_fault_number};
 ghost use Rattle.bep_session.specs.Ids.{closed, is_open, opened};
 ghost use Rattle.bep_session.specs.Runs.{Act, run, run_told};
 ghost use Rattle.bep_session.specs.Sessions.{View, begun, fed};
@@ -42,6 +47,15 @@ pub fn a_cluster_config_comes_first()
         (met moment t (MessageFrame m)).event ≡ Some (Ended NotClusterConfigFirst) }
     ensures only { (moment : ℕ) (t : Talk) (f : Frame) → (met moment t f).event ≡ Some (Ended NotClusterConfigFirst) →
         (t.stage ≡ Opening) × ((m : Message) × (f ≡ MessageFrame m) × (may_begin m ≡ false)) }
+{}
+
+/// Each fault that a stream shows ends its session, under the same number and name; no stream shows that memory is out.
+pub fn a_stream_that_shows_a_fault()
+    ensures ends { (due : Bool) (bytes : List ℕ) (e : FrameFault) → (stream due bytes).end ≡ Err e → IsSome (session_fault e) }
+    ensures number { (e : FrameFault) (fault : SessionFault) → session_fault e ≡ Some fault →
+        session_fault_number fault ≡ frame_fault_number e }
+    ensures name { (e : FrameFault) (fault : SessionFault) → session_fault e ≡ Some fault →
+        session_fault_name fault ≡ frame_fault_name e }
 {}
 
 /// The ids that are open after one more was opened are that one and those before; after one was freed, those before without it.

@@ -7,7 +7,7 @@ ghost use Rattle.bep_session.specs.declared.talk.Stage.TheVariants.{Over};
 use crate::event::Event;
 use crate::fault::SessionFault;
 use crate::talk::{Stage, Talk};
-use bep_frames::{FrameFault, FrameReader};
+use bep_frames::FrameReader;
 use std::alloc::AllocError;
 use sync_version::Moment;
 
@@ -20,10 +20,11 @@ pub(crate) fn take_piece(
     moment: Moment,
     events: &mut Vec<Event>,
 ) -> Result<(), AllocError>
-    requires { talk.old.stage ≢ Over }
+    requires live { talk.old.stage ≢ Over }
+    requires sound { reader.old.fault ≡ None }
     ensures ok { OnOk result (IsRead moment reader.old.hello (remaining (fed reader.old piece.now))
         talk.old talk.new events.old.items events.new.items reader.new) }
-    ensures err { OnErr result (IsCutShort moment (remaining (fed reader.old piece.now)) talk.old talk.new) }
+    ensures err { OnErr result (IsCutShort moment reader.old.hello (fed reader.old piece.now).rest talk.old talk.new) }
 {
     reader.feed(piece)?;
     take_frames(reader, talk, moment, events)
@@ -36,10 +37,11 @@ fn take_frames(
     moment: Moment,
     events: &mut Vec<Event>,
 ) -> Result<(), AllocError>
-    requires { talk.old.stage ≢ Over }
+    requires live { talk.old.stage ≢ Over }
+    requires sound { reader.old.fault ≡ None }
     ensures ok { OnOk result (IsRead moment reader.old.hello (remaining (fed reader.old []))
         talk.old talk.new events.old.items events.new.items reader.new) }
-    ensures err { OnErr result (IsCutShort moment (remaining (fed reader.old [])) talk.old talk.new) }
+    ensures err { OnErr result (IsCutShort moment reader.old.hello reader.old.rest talk.old talk.new) }
 {
     while let Some(answer) = reader.next() {
         match answer {
@@ -51,10 +53,12 @@ fn take_frames(
                     return Ok(());
                 }
             }
-            Err(FrameFault::OutOfMemory) => return Err(AllocError),
             Err(fault) => {
+                let Some(fault) = SessionFault::of_stream(fault) else {
+                    return Err(AllocError);
+                };
                 talk.stage = Stage::Over;
-                events.push(Event::Ended(SessionFault::Frame(fault)))?;
+                events.push(Event::Ended(fault))?;
                 return Ok(());
             }
         }

@@ -56,9 +56,10 @@ impl Session {
     /// Takes the next bytes of the peer's stream, received at this moment, and returns the events of the messages that are then
     /// whole, in order. After the event `Ended` or `PeerClosed` it returns none.
     ///
-    /// Returns `Err` if allocation fails, never for a piece without bytes nor after the end; then the session has ended, and the
-    /// events of the piece are lost. O(n) in the bytes, and O(log m) for each Response where m ids are open; what the messages
-    /// hold is moved into the events.
+    /// Returns `Err` if allocation fails: for the piece, which is kept first, for a frame that holds texts, bytes or messages, or for an
+    /// event. So it never fails for a piece without bytes nor after the end. The session has then ended, and the events of the piece
+    /// are lost. O(n) in the bytes, and O(log m) for each Response where m ids are open; what the messages hold is moved into the
+    /// events.
     pub fn feed(&mut self, piece: &[u8], moment: Moment) -> Result<Vec<Event>, AllocError>
         ensures events { IfOk result (λ events. events.items ≡ (fed self.old piece.now moment).events) }
         ensures session { OnOk result (self.new ≡ (fed self.old piece.now moment).session) }
@@ -120,6 +121,7 @@ impl Session {
         ensures opened { IfOk result (λ id. self.new ≡ with_open self.old id) }
         ensures room { IsOk result → length self.old.talk.asks < max_asks }
         ensures many { IsErrOf result AskRefusal.TooManyAsks ↔ (max_asks ≤ length self.old.talk.asks) }
+        ensures memory { IsErrOf result AskRefusal.OutOfMemory → length self.old.talk.asks < max_asks }
         ensures err { OnErr result (self.new ≡ self.old) }
     {
         let Some(id) = self.talk.asks.least_free() else {

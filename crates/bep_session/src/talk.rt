@@ -1,4 +1,4 @@
-ghost use Rattle.std.specs.Prelude.{◌≡◌, ◌≢◌, [], if◌then◌else◌};
+ghost use Rattle.std.specs.Prelude.{◌≡◌, ◌≢◌, [], IsTrue, if◌then◌else◌};
 ghost use Rattle.bep_session.specs.Events.{Met, answered, heard, heard_at, may_begin, met};
 
 use crate::event::Event;
@@ -53,6 +53,10 @@ impl Talk {
         ensures { record { talk = self.new; event = result } ≡ met moment self.old frame }
     {
         self.received = moment;
+        // The most frequent message of an idle connection: nothing of it need be moved.
+        if self.stage == Stage::Running && is_ping(&frame) {
+            return None;
+        }
         match frame {
             Frame::Hello(hello) => Some(Event::PeerHello(hello)),
             Frame::Message(message) => self.hear(message),
@@ -100,6 +104,12 @@ impl Talk {
             Event::UnknownResponse(response.id)
         }
     }
+}
+
+fn is_ping(frame: &Frame) -> bool
+    ensures { IsTrue result → frame.now ≡ Frame.Message (Message.Ping (record {})) }
+{
+    matches!(frame, Frame::Message(Message::Ping(_)))
 }
 
 /// Whether a message may be the first of a known type after the Hello.

@@ -1,4 +1,4 @@
-use Rattle.std.proofs.Common.{Vec, Global, ◌≡◌, ◌++◌, List, ap, ◌∙◌, rules}
+use Rattle.std.proofs.Common.{Vec, Global, ◌≡◌, ◌++◌, List, sym, ap, ◌∙◌, rules}
 use Rattle.std.specs.Option.{option_to_list}
 use Rattle.bep_frames.proofs.Lemmas.{given_shorter}
 use Rattle.bep_session.specs.declared.event.Event.{Event}
@@ -12,8 +12,8 @@ items events = events.items
 
 pub loop-answer-init : goal.loop-answer-init
 loop-answer-init c = record {
-  met = begins c.args.moment c.args.reader.now c.args.talk.now c.args.events.now.items;
-  live = c.requires;
+  met = begins c.args.moment c.args.reader.now c.args.talk.now c.args.events.now.items c.requires.sound;
+  live = c.requires.live;
 }
 
 pub loop-answer-smaller : goal.loop-answer-smaller
@@ -60,20 +60,18 @@ returns-in_err-push-in-Ok-clause-err c =
     on_err c.from_residual.result _
     (cut_more c.args.moment c.args.reader.now c.args.talk.now c.args.events.now.items
     loop.reader c.next.new.self loop.talk c.meet.new.self loop.events.items loop.events.items c.in-Ok.frame c.meet.result
-    loop.invariant.met gives c.meet.ensures)
-
-pub returns-in-Err : goal.returns-in-Err
-returns-in-Err c =
-    let gives = rw c.in-Err.is at c.in-Some.ensures in
-    let loop = c.loop-answer in
-    record {
-      ok = reads_fault c.args.moment c.args.reader.now c.args.talk.now c.args.events.now.items loop.reader loop.talk loop.events.items c.next.new.self
-          c.in-Err.fault c.push-in-Err.new.self.items loop.invariant.met loop.invariant.live gives (search rules) c.in_ok-push-in-Err.ensures.items;
-      err = tt;
-    }
+    c.in-Some-meet.event loop.invariant.met gives c.meet.ensures c.in-Some-meet.is)
 
 pub returns-clause-ok : goal.returns-clause-ok
 returns-clause-ok c =
     let loop = c.loop-answer in
     reads_none c.args.moment c.args.reader.now c.args.talk.now c.args.events.now.items loop.reader loop.talk loop.events.items c.next.new.self
     loop.invariant.met c.in_default.ensures
+
+pub returns-in-Err-clause-ok : goal.returns-in-Err-clause-ok
+returns-in-Err-clause-ok c =
+    let gives = rw c.in-Err.is at c.in-Some.ensures in
+    let loop = c.loop-answer in
+    reads_fault c.args.moment c.args.reader.now c.args.talk.now c.args.events.now.items loop.reader loop.talk loop.events.items c.next.new.self
+    c.in-Err.fault c.in-Some-of_stream.fault c.push-in-Err.new.self.items loop.invariant.met loop.invariant.live gives
+    (sym c.of_stream.ensures ∙ c.in-Some-of_stream.is) c.in_ok-push-in-Err.ensures.items

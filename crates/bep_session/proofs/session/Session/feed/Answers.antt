@@ -4,8 +4,9 @@ use Rattle.bep_frames.specs.State.{State}
 use Rattle.bep_session.specs.declared.talk.Stage.TheVariants.{Over}
 use Rattle.bep_session.specs.declared.talk.Talk.{Talk}
 use Rattle.bep_session.specs.Progress.{IsDrained}
-use Rattle.bep_session.specs.Sessions.{Fed, View, fed}
-use Rattle.bep_session.proofs.Feeds.{fed_over, nothing_fed, read_events, read_on, read_over, view_of}
+use Rattle.bep_session.specs.Events.{over}
+use Rattle.bep_session.specs.Sessions.{Fed, StopsShort, View, ended_view, fed}
+use Rattle.bep_session.proofs.Feeds.{cut_short, fed_over, nothing_fed, read_events, read_on, read_over, view_of}
 use Rattle.bep_session.proofs.Told.{start_drained}
 use Rattle.bep_session.proofs.session.Session.feed.Goals as goal
 use Rattle.bep_session.proofs.session.Session.feed.Goals.{then-eq-2, else-eq-2, then-eq-via-then-eq, then-eq-via-else-eq+then-is_empty}
@@ -67,3 +68,11 @@ returns-clause-session c =
           c.new-events.result.items c.take_piece.new.events.items c.self.invariant live c.in_default.ensures.ok on
           ∙ now
     ]
+
+pub returns-in-Err-clause-err : goal.returns-in-Err-clause-err
+returns-in-Err-clause-err c =
+    let live : c.self.inside.talk.stage ≢ Over = search rules in
+    let stops = cut_short c.self.inside.reader c.take_piece.new.reader c.self.inside.talk c.take_piece.new.talk c.args.piece.now c.args.moment
+    c.new-events.result.items c.take_piece.new.events.items c.self.invariant live c.in-Err.ensures.err in
+    subst (λ (r : State). StopsShort c.args.self.now c.args.piece.now c.args.moment (view_of r (over c.take_piece.new.talk))) (sym c.after_hello.ensures)
+    (subst (λ (v : View). StopsShort v c.args.piece.now c.args.moment (ended_view (over c.take_piece.new.talk))) c.self.view_is stops)

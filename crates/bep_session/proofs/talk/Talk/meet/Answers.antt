@@ -1,7 +1,8 @@
 use Rattle.std.proofs.Common.{◌≡◌, ℤ, to_z, of_z, w32, sym, ap, ◌∙◌, rules}
 use Rattle.bep_session.specs.declared.event.Event.TheVariants.{Skipped}
 use Rattle.bep_session.specs.Events.{framed, tells}
-use Rattle.bep_session.proofs.Meets.{met_live}
+use Rattle.bep_session.specs.declared.talk.Stage.TheVariants.{Running}
+use Rattle.bep_session.proofs.Meets.{met_live, met_ping}
 use Rattle.bep_session.proofs.talk.Talk.meet.Goals as goal
 
 pub returns-in-Hello : goal.returns-in-Hello
@@ -21,3 +22,9 @@ returns-in-Unknown c =
     met_live c.args.moment t c.args.frame _ c.requires
     (ap (λ (kind : ℤ). tells (record t { received = c.args.moment }) (Skipped kind)) back
     ∙ sym (ap (framed t.stage (record t { received = c.args.moment })) c.in-Unknown.is))
+
+pub returns-then-is_ping : goal.returns-then-is_ping
+returns-then-is_ping c =
+    let t = c.args.self.now in
+    let running : t.stage ≡ Running = search rules in
+    met_ping c.args.moment t c.args.frame _ running (c.is_ping.ensures c.if-is_ping.true)
