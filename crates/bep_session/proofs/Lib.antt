@@ -1,7 +1,7 @@
 pub mod Words
 pub mod Asks
 pub mod Meets
-pub mod Told
+pub mod Outcomes
 pub mod Feeds
 pub mod Longer
 pub mod Cut

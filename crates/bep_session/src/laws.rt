@@ -11,19 +11,19 @@ ghost use Rattle.bep_frames.specs.Stream.{stream};
 ghost use Rattle.bep_session.specs.declared.event.Event.TheVariants.{Ended};
 ghost use Rattle.bep_session.specs.declared.fault.SessionFault.{SessionFault};
 ghost use Rattle.bep_session.specs.declared.fault.SessionFault.TheVariants.{NotClusterConfigFirst};
-ghost use Rattle.bep_session.specs.declared.talk.Stage.TheVariants.{Opening, Over};
-ghost use Rattle.bep_session.specs.declared.talk.Talk.{Talk};
-ghost use Rattle.bep_session.specs.Events.{may_begin, met};
+ghost use Rattle.bep_session.specs.declared.conversation.Stage.TheVariants.{Opening, Over};
+ghost use Rattle.bep_session.specs.declared.conversation.Conversation.{Conversation};
+ghost use Rattle.bep_session.specs.Events.{may_begin, after_frame};
 ghost use Rattle.bep_session.specs.Faults.{session_fault, session_fault_name, session_fault_number};
 ghost use Rattle.bep_session.specs.Ids.{closed, is_open, opened};
-ghost use Rattle.bep_session.specs.Runs.{Act, run, run_told};
+ghost use Rattle.bep_session.specs.Runs.{Act, run, events_of_run};
 ghost use Rattle.bep_session.specs.Sessions.{View, begun, fed};
 
 /// The events of all that happens on a connection are those of the whole stream's messages and of the ids that were opened,
 /// however the stream comes: at each piece, those of the messages that it makes whole.
 pub fn a_session_gives_its_stream()
     ensures { (moment : ℕ) (acts : List Act) →
-        (run (begun moment) acts).events ≡ run_told [] (begun moment).talk acts }
+        (run (begun moment) acts).events ≡ events_of_run [] (begun moment).conversation acts }
 {}
 
 /// A piece that is cut in two, with nothing between, gives the same events and leaves the same session.
@@ -37,15 +37,15 @@ pub fn a_piece_may_be_cut()
 /// After the end, bytes give nothing and change nothing.
 pub fn nothing_after_the_end()
     ensures { (v : View) (piece : List ℕ) (moment : ℕ) →
-        v.talk.stage ≡ Over → fed v piece moment ≡ record { session = v; events = [] } }
+        v.conversation.stage ≡ Over → fed v piece moment ≡ record { session = v; events = [] } }
 {}
 
 /// `NotClusterConfigFirst` is the event of exactly the messages of a known type that come while the ClusterConfig is due, and are
 /// neither one nor a Close.
 pub fn a_cluster_config_comes_first()
-    ensures is { (moment : ℕ) (t : Talk) (m : Message) → t.stage ≡ Opening → may_begin m ≡ false →
-        (met moment t (MessageFrame m)).event ≡ Some (Ended NotClusterConfigFirst) }
-    ensures only { (moment : ℕ) (t : Talk) (f : Frame) → (met moment t f).event ≡ Some (Ended NotClusterConfigFirst) →
+    ensures is { (moment : ℕ) (t : Conversation) (m : Message) → t.stage ≡ Opening → may_begin m ≡ false →
+        (after_frame moment t (MessageFrame m)).event ≡ Some (Ended NotClusterConfigFirst) }
+    ensures only { (moment : ℕ) (t : Conversation) (f : Frame) → (after_frame moment t f).event ≡ Some (Ended NotClusterConfigFirst) →
         (t.stage ≡ Opening) × ((m : Message) × (f ≡ MessageFrame m) × (may_begin m ≡ false)) }
 {}
 
