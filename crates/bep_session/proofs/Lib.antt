@@ -1,10 +1,11 @@
 pub mod Words
 pub mod Asks
 pub mod Meets
-pub mod Told
+pub mod Outcomes
 pub mod Feeds
 pub mod Longer
 pub mod Cut
 pub mod Whole
 pub mod Open
 pub mod First
+pub mod Shown

@@ -2,8 +2,8 @@
 use Rattle.std.specs.Prelude.{ℕ, ℤ, true, List, [], ◌∷◌, ◌++◌, length, drop}
 use Rattle.bep_frames.specs.Stream.{Stream, stream}
 use Rattle.bep_session.specs.declared.event.Event.{Event}
-use Rattle.bep_session.specs.declared.talk.Talk.{Talk}
-use Rattle.bep_session.specs.Events.{stream_told}
+use Rattle.bep_session.specs.declared.conversation.Conversation.{Conversation}
+use Rattle.bep_session.specs.Events.{after_stream}
 use Rattle.bep_session.specs.Ids.{opened}
 use Rattle.bep_session.specs.Sessions.{Fed, View, fed, said_at, with_open}
 
@@ -41,11 +41,11 @@ arriving before piece =
     record { frames = drop (length (stream true before).frames) all.frames; end = all.end }
 
 -- the events of all that happens, after these bytes and what they left behind
-unfoldable pub run_told : List ℕ → Talk → List Act → List Event
-run_told before t [] = []
-run_told before t (Feeds piece moment ∷ acts) =
-    let told = stream_told moment t (arriving before piece) in
-    told.events ++ run_told (before ++ piece) told.talk acts
-run_told before t (Opens id ∷ acts) = run_told before (record t { asks = opened t.asks id }) acts
-run_told before t (Says moment ∷ acts) = run_told before (record t { said = moment }) acts
-run_told before t (Ticks moment ∷ acts) = run_told before t acts
+unfoldable pub events_of_run : List ℕ → Conversation → List Act → List Event
+events_of_run before t [] = []
+events_of_run before t (Feeds piece moment ∷ acts) =
+    let outcomes = after_stream moment t (arriving before piece) in
+    outcomes.events ++ events_of_run (before ++ piece) outcomes.conversation acts
+events_of_run before t (Opens id ∷ acts) = events_of_run before (record t { asks = opened t.asks id }) acts
+events_of_run before t (Says moment ∷ acts) = events_of_run before (record t { said = moment }) acts
+events_of_run before t (Ticks moment ∷ acts) = events_of_run before t acts

@@ -6,13 +6,13 @@
 #![tactic(auto)]
 
 mod bits;
+mod conversation;
 mod event;
 mod fault;
 mod ids;
 pub mod laws;
-mod met;
+mod pieces;
 mod session;
-mod talk;
 #[cfg(test)]
 mod tests;
 mod times;

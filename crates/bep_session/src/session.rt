@@ -1,16 +1,16 @@
 ghost use Rattle.std.specs.Prelude.{◌≡◌, ◌≢◌, ◌≤◌, ◌<◌, ◌+◌, ◌++◌, ◌↔◌, [], None, true, length, vec_len, vec_capacity, if◌then◌else◌, IsErrOf, IsOk, IfOk, OnOk, OnErr};
 ghost use Rattle.bep_frames.specs.Grammar.{max_message_bytes};
 ghost use Rattle.bep_frames.specs.Written.{body_of, message_frame};
-ghost use Rattle.bep_session.specs.declared.talk.Stage.TheVariants.{Over};
+ghost use Rattle.bep_session.specs.declared.conversation.Stage.TheVariants.{Over};
 ghost use Rattle.bep_session.specs.Ids.{IsLeastFree, can_book, max_asks};
-ghost use Rattle.bep_session.specs.Sessions.{StopsShort, begun, fed, said_at, with_open};
+ghost use Rattle.bep_session.specs.Sessions.{RunsOutOfMemory, begun, fed, said_at, with_open};
 ghost use Rattle.bep_session.specs.Times.{tick_at};
 
+use crate::conversation::{Conversation, Stage};
 use crate::event::Event;
 use crate::fault::AskRefusal;
 use crate::ids::MAX_ASKS;
-use crate::met::take_piece;
-use crate::talk::{Stage, Talk};
+use crate::pieces::take_piece;
 use crate::times::{Tick, ping_due, timed_out};
 use bep_frames::{FrameReader, Message, WriteFault, write_frame};
 use std::alloc::{AllocError, Global};
@@ -26,7 +26,7 @@ use sync_version::Moment;
 pub struct Session {
     alloc: Global,
     reader: FrameReader,
-    talk: Talk,
+    conversation: Conversation,
 }
 
 impl Model for Session {
@@ -36,7 +36,7 @@ impl Model for Session {
 
     ghost use Rattle.bep_session.specs.Progress.{IsDrained};
 
-    ghost view = { λ s. record { hello = s.reader.hello; rest = s.reader.rest; talk = s.talk } };
+    ghost view = { λ s. record { hello = s.reader.hello; rest = s.reader.rest; conversation = s.conversation } };
 
     ghost invariant = { λ s. IsDrained s.reader };
 }
@@ -49,39 +49,40 @@ impl Session {
         Session {
             alloc,
             reader: FrameReader::new(alloc),
-            talk: Talk::new(alloc, moment),
+            conversation: Conversation::new(alloc, moment),
         }
     }
 
     /// Takes the next bytes of the peer's stream, received at this moment, and returns the events of the messages that are then
     /// whole, in order. After the event `Ended` or `PeerClosed` it returns none.
     ///
-    /// Returns `Err` if allocation fails, never for a piece without bytes nor after the end; then the session has ended, and the
-    /// events of the piece are lost. O(n) in the bytes, and O(log m) for each Response where m ids are open; what the messages
-    /// hold is moved into the events.
+    /// Returns `Err` if allocation fails: for the piece, which is kept first, for a frame that holds texts, bytes or messages, or for an
+    /// event. So it never fails for a piece without bytes nor after the end. The session has then ended, and the events of the piece
+    /// are lost. O(n) in the bytes, and O(log m) for each Response where m ids are open; what the messages hold is moved into the
+    /// events.
     pub fn feed(&mut self, piece: &[u8], moment: Moment) -> Result<Vec<Event>, AllocError>
         ensures events { IfOk result (λ events. events.items ≡ (fed self.old piece.now moment).events) }
         ensures session { OnOk result (self.new ≡ (fed self.old piece.now moment).session) }
-        ensures err { OnErr result (StopsShort self.old piece.now moment self.new) }
-        ensures over { self.old.talk.stage ≡ Over → IsOk result }
+        ensures err { OnErr result (RunsOutOfMemory self.old piece.now moment self.new) }
+        ensures over { self.old.conversation.stage ≡ Over → IsOk result }
         ensures nothing { piece.now ≡ [] → IsOk result }
     {
         let mut events = Vec::new(self.alloc);
-        if self.talk.stage == Stage::Over || piece.is_empty() {
+        if self.conversation.stage == Stage::Over || piece.is_empty() {
             return Ok(events);
         }
         if let Err(error) = take_piece(
             &mut self.reader,
-            &mut self.talk,
+            &mut self.conversation,
             piece,
             moment,
             &mut events,
         ) {
-            self.talk.stage = Stage::Over;
+            self.conversation.stage = Stage::Over;
             self.reader = FrameReader::after_hello(self.alloc);
             return Err(error);
         }
-        if self.talk.stage == Stage::Over {
+        if self.conversation.stage == Stage::Over {
             self.reader = FrameReader::after_hello(self.alloc);
         }
         Ok(events)
@@ -107,7 +108,7 @@ impl Session {
         ensures full { IsErrOf result WriteFault.OutOfMemory → vec_capacity out.old < vec_len out.old + length (message_frame message.now) }
     {
         write_frame(message, out)?;
-        self.talk.said = moment;
+        self.conversation.said = moment;
         Ok(())
     }
 
@@ -116,16 +117,17 @@ impl Session {
     /// Fails with `TooManyAsks` exactly where [`MAX_ASKS`] ids are open, or with `OutOfMemory`; then nothing has changed. O(log n)
     /// for n open ids.
     pub fn ask(&mut self) -> Result<i32, AskRefusal>
-        ensures least { IfOk result (IsLeastFree self.old.talk.asks) }
+        ensures least { IfOk result (IsLeastFree self.old.conversation.asks) }
         ensures opened { IfOk result (λ id. self.new ≡ with_open self.old id) }
-        ensures room { IsOk result → length self.old.talk.asks < max_asks }
-        ensures many { IsErrOf result AskRefusal.TooManyAsks ↔ (max_asks ≤ length self.old.talk.asks) }
+        ensures room { IsOk result → length self.old.conversation.asks < max_asks }
+        ensures many { IsErrOf result AskRefusal.TooManyAsks ↔ (max_asks ≤ length self.old.conversation.asks) }
+        ensures memory { IsErrOf result AskRefusal.OutOfMemory → length self.old.conversation.asks < max_asks }
         ensures err { OnErr result (self.new ≡ self.old) }
     {
-        let Some(id) = self.talk.asks.least_free() else {
+        let Some(id) = self.conversation.asks.least_free() else {
             return Err(AskRefusal::TooManyAsks);
         };
-        self.talk.asks.insert(id)?;
+        self.conversation.asks.insert(id)?;
         Ok(id)
     }
 
@@ -134,26 +136,29 @@ impl Session {
     ///
     /// Returns `Err` if allocation fails, never where it couldn't; then nothing has changed. O(log n) for n open ids.
     pub fn book(&mut self, id: i32) -> Result<bool, AllocError>
-        ensures booked { IfOk result (λ booked. booked ≡ can_book self.old.talk.asks id) }
+        ensures booked { IfOk result (λ booked. booked ≡ can_book self.old.conversation.asks id) }
         ensures opened { IfOk result (λ booked. self.new ≡ (if booked then with_open self.old id else self.old)) }
-        ensures only { OnErr result (can_book self.old.talk.asks id ≡ true) }
+        ensures only { OnErr result (can_book self.old.conversation.asks id ≡ true) }
         ensures err { OnErr result (self.new ≡ self.old) }
     {
-        if id < 1 || self.talk.asks.len() >= MAX_ASKS || self.talk.asks.contains(id) {
+        if id < 1
+            || self.conversation.asks.len() >= MAX_ASKS
+            || self.conversation.asks.contains(id)
+        {
             return Ok(false);
         }
-        self.talk.asks.insert(id)?;
+        self.conversation.asks.insert(id)?;
         Ok(true)
     }
 
     /// What is due at a moment: the end of the connection where no whole frame was received for 300 seconds, else a Ping where nothing was
     /// said for 90. O(1).
     pub fn tick(&self, moment: Moment) -> Tick
-        ensures { result ≡ tick_at self.now.talk.received self.now.talk.said moment }
+        ensures { result ≡ tick_at self.now.conversation.received self.now.conversation.said moment }
     {
-        if timed_out(self.talk.received, moment) {
+        if timed_out(self.conversation.received, moment) {
             Tick::TimedOut
-        } else if ping_due(self.talk.said, moment) {
+        } else if ping_due(self.conversation.said, moment) {
             Tick::PingDue
         } else {
             Tick::Nothing

@@ -1,6 +1,7 @@
-//! Sessions over frames made by hand from the protocol's rules, and over a stream of a real peer. Where memory runs out in `feed`,
+//! Sessions over frames made by hand from the protocol's rules, and over streams of a real peer. Where memory runs out in `feed`,
 //! the session must have ended; any other call that fails so is made again.
 mod asks;
+mod docs;
 mod graves;
 mod streams;
 mod ticks;

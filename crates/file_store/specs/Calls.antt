@@ -1,13 +1,16 @@
 -- What each call of a store does: the tree before, the answer, the tree after (own rule). `fails` says that the store
 -- may return `StoreFault` for a reason outside the tree, and may then have done the call, or a part of it.
-use Rattle.std.specs.Prelude.{bytes_eq, ◌≡◌, ◌⊎◌, ⊤, ℕ, ◌-◌, true, false, List, [], min, take, drop, length, Option, Some, None, unwrap_or, Result, Ok, Err, IfOk, IfErr, IsSome, IsNone}
+use Rattle.std.specs.Prelude.{bytes_eq, ◌≡◌, ◌⊎◌, ⊤, ℕ, ◌-◌, true, false, List, [], min, take, drop, length, Option, Some, None, unwrap_or, Result, Ok, Err, IfOk, IfErr, IsSome, IsNone, Vec}
+use Rattle.std.specs.Global.{Global}
 use Rattle.file_store.specs.declared.node.Node.{Node}
 use Rattle.file_store.specs.declared.node.Node.TheVariants.{Directory, File}
 use Rattle.file_store.specs.declared.refusal.StoreRefusal.{StoreRefusal}
 use Rattle.file_store.specs.declared.refusal.StoreRefusal.TheVariants.{StoreFault, NotEmpty, BadParent, OutOfMemory}
+use Rattle.file_store.specs.declared.node.Listed.{Listed}
 use Rattle.file_store.specs.declared.node.Stat.{Stat}
 use Rattle.file_store.specs.declared.node.Stat.TheVariants as stat
 use Rattle.file_store.specs.Contents.{overwritten}
+use Rattle.file_store.specs.Listings.{IsListing}
 use Rattle.file_store.specs.Maps.{put_at}
 use Rattle.file_store.specs.Names.{Name, is_parent}
 use Rattle.file_store.specs.Trees.{Tree, with_parents, bytes_of, is_file, is_directory}
@@ -36,6 +39,12 @@ Answers fails partly refused old done (Err refusal) new =
 -- done, or not at all
 abbrev pub IsWhole : (StoreRefusal → Type 0) → Tree → Tree → Tree → Type 0
 IsWhole refused old done new = (new ≡ old) ⊎ (IsAllowed refused × (new ≡ done))
+
+-- `list` returns the listing of what is there
+pub record Lists (fails : Type 0) (old : Tree) (result : Result (Vec Listed Global) StoreRefusal) (new : Tree) : Type 0 where
+  pub value : IfOk result (λ listing. IsListing old.names listing.items)
+  pub failed : IfErr result (λ refusal. refusal ≡ StoreFault → fails)
+  pub kept : new ≡ old
 
 -- `stat` returns what is at the name
 abbrev pub stat_of : Option Node → Stat

@@ -1,8 +1,9 @@
 -- Which call of a failing store fails: the one before which no calls are left (own rule).
-use Rattle.std.specs.Prelude.{ℕ, ◌⊎◌, ◌-◌, ◌==◌, ◌≡◌, Bool, false, IsTrue, if◌then◌else◌, Option, Some, None}
+use Rattle.std.specs.Prelude.{ℕ, ◌⊎◌, ◌-◌, ◌==◌, ◌≡◌, Bool, false, IsTrue, if◌then◌else◌, Option, Some, None, Result}
 use Rattle.file_store.specs.declared.failing.FailingStore.{FailingStore}
 use Rattle.file_store.specs.declared.failing.FailureTime.{FailureTime}
-use Rattle.file_store.specs.declared.failing.FailureTime.TheVariants.{Before}
+use Rattle.file_store.specs.declared.failing.FailureTime.TheVariants.{Before, After}
+use Rattle.file_store.specs.declared.refusal.StoreRefusal.{StoreRefusal}
 
 -- the store that it wraps
 abbrev pub wrapped : {S : Type 0} → FailingStore S → S
@@ -33,6 +34,11 @@ after_one (Some left) = if left == 0 then None else Some (left - 1)
 -- the next call fails, or the wrapped store may fail it
 abbrev pub MayFail : Option ℕ → Type 0 → Type 0
 MayFail left inner = IsTrue (is_next left) ⊎ inner
+
+-- a call that is due and fails after the wrapped store is asked: that store has answered it, whatever it returned
+abbrev pub IsAnswered : {S R : Type 0} → FailingStore S → (Result R StoreRefusal → Type 0) → Type 0
+IsAnswered {S} {R} old answered =
+    IsTrue (is_next (calls_left old)) → failure_time old ≡ After → (answer : Result R StoreRefusal) × answered answer
 
 -- what each call does besides what the wrapped store does: it is counted, the one that is due fails, and if it fails
 -- before the wrapped store is asked, that store stays as it is

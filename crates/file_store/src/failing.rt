@@ -19,7 +19,7 @@ pub enum FailureTime {
 }
 
 /// A store that fails one given call with `StoreFault`, and otherwise does as the store that it wraps. [`FileStore::faults`]
-/// is not counted as a call.
+/// is not counted as a call. Each call costs what the wrapped store's does; where it fails before that store is asked, O(1).
 #[derive(Drop)]
 pub struct FailingStore<S> {
     inner: S,
@@ -58,8 +58,8 @@ impl<S> FailingStore<S> {
 impl<S: FileStore> FileStore for FailingStore<S> {
     ghost use Rattle.std.specs.Prelude.{◌≡◌, ◌≢◌, ◌≤◌, length, Err, IfOk, IfErr};
     ghost use Rattle.file_store.specs.declared.refusal.StoreRefusal.TheVariants.{StoreFault, NotEmpty, BadParent};
-    ghost use Rattle.file_store.specs.Calls.{Stats, Reads, MakesTemp, Writes, Commits, Drops, Renames, Removes, MakesDir, RemovesDir};
-    ghost use Rattle.file_store.specs.Failing.{IsCounted, MayFail, calls_left, own_faults, wrapped};
+    ghost use Rattle.file_store.specs.Calls.{Lists, Stats, Reads, MakesTemp, Writes, Commits, Drops, Renames, Removes, MakesDir, RemovesDir};
+    ghost use Rattle.file_store.specs.Failing.{IsAnswered, IsCounted, MayFail, calls_left, own_faults, wrapped};
     ghost use Rattle.file_store.specs.Listings.{IsListing};
     ghost use Rattle.file_store.specs.Refusals.{count_after, IsPlain};
     ghost use Rattle.file_store.specs.Trees.{IsTree};
@@ -83,6 +83,7 @@ impl<S: FileStore> FileStore for FailingStore<S> {
         ensures lists { S.keeps → IfOk result (λ listing. IsListing (S.tree (wrapped self.old)).names listing.items) }
         ensures failed { S.keeps → IfErr result (λ refusal. refusal ≡ StoreFault → MayFail (calls_left self.old) (S.fails (wrapped self.old))) }
         ensures kept { S.keeps → S.tree (wrapped self.new) ≡ S.tree (wrapped self.old) }
+        ensures asked { S.keeps → IsAnswered self.old (λ answer. Lists (S.fails (wrapped self.old)) (S.tree (wrapped self.old)) answer (S.tree (wrapped self.new))) }
         ensures refusals { IfErr result IsPlain }
         ensures counted { own_faults self.new ≡ count_after result (own_faults self.old) }
         ensures tree { S.keeps → IsTree (S.tree (wrapped self.new)) }
@@ -98,6 +99,7 @@ impl<S: FileStore> FileStore for FailingStore<S> {
     fn stat(&mut self, name: &SafeName) -> Result<Stat, StoreRefusal>
         ensures call { IsCounted self.old self.new (result ≡ Err StoreFault) }
         ensures stats { S.keeps → Stats (MayFail (calls_left self.old) (S.fails (wrapped self.old))) (S.tree (wrapped self.old)) name.now result (S.tree (wrapped self.new)) }
+        ensures asked { S.keeps → IsAnswered self.old (λ answer. Stats (S.fails (wrapped self.old)) (S.tree (wrapped self.old)) name.now answer (S.tree (wrapped self.new))) }
         ensures refusals { IfErr result IsPlain }
         ensures counted { own_faults self.new ≡ count_after result (own_faults self.old) }
         ensures tree { S.keeps → IsTree (S.tree (wrapped self.new)) }
@@ -119,6 +121,7 @@ impl<S: FileStore> FileStore for FailingStore<S> {
         ensures call { IsCounted self.old self.new (result ≡ Err StoreFault) }
         ensures bound { IfOk result (λ k. k ≤ length buffer.new) }
         ensures reads { S.keeps → Reads (MayFail (calls_left self.old) (S.fails (wrapped self.old))) (S.tree (wrapped self.old)) name.now offset buffer.old buffer.new result (S.tree (wrapped self.new)) }
+        ensures asked { S.keeps → IsAnswered self.old (λ answer. Reads (S.fails (wrapped self.old)) (S.tree (wrapped self.old)) name.now offset buffer.old buffer.new answer (S.tree (wrapped self.new))) }
         ensures refusals { IfErr result IsPlain }
         ensures counted { own_faults self.new ≡ count_after result (own_faults self.old) }
         ensures tree { S.keeps → IsTree (S.tree (wrapped self.new)) }
@@ -134,6 +137,7 @@ impl<S: FileStore> FileStore for FailingStore<S> {
     fn make_temp(&mut self, name: &SafeName) -> Result<(), StoreRefusal>
         ensures call { IsCounted self.old self.new (result ≡ Err StoreFault) }
         ensures makes { S.keeps → MakesTemp (MayFail (calls_left self.old) (S.fails (wrapped self.old))) (S.tree (wrapped self.old)) name.now result (S.tree (wrapped self.new)) }
+        ensures asked { S.keeps → IsAnswered self.old (λ answer. MakesTemp (S.fails (wrapped self.old)) (S.tree (wrapped self.old)) name.now answer (S.tree (wrapped self.new))) }
         ensures refusals { result ≢ Err NotEmpty }
         ensures counted { own_faults self.new ≡ count_after result (own_faults self.old) }
         ensures tree { S.keeps → IsTree (S.tree (wrapped self.new)) }
@@ -149,6 +153,7 @@ impl<S: FileStore> FileStore for FailingStore<S> {
     fn write_at(&mut self, name: &SafeName, offset: u64, bytes: &[u8]) -> Result<(), StoreRefusal>
         ensures call { IsCounted self.old self.new (result ≡ Err StoreFault) }
         ensures writes { S.keeps → Writes (MayFail (calls_left self.old) (S.fails (wrapped self.old))) (S.tree (wrapped self.old)) name.now offset bytes.now result (S.tree (wrapped self.new)) }
+        ensures asked { S.keeps → IsAnswered self.old (λ answer. Writes (S.fails (wrapped self.old)) (S.tree (wrapped self.old)) name.now offset bytes.now answer (S.tree (wrapped self.new))) }
         ensures refusals { IfErr result IsPlain }
         ensures counted { own_faults self.new ≡ count_after result (own_faults self.old) }
         ensures tree { S.keeps → IsTree (S.tree (wrapped self.new)) }
@@ -164,6 +169,7 @@ impl<S: FileStore> FileStore for FailingStore<S> {
     fn commit_temp(&mut self, name: &SafeName) -> Result<(), StoreRefusal>
         ensures call { IsCounted self.old self.new (result ≡ Err StoreFault) }
         ensures commits { S.keeps → Commits (MayFail (calls_left self.old) (S.fails (wrapped self.old))) (S.tree (wrapped self.old)) name.now result (S.tree (wrapped self.new)) }
+        ensures asked { S.keeps → IsAnswered self.old (λ answer. Commits (S.fails (wrapped self.old)) (S.tree (wrapped self.old)) name.now answer (S.tree (wrapped self.new))) }
         ensures refusals { IfErr result IsPlain }
         ensures counted { own_faults self.new ≡ count_after result (own_faults self.old) }
         ensures tree { S.keeps → IsTree (S.tree (wrapped self.new)) }
@@ -179,6 +185,7 @@ impl<S: FileStore> FileStore for FailingStore<S> {
     fn drop_temp(&mut self, name: &SafeName) -> Result<(), StoreRefusal>
         ensures call { IsCounted self.old self.new (result ≡ Err StoreFault) }
         ensures drops { S.keeps → Drops (MayFail (calls_left self.old) (S.fails (wrapped self.old))) (S.tree (wrapped self.old)) name.now result (S.tree (wrapped self.new)) }
+        ensures asked { S.keeps → IsAnswered self.old (λ answer. Drops (S.fails (wrapped self.old)) (S.tree (wrapped self.old)) name.now answer (S.tree (wrapped self.new))) }
         ensures refusals { IfErr result IsPlain }
         ensures counted { own_faults self.new ≡ count_after result (own_faults self.old) }
         ensures tree { S.keeps → IsTree (S.tree (wrapped self.new)) }
@@ -194,6 +201,7 @@ impl<S: FileStore> FileStore for FailingStore<S> {
     fn rename(&mut self, from: &SafeName, to: &SafeName) -> Result<(), StoreRefusal>
         ensures call { IsCounted self.old self.new (result ≡ Err StoreFault) }
         ensures renames { S.keeps → Renames (MayFail (calls_left self.old) (S.fails (wrapped self.old))) (S.tree (wrapped self.old)) from.now to.now result (S.tree (wrapped self.new)) }
+        ensures asked { S.keeps → IsAnswered self.old (λ answer. Renames (S.fails (wrapped self.old)) (S.tree (wrapped self.old)) from.now to.now answer (S.tree (wrapped self.new))) }
         ensures refusals { result ≢ Err NotEmpty }
         ensures counted { own_faults self.new ≡ count_after result (own_faults self.old) }
         ensures tree { S.keeps → IsTree (S.tree (wrapped self.new)) }
@@ -209,6 +217,7 @@ impl<S: FileStore> FileStore for FailingStore<S> {
     fn remove(&mut self, name: &SafeName) -> Result<(), StoreRefusal>
         ensures call { IsCounted self.old self.new (result ≡ Err StoreFault) }
         ensures removes { S.keeps → Removes (MayFail (calls_left self.old) (S.fails (wrapped self.old))) (S.tree (wrapped self.old)) name.now result (S.tree (wrapped self.new)) }
+        ensures asked { S.keeps → IsAnswered self.old (λ answer. Removes (S.fails (wrapped self.old)) (S.tree (wrapped self.old)) name.now answer (S.tree (wrapped self.new))) }
         ensures refusals { IfErr result IsPlain }
         ensures counted { own_faults self.new ≡ count_after result (own_faults self.old) }
         ensures tree { S.keeps → IsTree (S.tree (wrapped self.new)) }
@@ -224,6 +233,7 @@ impl<S: FileStore> FileStore for FailingStore<S> {
     fn make_dir(&mut self, name: &SafeName) -> Result<(), StoreRefusal>
         ensures call { IsCounted self.old self.new (result ≡ Err StoreFault) }
         ensures makes { S.keeps → MakesDir (MayFail (calls_left self.old) (S.fails (wrapped self.old))) (S.tree (wrapped self.old)) name.now result (S.tree (wrapped self.new)) }
+        ensures asked { S.keeps → IsAnswered self.old (λ answer. MakesDir (S.fails (wrapped self.old)) (S.tree (wrapped self.old)) name.now answer (S.tree (wrapped self.new))) }
         ensures refusals { result ≢ Err NotEmpty }
         ensures counted { own_faults self.new ≡ count_after result (own_faults self.old) }
         ensures tree { S.keeps → IsTree (S.tree (wrapped self.new)) }
@@ -239,6 +249,7 @@ impl<S: FileStore> FileStore for FailingStore<S> {
     fn remove_dir(&mut self, name: &SafeName) -> Result<(), StoreRefusal>
         ensures call { IsCounted self.old self.new (result ≡ Err StoreFault) }
         ensures removes { S.keeps → RemovesDir (MayFail (calls_left self.old) (S.fails (wrapped self.old))) (S.tree (wrapped self.old)) name.now result (S.tree (wrapped self.new)) }
+        ensures asked { S.keeps → IsAnswered self.old (λ answer. RemovesDir (S.fails (wrapped self.old)) (S.tree (wrapped self.old)) name.now answer (S.tree (wrapped self.new))) }
         ensures refusals { result ≢ Err BadParent }
         ensures counted { own_faults self.new ≡ count_after result (own_faults self.old) }
         ensures tree { S.keeps → IsTree (S.tree (wrapped self.new)) }

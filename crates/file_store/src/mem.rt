@@ -15,6 +15,8 @@ use std::alloc::Global;
 use sync_names::SafeName;
 
 /// A store in memory. A file that it commits was modified at 1970-01-01T00:00:00Z.
+///
+/// Below, n is how many names and temporary files there are, and d how many parents of a name are missing.
 #[derive(Drop)]
 pub struct MemStore {
     alloc: Global,
@@ -57,14 +59,17 @@ impl FileStore for MemStore {
 
     ghost fault_count = { mem_faults };
 
+    /// O(1).
     fn faults(&self) -> u64 {
         self.faults
     }
 
+    /// O(n), and a copy of each name.
     fn list(&mut self) -> Result<Vec<Listed>, StoreRefusal> {
         Ok(self.names.list(self.alloc)?)
     }
 
+    /// Does not allocate. O(log n).
     fn stat(&mut self, name: &SafeName) -> Result<Stat, StoreRefusal>
         ensures value { result ≡ Ok (stat_of ((mem_tree self.old).names name.now)) }
         ensures stats { ⊤ → Stats ⊥ (mem_tree self.old) name.now result (mem_tree self.new) }
@@ -75,6 +80,7 @@ impl FileStore for MemStore {
         Ok(stat_of(self.names.get(name.as_str())))
     }
 
+    /// Does not allocate. O(log n), and O(m) for m bytes that are read.
     fn read_at(
         &mut self,
         name: &SafeName,
@@ -94,6 +100,7 @@ impl FileStore for MemStore {
         }
     }
 
+    /// O((d + 1) log n).
     fn make_temp(&mut self, name: &SafeName) -> Result<(), StoreRefusal> {
         let name = name.as_str();
         if has_bad_parent(&self.names, name) {
@@ -103,6 +110,7 @@ impl FileStore for MemStore {
         Ok(())
     }
 
+    /// O(log n), and O(m) for m bytes that are written; amortized, also for the bytes of a gap.
     fn write_at(&mut self, name: &SafeName, offset: u64, bytes: &[u8]) -> Result<(), StoreRefusal> {
         match self.temps.write_at(name.as_str(), offset as usize, bytes) {
             Some(Ok(())) => Ok(()),
@@ -111,6 +119,7 @@ impl FileStore for MemStore {
         }
     }
 
+    /// O(log n), whatever the size of the file.
     fn commit_temp(&mut self, name: &SafeName) -> Result<(), StoreRefusal>
         ensures epoch { IfOk result (λ _. mem_tree self.new ≡ committed (mem_tree self.old) name.now 0) }
         ensures commits { ⊤ → Commits ⊥ (mem_tree self.old) name.now result (mem_tree self.new) }
@@ -129,6 +138,7 @@ impl FileStore for MemStore {
         Ok(())
     }
 
+    /// Does not allocate. O(log n).
     fn drop_temp(&mut self, name: &SafeName) -> Result<(), StoreRefusal>
         ensures value { result ≡ Ok tt }
         ensures drops { ⊤ → Drops ⊥ (mem_tree self.old) name.now result (mem_tree self.new) }
@@ -140,6 +150,7 @@ impl FileStore for MemStore {
         Ok(())
     }
 
+    /// O((d + 1) log n), whatever the size of the file.
     fn rename(&mut self, from: &SafeName, to: &SafeName) -> Result<(), StoreRefusal> {
         let (from, to) = (from.as_str(), to.as_str());
         if has_bad_parent(&self.names, to) {
@@ -152,6 +163,7 @@ impl FileStore for MemStore {
         Ok(())
     }
 
+    /// Does not allocate. O(log n).
     fn remove(&mut self, name: &SafeName) -> Result<(), StoreRefusal>
         ensures ample { result ≢ Err OutOfMemory }
         ensures removes { ⊤ → Removes ⊥ (mem_tree self.old) name.now result (mem_tree self.new) }
@@ -166,6 +178,7 @@ impl FileStore for MemStore {
         Ok(())
     }
 
+    /// O((d + 1) log n).
     fn make_dir(&mut self, name: &SafeName) -> Result<(), StoreRefusal> {
         let name = name.as_str();
         if has_bad_parent(&self.names, name) {
@@ -178,6 +191,7 @@ impl FileStore for MemStore {
         Ok(())
     }
 
+    /// Does not allocate. O(n): it looks for what is in the directory among all names.
     fn remove_dir(&mut self, name: &SafeName) -> Result<(), StoreRefusal>
         ensures ample { result ≢ Err OutOfMemory }
         ensures removes { ⊤ → RemovesDir ⊥ (mem_tree self.old) name.now result (mem_tree self.new) }

@@ -6,6 +6,7 @@ use sync_version::Moment;
 /// What is at a name.
 #[derive(Drop)]
 pub enum Node {
+    /// A directory.
     Directory,
     /// A file with its bytes, and when it was modified.
     File(Content, Moment),
@@ -16,6 +17,7 @@ pub enum Node {
 pub enum Stat {
     /// Nothing is there.
     Missing,
+    /// A directory is there.
     Directory,
     /// A file of so many bytes, and when it was modified: 1970-01-01T00:00:00Z if the store does not know.
     File(u64, Moment),
@@ -24,13 +26,17 @@ pub enum Stat {
 /// Whether a listed name is that of a directory or of a file.
 #[derive(Clone, Copy, Debug, PartialEq, Eq)]
 pub enum Kind {
+    /// That of a directory.
     Directory,
+    /// That of a file.
     File,
 }
 
 /// A name of a listing.
 #[derive(Debug, Drop)]
 pub struct Listed {
+    /// The name.
     pub name: SafeName,
+    /// What is there.
     pub kind: Kind,
 }

@@ -1,6 +1,5 @@
 use crate::tests::{REQUEST, expect_events, running, session};
 use crate::{AskRefusal, MAX_ASKS, Session, SessionFault};
-use bep_frames::FrameFault;
 use std::process::Abort;
 use std::test::Fail;
 
@@ -83,7 +82,11 @@ fn refusals_have_names_and_numbers(rt: HostRuntime) -> Result<(), Fail> {
     assert_eq!(rt; AskRefusal::TooManyAsks.number(), 53);
     assert_eq!(rt; AskRefusal::OutOfMemory.number(), 33);
     assert_eq!(rt; SessionFault::NotClusterConfigFirst.number(), 50);
-    assert_eq!(rt; SessionFault::Frame(FrameFault::TooLong).number(), 11);
+    assert_eq!(rt; SessionFault::BadMagic.number(), 10);
+    assert_eq!(rt; SessionFault::TooLong.number(), 11);
+    assert_eq!(rt; SessionFault::Compressed.number(), 12);
+    assert_eq!(rt; SessionFault::BadHeader.number(), 13);
+    assert_eq!(rt; SessionFault::BadBody.number(), 14);
     assert_eq!(rt;
         AskRefusal::TooManyAsks.to_string(rt.alloc())?.as_str(),
         "TooManyAsks"
@@ -94,7 +97,7 @@ fn refusals_have_names_and_numbers(rt: HostRuntime) -> Result<(), Fail> {
     );
     let first = SessionFault::NotClusterConfigFirst.to_string(rt.alloc())?;
     assert_eq!(rt; first.as_str(), "NotClusterConfigFirst");
-    let long = SessionFault::Frame(FrameFault::TooLong).to_string(rt.alloc())?;
+    let long = SessionFault::TooLong.to_string(rt.alloc())?;
     assert_eq!(rt; long.as_str(), "TooLong");
     Ok(())
 }

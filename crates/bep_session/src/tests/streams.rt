@@ -1,8 +1,10 @@
+use crate::tests::docs::DOCS;
 use crate::tests::graves::GRAVES;
 use crate::tests::{
     CLOSE, CONFIG, HELLO, PING, REQUEST, Sign, expect_events, expect_over, running, session, sign,
 };
 use crate::{Event, Session};
+use std::alloc::Global;
 use std::process::Abort;
 use std::test::Fail;
 use sync_version::Moment;
@@ -92,23 +94,65 @@ fn asking(rt: &(impl AllocGlobal + Abort)) -> Session {
     session
 }
 
-/// The real peer's stream in pieces of so many bytes.
-fn expect_graves(rt: &(impl AllocGlobal + Abort), bytes: usize) {
+/// The events of `examples/graves.frames`, and those of `examples/docs.frames`. They were counted by a script over the framing and
+/// the fields' keys, which shares nothing with this program.
+const GRAVES_SIGNS: [Sign; 9] = [
+    ('c', 1),
+    ('f', 12),
+    ('u', 0),
+    ('a', 2),
+    ('a', 1),
+    ('a', 4),
+    ('a', 3),
+    ('m', 7),
+    ('x', 16),
+];
+
+const DOCS_SIGNS: [Sign; 36] = [
+    ('c', 1),
+    ('q', 0),
+    ('q', 1),
+    ('q', 2),
+    ('q', 3),
+    ('q', 4),
+    ('q', 5),
+    ('q', 6),
+    ('q', 7),
+    ('q', 8),
+    ('q', 9),
+    ('q', 10),
+    ('q', 11),
+    ('q', 12),
+    ('q', 13),
+    ('q', 14),
+    ('q', 15),
+    ('q', 16),
+    ('q', 17),
+    ('q', 18),
+    ('f', 18),
+    ('q', 19),
+    ('q', 20),
+    ('m', 7),
+    ('m', 1),
+    ('m', 24),
+    ('u', 0),
+    ('a', 1),
+    ('q', 21),
+    ('q', 22),
+    ('m', 4),
+    ('m', 1),
+    ('m', 12),
+    ('m', 2),
+    ('a', 2),
+    ('x', 34),
+];
+
+/// A real peer's stream in pieces of so many bytes.
+fn expect_stream(rt: &(impl AllocGlobal + Abort), stream: &[u8], expected: &[Sign], bytes: usize) {
     assert!(rt; bytes > 0);
-    let expected: [Sign; 9] = [
-        ('c', 1),
-        ('f', 12),
-        ('u', 0),
-        ('a', 2),
-        ('a', 1),
-        ('a', 4),
-        ('a', 3),
-        ('m', 7),
-        ('x', 16),
-    ];
     let mut session = asking(rt);
     let mut seen = 0;
-    for piece in GRAVES.chunks(bytes) {
+    for piece in stream.chunks(bytes) {
         let fed = session.feed(piece, Moment::new(0).expect(rt, "a moment"));
         if fed.is_err() {
             expect_over(rt, &mut session);
@@ -116,28 +160,57 @@ fn expect_graves(rt: &(impl AllocGlobal + Abort), bytes: usize) {
         let events = fed.expect(rt, "events");
         for event in events.iter() {
             assert_eq!(rt; Some(&sign(event)), expected.get(seen));
-            seen = usize::min(seen + 1, 9);
+            seen = usize::min(seen + 1, expected.len());
         }
     }
-    assert_eq!(rt; seen, 9);
+    assert_eq!(rt; seen, expected.len());
     expect_over(rt, &mut session);
 }
 
 #[test]
 fn a_real_stream_whole(rt: HostRuntime) -> Result<(), Fail> {
-    expect_graves(&rt, GRAVES.len());
+    expect_stream(&rt, &GRAVES, &GRAVES_SIGNS, GRAVES.len());
     Ok(())
 }
 
 #[test]
 fn a_real_stream_in_pieces_of_7_bytes(rt: HostRuntime) -> Result<(), Fail> {
-    expect_graves(&rt, 7);
+    expect_stream(&rt, &GRAVES, &GRAVES_SIGNS, 7);
     Ok(())
 }
 
 #[test]
 fn a_real_stream_byte_by_byte(rt: HostRuntime) -> Result<(), Fail> {
-    expect_graves(&rt, 1);
+    expect_stream(&rt, &GRAVES, &GRAVES_SIGNS, 1);
+    Ok(())
+}
+
+/// The bytes of hex digits, line ends left out.
+fn bytes_of(alloc: Global, text: &str) -> Result<Vec<u8>, Fail> {
+    let mut bytes = Vec::new(alloc);
+    for line in text.lines() {
+        bytes.extend_from_slice(hex::decode(alloc, line)?.as_slice())?;
+    }
+    Ok(bytes)
+}
+
+#[test]
+fn a_longer_stream_whole(rt: HostRuntime) -> Result<(), Fail> {
+    let docs = bytes_of(rt.alloc(), DOCS)?;
+    assert_eq!(rt; docs.len(), 9_745);
+    expect_stream(&rt, &docs, &DOCS_SIGNS, docs.len());
+    Ok(())
+}
+
+#[test]
+fn a_longer_stream_in_pieces_of_7_bytes(rt: HostRuntime) -> Result<(), Fail> {
+    expect_stream(&rt, &bytes_of(rt.alloc(), DOCS)?, &DOCS_SIGNS, 7);
+    Ok(())
+}
+
+#[test]
+fn a_longer_stream_byte_by_byte(rt: HostRuntime) -> Result<(), Fail> {
+    expect_stream(&rt, &bytes_of(rt.alloc(), DOCS)?, &DOCS_SIGNS, 1);
     Ok(())
 }
 

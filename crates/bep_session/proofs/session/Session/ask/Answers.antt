@@ -6,4 +6,4 @@ use Rattle.bep_session.proofs.session.Session.ask.Goals as goal
 pub insert-requires : goal.insert-requires
 insert-requires c =
     let back : to_z w32 (of_z w32 c.in-Some.id) ≡ c.in-Some.id = search rules in
-    record { free = ap (is_open c.self.inside.talk.asks) back ∙ least_is_free c.self.inside.talk.asks c.in-Some.id c.in-Some.ensures.least }
+    record { free = ap (is_open c.self.inside.conversation.asks) back ∙ least_is_free c.self.inside.conversation.asks c.in-Some.id c.in-Some.ensures.least }

@@ -1,7 +1,7 @@
 use Rattle.std.proofs.Common.{◌≡◌, to_z, of_z, w32, sym, ap, ◌∙◌, rules}
 use Rattle.bep_session.specs.Ids.{closed, is_open}
 use Rattle.bep_session.proofs.Meets.{answered_open, answered_unknown}
-use Rattle.bep_session.proofs.talk.Talk.answer.Goals as goal
+use Rattle.bep_session.proofs.conversation.Conversation.answer.Goals as goal
 
 pub returns-then-remove : goal.returns-then-remove
 returns-then-remove c =

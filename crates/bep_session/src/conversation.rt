@@ -1,5 +1,5 @@
-ghost use Rattle.std.specs.Prelude.{◌≡◌, ◌≢◌, [], if◌then◌else◌};
-ghost use Rattle.bep_session.specs.Events.{Met, answered, heard, heard_at, may_begin, met};
+ghost use Rattle.std.specs.Prelude.{◌≡◌, ◌≢◌, [], IsTrue, if◌then◌else◌};
+ghost use Rattle.bep_session.specs.Events.{Outcome, after_response, after_message, after_message_at, may_begin, after_frame};
 
 use crate::event::Event;
 use crate::fault::SessionFault;
@@ -22,7 +22,7 @@ pub enum Stage {
 
 /// What the frames so far, and what this side said and asked, leave behind.
 #[derive(Debug, Drop)]
-pub struct Talk {
+pub struct Conversation {
     pub(crate) asks: OpenIds,
     /// When the last message was said.
     pub(crate) said: Moment,
@@ -31,14 +31,14 @@ pub struct Talk {
     pub(crate) stage: Stage,
 }
 
-impl Talk {
-    ghost use Rattle.bep_session.specs.declared.talk.Stage.TheVariants.{Opening, Over};
+impl Conversation {
+    ghost use Rattle.bep_session.specs.declared.conversation.Stage.TheVariants.{Opening, Over};
 
     /// Nothing was received, said or asked yet. Does not allocate.
-    pub(crate) fn new(alloc: Global, moment: Moment) -> Talk
+    pub(crate) fn new(alloc: Global, moment: Moment) -> Conversation
         ensures { result ≡ record { asks = []; said = moment; received = moment; stage = Opening } }
     {
-        Talk {
+        Conversation {
             asks: OpenIds::new(alloc),
             said: moment,
             received: moment,
@@ -46,23 +46,27 @@ impl Talk {
         }
     }
 
-    /// Meets a frame that is received now, and returns its event. Does not allocate, and moves what the frame holds. O(log n) for
+    /// Takes a frame that is received now, and returns its event. Does not allocate, and moves what the frame holds. O(log n) for
     /// n open ids.
-    pub(crate) fn meet(&mut self, frame: Frame, moment: Moment) -> Option<Event>
+    pub(crate) fn receive(&mut self, frame: Frame, moment: Moment) -> Option<Event>
         requires { self.old.stage ≢ Over }
-        ensures { record { talk = self.new; event = result } ≡ met moment self.old frame }
+        ensures { record { conversation = self.new; event = result } ≡ after_frame moment self.old frame }
     {
         self.received = moment;
+        // The most frequent message of an idle connection: nothing of it need be moved.
+        if self.stage == Stage::Running && is_ping(&frame) {
+            return None;
+        }
         match frame {
             Frame::Hello(hello) => Some(Event::PeerHello(hello)),
-            Frame::Message(message) => self.hear(message),
+            Frame::Message(message) => self.receive_message(message),
             Frame::Unknown(kind) => Some(Event::Skipped(kind)),
         }
     }
 
-    fn hear(&mut self, message: Message) -> Option<Event>
+    fn receive_message(&mut self, message: Message) -> Option<Event>
         requires { self.old.stage ≢ Over }
-        ensures { record { talk = self.new; event = result } ≡ heard_at self.old.stage self.old message }
+        ensures { record { conversation = self.new; event = result } ≡ after_message_at self.old.stage self.old message }
     {
         if self.stage == Stage::Opening && !may_begin(&message) {
             self.stage = Stage::Over;
@@ -72,7 +76,7 @@ impl Talk {
     }
 
     fn take(&mut self, message: Message) -> Option<Event>
-        ensures { record { talk = self.new; event = result } ≡ heard self.old message }
+        ensures { record { conversation = self.new; event = result } ≡ after_message self.old message }
     {
         match message {
             Message::ClusterConfig(config) => {
@@ -92,7 +96,7 @@ impl Talk {
     }
 
     fn answer(&mut self, response: Response) -> Event
-        ensures { record { talk = self.new; event = Some result } ≡ answered self.old response }
+        ensures { record { conversation = self.new; event = Some result } ≡ after_response self.old response }
     {
         if self.asks.remove(response.id) {
             Event::Answered(response)
@@ -100,6 +104,12 @@ impl Talk {
             Event::UnknownResponse(response.id)
         }
     }
+}
+
+fn is_ping(frame: &Frame) -> bool
+    ensures { IsTrue result → frame.now ≡ Frame.Message (Message.Ping (record {})) }
+{
+    matches!(frame, Frame::Message(Message::Ping(_)))
 }
 
 /// Whether a message may be the first of a known type after the Hello.
