@@ -1,9 +1,9 @@
 //! What every store answers. Each test begins with an empty store.
-use crate::tests::calls::{
+use crate::calls::{
     commit_temp, drop_temp, faults, is_directory, is_file, is_missing, list, make_dir, make_temp,
     put, read_at, remove, remove_dir, rename, write_at,
 };
-use crate::{FileStore, Kind};
+use file_store::{FileStore, Kind};
 use std::process::Abort;
 
 /// Calls on a name at which nothing is.
