@@ -45,8 +45,10 @@ pub(crate) fn read_at<R: Files>(
         return Ok(0);
     }
     reopen(disk, slot, Access::Reading, path.as_str(), file.id)?;
+    let left = usize::try_from(file.len - offset).unwrap_or(usize::MAX);
+    let room = buffer.len().min(left);
     match slot {
-        Some(opened) => opened.read_at(offset, buffer),
+        Some(opened) => opened.read_at(offset, &mut buffer[..room]),
         None => Err(StoreRefusal::StoreFault),
     }
 }

@@ -60,12 +60,9 @@ impl FileId {
 fn moment_of(seconds: i64) -> Moment
     ensures { result ≡ moment_of seconds }
 {
-    if seconds < 0 {
-        return epoch();
-    }
-    match Moment::new(seconds.cast_unsigned()) {
-        Some(moment) => moment,
-        None => epoch(),
+    match u64::try_from(seconds) {
+        Ok(seconds) => Moment::new(seconds).unwrap_or(epoch()),
+        Err(_) => epoch(),
     }
 }
 

@@ -1,5 +1,5 @@
 //! The calls of a store, each with what it must answer: 0 for `Ok`, or the number of a refusal. A call that is out of memory is
-//! made again.
+//! made again, and so is one that reads and fails.
 use file_store::{FileStore, Kind, Listed, Stat, StoreRefusal};
 use std::process::Abort;
 use sync_names::SafeName;
@@ -173,7 +173,7 @@ pub(crate) fn stat<S: FileStore>(
 ) -> Stat {
     let name = name(rt, path);
     let stat = match store.stat(&name) {
-        Err(StoreRefusal::OutOfMemory) => store.stat(&name),
+        Err(_) => store.stat(&name),
         stat => stat,
     };
     stat.expect(rt, "what is there")
@@ -220,7 +220,7 @@ pub(crate) fn read_at<S: FileStore>(
     let buffer = &mut bytes[..room.min(8)];
     let name = name(rt, path);
     let count = match store.read_at(&name, offset, buffer) {
-        Err(StoreRefusal::OutOfMemory) => store.read_at(&name, offset, buffer),
+        Err(_) => store.read_at(&name, offset, buffer),
         count => count,
     };
     let count = count.expect(rt, "bytes");
@@ -234,7 +234,7 @@ pub(crate) fn list<S: FileStore>(
     expected: &[(&str, Kind)],
 ) {
     let listing = match store.list() {
-        Err(StoreRefusal::OutOfMemory) => store.list(),
+        Err(_) => store.list(),
         listing => listing,
     };
     let listing = listing.expect(rt, "a listing");
@@ -252,4 +252,50 @@ fn is_listed(rt: &impl Abort, listed: &Listed, path: &str, kind: Kind) {
 /// The store has returned so many faults.
 pub(crate) fn faults<S: FileStore>(rt: &impl Abort, store: &S, expected: u64) {
     assert_eq!(rt; store.faults(), expected);
+}
+
+/// `stat` is refused with this number.
+pub(crate) fn stat_fails<S: FileStore>(
+    rt: &(impl AllocGlobal + Abort),
+    store: &mut S,
+    path: &str,
+    expected: u8,
+) {
+    let name = name(rt, path);
+    let first = number(store.stat(&name).map(|_| ()));
+    let answer = if first == 33 {
+        number(store.stat(&name).map(|_| ()))
+    } else {
+        first
+    };
+    answered(rt, path, answer, expected);
+}
+
+/// `read_at` is refused with this number.
+pub(crate) fn read_fails<S: FileStore>(
+    rt: &(impl AllocGlobal + Abort),
+    store: &mut S,
+    path: &str,
+    expected: u8,
+) {
+    let name = name(rt, path);
+    let mut bytes = [0; 8];
+    let first = number(store.read_at(&name, 0, &mut bytes).map(|_| ()));
+    let answer = if first == 33 {
+        number(store.read_at(&name, 0, &mut bytes).map(|_| ()))
+    } else {
+        first
+    };
+    answered(rt, path, answer, expected);
+}
+
+/// `list` is refused with this number.
+pub(crate) fn list_fails<S: FileStore>(rt: &impl Abort, store: &mut S, expected: u8) {
+    let first = number(store.list().map(|_| ()));
+    let answer = if first == 33 {
+        number(store.list().map(|_| ()))
+    } else {
+        first
+    };
+    answered(rt, "the listing", answer, expected);
 }

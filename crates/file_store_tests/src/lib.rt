@@ -9,8 +9,16 @@ mod calls;
 #[cfg(test)]
 mod disk;
 #[cfg(test)]
+mod failures;
+#[cfg(test)]
 mod folder;
+#[cfg(test)]
+mod folders;
+#[cfg(test)]
+mod links;
 #[cfg(test)]
 mod memory;
 #[cfg(test)]
 mod suite;
+#[cfg(test)]
+mod watched;
