@@ -244,6 +244,15 @@ pub(crate) fn list<S: FileStore>(
     }
 }
 
+/// So many names are listed.
+pub(crate) fn lists<S: FileStore>(rt: &impl Abort, store: &mut S, expected: usize) {
+    let listing = match store.list() {
+        Err(_) => store.list(),
+        listing => listing,
+    };
+    assert_eq!(rt; listing.expect(rt, "a listing").len(), expected);
+}
+
 fn is_listed(rt: &impl Abort, listed: &Listed, path: &str, kind: Kind) {
     assert_eq!(rt; listed.name.as_str(), path);
     assert_eq!(rt; listed.kind, kind, "{path:?}");

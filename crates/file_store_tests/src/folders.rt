@@ -1,6 +1,6 @@
 //! What a store in a folder of a disk meets besides links.
 use crate::calls::{
-    commit_temp, drop_temp, faults, is_directory, is_missing, list, list_fails, make_dir,
+    commit_temp, drop_temp, faults, is_directory, is_missing, list, list_fails, lists, make_dir,
     make_temp, put, read_at, read_fails, remove, remove_dir, rename, stat, stat_fails, write_at,
 };
 use crate::folder::{below, directory, folder, has_text, link, remove_folder, store, write};
@@ -123,10 +123,11 @@ fn a_directory_that_is_too_deep(rt: HostRuntime) {
 fn deep_directories(rt: HostRuntime) {
     let path = folder(&rt, "deep_directories");
     let mut store = store(&rt, path.as_str());
-    let folders = "d/".repeat(rt.alloc(), 100).expect(&rt, "a text");
+    let folders = "d/".repeat(rt.alloc(), 40).expect(&rt, "a text");
     let file = format!(in rt.alloc(); "{folders}a").expect(&rt, "a text");
     put(&rt, &mut store, file.as_str(), "xyz");
     read_at(&rt, &mut store, file.as_str(), 0, 8, "xyz");
+    lists(&rt, &mut store, 41);
     remove_folder(&rt, path.as_str());
 }
 

@@ -13,6 +13,8 @@ pub(crate) struct Watch {
     left: Cell<u64>,
     /// The calls in their order, the last in the lowest digit: 1 is a write, 2 that something reaches the disk, 3 a rename.
     notes: Cell<u64>,
+    /// Whether the folder is now on another device.
+    is_elsewhere: Cell<bool>,
 }
 
 impl Watch {
@@ -20,6 +22,7 @@ impl Watch {
         Watch {
             left: Cell::new(left),
             notes: Cell::new(0),
+            is_elsewhere: Cell::new(false),
         }
     }
 
@@ -31,6 +34,11 @@ impl Watch {
     /// The notes, of which there are at most 19.
     pub(crate) fn notes(&self) -> u64 {
         self.notes.get()
+    }
+
+    /// From now on the folder is a directory on another device.
+    pub(crate) fn take_away(&self) {
+        self.is_elsewhere.set(true);
     }
 
     fn note(&self, digit: u64) {
@@ -143,6 +151,9 @@ impl<'a, R: Files> Files for Watched<'a, R> {
 
     fn metadata(&self, path: &str) -> io::Result<Metadata> {
         self.watch.count()?;
+        if self.watch.is_elsewhere.get() {
+            return Ok(Metadata::of_dir());
+        }
         self.rt.metadata(path)
     }
 
