@@ -1,8 +1,10 @@
 pub mod HistoryEntries
 pub mod HistoryFronts
+pub mod HistoryReplays
 pub mod HistoryCommits
 pub mod HistoryShared
 pub mod HistoryMeetings
+pub mod HistoryHeadline
 pub mod JournalPulls
 pub mod JournalSteps
 pub mod AloneCalls

@@ -35,7 +35,7 @@ pub trait FolderCalls {
     /// This device.
     fn me(&self) -> DeviceId
         ensures me { result ≡ (view self.now).opening.me }
-        ensures legal { IsLegalView (view self.now) };
+        ensures legal { ∥ IsLegalView (view self.now) ∥₁ };
 
     /// Records what is found at a name, if its local version is still the expected one. The version is raised by this device
     /// at the moment. Returns `Moved` with the local version if it is another, and `Busy` while a commit of the name is open.

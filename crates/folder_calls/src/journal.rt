@@ -10,7 +10,7 @@ ghost use Rattle.folder_calls.specs.Calls.{GivesBack, begin_value, enter_value, 
 ghost use Rattle.folder_calls.specs.Journals.{Enters, IsHistory, answered, end, entered_items, new_history};
 
 use crate::{
-    BeginAnswer, Commit, EnterRefusal, Entry, HistoryFull, NotEntered, ScanRefusal, Ticket,
+    BeginAnswer, Commit, EnterRefusal, Entry, HistoryFull, NotEntered, ScanRefusal, Ticket, replays,
 };
 use bep_messages::{Copied, Items};
 use folder_core::{
@@ -382,6 +382,16 @@ impl<C: FolderCore> Journal<C> {
             );
         }
         is_closed
+    }
+
+    /// Whether the history leads from the folder that was opened to the one that is kept, by [`replays`]. It does, so this is for
+    /// whoever doubts it. Returns `Err` only if out of memory. O(n + c) time and memory for n records, which share their memory,
+    /// and the entries' changes made once more at their cost c on a plain folder.
+    pub fn verify(&self) -> Result<bool, AllocError>
+        ensures { IfOk result (λ yes. yes ≡ true) }
+    {
+        let end = self.core.plain_copy()?;
+        replays(&self.opening, self.entries.as_slice(), self.passes, &end)
     }
 
     // Whether so many entries more have room, beside those that end the open pulls. O(1).

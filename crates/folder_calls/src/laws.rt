@@ -2,6 +2,7 @@
 //! follows from them in plainer words; so a reader who finds a law true of histories knows that the definitions mean it.
 
 mod calls;
+mod headline;
 mod histories;
 mod meetings;
 mod rows;
@@ -9,6 +10,10 @@ mod values;
 
 pub use calls::{
     calls_may_be_answered_at_any_point, calls_share_one_history, views_are_of_folders,
+};
+pub use headline::{
+    callers_who_met_know_one_history, each_sequence_is_the_next, finishes_end_pulls,
+    no_announced_version_dominates_the_best,
 };
 pub use histories::{
     commits_are_legal, histories_keep_folders, histories_keep_room, histories_may_be_divided,

@@ -6,6 +6,7 @@
 mod alone;
 mod at;
 mod calls;
+mod check;
 mod entry;
 mod history;
 mod journal;
@@ -18,6 +19,7 @@ mod refusal;
 pub use alone::{Alone, Plan};
 pub use at::At;
 pub use calls::FolderCalls;
+pub use check::replays;
 pub use entry::Entry;
 pub use history::History;
 pub use journal::Journal;

@@ -1,4 +1,4 @@
-//! Workers over the calls of a folder, whoever keeps it, and tests of `folder_calls` over its public calls.
+//! Workers over the calls of a folder, whoever keeps it, and tests of `folder_calls` and `folder_shared` over their public calls.
 //!
 //! They stand in a crate of their own because a crate with tests is proved twice, once with them.
 #![tactic(auto)]
@@ -10,8 +10,16 @@ pub use workers::{begin_and_give_up, record_over};
 #[cfg(test)]
 mod entries;
 #[cfg(test)]
+mod every;
+#[cfg(test)]
 mod limits;
 #[cfg(test)]
+mod mixed;
+#[cfg(test)]
 mod plans;
+#[cfg(test)]
+mod shared;
+#[cfg(test)]
+mod threads;
 #[cfg(test)]
 mod values;

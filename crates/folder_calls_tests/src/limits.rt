@@ -11,31 +11,40 @@ use sync_record::Assembled;
 #[test]
 fn takes_as_many_entries_as_its_limit(rt: HostRuntime) {
     let mut lone = lone(&rt, 2);
-    assert_eq!(rt; scans(&rt, &mut lone, "x"), ("Recorded", 1));
-    assert_eq!(rt; scans(&rt, &mut lone, "x"), ("Moved", 0));
-    assert_eq!(rt; scans(&rt, &mut lone, "y"), ("Recorded", 2));
-    assert_eq!(rt; scans(&rt, &mut lone, "z"), ("HistoryFull", 0));
-    assert_eq!(rt; scans(&rt, &mut lone, "x"), ("Moved", 0));
-    assert_eq!(rt; lone.counts().at, 2);
+    takes_two(&rt, &mut lone);
     assert_eq!(rt; lone.close().counts().last, 2);
 }
 
 #[test]
 fn keeps_room_for_the_finish(rt: HostRuntime) {
-    let mut lone = lone(&rt, 4);
-    announces(&rt, &mut lone);
-    let ticket = begins(&rt, &mut lone);
-    let commit = enters(&rt, &mut lone, ticket);
-    assert_eq!(rt; scans(&rt, &mut lone, "y"), ("HistoryFull", 0));
-    finishes(&rt, &mut lone, commit);
-    assert_eq!(rt; lone.counts().at, 4);
+    finishes_when_full(&rt, &mut lone(&rt, 4));
+}
+
+/// An empty folder whose history takes two entries takes them, and no more.
+pub(crate) fn takes_two<W: FolderCalls>(rt: &(impl AllocGlobal + Abort), calls: &mut W) {
+    assert_eq!(rt; scans(rt, calls, "x"), ("Recorded", 1));
+    assert_eq!(rt; scans(rt, calls, "x"), ("Moved", 0));
+    assert_eq!(rt; scans(rt, calls, "y"), ("Recorded", 2));
+    assert_eq!(rt; scans(rt, calls, "z"), ("HistoryFull", 0));
+    assert_eq!(rt; scans(rt, calls, "x"), ("Moved", 0));
+    assert_eq!(rt; calls.counts().at, 2);
+}
+
+/// An empty folder whose history takes four entries has room for the finish of a pull after an index, a begin and an entrance.
+pub(crate) fn finishes_when_full<W: FolderCalls>(rt: &(impl AllocGlobal + Abort), calls: &mut W) {
+    announces(rt, calls, "x");
+    let ticket = begins(rt, calls, "x");
+    let commit = enters(rt, calls, ticket);
+    assert_eq!(rt; scans(rt, calls, "y"), ("HistoryFull", 0));
+    finishes(rt, calls, commit);
+    assert_eq!(rt; calls.counts().at, 4);
 }
 
 #[test]
 fn returns_the_ticket_when_full(rt: HostRuntime) {
     let mut lone = lone(&rt, 3);
-    announces(&rt, &mut lone);
-    let ticket = begins(&rt, &mut lone);
+    announces(&rt, &mut lone, "x");
+    let ticket = begins(&rt, &mut lone, "x");
     match enter_commit(&rt, &mut lone, ticket) {
         Err(EnterRefusal::HistoryFull(ticket)) => assert!(rt; lone.give_up(ticket).value),
         answer => panic!(&rt; "{answer:?}"),
@@ -46,8 +55,8 @@ fn returns_the_ticket_when_full(rt: HostRuntime) {
 #[test]
 fn begins_no_pull_without_room_for_its_end(rt: HostRuntime) {
     let mut lone = lone(&rt, 2);
-    announces(&rt, &mut lone);
-    match begin_pull(&rt, &mut lone) {
+    announces(&rt, &mut lone, "x");
+    match begin_pull(&rt, &mut lone, "x") {
         Err(HistoryFull) => {}
         Ok(answer) => panic!(&rt; "{answer:?}"),
     }
@@ -59,10 +68,10 @@ fn begins_no_pull_without_room_for_its_end(rt: HostRuntime) {
 #[test]
 fn begins_one_pull_of_a_name(rt: HostRuntime) {
     let mut lone = lone(&rt, 3);
-    announces(&rt, &mut lone);
-    let ticket = begins(&rt, &mut lone);
+    announces(&rt, &mut lone, "x");
+    let ticket = begins(&rt, &mut lone, "x");
     assert_eq!(rt; ticket.number(), 1);
-    match begin_pull(&rt, &mut lone) {
+    match begin_pull(&rt, &mut lone, "x") {
         Ok(BeginAnswer::Busy) => {}
         answer => panic!(&rt; "{answer:?}"),
     }
@@ -70,19 +79,24 @@ fn begins_one_pull_of_a_name(rt: HostRuntime) {
     assert_eq!(rt; lone.counts().at, 3);
 }
 
-fn begins<W: FolderCalls>(rt: &(impl AllocGlobal + Abort), calls: &mut W) -> Ticket {
-    match begin_pull(rt, calls) {
+pub(crate) fn begins<W: FolderCalls>(
+    rt: &(impl AllocGlobal + Abort),
+    calls: &mut W,
+    text: &str,
+) -> Ticket {
+    match begin_pull(rt, calls, text) {
         Ok(BeginAnswer::Begun(ticket)) => ticket,
         answer => panic!(rt; "{answer:?}"),
     }
 }
 
-/// Begins to pull x, once more where the first call was out of memory, which changed nothing.
+/// Begins to pull a name, once more where the first call was out of memory, which changed nothing.
 fn begin_pull<W: FolderCalls>(
     rt: &(impl AllocGlobal + Abort),
     calls: &mut W,
+    text: &str,
 ) -> Result<BeginAnswer, HistoryFull> {
-    let name = name(rt, "x");
+    let name = name(rt, text);
     let before = calls.counts();
     match calls.begin_pull(&name) {
         Ok(At { at: _, value }) => value,
@@ -94,7 +108,7 @@ fn begin_pull<W: FolderCalls>(
     }
 }
 
-fn enters<W: FolderCalls>(rt: &impl Abort, calls: &mut W, ticket: Ticket) -> Commit {
+pub(crate) fn enters<W: FolderCalls>(rt: &impl Abort, calls: &mut W, ticket: Ticket) -> Commit {
     match enter_commit(rt, calls, ticket) {
         Ok(commit) => commit,
         answer => panic!(rt; "{answer:?}"),
@@ -102,7 +116,7 @@ fn enters<W: FolderCalls>(rt: &impl Abort, calls: &mut W, ticket: Ticket) -> Com
 }
 
 /// Enters the commit, once more where the first call was out of memory, which changed nothing.
-fn enter_commit<W: FolderCalls>(
+pub(crate) fn enter_commit<W: FolderCalls>(
     rt: &impl Abort,
     calls: &mut W,
     ticket: Ticket,

@@ -68,7 +68,7 @@ fn pulls_what_is_announced_between(rt: HostRuntime) {
 #[test]
 fn pulls_nothing_that_is_forgotten_between(rt: HostRuntime) {
     let mut lone = lone(&rt, 9);
-    announces(&rt, &mut lone);
+    announces(&rt, &mut lone, "x");
     let peer = device(1);
     assert!(rt; peer != lone.me());
     lone.plan(1, Outside::Forget { device: peer });
@@ -123,7 +123,7 @@ fn plan_announcement(rt: &(impl AllocGlobal + Abort), lone: &mut Lone<PlainFolde
         call,
         Outside::IndexMore {
             device: peer,
-            records: one_directory(rt),
+            records: one_directory(rt, "x"),
         },
     );
 }

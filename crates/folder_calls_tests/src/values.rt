@@ -22,6 +22,11 @@ pub(crate) fn name(rt: &(impl AllocGlobal + Abort), text: &str) -> SafeName {
     SafeName::parse(rt.alloc(), text).expect(rt, "a name")
 }
 
+pub(crate) fn numbered(rt: &(impl AllocGlobal + Abort), front: &str, number: u32) -> SafeName {
+    let text = format!(in rt.alloc(); "{front}{number}").expect(rt, "a text");
+    SafeName::from_string(text).expect(rt, "a name")
+}
+
 pub(crate) fn moment(rt: &impl Abort) -> Moment {
     Moment::new(0).expect(rt, "a moment")
 }
@@ -37,15 +42,15 @@ pub(crate) fn directory() -> Finding
     }
 }
 
-/// The record of a directory x, of which the first device says that it made it.
-pub(crate) fn one_directory(rt: &(impl AllocGlobal + Abort)) -> Items<Record> {
+/// The record of a directory, of which the first device says that it made it.
+pub(crate) fn one_directory(rt: &(impl AllocGlobal + Abort), text: &str) -> Items<Record> {
     let edit = Edit {
         version: Version::from_counters(rt.alloc(), &[(1, 2)]).expect(rt, "a version"),
         modified_s: 1,
         modified_by: 1,
         modified_ns: 0,
     };
-    let record = Record::directory(rt.alloc(), name(rt, "x"), edit).expect(rt, "a record");
+    let record = Record::directory(rt.alloc(), name(rt, text), edit).expect(rt, "a record");
     let mut records = Items::new(rt.alloc());
     records.push(record).expect(rt, "a list");
     records
@@ -94,15 +99,17 @@ pub(crate) fn scanned_as(answer: Result<ScanAnswer, ScanRefusal>) -> (&'static s
     }
 }
 
-/// The first device announces the directory x.
-pub(crate) fn announces<W: FolderCalls>(rt: &(impl AllocGlobal + Abort), calls: &mut W) {
+/// The first device announces a directory too.
+pub(crate) fn announces<W: FolderCalls>(rt: &(impl AllocGlobal + Abort), calls: &mut W, text: &str)
+    ensures { W.home calls.new ≡ W.home calls.old }
+{
     let peer = device(1);
     assert!(rt; peer != calls.me());
-    let answer = match calls.index_full(peer, one_directory(rt)) {
+    let answer = match calls.index_more(peer, one_directory(rt, text)) {
         Ok(applied) => applied.value,
         Err(AllocError) => {
             calls
-                .index_full(peer, one_directory(rt))
+                .index_more(peer, one_directory(rt, text))
                 .expect(rt, "an answer")
                 .value
         }

@@ -1,5 +1,6 @@
-ghost use Rattle.std.specs.Prelude.{◌≡◌, IfOk, IsOk};
+ghost use Rattle.std.specs.Prelude.{◌≡◌, ◌↔◌, IfOk, IsOk, IsTrue};
 ghost use Rattle.sync_record.specs.Devices.{Identity};
+ghost use Rattle.folder_core.specs.Steps.{MayChange};
 ghost use Rattle.folder_core.specs.declared.change.Change.TheVariants.{Forget};
 
 use crate::copies::copied_version;
@@ -7,6 +8,7 @@ use crate::{Finding, Token};
 use bep_messages::{Copied, Items};
 use std::alloc::AllocError;
 use sync_names::SafeName;
+use sync_record::laws::same_record_is_equality;
 use sync_record::{Assembled, DeviceId, Record};
 use sync_version::{Moment, Version};
 
@@ -64,6 +66,29 @@ pub enum Change {
 }
 
 impl Change {
+    /// Whether a caller of this device's folder may ask for it: an index is of another device, what is found passes
+    /// [`FoundContent::is_found`](crate::FoundContent::is_found), and what was put in place is the commit's target. Does not
+    /// allocate. O(n) for n blocks.
+    pub fn is_allowed(&self, me: DeviceId) -> bool
+        ensures { IsTrue result ↔ MayChange me self.now }
+    {
+        match self {
+            Change::IndexFull { device, .. }
+            | Change::IndexMore { device, .. }
+            | Change::Forget { device } => *device != me,
+            Change::ScanFound { found, .. } => found.content.is_found(),
+            Change::Finish { commit, assembled } => {
+                same_record_is_equality();
+                *assembled.target() == commit.target
+            }
+            Change::ScanGone { .. }
+            | Change::BeginPull { .. }
+            | Change::EnterCommit { .. }
+            | Change::GiveUp { .. }
+            | Change::Abort { .. } => true,
+        }
+    }
+
     /// The same change once more. Returns `Err` only if out of memory, and never for `Forget`. O(n) time and memory for n bytes
     /// of the name, counters, blocks and records; the records share their memory.
     pub fn copy(&self) -> Result<Change, AllocError>

@@ -1,9 +1,10 @@
 ghost use Rattle.std.specs.Prelude.{◌≡◌, IfOk, IsOk};
+ghost use Rattle.folder_core.specs.Steps.{is_found};
 ghost use Rattle.folder_core.specs.declared.finding.FoundContent.TheVariants.{Directory};
 
 use bep_messages::Items;
 use std::alloc::AllocError;
-use sync_record::Block;
+use sync_blocks::{Block, is_block_size, tiles};
 
 /// What a scan finds at a name.
 #[derive(Debug, PartialEq, Eq, Drop)]
@@ -30,6 +31,25 @@ pub struct Finding {
 }
 
 impl FoundContent {
+    /// Whether a scan may find it: a directory, or a file of less than 2^63 bytes with a block size that files may have, which
+    /// the blocks make up. Does not allocate. O(n) for n blocks.
+    pub fn is_found(&self) -> bool
+        ensures { result ≡ is_found self.now }
+    {
+        match self {
+            FoundContent::Directory => true,
+            FoundContent::File {
+                size,
+                block_size,
+                blocks,
+            } => {
+                *size < 1 << 63
+                    && is_block_size(*block_size)
+                    && tiles(blocks.as_slice(), *size, *block_size)
+            }
+        }
+    }
+
     /// The same content once more. Returns `Err` only if out of memory, and never for a directory. O(n) time and memory for
     /// n blocks.
     pub fn copy(&self) -> Result<FoundContent, AllocError>

@@ -4,6 +4,8 @@ pub mod Moves
 pub mod Puts
 pub mod Roots
 pub mod Joins
+pub mod Parts
+pub mod Meets
 pub mod Calls
 pub mod Numbering
 pub mod Closing

@@ -2,11 +2,11 @@
 use Rattle.std.proofs.Common.{◌≡◌, ◌≢◌, ◌⊎◌, ℕ, ◌≤◌, List, [], ◌∷◌, ◌++◌, length, set, sym, refl, ap, ◌∙◌, subst, inl, inr, arith}
 use mathlib.Core.Option.{some}
 use lib.ListN.{get_elem?}
-use Rattle.crossbeam_channel.specs.Fifo.{Pushes, Pops, Forks}
+use Rattle.crossbeam_channel.specs.Fifo.{Pushes, Pops, Forks, Learns}
 use Rattle.folder_calls.specs.declared.history.History.{History}
 use Rattle.folder_shared.specs.declared.known.Stage.TheVariants.{New, Idle, Holding, Spent}
 use Rattle.folder_shared.specs.declared.known.Known.{Known}
-use Rattle.folder_shared.specs.Rule.{known, newcomer, AreFit, SitAt, IsSame, Fits, Runs, Kept, Opened, Taken, blank_of}
+use Rattle.folder_shared.specs.Rule.{Agree, known, newcomer, AreFit, SitAt, IsSame, Fits, Runs, Kept, Opened, Taken, blank_of}
 use Rattle.folder_shared.proofs.Lists.{at_none, at_one, all_set, all_end}
 
 pub idle_new : Idle ≢ New
@@ -111,3 +111,7 @@ blanks_runs port v items views is r at = let f = r.all port v at in record {
 pub blanks : (port : ℕ) (v : Known) → v.stage ≡ Idle → Forks Kept port v v (blank_of v)
 blanks port v is items views (inl e) at = absurd (idle_new (sym is ∙ not_new views port v e.1 at))
 blanks port v is items views (inr r) at = inr (blanks_runs port v items views is r at)
+
+pub compares : (port : ℕ) (v : Known) → v.stage ≡ Idle → Learns Kept port v (Agree v)
+compares port v is items views (inl e) at = absurd (idle_new (sym is ∙ not_new views port v e.1 at))
+compares port v is items views (inr r) at = let f = r.all port v at in (r.now, f.same (λ e. cc), f.fit)

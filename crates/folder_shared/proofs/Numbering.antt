@@ -64,8 +64,8 @@ module _ {C : Type 0} (s : SharedFolder C) (root : Token History Known) (m : IsR
             claims = ap (λ (u : Known). u.claims) put ∙ (λ i. claim ((ap (λ (h : History). h.passes) is ∙ sym number_is) i) (ap (λ (h : History). h.entries) is i) ∷ []) ∙ (λ i. claim p.number (sym c i) ∷ []);
             counted = omega arith;
             own = ap (own_entries p.number) nothing ∙ sym (none-given x.passes p.number x.opening x.entries (omega arith) history.legal) ∙ ap (own_entries p.number) (sym c);
-            legal = subst (λ es. IsLegalView (record { opening = opening_of s; limit = limit_of s; pass = p.number; seen = es })) (sym nothing)
-                (view-opened (opening_of s) (limit_of s) p.number (subst IsFolder same-opened.0 history.opening) (subst (λ (f : FolderState). len f.pulls ≡ 0) same-opened.0 history.no_pull) (omega arith));
+            legal = ∣ subst (λ es. IsLegalView (record { opening = opening_of s; limit = limit_of s; pass = p.number; seen = es })) (sym nothing)
+                (view-opened (opening_of s) (limit_of s) p.number (subst IsFolder same-opened.0 history.opening) (subst (λ (f : FolderState). len f.pulls ≡ 0) same-opened.0 history.no_pull) (omega arith)) ∣₁;
           }
 
     -- as it was

@@ -1,5 +1,5 @@
 -- What a clause says of a shared folder and of its passes.
-use Rattle.std.specs.Prelude.{◌≡◌, ℕ, ◌≤◌, ◌^◌, List, [], ◌∷◌, length, take, Result, Ok, Err}
+use Rattle.std.specs.Prelude.{◌≡◌, ◌⊎◌, ℕ, ◌≤◌, ◌^◌, List, [], ◌∷◌, ◌++◌, length, take, Result, Ok, Err}
 use Rattle.crossbeam_channel.specs.Claims.{view, IsSeatAt}
 use Rattle.crossbeam_channel.specs.Ends.{sends_on}
 use Rattle.folder_core.specs.States.{FolderState}
@@ -14,6 +14,15 @@ use Rattle.folder_shared.specs.declared.shared.Pass.{Pass}
 use Rattle.folder_shared.specs.declared.shared.PassesFull.{PassesFull}
 use Rattle.folder_shared.specs.declared.shared.SharedFolder.{SharedFolder}
 use Rattle.folder_shared.specs.Rule.{claim, claimed, IsSame, Taken}
+
+-- the history is as it was, or has one entry more, of this pass
+abbrev pub IsGrown : History → ℕ → History → Type 0
+IsGrown x pass y = (y ≡ x) ⊎ ((e : Entry) × (e.pass ≡ pass) × (y ≡ record x { entries = x.entries ++ e ∷ [] }))
+
+-- the call of a pass that took the folder with this history may put it back so, with this answer
+abbrev pub MayPutBack : {X E : Type 0} → History → ℕ → Result X E → History → Type 0
+MayPutBack x pass (Ok answer) y = IsGrown x pass y
+MayPutBack x pass (Err fault) y = y ≡ x
 
 module _ {C : Type 0} where
   abbrev pub knows : Pass C → Known
@@ -49,7 +58,7 @@ module _ {C : Type 0} where
     pub claims : (knows p).claims ≡ claim p.number (claimed_of p) ∷ []
     pub counted : p.seen ≤ length (claimed_of p)
     pub own : own_entries p.number (seen_of p) ≡ own_entries p.number (claimed_of p)
-    pub legal : IsLegalView (view_of s p)
+    pub legal : ∥ IsLegalView (view_of s p) ∥₁
 
   -- The folder that the call put back has as many passes as there may be. By the rule it has no fewer from then on.
   pub record IsFullOf (s : SharedFolder C) (e : PassesFull C) : Type 0 where
@@ -65,9 +74,16 @@ module _ {C : Type 0} where
     pub seat : IsSeatAt (sends_on s.sender) now.token
     pub taken : Taken (knows before) x (knows now)
 
-  -- the call got this of the folder, which is put back: the pass has then seen the history, if there is an answer
+  -- the call put the folder back with this history: the pass has then seen it all, if there is an answer
+  abbrev pub IsPutBack : {X E : Type 0} → SharedFolder C → Pass C → History → Result X E → Result (At X) E → Pass C → Type 0
+  IsPutBack s before y (Ok answer) result now =
+      (result ≡ Ok (record { at = length y.entries; value = answer })) × (view_of s now ≡ seeing (view_of s before) y.entries)
+      × IsLegalView (view_of s now)
+  IsPutBack s before y (Err fault) result now = (result ≡ Err fault) × (view_of s now ≡ view_of s before)
+
+  -- the call put the folder back as it was: the pass has then seen the history, without an entry of its own, if there is an answer
   abbrev pub IsGivenBack : {X E : Type 0} → SharedFolder C → Pass C → History → Result X E → Result (At X) E → Pass C → Type 0
   IsGivenBack s before x (Ok answer) result now =
       (result ≡ Ok (record { at = length x.entries; value = answer })) × (view_of s now ≡ seeing (view_of s before) x.entries)
-      × Sees (view_of s before) (view_of s now)
+      × Sees (view_of s before) (view_of s now) × IsLegalView (view_of s now)
   IsGivenBack s before x (Err fault) result now = (result ≡ Err fault) × (view_of s now ≡ view_of s before)

@@ -4,7 +4,7 @@
 --
 -- Either the message is there and no view holds it, or it is not there and one view holds it. What a pass has seen begins the
 -- history, and has all entries that the pass has in it. No two claims, of one view or of two, are of one pass.
-use Rattle.std.specs.Prelude.{◌≡◌, ◌≢◌, ◌⊎◌, ℕ, ◌+◌, ◌≤◌, ◌<◌, List, [], ◌∷◌, ◌++◌, map}
+use Rattle.std.specs.Prelude.{◌≡◌, ◌≢◌, ◌⊎◌, ℕ, ◌+◌, ◌≤◌, ◌<◌, nat_le, if◌then◌else◌, List, [], ◌∷◌, ◌++◌, length, map}
 use mathlib.Core.Option.{some}
 use lib.ListN.{get_elem?}
 use Rattle.folder_calls.specs.declared.entry.Entry.{Entry}
@@ -118,6 +118,30 @@ blank_of v = known Idle v.memo []
 -- two tokens put together
 abbrev pub joined : Known → Known → Known
 joined v w = known Idle v.memo (v.claims ++ w.claims)
+
+-- what is learned of two tokens put together: all their claims are true of one history
+abbrev pub Agree : Known → List History → Type 0
+Agree v items = (m : History) × IsSame v.memo m × AreFit m v.claims
+
+-- the longer of two histories
+abbrev pub longer : List Entry → List Entry → List Entry
+longer a b = if nat_le (length a) (length b) then b else a
+
+-- of two claims the first, and the second, which then have the longer history
+abbrev pub first_claim : List Claim → List Claim
+first_claim (a ∷ b ∷ cs) = claim a.pass (longer a.seen b.seen) ∷ []
+first_claim cs = cs
+
+abbrev pub second_claim : List Claim → List Claim
+second_claim (a ∷ b ∷ cs) = claim b.pass (longer a.seen b.seen) ∷ []
+second_claim cs = []
+
+-- two tokens that were put together, cut apart again
+abbrev pub left_of : Known → Known
+left_of v = known Idle v.memo (first_claim v.claims)
+
+abbrev pub right_of : Known → Known
+right_of v = known Idle v.memo (second_claim v.claims)
 
 -- the history of the first claim
 abbrev pub claimed : List Claim → List Entry

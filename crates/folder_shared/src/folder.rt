@@ -4,21 +4,23 @@ ghost use Rattle.std.specs.FinMap.{len};
 ghost use mathlib.Core.Option.{some};
 ghost use lib.ListN.{get_elem?};
 ghost use Rattle.folder_calls.specs.Journals.{new_history};
-ghost use Rattle.folder_calls.specs.Shared.{Closes};
+ghost use Rattle.folder_calls.specs.Shared.{Closes, Meets};
 ghost use Rattle.folder_shared.specs.declared.shared.SharedFolder.{SharedFolder as Folder};
 ghost use Rattle.folder_shared.specs.Passes.{IsPassOf, IsFullOf, knows, limit_of, opened_of, opening_of, seen_of, view_of};
 
 use crate::known::Known;
 use crate::lock::{put, take};
 use crate::root::Origin;
-use crate::rule::{Blank, Both, Numbers, OneHistory, Opens, Puts};
+use crate::rule::{Apart, Blank, Both, Compares, Numbers, OneHistory, Opens, Puts};
 use crate::shared::{Pass, PassesFull, Root, SharedFolder};
 use crossbeam_channel::bounded_with;
 use folder_calls::Journal;
 use folder_core::FolderCore;
 use std::alloc::Global;
+use std::mem::replace;
 use std::snapshot::Snapshot;
 use std::sync::Wait;
+use sync_record::DeviceId;
 
 impl<C: FolderCore + Drop> PassesFull<C> {
     /// The number under which programs report it: 35. O(1).
@@ -51,6 +53,7 @@ impl<C: FolderCore + Drop> SharedFolder<C> {
         ensures ok { IfOk result (λ folder. opened_of folder ≡ new_history (C.state core) history_limit 0) }
         ensures err { IfErr result (λ back. C.state back ≡ C.state core) }
     {
+        let me = core.me();
         let journal = Journal::open(alloc, core, history_limit, 0)?;
         let Ok((sender, receiver, mut keeper)) = bounded_with::<
             Journal<C>,
@@ -73,7 +76,15 @@ impl<C: FolderCore + Drop> SharedFolder<C> {
             sender,
             receiver,
             root,
+            me,
         })
+    }
+
+    /// This device. O(1).
+    pub fn me(&self) -> DeviceId
+        ensures { result ≡ (opening_of self.now).me }
+    {
+        self.me
     }
 
     /// One more pass, which has seen nothing of the history. They are numbered from 1 as they are given out. Returns `Err` only after 2^32 of
@@ -104,6 +115,25 @@ impl<C: FolderCore + Drop> SharedFolder<C> {
         }
     }
 
+    /// Two passes meet: both have then seen the longer of the two histories that they had seen. Neither waits for the folder nor
+    /// allocates. O(1).
+    pub fn meet(&self, one: &mut Pass<C>, other: &mut Pass<C>)
+        requires one { IsPassOf self.now one.old }
+        requires other { IsPassOf self.now other.old }
+        ensures one { IsPassOf self.now one.new × (one.new.number ≡ one.old.number) }
+        ensures other { IsPassOf self.now other.new × (other.new.number ≡ other.old.number) }
+        ensures meets { Meets (view_of self.now one.old) (view_of self.now other.old) (view_of self.now one.new) (view_of self.now other.new) }
+    {
+        let blank = self.sender.another::<Blank>(&mut one.token);
+        let token = replace(&mut other.token, blank);
+        self.sender.absorb::<Both>(&mut one.token, token);
+        self.sender.learn_as::<Compares>(&mut one.token);
+        other.token = self.sender.another::<Apart>(&mut one.token);
+        let seen = one.seen.max(other.seen);
+        one.seen = seen;
+        other.seen = seen;
+    }
+
     /// The folder, and how many passes were given out. It is in the state after a history that goes on from what each of these
     /// passes has seen, without further entries of theirs. Of passes that are not among them it may lack what only they had seen.
     pub fn close<R: Wait>(self, rt: &R, mut passes: Vec<Pass<C>>) -> (C, u64)
@@ -116,6 +146,7 @@ impl<C: FolderCore + Drop> SharedFolder<C> {
             sender,
             receiver,
             root: _,
+            me: _,
         } = self;
         let Some(last) = passes.pop() else {
             unreachable!()

@@ -4,17 +4,20 @@
 //! (`specs/Rule.antt`) says how these fit together.
 #![tactic(auto)]
 
+mod changes;
+mod check;
 mod folder;
 mod known;
 mod lock;
+mod member;
 mod reads;
 mod root;
 mod rule;
 mod shared;
-#[cfg(test)]
-mod tests;
+mod turn;
 
 pub use known::{Claim, Known, Stage};
+pub use member::Member;
 pub use root::{Lying, Origin};
 pub use rule::OneHistory;
 pub use shared::{Pass, PassesFull, Root, SharedFolder};

@@ -3,14 +3,11 @@ ghost use Rattle.std.specs.Prelude.{◌≡◌, Some, map, option_copied, option_
 ghost use Rattle.folder_core.specs.Reads.{Bests, Best as BestOf, CountAll, FindBlock, Known as KnownOf, Local, LocalSince, Need};
 ghost use Rattle.folder_calls.specs.Calls.{found, told, told_at};
 ghost use Rattle.folder_calls.specs.Shared.{ReadsThere};
-ghost use Rattle.folder_shared.specs.declared.shared.Pass.{Pass as PassOf};
-ghost use Rattle.folder_shared.specs.Passes.{IsGivenBack, IsHeld, IsPassOf, view_of};
+ghost use Rattle.folder_shared.specs.Passes.{IsPassOf, view_of};
 
-use crate::lock::{put, take};
-use crate::rule::Puts;
 use crate::{Pass, SharedFolder};
 use bep_messages::Items;
-use folder_calls::{At, Journal};
+use folder_calls::At;
 use folder_core::{Best, Counts, FolderCore, Place};
 use std::alloc::AllocError;
 use std::convert::Infallible;
@@ -151,37 +148,6 @@ impl<C: FolderCore + Drop> SharedFolder<C> {
         match told {
             Ok(told) => told,
             Err(never) => match never {},
-        }
-    }
-
-    // Takes the folder, as soon as no other call has it.
-    fn lend<R: Wait>(&self, rt: &R, pass: &mut Pass<C>) -> Journal<C>
-        requires { IsPassOf self.now pass.old }
-        ensures { IsHeld self.now pass.old pass.new result }
-    {
-        take::<C, R>(rt, &self.receiver, &mut pass.token)
-    }
-
-    // Puts the folder back as it was. The pass has then seen the history if there is an answer.
-    fn give_back<R: Wait, T, E>(
-        &self,
-        rt: &R,
-        pass: &mut Pass<C>,
-        journal: Journal<C>,
-        answer: Result<T, E>,
-    ) -> Result<At<T>, E>
-        requires { (before : PassOf C) × IsPassOf self.now before × IsHeld self.now before pass.old journal }
-        ensures pass { IsPassOf self.now pass.new × (pass.new.number ≡ pass.old.number) }
-        ensures given_back { (before : PassOf C) → IsPassOf self.now before → IsHeld self.now before pass.old journal → IsGivenBack self.now before journal answer result pass.new }
-    {
-        let at = journal.len();
-        put::<C, Puts, R>(rt, &self.sender, &mut pass.token, journal);
-        match answer {
-            Ok(value) => {
-                pass.seen = at;
-                Ok(At { at, value })
-            }
-            Err(fault) => Err(fault),
         }
     }
 }

@@ -87,3 +87,23 @@ impl Join<Known> for Both {
 
     ghost spent = { spent };
 }
+
+/// Two passes that were put together: what they have seen begins one history.
+pub struct Compares;
+
+impl<C: FolderCore + Drop> Lesson<Journal<C>, Known> for Compares {
+    ghost use Rattle.folder_shared.specs.Rule.{Agree};
+
+    ghost fact = { Agree };
+}
+
+/// Two passes cut apart again. Both have then seen the longer of their histories.
+pub struct Apart;
+
+impl Split<Known> for Apart {
+    ghost use Rattle.folder_shared.specs.Rule.{left_of, right_of};
+
+    ghost left = { left_of };
+
+    ghost right = { right_of };
+}

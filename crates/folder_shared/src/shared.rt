@@ -11,6 +11,7 @@ use crossbeam_channel::{Pass as ChannelPass, RuledReceiver, RuledSender};
 use folder_calls::Journal;
 use folder_core::FolderCore;
 use std::alloc::Global;
+use sync_record::DeviceId;
 
 /// A token of the channel that is the lock.
 pub type Token<C> = ChannelPass<Journal<C>, Known>;
@@ -28,8 +29,10 @@ pub struct SharedFolder<C: FolderCore + Drop> {
     pub(crate) sender: RuledSender<Journal<C>, Known, OneHistory>,
     pub(crate) receiver: RuledReceiver<Journal<C>, Known, OneHistory>,
     pub(crate) root: Root<C>,
+    pub(crate) me: DeviceId,
     ghost one: { receives_on receiver ≡ sends_on sender },
     ghost of: { IsSeatAt (sends_on sender) root.table.shared.key.seat.value },
+    ghost mine: { me ≡ root.table.shared.key.first.value.opening.me },
 }
 
 /// One caller of a shared folder: its number, and how much of the history it has seen.

@@ -13,4 +13,4 @@ returns-clause-me g c =
     ∙ ap (λ (a : Alone). a.history.opening.me) c.self.view_is
 
 pub returns-clause-legal : goal.returns-clause-legal
-returns-clause-legal g c = subst (λ a. IsLegalView (seen_by a)) c.self.view_is (seen-legal _ c.self.invariant)
+returns-clause-legal g c = ∣ subst (λ a. IsLegalView (seen_by a)) c.self.view_is (seen-legal _ c.self.invariant) ∣₁

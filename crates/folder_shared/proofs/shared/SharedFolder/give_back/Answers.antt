@@ -1,24 +1,9 @@
-use Rattle.std.proofs.Common.{refl}
-use Rattle.folder_shared.proofs.Calls.{answered-pass, back-err, back-ok, kept-pass, rule-back}
+use Rattle.folder_shared.proofs.Calls.{may-unchanged, read-given}
 use Rattle.folder_shared.proofs.shared.SharedFolder.give_back.Goals as goal
 
-pub put-requires-clause-rule : goal.put-requires-clause-rule
-put-requires-clause-rule g c = let r = c.requires in (rule-back c.args.self.now r.0 c.args.pass.now c.args.journal r.1 r.2 _ _, λ items views k at. tt)
+pub put_back-requires : goal.put_back-requires
+put_back-requires g c = let r = c.requires in (r.0, c.args.journal, r.1, r.2, may-unchanged _ _ _)
 
-pub returns-in-Ok-clause-pass : goal.returns-in-Ok-clause-pass
-returns-in-Ok-clause-pass g c = let r = c.requires in
-    (answered-pass c.args.self.now r.0 c.args.pass.now c.args.journal r.1 r.2 (record { number = c.args.pass.now.number; seen = c.len-at.result; token = c.put.new.token }) refl c.put.ensures.seat c.put.ensures.rule c.len-at.ensures.history c.len-at.ensures.len, refl)
-
-pub returns-in-Ok-clause-given_back : goal.returns-in-Ok-clause-given_back
-returns-in-Ok-clause-given_back g c = λ before of held.
-    back-ok c.args.self.now before c.args.pass.now c.args.journal of held (record { number = c.args.pass.now.number; seen = c.len-at.result; token = c.put.new.token }) refl c.put.ensures.seat c.put.ensures.rule c.len-at.ensures.history c.len-at.ensures.len
-    c.args.answer c.in-Ok.value c.in-Ok.is
-
-pub returns-in-Err-clause-pass : goal.returns-in-Err-clause-pass
-returns-in-Err-clause-pass g c = let r = c.requires in
-    (kept-pass c.args.self.now r.0 c.args.pass.now c.args.journal r.1 r.2 (record { number = c.args.pass.now.number; seen = c.args.pass.now.seen; token = c.put.new.token }) refl c.put.ensures.seat c.put.ensures.rule refl, refl)
-
-pub returns-in-Err-clause-given_back : goal.returns-in-Err-clause-given_back
-returns-in-Err-clause-given_back g c = λ before of held.
-    back-err c.args.self.now before c.args.pass.now c.args.journal of held (record { number = c.args.pass.now.number; seen = c.args.pass.now.seen; token = c.put.new.token }) refl c.put.ensures.seat c.put.ensures.rule refl
-    c.args.answer c.in-Err.fault c.in-Err.is
+pub returns-clause-given_back : goal.returns-clause-given_back
+returns-clause-given_back g c = λ before of held.
+    read-given c.args.self.now before c.args.pass.now c.args.journal of held c.put_back.new.pass c.args.answer c.put_back.result (c.put_back.ensures.put_back before c.args.journal of held (may-unchanged _ _ _))

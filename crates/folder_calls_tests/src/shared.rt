@@ -1,0 +1,106 @@
+//! A folder that callers share: passes that meet, tickets of another folder, and how many entries its history takes.
+ghost use Rattle.folder_shared.specs.Passes.{IsPassOf};
+
+use crate::limits::{begins, enter_commit, finishes_when_full, takes_two};
+use crate::values::{announces, device, directory, moment, name};
+use folder_calls::{At, EnterRefusal, FolderCalls};
+use folder_core::{FolderCore, PlainFolder, ScanAnswer};
+use folder_shared::{Member, Pass, SharedFolder};
+use std::process::Abort;
+use std::sync::Wait;
+
+#[test]
+fn is_known_after_a_meeting(rt: HostRuntime) {
+    let folder = shared(&rt, 9);
+    let mut one = given(&rt, &folder);
+    let mut other = given(&rt, &folder);
+    let name = name(&rt, "x");
+    match folder.scan_found(&rt, &mut one, &name, None, &directory(), moment(&rt)) {
+        Ok(
+            At {
+                at: 1,
+                value: Ok(ScanAnswer::Recorded(1)),
+            },
+        ) => {}
+        Ok(answer) => panic!(&rt; "{answer:?}"),
+        Err(_) => panic!(&rt; "OutOfMemory"),
+    }
+    assert_eq!(rt; (one.seen(), other.seen()), (1, 0));
+    folder.meet(&mut one, &mut other);
+    assert_eq!(rt; (one.seen(), other.seen()), (1, 1));
+    let found = folder
+        .local(&rt, &mut other, &name)
+        .expect(&rt, "an answer");
+    assert_eq!(rt; found.at, 1);
+    let record = found.value.expect(&rt, "a record");
+    assert_eq!(rt; record.sequence(), 1);
+    let mut passes = Vec::new(rt.alloc());
+    passes.push(one).expect(&rt, "a list");
+    let (core, given) = folder.close(&rt, passes);
+    assert_eq!(rt; given, 2);
+    let kept = core.local(&name).expect(&rt, "an answer");
+    assert!(rt; kept == Some(record));
+}
+
+/// Two tickets of one folder are stray in another.
+#[test]
+fn tickets_of_another_folder_are_stray(rt: HostRuntime) {
+    let folder = shared(&rt, 9);
+    let other = shared(&rt, 9);
+    let (pass, foreign) = (given(&rt, &folder), given(&rt, &other));
+    let mut member = Member::new(&folder, &rt, pass);
+    let mut stranger = Member::new(&other, &rt, foreign);
+    announces(&rt, &mut member, "x");
+    announces(&rt, &mut member, "y");
+    let ticket = begins(&rt, &mut member, "x");
+    assert!(rt; !stranger.give_up(ticket).value);
+    let ticket = begins(&rt, &mut member, "y");
+    match enter_commit(&rt, &mut stranger, ticket) {
+        Err(EnterRefusal::Stray) => {}
+        answer => panic!(&rt; "{answer:?}"),
+    }
+    assert_eq!(rt; (member.counts().value.pulls, stranger.counts().at), (2, 0));
+}
+
+#[test]
+fn takes_as_many_entries_as_its_limit(rt: HostRuntime) {
+    let folder = shared(&rt, 2);
+    let pass = given(&rt, &folder);
+    takes_two(&rt, &mut Member::new(&folder, &rt, pass));
+}
+
+#[test]
+fn keeps_room_for_the_finish(rt: HostRuntime) {
+    let folder = shared(&rt, 4);
+    let pass = given(&rt, &folder);
+    finishes_when_full(&rt, &mut Member::new(&folder, &rt, pass));
+}
+
+/// The empty folder of device 9, whose history takes so many entries.
+pub(crate) fn shared(
+    rt: &(impl AllocGlobal + Abort + Wait),
+    limit: u64,
+) -> SharedFolder<PlainFolder> {
+    let folder = PlainFolder::new(rt.alloc(), device(9));
+    assert!(rt; folder.counts().pulls == 0);
+    match SharedFolder::open(rt, rt.alloc(), folder, limit) {
+        Ok(folder) => folder,
+        Err(folder) => match SharedFolder::open(rt, rt.alloc(), folder, limit) {
+            Ok(folder) => folder,
+            Err(_) => panic!(rt; "OutOfMemory"),
+        },
+    }
+}
+
+/// One more pass.
+pub(crate) fn given(
+    rt: &(impl Abort + Wait),
+    folder: &SharedFolder<PlainFolder>,
+) -> Pass<PlainFolder>
+    ensures { IsPassOf folder.now result }
+{
+    match folder.pass(rt) {
+        Ok(pass) => pass,
+        Err(full) => panic!(rt; "PassesFull {}", full.number()),
+    }
+}

@@ -1,0 +1,86 @@
+//! A call's turn: taking the folder by a pass, and putting it back.
+ghost use Rattle.std.specs.Prelude.{◌≡◌, ◌≤◌, IfErr, IfOk, Ok, Err};
+ghost use Rattle.folder_calls.specs.declared.history.History.{History};
+ghost use Rattle.folder_core.specs.declared.answer.Answer.{Answer as AnswerOf};
+ghost use Rattle.folder_core.specs.declared.change.Change.{Change as ChangeOf};
+ghost use Rattle.folder_calls.specs.Calls.{told};
+ghost use Rattle.folder_calls.specs.Journals.{Enters, answered};
+ghost use Rattle.folder_calls.specs.Shared.{Tells};
+ghost use Rattle.folder_shared.specs.declared.shared.Pass.{Pass as PassOf};
+ghost use Rattle.folder_shared.specs.Rule.{IsSame};
+ghost use Rattle.folder_shared.specs.Passes.{IsGivenBack, IsHeld, IsPassOf, IsPutBack, MayPutBack, opened_of, view_of};
+
+use crate::lock::{put, take};
+use crate::rule::Puts;
+use crate::{Pass, SharedFolder};
+use folder_calls::{At, Journal};
+use folder_core::FolderCore;
+use std::sync::Wait;
+
+impl<C: FolderCore + Drop> SharedFolder<C> {
+    // Takes the folder, as soon as no other call has it.
+    pub(crate) fn lend<R: Wait>(&self, rt: &R, pass: &mut Pass<C>) -> Journal<C>
+        requires { IsPassOf self.now pass.old }
+        ensures held { IsHeld self.now pass.old pass.new result }
+        ensures given { (1 ≤ pass.new.number) × (pass.new.number ≤ result.passes) }
+        ensures same { IsSame result (opened_of self.now) }
+    {
+        take::<C, R>(rt, &self.receiver, &mut pass.token)
+    }
+
+    // Puts the folder back as it was. The pass has then seen the history if there is an answer.
+    pub(crate) fn give_back<R: Wait, T, E>(
+        &self,
+        rt: &R,
+        pass: &mut Pass<C>,
+        journal: Journal<C>,
+        answer: Result<T, E>,
+    ) -> Result<At<T>, E>
+        requires { (before : PassOf C) × IsPassOf self.now before × IsHeld self.now before pass.old journal }
+        ensures pass { IsPassOf self.now pass.new × (pass.new.number ≡ pass.old.number) }
+        ensures given_back { (before : PassOf C) → IsPassOf self.now before → IsHeld self.now before pass.old journal → IsGivenBack self.now before journal answer result pass.new }
+    {
+        self.put_back(rt, pass, journal, answer)
+    }
+
+    // Puts the folder back after a change of the pass, which is entered if it was accepted. The pass has then seen the history,
+    // with that entry, if there is an answer.
+    pub(crate) fn hand_in<R: Wait, T, E>(
+        &self,
+        rt: &R,
+        pass: &mut Pass<C>,
+        journal: Journal<C>,
+        answer: Result<T, E>,
+    ) -> Result<At<T>, E>
+        requires { (before : PassOf C) × (x : History) × (f : T → AnswerOf) × (change : ChangeOf) × IsPassOf self.now before × IsHeld self.now before pass.old x × Enters x pass.old.number change (answered f answer) journal }
+        ensures pass { IsPassOf self.now pass.new × (pass.new.number ≡ pass.old.number) }
+        ensures tells { (before : PassOf C) (x : History) (f : T → AnswerOf) (change : ChangeOf) → IsPassOf self.now before → IsHeld self.now before pass.old x → Enters x pass.old.number change (answered f answer) journal → Tells (view_of self.now before) change (told f result) (view_of self.now pass.new) }
+        ensures answer { IfOk result (λ told. answer ≡ Ok told.value) }
+        ensures fault { IfErr result (λ fault. answer ≡ Err fault) }
+    {
+        self.put_back(rt, pass, journal, answer)
+    }
+
+    // Puts the folder back. The pass has then seen the history if there is an answer.
+    fn put_back<R: Wait, T, E>(
+        &self,
+        rt: &R,
+        pass: &mut Pass<C>,
+        journal: Journal<C>,
+        answer: Result<T, E>,
+    ) -> Result<At<T>, E>
+        requires { (before : PassOf C) × (x : History) × IsPassOf self.now before × IsHeld self.now before pass.old x × MayPutBack x before.number answer journal }
+        ensures pass { IsPassOf self.now pass.new × (pass.new.number ≡ pass.old.number) }
+        ensures put_back { (before : PassOf C) (x : History) → IsPassOf self.now before → IsHeld self.now before pass.old x → MayPutBack x before.number answer journal → IsPutBack self.now before journal answer result pass.new }
+    {
+        let at = journal.len();
+        put::<C, Puts, R>(rt, &self.sender, &mut pass.token, journal);
+        match answer {
+            Ok(value) => {
+                pass.seen = at;
+                Ok(At { at, value })
+            }
+            Err(fault) => Err(fault),
+        }
+    }
+}
