@@ -17,8 +17,6 @@ mod node;
 mod parents;
 mod refusal;
 mod store;
-#[cfg(test)]
-mod tests;
 
 pub use content::Content;
 pub use failing::{FailingStore, FailureTime};

@@ -1,13 +1,11 @@
 //! The suite over a store in memory, and over stores that fail. The expected answers are those of the rules of stores.
-use crate::tests::calls::{
+use crate::calls::{
     commit_temp, faults, is_file, is_missing, make_dir, make_temp, name, put, read_at, remove,
     rename, write_at,
 };
-use crate::{FailingStore, FailureTime, FileStore, MemStore, StoreRefusal};
+use crate::suite;
+use file_store::{FailingStore, FailureTime, FileStore, MemStore, StoreRefusal};
 use std::process::Abort;
-
-mod calls;
-mod suite;
 
 #[test]
 fn nothing_is_there(rt: HostRuntime) {

@@ -1,9 +1,9 @@
 //! What every store answers. Each test begins with an empty store.
-use crate::tests::calls::{
+use crate::calls::{
     commit_temp, drop_temp, faults, is_directory, is_file, is_missing, list, make_dir, make_temp,
-    put, read_at, remove, remove_dir, rename, write_at,
+    name, put, read_at, remove, remove_dir, rename, write_at,
 };
-use crate::{FileStore, Kind};
+use file_store::{FileStore, Kind, StoreRefusal};
 use std::process::Abort;
 
 /// Calls on a name at which nothing is.
@@ -206,4 +206,87 @@ pub(crate) fn lists_safe_names<S: FileStore>(rt: &(impl AllocGlobal + Abort), st
             ("\u{e9}", Kind::Directory),
         ],
     );
+}
+
+/// A change that a store is asked for.
+#[derive(Clone, Copy, Debug)]
+enum Change {
+    MakeDir(&'static str),
+    MakeTemp(&'static str),
+    WriteAt(&'static str, u64, &'static str),
+    CommitTemp(&'static str),
+    DropTemp(&'static str),
+    Rename(&'static str, &'static str),
+    Remove(&'static str),
+    RemoveDir(&'static str),
+}
+
+impl Change {
+    fn ask<S: FileStore>(
+        self,
+        rt: &(impl AllocGlobal + Abort),
+        store: &mut S,
+    ) -> Result<(), StoreRefusal> {
+        match self {
+            Change::MakeDir(path) => store.make_dir(&name(rt, path)),
+            Change::MakeTemp(path) => store.make_temp(&name(rt, path)),
+            Change::WriteAt(path, offset, text) => {
+                store.write_at(&name(rt, path), offset, text.as_bytes())
+            }
+            Change::CommitTemp(path) => store.commit_temp(&name(rt, path)),
+            Change::DropTemp(path) => store.drop_temp(&name(rt, path)),
+            Change::Rename(from, to) => store.rename(&name(rt, from), &name(rt, to)),
+            Change::Remove(path) => store.remove(&name(rt, path)),
+            Change::RemoveDir(path) => store.remove_dir(&name(rt, path)),
+        }
+    }
+}
+
+/// Asks for a change; once more after a fault, and again while memory is out. A change that failed may have been done, so that the second
+/// one fails too. Each fault is counted.
+fn make<S: FileStore>(rt: &(impl AllocGlobal + Abort), store: &mut S, change: Change) {
+    let before = store.faults();
+    let mut found = 0;
+    for _ in 0..4 {
+        match change.ask(rt, store) {
+            Ok(()) => break,
+            Err(StoreRefusal::StoreFault) if found == 0 => found = 1,
+            Err(StoreRefusal::StoreFault) => {
+                found = 2;
+                break;
+            }
+            Err(StoreRefusal::OutOfMemory) => {}
+            other => other.expect(rt, "a change"),
+        }
+    }
+    assert_eq!(rt; store.faults(), before.saturating_add(found), "{change:?}");
+}
+
+/// Makes a file, moves it, and removes all again, where one call of the store may fail.
+pub(crate) fn changes_in_spite_of_a_fault<S: FileStore>(
+    rt: &(impl AllocGlobal + Abort),
+    store: &mut S,
+) {
+    for asked in [
+        Change::MakeDir("d"),
+        Change::MakeTemp("d/a"),
+        Change::WriteAt("d/a", 0, "xy"),
+        Change::WriteAt("d/a", 2, "z"),
+        Change::CommitTemp("d/a"),
+        Change::Rename("d/a", "b"),
+    ] {
+        make(rt, store, asked);
+    }
+    is_file(rt, store, "b", 3);
+    read_at(rt, store, "b", 0, 8, "xyz");
+    list(rt, store, &[("b", Kind::File), ("d", Kind::Directory)]);
+    for asked in [
+        Change::MakeTemp("b"),
+        Change::DropTemp("b"),
+        Change::Remove("b"),
+        Change::RemoveDir("d"),
+    ] {
+        make(rt, store, asked);
+    }
+    list(rt, store, &[]);
 }

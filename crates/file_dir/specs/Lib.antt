@@ -1,0 +1,2 @@
+pub mod Dir
+pub mod Times

@@ -1,0 +1,110 @@
+//! Calls on files and directories in their places.
+ghost use Rattle.std.specs.Prelude.{◌≡◌, ◌≢◌, ◌≤◌, length, Err, IfOk, IfErr};
+ghost use Rattle.file_store.specs.Refusals.{IsPlain};
+ghost use Rattle.file_store.specs.declared.refusal.StoreRefusal.TheVariants.{NotEmpty, BadParent};
+
+use crate::disk::Disk;
+use crate::found::Found;
+use crate::opened::{Access, Opened, reopen};
+use crate::parents::{
+    Parents, find, make_directory, make_parents, open_folder, parents_of, sync_folder,
+};
+use crate::refuse::or_fault;
+use file_store::{Stat, StoreRefusal};
+use std::fs;
+use std::io::ErrorKind;
+use std::rt::Files;
+
+/// What is at a name. A symbolic link and a special file count as nothing.
+pub(crate) fn stat<R: Files>(disk: &Disk<R>, name: &str) -> Result<Stat, StoreRefusal>
+    ensures { IfErr result IsPlain }
+{
+    let path = disk.path_of(name)?;
+    Ok(match find(disk, path.as_str())? {
+        Found::Nothing | Found::Other => Stat::Missing,
+        Found::Directory => Stat::Directory,
+        Found::File(file) => Stat::File(file.len, file.modified),
+    })
+}
+
+pub(crate) fn read_at<R: Files>(
+    disk: &Disk<R>,
+    slot: &mut Option<Opened<R::File>>,
+    name: &str,
+    offset: u64,
+    buffer: &mut [u8],
+) -> Result<usize, StoreRefusal>
+    ensures bound { IfOk result (λ k. k ≤ length buffer.new) }
+    ensures refusals { IfErr result IsPlain }
+{
+    let path = disk.path_of(name)?;
+    let Found::File(file) = find(disk, path.as_str())? else {
+        return Ok(0);
+    };
+    if file.len <= offset {
+        return Ok(0);
+    }
+    reopen(disk, slot, Access::Reading, path.as_str(), file.id)?;
+    let left = usize::try_from(file.len - offset).unwrap_or(usize::MAX);
+    let room = buffer.len().min(left);
+    match slot {
+        Some(opened) => opened.read_at(offset, &mut buffer[..room]),
+        None => Err(StoreRefusal::StoreFault),
+    }
+}
+
+/// Moves a file to where nothing is; the new name reaches the disk before this returns.
+pub(crate) fn rename<R: Files>(disk: &Disk<R>, from: &str, to: &str) -> Result<(), StoreRefusal>
+    ensures { result ≢ Err NotEmpty }
+{
+    let from = disk.path_of(from)?;
+    let to = disk.path_of(to)?;
+    match parents_of(disk, to.as_str())? {
+        Parents::There => {}
+        Parents::Missing => return Err(StoreRefusal::StoreFault),
+        Parents::Blocked => return Err(StoreRefusal::BadParent),
+    }
+    let (Found::File(_), Found::Nothing) = (find(disk, from.as_str())?, disk.look(to.as_str())?)
+    else {
+        return Err(StoreRefusal::StoreFault);
+    };
+    let old_folder = open_folder(disk, from.as_str())?;
+    let new_folder = open_folder(disk, to.as_str())?;
+    or_fault(fs::rename(&disk.files, from.as_str(), to.as_str()))?;
+    sync_folder::<R>(&new_folder)?;
+    sync_folder::<R>(&old_folder)?;
+    Ok(())
+}
+
+pub(crate) fn remove<R: Files>(disk: &Disk<R>, name: &str) -> Result<(), StoreRefusal>
+    ensures { IfErr result IsPlain }
+{
+    let path = disk.path_of(name)?;
+    match find(disk, path.as_str())? {
+        Found::File(_) => or_fault(fs::remove_file(&disk.files, path.as_str())),
+        _ => Err(StoreRefusal::StoreFault),
+    }
+}
+
+pub(crate) fn make_dir<R: Files>(disk: &Disk<R>, name: &str) -> Result<(), StoreRefusal>
+    ensures { result ≢ Err NotEmpty }
+{
+    let path = disk.path_of(name)?;
+    make_parents(disk, path.as_str())?;
+    make_directory(disk, path.as_str())?;
+    Ok(())
+}
+
+pub(crate) fn remove_dir<R: Files>(disk: &Disk<R>, name: &str) -> Result<(), StoreRefusal>
+    ensures { result ≢ Err BadParent }
+{
+    let path = disk.path_of(name)?;
+    let Found::Directory = find(disk, path.as_str())? else {
+        return Err(StoreRefusal::StoreFault);
+    };
+    match fs::remove_dir(&disk.files, path.as_str()) {
+        Ok(()) => Ok(()),
+        Err(error) if error.kind() == ErrorKind::DirectoryNotEmpty => Err(StoreRefusal::NotEmpty),
+        Err(_) => Err(StoreRefusal::StoreFault),
+    }
+}

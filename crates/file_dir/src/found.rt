@@ -1,0 +1,73 @@
+//! What is at a path of the disk.
+ghost use Rattle.std.specs.Prelude.{◌≡◌};
+ghost use Rattle.file_dir.specs.Times.{moment_of};
+
+use std::fs::Metadata;
+use std::os::unix::fs::MetadataExt;
+use sync_version::Moment;
+
+/// What is at a path of the disk.
+#[derive(Clone, Copy)]
+pub(crate) enum Found {
+    Nothing,
+    Directory,
+    File(FileFacts),
+    /// A symbolic link, a pipe, a socket or a device.
+    Other,
+}
+
+/// What the system says of a file: its bytes, when it was modified, and which file it is.
+#[derive(Clone, Copy)]
+pub(crate) struct FileFacts {
+    pub(crate) len: u64,
+    pub(crate) modified: Moment,
+    pub(crate) id: FileId,
+}
+
+/// Which file it is, whatever its path.
+#[derive(Clone, Copy, PartialEq, Eq)]
+pub(crate) struct FileId {
+    device: u64,
+    inode: u64,
+}
+
+impl Found {
+    pub(crate) fn new(metadata: &Metadata) -> Found {
+        if metadata.is_dir() {
+            Found::Directory
+        } else if metadata.is_file() {
+            Found::File(FileFacts {
+                len: metadata.len(),
+                modified: moment_of(metadata.mtime()),
+                id: FileId::new(metadata),
+            })
+        } else {
+            Found::Other
+        }
+    }
+}
+
+impl FileId {
+    pub(crate) fn new(metadata: &Metadata) -> FileId {
+        FileId {
+            device: metadata.dev(),
+            inode: metadata.ino(),
+        }
+    }
+}
+
+/// The moment of so many seconds since 1970-01-01T00:00:00Z; 0 if there is none. O(1).
+fn moment_of(seconds: i64) -> Moment
+    ensures { result ≡ moment_of seconds }
+{
+    match u64::try_from(seconds) {
+        Ok(seconds) => Moment::new(seconds).unwrap_or(epoch()),
+        Err(_) => epoch(),
+    }
+}
+
+fn epoch() -> Moment
+    ensures { result ≡ 0 }
+{
+    Moment::new(0).unwrap()
+}

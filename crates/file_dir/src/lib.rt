@@ -1,0 +1,18 @@
+//! A store of files in a folder of a disk.
+//!
+//! [`DirStore`] is a `file_store::FileStore` on a directory of the system. What it may touch on the disk is the folder's
+//! safe names and their temporary files; symbolic links are not followed. No contract can say what a disk holds, so the
+//! trait's clauses on the tree hold under a premise that this store never meets, and its tests say what it does.
+#![tactic(auto)]
+
+mod changes;
+mod disk;
+mod found;
+mod opened;
+mod parents;
+mod refuse;
+mod store;
+mod temps;
+mod walk;
+
+pub use store::DirStore;

@@ -1,0 +1,125 @@
+//! A file that stays open from one call to the next.
+ghost use Rattle.std.specs.Prelude.{◌≡◌, ◌≤◌, ◌<◌, take, length, IfOk, IfErr};
+ghost use Rattle.std.specs.Io.KnownBytes.{Consumes, IsAtEnd};
+ghost use Rattle.file_store.specs.Refusals.{IsPlain};
+ghost use Rattle.file_store.specs.declared.refusal.StoreRefusal.TheVariants.{StoreFault};
+
+use crate::disk::Disk;
+use crate::found::FileId;
+use crate::refuse::or_fault;
+use file_store::StoreRefusal;
+use std::fs::{OpenFile, OpenOptions};
+use std::io::{ErrorKind, Read, Seek, SeekFrom, Write};
+use std::rt::Files;
+
+/// An open file, its path, and which file it is.
+#[derive(Drop)]
+pub(crate) struct Opened<F> {
+    path: String,
+    id: FileId,
+    file: F,
+}
+
+/// What a file is opened for.
+#[derive(Clone, Copy)]
+pub(crate) enum Access {
+    Reading,
+    Writing,
+}
+
+impl<F: Read + Write + Seek + OpenFile + Drop> Opened<F> {
+    /// A file that was just opened, if it is a file and, where that is known, the one with that identity: so what was put
+    /// at the path after it was looked at is refused.
+    pub(crate) fn new(path: String, file: F, id: Option<FileId>) -> Result<Opened<F>, StoreRefusal>
+        ensures { IfErr result IsPlain }
+    {
+        let metadata = or_fault(file.metadata())?;
+        let opened = FileId::new(&metadata);
+        if !metadata.is_file() {
+            return Err(StoreRefusal::StoreFault);
+        }
+        if id.is_some_and(|id| id != opened) {
+            return Err(StoreRefusal::StoreFault);
+        }
+        Ok(Opened {
+            path,
+            id: opened,
+            file,
+        })
+    }
+
+    fn is_of(&self, path: &str, id: FileId) -> bool {
+        self.id == id && self.path.as_str() == path
+    }
+
+    /// Reads from an offset on until the buffer is full or the file ends.
+    pub(crate) fn read_at(&mut self, offset: u64, buffer: &mut [u8]) -> Result<usize, StoreRefusal>
+        ensures bound { IfOk result (λ k. k ≤ length buffer.new) }
+        ensures refusals { IfErr result IsPlain }
+    {
+        or_fault(self.file.seek(SeekFrom::Start(offset)))?;
+        fill(&mut self.file, buffer)
+    }
+
+    /// Writes all bytes from an offset on.
+    pub(crate) fn write_at(&mut self, offset: u64, bytes: &[u8]) -> Result<(), StoreRefusal>
+        ensures { IfErr result IsPlain }
+    {
+        or_fault(self.file.seek(SeekFrom::Start(offset)))?;
+        or_fault(self.file.write_all(bytes))
+    }
+
+    /// Waits until the file's bytes have reached the disk.
+    pub(crate) fn sync(&self) -> Result<(), StoreRefusal>
+        ensures { IfErr result IsPlain }
+    {
+        or_fault(self.file.sync_all())
+    }
+}
+
+/// Opens the file at a path that was just looked at, unless it is open.
+pub(crate) fn reopen<R: Files>(
+    disk: &Disk<R>,
+    slot: &mut Option<Opened<R::File>>,
+    access: Access,
+    path: &str,
+    id: FileId,
+) -> Result<(), StoreRefusal>
+    ensures { IfErr result IsPlain }
+{
+    if slot.as_ref().is_some_and(|opened| opened.is_of(path, id)) {
+        return Ok(());
+    }
+    *slot = None;
+    let copy = String::from_str(disk.alloc, path)?;
+    let mut options = OpenOptions::new();
+    match access {
+        Access::Reading => options.read(true),
+        Access::Writing => options.write(true),
+    };
+    let file = or_fault(options.open(&disk.files, path))?;
+    *slot = Some(Opened::new(copy, file, Some(id))?);
+    Ok(())
+}
+
+/// Reads until the buffer is full or the reader is at its end. Returns how many bytes were read.
+fn fill<F: Read>(reader: &mut F, buffer: &mut [u8]) -> Result<usize, StoreRefusal>
+    ensures bound { IfOk result (λ k. k ≤ length buffer.new) }
+    ensures bytes { IfOk result (λ k. Consumes (F.remaining reader.old) (F.remaining reader.new) (take k buffer.new)) }
+    ensures end { IfOk result (λ k. k < length buffer.new → IsAtEnd (F.remaining reader.new)) }
+    ensures refusals { IfErr result (λ refusal. refusal ≡ StoreFault) }
+{
+    let mut filled = 0;
+    for _ in 0..u64::MAX {
+        if filled == buffer.len() {
+            return Ok(filled);
+        }
+        match reader.read(&mut buffer[filled..]) {
+            Ok(0) => return Ok(filled),
+            Ok(count) => filled += count,
+            Err(error) if error.kind() == ErrorKind::Interrupted => {}
+            Err(_) => return Err(StoreRefusal::StoreFault),
+        }
+    }
+    Err(StoreRefusal::StoreFault)
+}

@@ -1,0 +1,153 @@
+//! A store of files in a folder of a disk.
+ghost use Rattle.std.specs.Prelude.{◌≡◌, IfOk, IfErr};
+ghost use Rattle.file_store.specs.Refusals.{count_after, IsPlain};
+
+use crate::disk::Disk;
+use crate::opened::Opened;
+use crate::{changes, temps, walk};
+use file_store::{FileStore, Listed, Stat, StoreRefusal};
+use std::alloc::Global;
+use std::rt::Files;
+use sync_names::SafeName;
+
+/// A store of files in a folder of a disk.
+///
+/// Symbolic links are not followed, neither at a name nor at a parent of it; they, pipes, sockets and devices count as
+/// nothing, but nothing is put in their place. Several stores may be on one folder. The folder itself may be reached
+/// through links. While it is missing, or on another device than when the store was opened, each call returns `StoreFault`.
+///
+/// What `commit_temp`, `rename` and `make_dir` have done has reached the disk when they return.
+///
+/// Each call takes a call of the system for the folder and for each parent of the name.
+#[derive(Drop)]
+pub struct DirStore<R: Files> {
+    disk: Disk<R>,
+    reading: Option<Opened<R::File>>,
+    writing: Option<Opened<R::File>>,
+    faults: u64,
+}
+
+impl<R: Files + Drop> DirStore<R> {
+    ghost use Rattle.file_dir.specs.Dir.{dir_faults};
+
+    /// A store in the folder at a path; an empty path is the current directory. Removes nothing. Fails with `StoreFault`
+    /// if no directory is there.
+    pub fn open(files: R, alloc: Global, path: &str) -> Result<DirStore<R>, StoreRefusal>
+        ensures faults { IfOk result (λ store. dir_faults store ≡ 0) }
+        ensures refusals { IfErr result IsPlain }
+    {
+        let disk = Disk::open(files, alloc, path)?;
+        Ok(DirStore {
+            disk,
+            reading: None,
+            writing: None,
+            faults: 0,
+        })
+    }
+}
+
+impl<R: Files> DirStore<R> {
+    ghost use Rattle.file_dir.specs.Dir.{dir_faults};
+
+    /// Removes all temporary files, as those that an earlier run has left, also those that another store on the folder is
+    /// writing. Returns how many there were. After an error some may have been removed. O(n) for n names in the folder.
+    pub fn remove_temps(&mut self) -> Result<usize, StoreRefusal>
+        ensures refusals { IfErr result IsPlain }
+        ensures counted { dir_faults self.new ≡ count_after result (dir_faults self.old) }
+    {
+        self.writing = None;
+        let answer = temps::remove_temps(&self.disk);
+        settle(&mut self.faults, answer)
+    }
+}
+
+impl<R: Files> FileStore for DirStore<R> {
+    ghost use Rattle.std.specs.Prelude.{⊤, None};
+    ghost use Rattle.file_dir.specs.Dir.{dir_faults};
+    ghost use Rattle.file_store.specs.Stores.{empty_tree};
+
+    ghost keeps = { ⊥ };
+
+    ghost fails = { λ s. ⊤ };
+
+    ghost tree = { λ s. empty_tree };
+
+    ghost fault_count = { dir_faults };
+
+    fn faults(&self) -> u64 {
+        self.faults
+    }
+
+    fn list(&mut self) -> Result<Vec<Listed>, StoreRefusal> {
+        let answer = walk::list(&self.disk);
+        settle(&mut self.faults, answer)
+    }
+
+    fn stat(&mut self, name: &SafeName) -> Result<Stat, StoreRefusal> {
+        let answer = changes::stat(&self.disk, name.as_str());
+        settle(&mut self.faults, answer)
+    }
+
+    fn read_at(
+        &mut self,
+        name: &SafeName,
+        offset: u64,
+        buffer: &mut [u8],
+    ) -> Result<usize, StoreRefusal> {
+        let answer = changes::read_at(&self.disk, &mut self.reading, name.as_str(), offset, buffer);
+        settle(&mut self.faults, answer)
+    }
+
+    fn make_temp(&mut self, name: &SafeName) -> Result<(), StoreRefusal> {
+        let answer = temps::make_temp(&self.disk, &mut self.writing, name);
+        settle(&mut self.faults, answer)
+    }
+
+    fn write_at(&mut self, name: &SafeName, offset: u64, bytes: &[u8]) -> Result<(), StoreRefusal> {
+        let answer = temps::write_at(&self.disk, &mut self.writing, name, offset, bytes);
+        settle(&mut self.faults, answer)
+    }
+
+    fn commit_temp(&mut self, name: &SafeName) -> Result<(), StoreRefusal> {
+        self.reading = None;
+        let answer = temps::commit_temp(&self.disk, &mut self.writing, name);
+        settle(&mut self.faults, answer)
+    }
+
+    fn drop_temp(&mut self, name: &SafeName) -> Result<(), StoreRefusal> {
+        let answer = temps::drop_temp(&self.disk, &mut self.writing, name);
+        settle(&mut self.faults, answer)
+    }
+
+    fn rename(&mut self, from: &SafeName, to: &SafeName) -> Result<(), StoreRefusal> {
+        let answer = changes::rename(&self.disk, from.as_str(), to.as_str());
+        settle(&mut self.faults, answer)
+    }
+
+    fn remove(&mut self, name: &SafeName) -> Result<(), StoreRefusal> {
+        self.reading = None;
+        let answer = changes::remove(&self.disk, name.as_str());
+        settle(&mut self.faults, answer)
+    }
+
+    fn make_dir(&mut self, name: &SafeName) -> Result<(), StoreRefusal> {
+        let answer = changes::make_dir(&self.disk, name.as_str());
+        settle(&mut self.faults, answer)
+    }
+
+    fn remove_dir(&mut self, name: &SafeName) -> Result<(), StoreRefusal> {
+        let answer = changes::remove_dir(&self.disk, name.as_str());
+        settle(&mut self.faults, answer)
+    }
+}
+
+/// The answer of a call, of which a fault is counted.
+fn settle<T>(faults: &mut u64, answer: Result<T, StoreRefusal>) -> Result<T, StoreRefusal>
+    ensures answer { result ≡ answer }
+    ensures counted { faults.new ≡ count_after answer faults.old }
+{
+    if let Err(StoreRefusal::StoreFault) = &answer {
+        *faults = faults.saturating_add(1);
+    }
+    answer
+}

@@ -1,0 +1,132 @@
+//! Temporary files.
+ghost use Rattle.std.specs.Prelude.{◌≢◌, Err, IfErr};
+ghost use Rattle.file_store.specs.Refusals.{IsPlain};
+ghost use Rattle.file_store.specs.declared.refusal.StoreRefusal.TheVariants.{NotEmpty};
+
+use crate::disk::Disk;
+use crate::found::Found;
+use crate::opened::{Access, Opened, reopen};
+use crate::parents::{find, make_parents, open_folder, sync_folder};
+use crate::refuse::or_fault;
+use crate::walk::walk_folder;
+use file_store::StoreRefusal;
+use std::fs;
+use std::fs::OpenOptions;
+use std::io::ErrorKind;
+use std::rt::Files;
+use sync_names::SafeName;
+
+/// Makes an empty temporary file, which then is the open one, and missing parents. What was at its path is removed; a
+/// symbolic link there is not followed.
+pub(crate) fn make_temp<R: Files>(
+    disk: &Disk<R>,
+    slot: &mut Option<Opened<R::File>>,
+    name: &SafeName,
+) -> Result<(), StoreRefusal>
+    ensures { result ≢ Err NotEmpty }
+{
+    let path = disk.temp_path_of(name)?;
+    *slot = None;
+    make_parents(disk, path.as_str())?;
+    remove_if_there(disk, path.as_str())?;
+    let mut options = OpenOptions::new();
+    options.write(true).create_new(true);
+    let file = or_fault(options.open(&disk.files, path.as_str()))?;
+    *slot = Some(Opened::new(path, file, None)?);
+    Ok(())
+}
+
+/// Removes what is at a path, unless nothing is. A directory is a fault.
+fn remove_if_there<R: Files>(disk: &Disk<R>, path: &str) -> Result<(), StoreRefusal>
+    ensures { IfErr result IsPlain }
+{
+    match fs::remove_file(&disk.files, path) {
+        Ok(()) => Ok(()),
+        Err(error) if error.kind() == ErrorKind::NotFound => Ok(()),
+        Err(_) => Err(StoreRefusal::StoreFault),
+    }
+}
+
+/// Opens the temporary file at a path, unless it is open. A fault if none is there.
+fn open_temp<R: Files>(
+    disk: &Disk<R>,
+    slot: &mut Option<Opened<R::File>>,
+    path: &str,
+) -> Result<(), StoreRefusal>
+    ensures { IfErr result IsPlain }
+{
+    match find(disk, path)? {
+        Found::File(file) => reopen(disk, slot, Access::Writing, path, file.id),
+        _ => Err(StoreRefusal::StoreFault),
+    }
+}
+
+pub(crate) fn write_at<R: Files>(
+    disk: &Disk<R>,
+    slot: &mut Option<Opened<R::File>>,
+    name: &SafeName,
+    offset: u64,
+    bytes: &[u8],
+) -> Result<(), StoreRefusal>
+    ensures { IfErr result IsPlain }
+{
+    let path = disk.temp_path_of(name)?;
+    open_temp(disk, slot, path.as_str())?;
+    match slot {
+        Some(opened) => opened.write_at(offset, bytes),
+        None => Err(StoreRefusal::StoreFault),
+    }
+}
+
+/// Puts the temporary file in its place. Its bytes reach the disk before, and the new name before this returns.
+pub(crate) fn commit_temp<R: Files>(
+    disk: &Disk<R>,
+    slot: &mut Option<Opened<R::File>>,
+    name: &SafeName,
+) -> Result<(), StoreRefusal>
+    ensures { IfErr result IsPlain }
+{
+    let path = disk.path_of(name.as_str())?;
+    let temp = disk.temp_path_of(name)?;
+    open_temp(disk, slot, temp.as_str())?;
+    match disk.look(path.as_str())? {
+        Found::Nothing | Found::File(_) => {}
+        Found::Directory | Found::Other => return Err(StoreRefusal::StoreFault),
+    }
+    match slot.take() {
+        Some(opened) => opened.sync()?,
+        None => return Err(StoreRefusal::StoreFault),
+    }
+    let folder = open_folder(disk, path.as_str())?;
+    or_fault(fs::rename(&disk.files, temp.as_str(), path.as_str()))?;
+    sync_folder::<R>(&folder)
+}
+
+pub(crate) fn drop_temp<R: Files>(
+    disk: &Disk<R>,
+    slot: &mut Option<Opened<R::File>>,
+    name: &SafeName,
+) -> Result<(), StoreRefusal>
+    ensures { IfErr result IsPlain }
+{
+    let path = disk.temp_path_of(name)?;
+    *slot = None;
+    match find(disk, path.as_str())? {
+        Found::Nothing => Ok(()),
+        _ => remove_if_there(disk, path.as_str()),
+    }
+}
+
+/// Removes all temporary files. Returns how many there were. After an error some may have been removed.
+pub(crate) fn remove_temps<R: Files>(disk: &Disk<R>) -> Result<usize, StoreRefusal>
+    ensures { IfErr result IsPlain }
+{
+    let temps = walk_folder(disk)?.temps;
+    for temp in &temps {
+        let path = disk.path_of(temp.as_str())?;
+        if let Found::File(_) = find(disk, path.as_str())? {
+            remove_if_there(disk, path.as_str())?;
+        }
+    }
+    Ok(temps.len())
+}
