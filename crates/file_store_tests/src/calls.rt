@@ -1,5 +1,5 @@
 //! The calls of a store, each with what it must answer: 0 for `Ok`, or the number of a refusal. A call that is out of memory is
-//! made again, and so is one that reads and fails.
+//! made again, and so is one that reads and fails, twice at most.
 use file_store::{FileStore, Kind, Listed, Stat, StoreRefusal};
 use std::process::Abort;
 use sync_names::SafeName;
@@ -172,10 +172,16 @@ pub(crate) fn stat<S: FileStore>(
     path: &str,
 ) -> Stat {
     let name = name(rt, path);
-    let stat = match store.stat(&name) {
-        Err(_) => store.stat(&name),
-        stat => stat,
-    };
+    let mut stat = store.stat(&name);
+    for _ in 0..2 {
+        if stat.is_err() {
+            let is_out_of_memory = stat == Err(StoreRefusal::OutOfMemory);
+            let again = store.stat(&name);
+            if again.is_ok() || !is_out_of_memory {
+                stat = again;
+            }
+        }
+    }
     stat.expect(rt, "what is there")
 }
 
@@ -219,10 +225,16 @@ pub(crate) fn read_at<S: FileStore>(
     let mut bytes = [0; 8];
     let buffer = &mut bytes[..room.min(8)];
     let name = name(rt, path);
-    let count = match store.read_at(&name, offset, buffer) {
-        Err(_) => store.read_at(&name, offset, buffer),
-        count => count,
-    };
+    let mut count = store.read_at(&name, offset, buffer);
+    for _ in 0..2 {
+        if count.is_err() {
+            let is_out_of_memory = count == Err(StoreRefusal::OutOfMemory);
+            let again = store.read_at(&name, offset, buffer);
+            if again.is_ok() || !is_out_of_memory {
+                count = again;
+            }
+        }
+    }
     let count = count.expect(rt, "bytes");
     assert_eq!(rt; &bytes[..count.min(8)], text.as_bytes(), "{path:?}");
 }
@@ -233,10 +245,16 @@ pub(crate) fn list<S: FileStore>(
     store: &mut S,
     expected: &[(&str, Kind)],
 ) {
-    let listing = match store.list() {
-        Err(_) => store.list(),
-        listing => listing,
-    };
+    let mut listing = store.list();
+    for _ in 0..2 {
+        if listing.is_err() {
+            let is_out_of_memory = matches!(&listing, Err(StoreRefusal::OutOfMemory));
+            let again = store.list();
+            if again.is_ok() || !is_out_of_memory {
+                listing = again;
+            }
+        }
+    }
     let listing = listing.expect(rt, "a listing");
     assert_eq!(rt; listing.len(), expected.len());
     for (listed, row) in listing.iter().zip(expected) {
@@ -246,10 +264,16 @@ pub(crate) fn list<S: FileStore>(
 
 /// So many names are listed.
 pub(crate) fn lists<S: FileStore>(rt: &impl Abort, store: &mut S, expected: usize) {
-    let listing = match store.list() {
-        Err(_) => store.list(),
-        listing => listing,
-    };
+    let mut listing = store.list();
+    for _ in 0..2 {
+        if listing.is_err() {
+            let is_out_of_memory = matches!(&listing, Err(StoreRefusal::OutOfMemory));
+            let again = store.list();
+            if again.is_ok() || !is_out_of_memory {
+                listing = again;
+            }
+        }
+    }
     assert_eq!(rt; listing.expect(rt, "a listing").len(), expected);
 }
 

@@ -73,11 +73,12 @@ fn a_directory_without_permissions(rt: HostRuntime) {
     let mut store = store(&rt, path.as_str());
     put(&rt, &mut store, "d/a", "xyz");
     let closed = below(&rt, path.as_str(), "d");
+    let inside = below(&rt, path.as_str(), "d/a");
     fs::set_permissions(&rt, closed.as_str(), fs::Permissions::from_mode(0o000)).expect(
         &rt,
         "no permissions",
     );
-    if fs::read_dir(&rt, closed.as_str()).is_err() {
+    if fs::metadata(&rt, inside.as_str()).is_err() {
         list_fails(&rt, &mut store, 40);
         stat_fails(&rt, &mut store, "d/a", 40);
         faults(&rt, &store, 2);
