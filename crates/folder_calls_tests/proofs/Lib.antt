@@ -1,1 +1,4 @@
 pub mod TwoCalls
+pub mod PagesGiven
+pub mod PullsAdded
+pub mod ScansOver

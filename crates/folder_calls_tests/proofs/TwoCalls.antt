@@ -28,24 +28,6 @@ module _ (old read new : View) (n : Name) (r : At (Option FileRecord)) (reads : 
   pub over-longer : IsPrefix old.seen new.seen
   over-longer = prefix-on old.seen read.seen new.seen reads.sees.longer (answered-longer read new (ScanFound n version f m) t.value tells.answered).0
 
-  abbrev scan : Change
-  scan = ScanFound n (local_version (state_after old.opening read.seen) n) f m
-
-  scan-is : ScanFound n version f m ≡ scan
-  scan-is = ap (λ v. ScanFound n v f m) (version_is ∙ ap (option_map (λ r. r.version)) reads.answer_is)
-
-  pub over-recorded : is_accepted t.value ≡ true → (es : List Entry) × IsPrefix old.seen es × IsPrefix es new.seen
-      × (own_entries old.pass new.seen ≡ own_entries old.pass old.seen ++ own_entry old (ScanFound n (local_version (state_after old.opening es) n) f m) t.value ∷ [])
-  over-recorded accepted =
-      let same = ap (λ (v : View). v.pass) reads.sees.same in (
-        read.seen,
-        reads.sees.longer,
-        (answered-longer read new (ScanFound n version f m) t.value tells.answered).0,
-        subst (λ p. own_entries p new.seen ≡ own_entries p read.seen ++ (record { pass = p; change = scan; answer = t.value }) ∷ []) same
-            (subst (λ c. own_entries read.pass new.seen ≡ own_entries read.pass read.seen ++ own_entry read c t.value ∷ []) scan-is (answered-entered read new (ScanFound n version f m) t.value tells.answered accepted).0)
-            ∙ ap (λ xs. xs ++ own_entry old scan t.value ∷ []) reads.sees.own,
-      )
-
 -- a pull that was begun and given up
 module _ (old middle new : View) (n : Name) (t : Token) (begun : At Answer) (begins : Tells old (BeginPull n) (Some begun) middle) (begun_is : begun.value ≡ Begun t)
     (closed : At Answer) (ends : Tells middle (GiveUp t) (Some closed) new) where

@@ -2,7 +2,10 @@
 ghost use Rattle.folder_shared.specs.Passes.{IsPassOf};
 
 use crate::limits::{begins, enter_commit, finishes_when_full, takes_two};
-use crate::values::{announces, device, directory, moment, name};
+use crate::paging::{are, gives};
+use crate::pulls::{offers, pulls};
+use crate::values::{announces, device, directory, moment, name, scanned_as};
+use crate::{Pulled, begin_and_give_up, record_over};
 use folder_calls::{At, EnterRefusal, FolderCalls};
 use folder_core::{FolderCore, PlainFolder, ScanAnswer};
 use folder_shared::{Member, Pass, SharedFolder};
@@ -28,6 +31,7 @@ fn is_known_after_a_meeting(rt: HostRuntime) {
     assert_eq!(rt; (one.seen(), other.seen()), (1, 0));
     folder.meet(&mut one, &mut other);
     assert_eq!(rt; (one.seen(), other.seen()), (1, 1));
+    assert_eq!(rt; folder.verify(&rt, &mut other), Ok(true));
     let found = folder
         .local(&rt, &mut other, &name)
         .expect(&rt, "an answer");
@@ -40,6 +44,50 @@ fn is_known_after_a_meeting(rt: HostRuntime) {
     assert_eq!(rt; given, 2);
     let kept = core.local(&name).expect(&rt, "an answer");
     assert!(rt; kept == Some(record));
+}
+
+/// On a folder with one recorded directory, `verify` needs memory, since it replays.
+#[test]
+fn verify_replays(rt: HostRuntime) {
+    let folder = shared(&rt, 9);
+    let mut pass = given(&rt, &folder);
+    let name = name(&rt, "x");
+    match folder.scan_found(&rt, &mut pass, &name, None, &directory(), moment(&rt)) {
+        Ok(scanned) => assert_eq!(rt; scanned.at, 1),
+        Err(_) => panic!(&rt; "OutOfMemory"),
+    }
+    let is_out = name.copy().is_err();
+    let first = folder.verify(&rt, &mut pass);
+    if is_out && name.copy().is_err() {
+        // No memory is left, so nothing can be replayed.
+        assert!(rt; first.is_err());
+        return;
+    }
+    match first {
+        Ok(yes) => assert!(rt; yes),
+        Err(_) => assert_eq!(rt; folder.verify(&rt, &mut pass), Ok(true)),
+    }
+    assert_eq!(rt; pass.seen(), 1);
+}
+
+/// The workers that are proved for any keeper of a folder.
+#[test]
+fn workers_do_their_work(rt: HostRuntime) {
+    let folder = shared(&rt, 9);
+    let pass = given(&rt, &folder);
+    let mut member = Member::new(&folder, &rt, pass);
+    offers(&rt, &mut member);
+    assert_eq!(rt; pulls(&rt, &mut member, "x", b"abc"), Pulled::Done(1));
+    let name = name(&rt, "y");
+    match record_over(&mut member, &name, &directory(), moment(&rt)) {
+        Ok(answer) => assert_eq!(rt; scanned_as(answer), ("Recorded", 2)),
+        Err(_) => panic!(&rt; "OutOfMemory"),
+    }
+    let mut records = Vec::new(rt.alloc());
+    assert_eq!(rt; gives(&rt, &mut member, 0, &mut records), 2);
+    are(&rt, &records, &[("x", 1), ("y", 2)]);
+    assert_eq!(rt; begin_and_give_up(&mut member, &name), Ok(None));
+    assert_eq!(rt; member.into_pass().seen(), 5);
 }
 
 /// Two tickets of one folder are stray in another.

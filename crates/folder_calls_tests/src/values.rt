@@ -10,7 +10,7 @@ use folder_core::{Finding, FolderCore, FoundContent, PlainFolder, ScanAnswer};
 use std::alloc::AllocError;
 use std::process::Abort;
 use sync_names::SafeName;
-use sync_record::{DeviceId, Edit, Kind, Record};
+use sync_record::{Assembled, DeviceId, Edit, Kind, Record};
 use sync_version::{Moment, Version};
 
 /// The device of which each byte is this number. The folder's own is 9.
@@ -43,17 +43,28 @@ pub(crate) fn directory() -> Finding
 }
 
 /// The record of a directory, of which the first device says that it made it.
-pub(crate) fn one_directory(rt: &(impl AllocGlobal + Abort), text: &str) -> Items<Record> {
+pub(crate) fn directory_record(rt: &(impl AllocGlobal + Abort), text: &str) -> Record {
     let edit = Edit {
         version: Version::from_counters(rt.alloc(), &[(1, 2)]).expect(rt, "a version"),
         modified_s: 1,
         modified_by: 1,
         modified_ns: 0,
     };
-    let record = Record::directory(rt.alloc(), name(rt, text), edit).expect(rt, "a record");
+    Record::directory(rt.alloc(), name(rt, text), edit).expect(rt, "a record")
+}
+
+/// The record of this directory alone.
+pub(crate) fn one_directory(rt: &(impl AllocGlobal + Abort), text: &str) -> Items<Record> {
     let mut records = Items::new(rt.alloc());
-    records.push(record).expect(rt, "a list");
+    records.push(directory_record(rt, text)).expect(rt, "a list");
     records
+}
+
+/// The record of a directory, as one that may be committed.
+pub(crate) fn assembled(rt: &(impl AllocGlobal + Abort), text: &str) -> Assembled {
+    let target = directory_record(rt, text);
+    assert!(rt; target.is_deleted() || is_directory(&target));
+    Assembled::plain(target)
 }
 
 /// The empty folder of device 9, whose history takes so many entries.

@@ -1,15 +1,15 @@
 //! Workers, as any program may have them: each is lent the calls of a folder, and is proved once for whoever keeps it.
-ghost use Rattle.std.specs.Prelude.{◌≡◌, ◌++◌, ◌∷◌, [], IfOk, IsTrue, List, None, Some, false, option_copied, option_map, true};
+ghost use Rattle.std.specs.Prelude.{◌≡◌, ◌++◌, ◌∷◌, [], IfOk, IsTrue, None, Some, false, option_copied, option_map, true};
 ghost use mathlib.Core.List.{IsPrefix};
-ghost use Rattle.folder_core.specs.States.{local_version};
 ghost use Rattle.folder_core.specs.Steps.{is_accepted, is_found};
 ghost use Rattle.folder_core.specs.declared.token.Token.{Token};
 ghost use Rattle.folder_core.specs.declared.answer.Answer.TheVariants.{Begun, Closed};
-ghost use Rattle.folder_core.specs.declared.change.Change.TheVariants.{BeginPull, GiveUp, ScanFound};
-ghost use Rattle.folder_calls.specs.declared.entry.Entry.{Entry};
+ghost use Rattle.folder_core.specs.declared.change.Change.TheVariants.{BeginPull, GiveUp};
 ghost use Rattle.folder_calls.specs.Calls.{scan_value};
-ghost use Rattle.folder_calls.specs.Histories.{own_entries, state_after};
+ghost use Rattle.folder_calls.specs.Histories.{own_entries};
 ghost use Rattle.folder_calls.specs.Shared.{own_entry};
+ghost use Rattle.folder_calls_tests.specs.Pulling.{Adds};
+ghost use Rattle.folder_calls_tests.specs.Recording.{RecordsOver};
 
 use folder_calls::{At, BeginAnswer, FolderCalls, HistoryFull, ScanRefusal};
 use folder_core::{Finding, ScanAnswer};
@@ -18,8 +18,8 @@ use sync_names::SafeName;
 use sync_record::Record;
 use sync_version::{Moment, Version};
 
-/// Records what is found at a name over the local version that is read first, so that a change of another caller in between
-/// is not recorded over.
+/// Records what is found at a name over the local version that is read first. If it is recorded, that is still the local version
+/// just before, so no change of another caller is recorded over.
 pub fn record_over<W: FolderCalls>(
     calls: &mut W,
     name: &SafeName,
@@ -29,13 +29,9 @@ pub fn record_over<W: FolderCalls>(
     requires { IsTrue (is_found found.now.content) }
     ensures home { W.home calls.new ≡ W.home calls.old }
     ensures grows { IsPrefix (W.view calls.old).seen (W.view calls.new).seen }
-    ensures recorded { IfOk result (λ scanned. is_accepted (scan_value scanned) ≡ true → (read : List Entry) ×
-        IsPrefix (W.view calls.old).seen read × IsPrefix read (W.view calls.new).seen
-        × (own_entries (W.view calls.old).pass (W.view calls.new).seen
-        ≡ own_entries (W.view calls.old).pass (W.view calls.old).seen
-        ++ own_entry (W.view calls.old) (ScanFound name.now (local_version (state_after (W.view calls.old).opening read) name.now) found.now moment) (scan_value scanned) ∷ [])) }
-    ensures not_recorded { IfOk result (λ scanned. is_accepted (scan_value scanned) ≡ false →
-        own_entries (W.view calls.old).pass (W.view calls.new).seen ≡ own_entries (W.view calls.old).pass (W.view calls.old).seen) }
+    ensures recorded { IfOk result (λ scanned. is_accepted (scan_value scanned) ≡ true →
+        RecordsOver (W.view calls.old) name.now found.now moment (scan_value scanned) (W.view calls.new)) }
+    ensures not_recorded { IfOk result (λ scanned. is_accepted (scan_value scanned) ≡ false → Adds (W.view calls.old) [] (W.view calls.new)) }
 {
     let read = calls.local(name)?;
     let version = version_of(&read.value);

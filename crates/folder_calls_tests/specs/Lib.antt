@@ -1,0 +1,3 @@
+pub mod Paging
+pub mod Pulling
+pub mod Recording
