@@ -56,7 +56,9 @@ pub(crate) fn directory_record(rt: &(impl AllocGlobal + Abort), text: &str) -> R
 /// The record of this directory alone.
 pub(crate) fn one_directory(rt: &(impl AllocGlobal + Abort), text: &str) -> Items<Record> {
     let mut records = Items::new(rt.alloc());
-    records.push(directory_record(rt, text)).expect(rt, "a list");
+    records
+        .push(directory_record(rt, text))
+        .expect(rt, "a list");
     records
 }
 
