@@ -1,5 +1,5 @@
 //! Reads and scans, each name in turn, several times.
-ghost use Rattle.std.specs.Prelude.{◌≡◌, IfOk, IsTrue};
+ghost use Rattle.std.specs.Prelude.{IfOk, IsTrue};
 ghost use Rattle.folder_core.specs.Steps.{is_found};
 
 use bep_messages::Items;
@@ -73,18 +73,14 @@ pub fn run<W: FolderCalls>(
     calls: &mut W,
     work: Work,
     names: &[SafeName],
-) -> Result<usize, AllocError>
-    ensures { W.home calls.new ≡ W.home calls.old }
-{
+) -> Result<usize, AllocError> {
     match work {
         Work::Reads => read(calls, names),
         Work::Scans => scan(alloc, calls, names, MEASURED),
     }
 }
 
-fn read<W: FolderCalls>(calls: &mut W, names: &[SafeName]) -> Result<usize, AllocError>
-    ensures { W.home calls.new ≡ W.home calls.old }
-{
+fn read<W: FolderCalls>(calls: &mut W, names: &[SafeName]) -> Result<usize, AllocError> {
     let mut found = 0usize;
     for _ in 0..ROUNDS {
         for name in names {
@@ -101,9 +97,7 @@ pub fn scan<W: FolderCalls>(
     calls: &mut W,
     names: &[SafeName],
     digests: Range<u8>,
-) -> Result<usize, AllocError>
-    ensures { W.home calls.new ≡ W.home calls.old }
-{
+) -> Result<usize, AllocError> {
     let Some(moment) = Moment::new(1_700_000_000) else {
         return Ok(0);
     };

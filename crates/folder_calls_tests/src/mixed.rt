@@ -1,7 +1,7 @@
 //! Four threads that scan, pull and read one folder, and the same changes once more, one after the other.
 ghost use Rattle.folder_shared.specs.Passes.{IsPassOf};
 
-use crate::shared::{given, shared};
+use crate::shared::{given, listed, shared};
 use crate::values::{announces, device, directory, moment, name, numbered, one_directory};
 use folder_calls::{At, BeginAnswer};
 use folder_core::{FolderCore, PlainFolder, ScanAnswer};
@@ -42,15 +42,16 @@ fn four_workers_make_one_history(rt: HostRuntime) {
     let ((a, b), (c, d)) = four_work(&rt, &folder, passes);
     let mut made = Vec::new(rt.alloc());
     made.push((1, Made::Announced)).expect(&rt, "a list");
-    let mut ended = Vec::new(rt.alloc());
-    for Worked { pass, made: own } in [a, b, c, d] {
-        ended.push(pass).expect(&rt, "a list");
+    for own in [a.made, b.made, c.made, d.made] {
         for one in own {
             made.push(one).expect(&rt, "a list");
         }
     }
     made.sort_unstable_by_key(|one| one.0);
-    let (core, given) = folder.close(&rt, ended);
+    let mut last = d.pass;
+    assert_eq!(rt; folder.verify(&rt, &mut last), Ok(true));
+    let passes = listed(&rt, &folder, (a.pass, b.pass), (c.pass, last));
+    let (core, given) = folder.close(&rt, passes);
     assert_eq!(rt; given, 4);
     assert_eq!(rt; core.counts().last, 100);
     assert!(rt; core.same_state(&replayed(&rt, &made)));

@@ -1,4 +1,8 @@
 //! A folder that callers share: passes that meet, tickets of another folder, and how many entries its history takes.
+ghost use Rattle.std.specs.Prelude.{◌≡◌, ◌<◌, ℕ, length};
+ghost use mathlib.Core.Option.{some};
+ghost use lib.ListN.{get_elem?};
+ghost use Rattle.folder_shared.specs.declared.shared.Pass.{Pass as PassOf};
 ghost use Rattle.folder_shared.specs.Passes.{IsPassOf};
 
 use crate::limits::{begins, enter_commit, finishes_when_full, takes_two};
@@ -38,9 +42,7 @@ fn is_known_after_a_meeting(rt: HostRuntime) {
     assert_eq!(rt; found.at, 1);
     let record = found.value.expect(&rt, "a record");
     assert_eq!(rt; record.sequence(), 1);
-    let mut passes = Vec::new(rt.alloc());
-    passes.push(one).expect(&rt, "a list");
-    let (core, given) = folder.close(&rt, passes);
+    let (core, given) = closed(&rt, folder, one);
     assert_eq!(rt; given, 2);
     let kept = core.local(&name).expect(&rt, "an answer");
     assert!(rt; kept == Some(record));
@@ -140,6 +142,19 @@ pub(crate) fn shared(
     }
 }
 
+/// The folder, closed with one pass.
+fn closed(
+    rt: &(impl AllocGlobal + Abort + Wait),
+    folder: SharedFolder<PlainFolder>,
+    pass: Pass<PlainFolder>,
+) -> (PlainFolder, u64)
+    requires { IsPassOf folder pass }
+{
+    let mut passes = Vec::new(rt.alloc());
+    passes.push(pass).expect(rt, "a list");
+    folder.close(rt, passes)
+}
+
 /// One more pass.
 pub(crate) fn given(
     rt: &(impl Abort + Wait),
@@ -151,4 +166,23 @@ pub(crate) fn given(
         Ok(pass) => pass,
         Err(full) => panic!(rt; "PassesFull {}", full.number()),
     }
+}
+
+/// The four passes in a list.
+pub(crate) fn listed<C: FolderCore + Drop>(
+    rt: &(impl AllocGlobal + Abort),
+    folder: &SharedFolder<C>,
+    one: (Pass<C>, Pass<C>),
+    other: (Pass<C>, Pass<C>),
+) -> Vec<Pass<C>>
+    requires { IsPassOf folder.now one.0 × IsPassOf folder.now one.1 × IsPassOf folder.now other.0 × IsPassOf folder.now other.1 }
+    ensures some { 0 < length result.items }
+    ensures passes { (i : ℕ) (p : PassOf C) → get_elem? result.items i ≡ some p → IsPassOf folder.now p }
+{
+    let mut passes = Vec::new(rt.alloc());
+    passes.push(one.0).expect(rt, "a list");
+    passes.push(one.1).expect(rt, "a list");
+    passes.push(other.0).expect(rt, "a list");
+    passes.push(other.1).expect(rt, "a list");
+    passes
 }

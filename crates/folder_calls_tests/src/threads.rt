@@ -1,7 +1,7 @@
 //! One folder that four threads share, each by a pass of its own.
 ghost use Rattle.folder_shared.specs.Passes.{IsPassOf};
 
-use crate::shared::{given, shared};
+use crate::shared::{given, listed, shared};
 use crate::values::{directory, moment, numbered};
 use folder_calls::At;
 use folder_core::{FolderCore, ScanAnswer};
@@ -28,19 +28,14 @@ fn four_scanners(rt: HostRuntime) {
     );
     let ((a, b), (c, d)) = four_scan(&rt, &folder, passes);
     let mut sequences = Vec::new(rt.alloc());
-    let mut ended = Vec::new(rt.alloc());
-    for Scanned {
-        pass,
-        sequences: own,
-    } in [a, b, c, d] {
-        sequences
-            .extend_from_slice(own.as_slice())
-            .expect(&rt, "a list");
-        ended.push(pass).expect(&rt, "a list");
+    for own in [&a.sequences, &b.sequences, &c.sequences, &d.sequences] {
+        let own = own.as_slice();
+        sequences.extend_from_slice(own).expect(&rt, "a list");
     }
     sequences.sort_unstable();
     assert!(rt; sequences.iter().copied().eq(1..401));
-    let (core, given) = folder.close(&rt, ended);
+    let passes = listed(&rt, &folder, (a.pass, b.pass), (c.pass, d.pass));
+    let (core, given) = folder.close(&rt, passes);
     assert_eq!(rt; (core.counts().last, given), (400, 4));
 }
 
