@@ -1,25 +1,16 @@
-//! Each call of a folder with a history once, with the answers that the rules give, over each keeper.
+//! Each call of a folder with a history once, with the answers that the rules give, over whoever keeps it.
 ghost use Rattle.std.specs.Prelude.{◌≢◌};
 
 use crate::limits::{begins, enters};
-use crate::shared::{given, shared};
 use crate::values::{announces, device, lone, moment, name, scans};
 use bep_messages::Items;
 use folder_calls::{At, FolderCalls};
 use folder_core::ScanAnswer;
-use folder_shared::Member;
 use std::process::Abort;
 
 #[test]
 fn every_call_of_a_folder_alone(rt: HostRuntime) {
     every_call(&rt, &mut lone(&rt, 20));
-}
-
-#[test]
-fn every_call_of_a_shared_folder(rt: HostRuntime) {
-    let folder = shared(&rt, 20);
-    let pass = given(&rt, &folder);
-    every_call(&rt, &mut Member::new(&folder, &rt, pass));
 }
 
 /// The folder is empty at first.
@@ -97,6 +88,7 @@ fn replaced_and_forgotten<W: FolderCalls>(rt: &(impl AllocGlobal + Abort), calls
     let needed = calls.need(None, 9).expect(rt, "an answer");
     assert_eq!(rt; needed.value.as_slice().len(), 0);
     announces(rt, calls, "x");
+    assert!(rt; peer != calls.me());
     let forgotten = calls.forget(peer).expect(rt, "an answer");
     assert!(rt; forgotten.value == Ok(()));
     let best = calls.best(&name(rt, "x")).expect(rt, "an answer");

@@ -18,8 +18,6 @@ mod every;
 #[cfg(test)]
 mod limits;
 #[cfg(test)]
-mod mixed;
-#[cfg(test)]
 mod paging;
 #[cfg(test)]
 mod plans;

@@ -1,18 +1,14 @@
-//! A folder that callers share: passes that meet, tickets of another folder, and how many entries its history takes.
+//! A folder that callers share: passes that meet, and the check of its history.
 ghost use Rattle.std.specs.Prelude.{◌≡◌, ◌<◌, ℕ, length};
 ghost use mathlib.Core.Option.{some};
 ghost use lib.ListN.{get_elem?};
 ghost use Rattle.folder_shared.specs.declared.shared.Pass.{Pass as PassOf};
 ghost use Rattle.folder_shared.specs.Passes.{IsPassOf};
 
-use crate::limits::{begins, enter_commit, finishes_when_full, takes_two};
-use crate::paging::{are, gives};
-use crate::pulls::{offers, pulls};
-use crate::values::{announces, device, directory, moment, name, scanned_as};
-use crate::{Pulled, begin_and_give_up, record_over};
-use folder_calls::{At, EnterRefusal, FolderCalls};
+use crate::values::{device, directory, moment, name};
+use folder_calls::At;
 use folder_core::{FolderCore, PlainFolder, ScanAnswer};
-use folder_shared::{Member, Pass, SharedFolder};
+use folder_shared::{Pass, SharedFolder};
 use std::process::Abort;
 use std::sync::Wait;
 
@@ -70,60 +66,6 @@ fn verify_replays(rt: HostRuntime) {
         Err(_) => assert_eq!(rt; folder.verify(&rt, &mut pass), Ok(true)),
     }
     assert_eq!(rt; pass.seen(), 1);
-}
-
-/// The workers that are proved for any keeper of a folder.
-#[test]
-fn workers_do_their_work(rt: HostRuntime) {
-    let folder = shared(&rt, 9);
-    let pass = given(&rt, &folder);
-    let mut member = Member::new(&folder, &rt, pass);
-    offers(&rt, &mut member);
-    assert_eq!(rt; pulls(&rt, &mut member, "x", b"abc"), Pulled::Done(1));
-    let name = name(&rt, "y");
-    match record_over(&mut member, &name, &directory(), moment(&rt)) {
-        Ok(answer) => assert_eq!(rt; scanned_as(answer), ("Recorded", 2)),
-        Err(_) => panic!(&rt; "OutOfMemory"),
-    }
-    let mut records = Vec::new(rt.alloc());
-    assert_eq!(rt; gives(&rt, &mut member, 0, &mut records), 2);
-    are(&rt, &records, &[("x", 1), ("y", 2)]);
-    assert_eq!(rt; begin_and_give_up(&mut member, &name), Ok(None));
-    assert_eq!(rt; member.into_pass().seen(), 5);
-}
-
-/// Two tickets of one folder are stray in another.
-#[test]
-fn tickets_of_another_folder_are_stray(rt: HostRuntime) {
-    let folder = shared(&rt, 9);
-    let other = shared(&rt, 9);
-    let (pass, foreign) = (given(&rt, &folder), given(&rt, &other));
-    let mut member = Member::new(&folder, &rt, pass);
-    let mut stranger = Member::new(&other, &rt, foreign);
-    announces(&rt, &mut member, "x");
-    announces(&rt, &mut member, "y");
-    let ticket = begins(&rt, &mut member, "x");
-    assert!(rt; !stranger.give_up(ticket).value);
-    let ticket = begins(&rt, &mut member, "y");
-    match enter_commit(&rt, &mut stranger, ticket) {
-        Err(EnterRefusal::Stray) => {}
-        answer => panic!(&rt; "{answer:?}"),
-    }
-    assert_eq!(rt; (member.counts().value.pulls, stranger.counts().at), (2, 0));
-}
-
-#[test]
-fn takes_as_many_entries_as_its_limit(rt: HostRuntime) {
-    let folder = shared(&rt, 2);
-    let pass = given(&rt, &folder);
-    takes_two(&rt, &mut Member::new(&folder, &rt, pass));
-}
-
-#[test]
-fn keeps_room_for_the_finish(rt: HostRuntime) {
-    let folder = shared(&rt, 4);
-    let pass = given(&rt, &folder);
-    finishes_when_full(&rt, &mut Member::new(&folder, &rt, pass));
 }
 
 /// The empty folder of device 9, whose history takes so many entries.
