@@ -18,6 +18,8 @@ mod every;
 #[cfg(test)]
 mod limits;
 #[cfg(test)]
+mod mixed;
+#[cfg(test)]
 mod paging;
 #[cfg(test)]
 mod plans;

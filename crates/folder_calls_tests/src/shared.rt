@@ -1,16 +1,19 @@
-//! A folder that callers share: passes that meet, and the check of its history.
+//! A folder that callers share: passes that meet, the check of its history, how many entries it takes, and tickets of another folder.
 ghost use Rattle.std.specs.Prelude.{◌≡◌, ◌<◌, ℕ, length};
 ghost use mathlib.Core.Option.{some};
 ghost use lib.ListN.{get_elem?};
 ghost use Rattle.folder_shared.specs.declared.shared.Pass.{Pass as PassOf};
 ghost use Rattle.folder_shared.specs.Passes.{IsPassOf};
 
-use crate::values::{device, directory, moment, name};
-use folder_calls::At;
+use crate::values::{device, directory, is_directory, moment, name, one_directory, scanned_as};
+use folder_calls::{
+    At, BeginAnswer, Commit, EnterRefusal, FolderCalls, HistoryFull, NotEntered, Ticket,
+};
 use folder_core::{FolderCore, PlainFolder, ScanAnswer};
-use folder_shared::{Pass, SharedFolder};
+use folder_shared::{Member, Pass, SharedFolder};
 use std::process::Abort;
 use std::sync::Wait;
+use sync_record::Assembled;
 
 #[test]
 fn is_known_after_a_meeting(rt: HostRuntime) {
@@ -66,6 +69,172 @@ fn verify_replays(rt: HostRuntime) {
         Err(_) => assert_eq!(rt; folder.verify(&rt, &mut pass), Ok(true)),
     }
     assert_eq!(rt; pass.seen(), 1);
+}
+
+/// A member makes its calls by its pass, and gives that back.
+#[test]
+fn members_call_by_their_pass(rt: HostRuntime) {
+    let folder = shared(&rt, 9);
+    let pass = given(&rt, &folder);
+    let mut member = Member::new(&folder, &rt, pass);
+    let name = name(&rt, "x");
+    match member.scan_found(&name, None, &directory(), moment(&rt)) {
+        Ok(scanned) => assert_eq!(rt; scanned_as(scanned.value), ("Recorded", 1)),
+        Err(_) => panic!(&rt; "OutOfMemory"),
+    }
+    assert_eq!(rt; member.counts().at, 1);
+    let mut pass = member.into_pass();
+    assert_eq!(rt; pass.seen(), 1);
+    assert_eq!(rt; scans(&rt, &folder, &mut pass, "y"), ("Recorded", 2));
+}
+
+#[test]
+fn takes_as_many_entries_as_its_limit(rt: HostRuntime) {
+    let folder = shared(&rt, 2);
+    let mut pass = given(&rt, &folder);
+    assert_eq!(rt; scans(&rt, &folder, &mut pass, "x"), ("Recorded", 1));
+    assert_eq!(rt; scans(&rt, &folder, &mut pass, "x"), ("Moved", 0));
+    assert_eq!(rt; scans(&rt, &folder, &mut pass, "y"), ("Recorded", 2));
+    assert_eq!(rt; scans(&rt, &folder, &mut pass, "z"), ("HistoryFull", 0));
+    assert_eq!(rt; scans(&rt, &folder, &mut pass, "x"), ("Moved", 0));
+    assert_eq!(rt; pass.seen(), 2);
+}
+
+/// A history of four entries has room for the finish of a pull after an index, a begin and an entrance.
+#[test]
+fn keeps_room_for_the_finish(rt: HostRuntime) {
+    let folder = shared(&rt, 4);
+    let mut pass = given(&rt, &folder);
+    announces(&rt, &folder, &mut pass, "x");
+    let ticket = begins(&rt, &folder, &mut pass, "x");
+    let commit = enters(&rt, &folder, &mut pass, ticket);
+    assert_eq!(rt; scans(&rt, &folder, &mut pass, "y"), ("HistoryFull", 0));
+    finishes(&rt, &folder, &mut pass, commit);
+    assert_eq!(rt; pass.seen(), 4);
+}
+
+/// Two tickets of one folder are stray in another.
+#[test]
+fn tickets_of_another_folder_are_stray(rt: HostRuntime) {
+    let folder = shared(&rt, 9);
+    let other = shared(&rt, 9);
+    let (mut pass, mut foreign) = (given(&rt, &folder), given(&rt, &other));
+    announces(&rt, &folder, &mut pass, "x");
+    announces(&rt, &folder, &mut pass, "y");
+    let ticket = begins(&rt, &folder, &mut pass, "x");
+    assert!(rt; !other.give_up(&rt, &mut foreign, ticket).value);
+    let ticket = begins(&rt, &folder, &mut pass, "y");
+    assert!(rt; is_stray(&rt, &other, &mut foreign, ticket));
+    assert_eq!(rt; folder.counts(&rt, &mut pass).value.pulls, 2);
+    assert_eq!(rt; other.counts(&rt, &mut foreign).at, 0);
+}
+
+/// What it comes to that a directory is found where nothing was, and the sequence if it is recorded.
+fn scans<C: FolderCore + Drop>(
+    rt: &(impl AllocGlobal + Abort + Wait),
+    folder: &SharedFolder<C>,
+    pass: &mut Pass<C>,
+    text: &str,
+) -> (&'static str, u64)
+    requires { IsPassOf folder.now pass.old }
+    ensures { IsPassOf folder.now pass.new }
+{
+    match folder.scan_found(rt, pass, &name(rt, text), None, &directory(), moment(rt)) {
+        Ok(scanned) => scanned_as(scanned.value),
+        Err(_) => panic!(rt; "OutOfMemory"),
+    }
+}
+
+/// The first device announces a directory too.
+pub(crate) fn announces<C: FolderCore + Drop>(
+    rt: &(impl AllocGlobal + Abort + Wait),
+    folder: &SharedFolder<C>,
+    pass: &mut Pass<C>,
+    text: &str,
+)
+    requires { IsPassOf folder.now pass.old }
+    ensures { IsPassOf folder.now pass.new }
+{
+    let peer = device(1);
+    assert!(rt; peer != folder.me());
+    match folder.index_more(rt, pass, peer, one_directory(rt, text)) {
+        Ok(At { at: _, value }) => match value {
+            Ok(()) => {}
+            Err(HistoryFull) => panic!(rt; "HistoryFull"),
+        },
+        Err(_) => panic!(rt; "OutOfMemory"),
+    }
+}
+
+fn begins<C: FolderCore + Drop>(
+    rt: &(impl AllocGlobal + Abort + Wait),
+    folder: &SharedFolder<C>,
+    pass: &mut Pass<C>,
+    text: &str,
+) -> Ticket
+    requires { IsPassOf folder.now pass.old }
+    ensures { IsPassOf folder.now pass.new }
+{
+    match folder.begin_pull(rt, pass, &name(rt, text)) {
+        Ok(At { at: _, value }) => match value {
+            Ok(BeginAnswer::Begun(ticket)) => ticket,
+            answer => panic!(rt; "{answer:?}"),
+        },
+        Err(_) => panic!(rt; "OutOfMemory"),
+    }
+}
+
+fn enters<C: FolderCore + Drop>(
+    rt: &(impl Abort + Wait),
+    folder: &SharedFolder<C>,
+    pass: &mut Pass<C>,
+    ticket: Ticket,
+) -> Commit
+    requires { IsPassOf folder.now pass.old }
+    ensures { IsPassOf folder.now pass.new }
+{
+    match folder.enter_commit(rt, pass, ticket) {
+        Ok(At { at: _, value }) => match value {
+            Ok(commit) => commit,
+            answer => panic!(rt; "{answer:?}"),
+        },
+        Err(NotEntered(ticket)) => panic!(rt; "OutOfMemory: {ticket:?}"),
+    }
+}
+
+/// Whether the ticket is stray where its commit is to be entered.
+fn is_stray<C: FolderCore + Drop>(
+    rt: &(impl Abort + Wait),
+    folder: &SharedFolder<C>,
+    pass: &mut Pass<C>,
+    ticket: Ticket,
+) -> bool
+    requires { IsPassOf folder.now pass.old }
+    ensures { IsPassOf folder.now pass.new }
+{
+    match folder.enter_commit(rt, pass, ticket) {
+        Ok(At { at: _, value }) => match value {
+            Err(EnterRefusal::Stray) => true,
+            answer => panic!(rt; "{answer:?}"),
+        },
+        Err(NotEntered(ticket)) => panic!(rt; "OutOfMemory: {ticket:?}"),
+    }
+}
+
+/// Finishes the commit of a directory, under sequence 1.
+fn finishes<C: FolderCore + Drop>(
+    rt: &(impl Abort + Wait),
+    folder: &SharedFolder<C>,
+    pass: &mut Pass<C>,
+    commit: Commit,
+)
+    requires { IsPassOf folder.now pass.old }
+    ensures { IsPassOf folder.now pass.new }
+{
+    let target = commit.target().copy().expect(rt, "a copy");
+    assert!(rt; target.is_deleted() || is_directory(&target));
+    let assembled = Assembled::plain(target);
+    assert_eq!(rt; folder.finish(rt, pass, commit, assembled).value, Ok(1));
 }
 
 /// The empty folder of device 9, whose history takes so many entries.
