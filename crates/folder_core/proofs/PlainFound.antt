@@ -194,17 +194,21 @@ module _ (es : List Entry) (rises : Rises es) where
       ∙ found_in_part p (map filed es)
 
   -- where all that pass are before the others
-  pub listed_split : (p : Name → Bool) → es ≡ filter (λ e. p e.record.name) es ++ filter (λ e. not (p e.record.name)) es →
-      listed_bests es ≡ listed_bests (filter (λ e. p e.record.name) es) ++ listed_bests (filter (λ e. not (p e.record.name)) es)
-  listed_split p split =
+  pub bests_split : (p : Name → Bool) → es ≡ filter (λ e. p e.record.name) es ++ filter (λ e. not (p e.record.name)) es
+      → bests (map filed es) ≡ filter (λ b. p b.0.name) (bests (map filed es)) ++ filter (λ b. not (p b.0.name)) (bests (map filed es))
+  bests_split p split =
       let xs : List Announcement = map filed es in
       let parts : xs ≡ filter (λ e. p e.0.name) xs ++ filter (λ e. not (p e.0.name)) xs =
       ap (map filed) split ∙ map-append filed (filter (λ e. p e.record.name) es) (filter (λ e. not (p e.record.name)) es)
       ∙ (λ i. sym (filter_map filed (λ e. p e.0.name) es) i ++ sym (filter_map filed (λ e. not (p e.0.name)) es) i) in
-      let chosen : bests xs ≡ filter (λ e. p e.0.name) (bests xs) ++ filter (λ e. not (p e.0.name)) (bests xs) =
       ap (filter (is_best xs)) parts ∙ filter-append (is_best xs) (filter (λ e. p e.0.name) xs) (filter (λ e. not (p e.0.name)) xs)
-      ∙ (λ i. filter_swap (is_best xs) (λ e. p e.0.name) xs i ++ filter_swap (is_best xs) (λ e. not (p e.0.name)) xs i) in
-      ap (map (with_devices xs)) chosen ∙ map-append (with_devices xs) (filter (λ e. p e.0.name) (bests xs)) (filter (λ e. not (p e.0.name)) (bests xs))
+      ∙ (λ i. filter_swap (is_best xs) (λ e. p e.0.name) xs i ++ filter_swap (is_best xs) (λ e. not (p e.0.name)) xs i)
+
+  listed_split : (p : Name → Bool) → es ≡ filter (λ e. p e.record.name) es ++ filter (λ e. not (p e.record.name)) es →
+      listed_bests es ≡ listed_bests (filter (λ e. p e.record.name) es) ++ listed_bests (filter (λ e. not (p e.record.name)) es)
+  listed_split p split =
+      let xs : List Announcement = map filed es in
+      ap (map (with_devices xs)) (bests_split p split) ∙ map-append (with_devices xs) (filter (λ e. p e.0.name) (bests xs)) (filter (λ e. not (p e.0.name)) (bests xs))
       ∙ (λ i. sym (listed_part p) i ++ sym (listed_part (λ m. not (p m))) i)
 
 -- the bests after a name are those of the entries after it

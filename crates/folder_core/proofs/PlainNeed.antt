@@ -10,7 +10,7 @@ use Rattle.std.proofs.lemmas.List.Elements.{filter-append}
 use Rattle.sync_record.specs.Devices.{Identity}
 use Rattle.sync_record.specs.Records.{Name}
 use Rattle.folder_core.specs.declared.announcement.Announcement.{Announcement as Entry}
-use Rattle.folder_core.specs.Announced.{Announcement, bests, is_best, key_cmp}
+use Rattle.folder_core.specs.Announced.{Announcement, bests, key_cmp}
 use Rattle.folder_core.specs.Codes.{Pulls}
 use Rattle.folder_core.specs.Plain.{Rises, better, filed, folder_of, is_undominated}
 use Rattle.folder_core.specs.PlainReads.{is_needed_over, needed_names, needed_of, record_from, record_of}
@@ -18,7 +18,7 @@ use Rattle.folder_core.specs.Reads.{is_after, need_page}
 use Rattle.folder_core.specs.States.{is_needed, need}
 use Rattle.folder_core.proofs.ListFilters.{filter_filter, filter_in, filter_map, filter_swap, none_left}
 use Rattle.folder_core.proofs.ListTests.{inside, none_some, of_filter, same_bytes}
-use Rattle.folder_core.proofs.PlainFound.{best_is, count, first_step, group_front, group_is, named_best, only_of, others_after, rising, IsFirstStep}
+use Rattle.folder_core.proofs.PlainFound.{best_is, bests_split, count, first_step, group_front, group_is, named_best, only_of, others_after, rising, IsFirstStep}
 use Rattle.folder_core.proofs.PlainGroup.{bests_in_part, is_named}
 use Rattle.folder_core.proofs.PlainOwn.{local_is}
 
@@ -67,13 +67,7 @@ module _ (d : Identity) (es : List Entry) (rises : Rises es) where
       needed_names d es ≡ needed_names d (filter (λ e. p e.record.name) es) ++ needed_names d (filter (λ e. not (p e.record.name)) es)
   needed_split p split =
       let xs : List Announcement = map filed es in
-      let parts : xs ≡ filter (λ e. p e.0.name) xs ++ filter (λ e. not (p e.0.name)) xs =
-      ap (map filed) split ∙ map-append filed (filter (λ e. p e.record.name) es) (filter (λ e. not (p e.record.name)) es)
-      ∙ (λ i. sym (filter_map filed (λ e. p e.0.name) es) i ++ sym (filter_map filed (λ e. not (p e.0.name)) es) i) in
-      let chosen : bests xs ≡ filter (λ e. p e.0.name) (bests xs) ++ filter (λ e. not (p e.0.name)) (bests xs) =
-      ap (filter (is_best xs)) parts ∙ filter-append (is_best xs) (filter (λ e. p e.0.name) xs) (filter (λ e. not (p e.0.name)) xs)
-      ∙ (λ i. filter_swap (is_best xs) (λ e. p e.0.name) xs i ++ filter_swap (is_best xs) (λ e. not (p e.0.name)) xs i) in
-      ap (λ bs. map name_of (filter (is_wanted d es) bs)) chosen
+      ap (λ bs. map name_of (filter (is_wanted d es) bs)) (bests_split es rises p split)
       ∙ ap (map name_of) (filter-append (is_wanted d es) (filter (λ e. p e.0.name) (bests xs)) (filter (λ e. not (p e.0.name)) (bests xs)))
       ∙ map-append name_of (filter (is_wanted d es) (filter (λ e. p e.0.name) (bests xs))) (filter (is_wanted d es) (filter (λ e. not (p e.0.name)) (bests xs)))
       ∙ (λ i. moved p i ++ moved (λ m. not (p m)) i)
