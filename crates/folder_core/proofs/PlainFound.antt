@@ -256,20 +256,34 @@ module _ (e : Entry) (es : List Entry) (rises : Rises (e ∷ es)) where
   pub count_positive : 1 ≤ count
   count_positive = subst (λ b. 1 ≤ cond b (1 + prefix_len (is_named e.record.name) es) 0) (sym (alike_bytes e.record.name e.record.name refl)) (omega arith)
 
--- what the first name of a list has, and the list after it
-pub record IsFirstStep (rest : List Entry) (e : Entry) (k : ℕ) : Type 0 where
-  pub listed : listed_bests rest ≡ option_to_list (group_best (take k rest)) ++ listed_bests (drop k rest)
-  pub rises : Rises (drop k rest)
-  pub shorter : length (drop k rest) < length rest
+-- what holds of a list that is cut after its first name holds of the two parts
+pub at_cut : (P : List Entry → List Entry → Type 0) (rest front back : List Entry) (e : Entry) (n : Name) (k : ℕ)
+    → n ≡ e.record.name → k ≡ prefix_len (is_named n) rest → front ≡ take k rest → back ≡ drop k rest
+    → P (take (prefix_len (is_named e.record.name) rest) rest) (drop (prefix_len (is_named e.record.name) rest) rest) → P front back
+at_cut P rest front back e n k named counted front_is back_is holds =
+    let all : prefix_len (is_named e.record.name) rest ≡ k = sym (counted ∙ ap (λ m. prefix_len (is_named m) rest) named) in
+    subst (λ f. P f back) (sym front_is) (subst (λ b. P (take k rest) b) (sym back_is) (subst (λ m. P (take m rest) (drop m rest)) all holds))
 
-pub first_step : (rest : List Entry) (e : Entry) → Rises rest → slice_get rest 0 ≡ Some e → IsFirstStep rest e (prefix_len (is_named e.record.name) rest)
-first_step [] e rises is = absurd (none_some e is)
-first_step (x ∷ xs) e rises is =
-    subst (λ (y : Entry). IsFirstStep (x ∷ xs) y (prefix_len (is_named y.record.name) (x ∷ xs))) (inside x e is) (record {
+-- what the first name of a list has, whose entries are the front, and the list after it
+pub record IsFirstStep (rest front back : List Entry) : Type 0 where
+  pub listed : listed_bests rest ≡ option_to_list (group_best front) ++ listed_bests back
+  pub rises : Rises back
+  pub shorter : length back < length rest
+
+pub first_at : (rest : List Entry) (e : Entry) → Rises rest → slice_get rest 0 ≡ Some e
+    → IsFirstStep rest (take (prefix_len (is_named e.record.name) rest) rest) (drop (prefix_len (is_named e.record.name) rest) rest)
+first_at [] e rises is = absurd (none_some e is)
+first_at (x ∷ xs) e rises is =
+    subst (λ (y : Entry). IsFirstStep (x ∷ xs) (take (prefix_len (is_named y.record.name) (x ∷ xs)) (x ∷ xs)) (drop (prefix_len (is_named y.record.name) (x ∷ xs)) (x ∷ xs))) (inside x e is) (record {
       listed = first_listed x xs rises;
       rises = drop_rises (count x xs rises) (x ∷ xs) rises;
       shorter = let p = count_positive x xs rises in omega (arith, length-drop (count x xs rises) (x ∷ xs));
     })
+
+pub first_step : (rest front back : List Entry) (e : Entry) (n : Name) (k : ℕ) → Rises rest → Some e ≡ slice_get rest 0
+    → n ≡ e.record.name → k ≡ prefix_len (is_named n) rest → front ≡ take k rest → back ≡ drop k rest → IsFirstStep rest front back
+first_step rest front back e n k rises is named counted front_is back_is =
+    at_cut (IsFirstStep rest) rest front back e n k named counted front_is back_is (first_at rest e rises (sym is))
 
 -- ---- a page
 

@@ -18,7 +18,7 @@ use Rattle.folder_core.specs.Reads.{is_after, need_page}
 use Rattle.folder_core.specs.States.{is_needed, need}
 use Rattle.folder_core.proofs.ListFilters.{filter_filter, filter_in, filter_map, filter_swap, none_left}
 use Rattle.folder_core.proofs.ListTests.{inside, none_some, of_filter, same_bytes}
-use Rattle.folder_core.proofs.PlainFound.{best_is, bests_split, count, first_step, group_front, group_is, named_best, only_of, others_after, rising, IsFirstStep}
+use Rattle.folder_core.proofs.PlainFound.{at_cut, best_is, bests_split, count, first_at, group_front, group_is, named_best, only_of, others_after, rising}
 use Rattle.folder_core.proofs.PlainGroup.{bests_in_part, is_named}
 use Rattle.folder_core.proofs.PlainOwn.{local_is}
 
@@ -122,16 +122,14 @@ first_needed d e es rises =
 step_at : (d : Identity) (rest : List Entry) (e : Entry) → Rises rest → slice_get rest 0 ≡ Some e → IsNeedStep d rest (take (prefix_len (is_named e.record.name) rest) rest) (drop (prefix_len (is_named e.record.name) rest) rest)
 step_at d [] e rises is = absurd (none_some e is)
 step_at d (x ∷ xs) e rises is =
-    let first : IsFirstStep (x ∷ xs) x (prefix_len (is_named x.record.name) (x ∷ xs)) = first_step (x ∷ xs) x rises refl in
+    let first = first_at (x ∷ xs) x rises refl in
     subst (λ (y : Entry). IsNeedStep d (x ∷ xs) (take (prefix_len (is_named y.record.name) (x ∷ xs)) (x ∷ xs)) (drop (prefix_len (is_named y.record.name) (x ∷ xs)) (x ∷ xs))) (inside x e is)
     (record { listed = first_needed d x xs rises; rises = first.rises; shorter = first.shorter })
 
 pub need_step : (d : Identity) (rest front back : List Entry) (e : Entry) (n : Name) (k : ℕ) → Rises rest → Some e ≡ slice_get rest 0 →
     n ≡ e.record.name → k ≡ prefix_len (is_named n) rest → front ≡ take k rest → back ≡ drop k rest → IsNeedStep d rest front back
 need_step d rest front back e n k rises is named counted front_is back_is =
-    let all : prefix_len (is_named e.record.name) rest ≡ k = sym (counted ∙ ap (λ m. prefix_len (is_named m) rest) named) in
-    subst (λ f. IsNeedStep d rest f back) (sym front_is) (subst (λ b. IsNeedStep d rest (take k rest) b) (sym back_is)
-    (subst (λ m. IsNeedStep d rest (take m rest) (drop m rest)) all (step_at d rest e rises (sym is))))
+    at_cut (IsNeedStep d rest) rest front back e n k named counted front_is back_is (step_at d rest e rises (sym is))
 
 -- ---- the folder's need
 
