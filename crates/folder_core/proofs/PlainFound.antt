@@ -15,6 +15,7 @@ use Rattle.std.specs.FinMap.Entries.{is_sorted-where_key}
 use Rattle.std.proofs.lemmas.Bool.{and_from, false_from_ne_true, true≢false}
 use Rattle.std.proofs.lemmas.List.{append_assoc, length-drop, map-append, take-append-drop, take_more}
 use Rattle.std.proofs.lemmas.List.Elements.{filter-append}
+use Rattle.std.proofs.lemmas.Option.{none-some}
 use Rattle.sync_record.specs.Contents.{same_content}
 use Rattle.sync_record.specs.Devices.{Identity, bytes_cmp}
 use Rattle.sync_record.specs.Records.{Name}
@@ -32,7 +33,7 @@ use Rattle.folder_core.specs.Codes.{Pulls}
 use Rattle.folder_core.specs.Reads.{best_found, bests_after, is_after, with_devices}
 use Rattle.folder_core.specs.Plain.{Rises, better, better_of, devices_with, filed, folder_of, group_best, is_undominated, listed_bests}
 use Rattle.folder_core.proofs.ListFilters.{filter_in, filter_map, filter_swap, any_map, none_found}
-use Rattle.folder_core.proofs.ListTests.{same_bytes, alike_bytes, below_in, in_map, inside, none_some, of_filter, parts, In}
+use Rattle.folder_core.proofs.ListTests.{same_bytes, alike_bytes, below_in, in_map, inside, of_filter, parts, In}
 use Rattle.folder_core.proofs.PlainBest.{undominated, higher, best_reduced, top}
 use Rattle.folder_core.proofs.PlainGroup.{after_prefix, best_in_group, bests_in_part, devices_in_group, drop_rises, found_in_part, group, is_before, is_named, named_down, partitioned, prefix_passes}
 
@@ -272,7 +273,7 @@ pub record IsFirstStep (rest front back : List Entry) : Type 0 where
 
 pub first_at : (rest : List Entry) (e : Entry) → Rises rest → slice_get rest 0 ≡ Some e
     → IsFirstStep rest (take (prefix_len (is_named e.record.name) rest) rest) (drop (prefix_len (is_named e.record.name) rest) rest)
-first_at [] e rises is = absurd (none_some e is)
+first_at [] e rises is = absurd (none-some e is)
 first_at (x ∷ xs) e rises is =
     subst (λ (y : Entry). IsFirstStep (x ∷ xs) (take (prefix_len (is_named y.record.name) (x ∷ xs)) (x ∷ xs)) (drop (prefix_len (is_named y.record.name) (x ∷ xs)) (x ∷ xs))) (inside x e is) (record {
       listed = first_listed x xs rises;

@@ -7,6 +7,7 @@ use Rattle.std.specs.List.{prefix_len, reduce}
 use Rattle.std.specs.Option.{option_to_list}
 use Rattle.std.proofs.lemmas.List.{map-append, take-append-drop}
 use Rattle.std.proofs.lemmas.List.Elements.{filter-append}
+use Rattle.std.proofs.lemmas.Option.{none-some}
 use Rattle.sync_record.specs.Devices.{Identity}
 use Rattle.sync_record.specs.Records.{Name}
 use Rattle.folder_core.specs.declared.announcement.Announcement.{Announcement as Entry}
@@ -17,7 +18,7 @@ use Rattle.folder_core.specs.PlainReads.{is_needed_over, needed_names, needed_of
 use Rattle.folder_core.specs.Reads.{is_after, need_page}
 use Rattle.folder_core.specs.States.{is_needed, need}
 use Rattle.folder_core.proofs.ListFilters.{filter_filter, filter_in, filter_map, filter_swap, none_left}
-use Rattle.folder_core.proofs.ListTests.{inside, none_some, of_filter, same_bytes}
+use Rattle.folder_core.proofs.ListTests.{inside, of_filter, same_bytes}
 use Rattle.folder_core.proofs.PlainFound.{at_cut, best_is, bests_split, count, first_at, group_front, group_is, named_best, only_of, others_after, rising}
 use Rattle.folder_core.proofs.PlainGroup.{bests_in_part, is_named}
 use Rattle.folder_core.proofs.PlainOwn.{local_is}
@@ -120,7 +121,7 @@ first_needed d e es rises =
     ∙ (λ i. (needed_group d (e ∷ es) rises e.record.name ∙ ap (λ g. option_to_list (option_map entry_name (needed_of d g))) (sym (group_front e es rises))) i ++ needed_names d (sym (others_after e es rises) i))
 
 step_at : (d : Identity) (rest : List Entry) (e : Entry) → Rises rest → slice_get rest 0 ≡ Some e → IsNeedStep d rest (take (prefix_len (is_named e.record.name) rest) rest) (drop (prefix_len (is_named e.record.name) rest) rest)
-step_at d [] e rises is = absurd (none_some e is)
+step_at d [] e rises is = absurd (none-some e is)
 step_at d (x ∷ xs) e rises is =
     let first = first_at (x ∷ xs) x rises refl in
     subst (λ (y : Entry). IsNeedStep d (x ∷ xs) (take (prefix_len (is_named y.record.name) (x ∷ xs)) (x ∷ xs)) (drop (prefix_len (is_named y.record.name) (x ∷ xs)) (x ∷ xs))) (inside x e is)

@@ -4,12 +4,12 @@ use Rattle.std.specs.Option.{option_to_list}
 use Rattle.std.proofs.lemmas.Bool.{true≢false}
 use Rattle.std.proofs.lemmas.List.{map-append}
 use Rattle.std.proofs.lemmas.List.Sums.{prefix_len-le-length}
+use Rattle.std.proofs.lemmas.Option.{none-some}
 use Rattle.folder_core.specs.declared.best.Best.{Best}
 use Rattle.folder_core.specs.Plain.{group_best, listed_bests}
 use Rattle.folder_core.specs.Reads.{Found}
 use Rattle.folder_core.proofs.PlainFound.{first_step, page_more, page_not_empty, page_same}
 use Rattle.folder_core.proofs.PlainGroup.{is_named}
-use Rattle.folder_core.proofs.ListTests.{none_some}
 use Rattle.folder_core.proofs.plain.group.bests_of.Goals as goal
 
 abbrev shown : Best → Found
@@ -33,7 +33,7 @@ returns-in_err-push-clause-none c = λ none.
     let some : group_best c.split_at.result.0.now ≡ Some (shown c.in-Some-2.best) = sym c.in_ok-best.ensures.found ∙ ap (option_map shown) c.in-Some-2.is in
     let lost : Some (shown c.in-Some-2.best) ≡ None =
     sym some ∙ page_not_empty (map shown c.loop-first.page.items) (listed_bests rest) (listed_bests c.split_at.result.1.now) (vec_len c.loop-first.page) c.args.limit (group_best c.split_at.result.0.now) step.listed short (c.loop-first.invariant.0 ∙ none) in
-    absurd (none_some _ (sym lost))
+    absurd (none-some _ (sym lost))
 
 pub loop-first-preserved-in_ok-push : goal.loop-first-preserved-in_ok-push
 loop-first-preserved-in_ok-push c =
