@@ -6,7 +6,6 @@ use Rattle.bep_frames.specs.declared.fault.FrameFault.{FrameFault}
 use Rattle.bep_frames.specs.declared.fault.FrameFault.TheVariants.{OutOfMemory}
 use Rattle.bep_frames.specs.declared.frame.Frame.{Frame}
 use Rattle.bep_frames.specs.Grammar.{Begins, Shows}
-use Rattle.bep_frames.specs.Memory.{FrameTakesMemory}
 use Rattle.bep_frames.specs.State.{State, Gives, GivesFault, fed, remaining, start, with_front}
 use Rattle.bep_frames.specs.Stream.{Stream, ended}
 use Rattle.bep_frames.proofs.Lemmas.{front_push, given_fault, given_frame, given_none}
@@ -196,16 +195,6 @@ module _ (moment : ℕ) (old : State) (t : Conversation) (before : List Event) w
   module _ (new : State) (u : Conversation) (after : List Event) where
     live_after : (h : IsReceived moment old new t u before after) → u.stage ≢ Over → (after_frames moment t h.frames).conversation.stage ≢ Over
     live_after h live = λ closed. live (ap (λ (w : Conversation). w.stage) h.conversation ∙ closed)
-
-    -- memory was out before the next
-    pub cut_next : (next : State) → IsReceived moment old new t u before after → u.stage ≢ Over → Gives new (Some (Err OutOfMemory)) next → IsCutShort moment old.hello old.rest t u
-    cut_next next h live gives = record {
-      frames = h.frames;
-      left = new.rest;
-      leaves = h.leaves;
-      needs = inr (inr (record { live = live_after h live; next = inl (subst (λ (d : Bool). FrameTakesMemory d new.rest) h.due gives.1) }));
-      conversation = ap over h.conversation;
-    }
 
     -- it was out at the event of a fault
     pub cut_fault : (next : State) (e : FrameFault) → IsReceived moment old new t u before after → u.stage ≢ Over → Gives new (Some (Err e)) next → e ≢ OutOfMemory → IsCutShort moment old.hello old.rest t (over u)

@@ -1,16 +1,15 @@
 //! A file that stays open from one call to the next.
-ghost use Rattle.std.specs.Prelude.{◌≡◌, ◌≤◌, ◌<◌, take, length, IfOk, IfErr};
-ghost use Rattle.std.specs.Io.KnownBytes.{Consumes, IsAtEnd};
+ghost use Rattle.std.specs.Prelude.{◌≤◌, length, IfOk, IfErr};
 ghost use Rattle.file_store.specs.Refusals.{IsPlain};
-ghost use Rattle.file_store.specs.declared.refusal.StoreRefusal.TheVariants.{StoreFault};
 
 use crate::disk::Disk;
 use crate::found::FileId;
 use crate::refuse::or_fault;
 use file_store::StoreRefusal;
 use std::fs::{OpenFile, OpenOptions};
-use std::io::{ErrorKind, Read, Seek, SeekFrom, Write};
+use std::io::{Read, Seek, SeekFrom, Write};
 use std::rt::Files;
+use sync_blocks::fill;
 
 /// An open file, its path, and which file it is.
 #[derive(Drop)]
@@ -58,7 +57,7 @@ impl<F: Read + Write + Seek + OpenFile + Drop> Opened<F> {
         ensures refusals { IfErr result IsPlain }
     {
         or_fault(self.file.seek(SeekFrom::Start(offset)))?;
-        fill(&mut self.file, buffer)
+        or_fault(fill(&mut self.file, buffer))
     }
 
     /// Writes all bytes from an offset on.
@@ -100,26 +99,4 @@ pub(crate) fn reopen<R: Files>(
     let file = or_fault(options.open(&disk.files, path))?;
     *slot = Some(Opened::new(copy, file, Some(id))?);
     Ok(())
-}
-
-/// Reads until the buffer is full or the reader is at its end. Returns how many bytes were read.
-fn fill<F: Read>(reader: &mut F, buffer: &mut [u8]) -> Result<usize, StoreRefusal>
-    ensures bound { IfOk result (λ k. k ≤ length buffer.new) }
-    ensures bytes { IfOk result (λ k. Consumes (F.remaining reader.old) (F.remaining reader.new) (take k buffer.new)) }
-    ensures end { IfOk result (λ k. k < length buffer.new → IsAtEnd (F.remaining reader.new)) }
-    ensures refusals { IfErr result (λ refusal. refusal ≡ StoreFault) }
-{
-    let mut filled = 0;
-    for _ in 0..u64::MAX {
-        if filled == buffer.len() {
-            return Ok(filled);
-        }
-        match reader.read(&mut buffer[filled..]) {
-            Ok(0) => return Ok(filled),
-            Ok(count) => filled += count,
-            Err(error) if error.kind() == ErrorKind::Interrupted => {}
-            Err(_) => return Err(StoreRefusal::StoreFault),
-        }
-    }
-    Err(StoreRefusal::StoreFault)
 }

@@ -8,7 +8,7 @@ use file_store::{Kind, Listed, StoreRefusal};
 use std::alloc::{AllocError, Global};
 use std::io::{ErrorKind, Read};
 use std::rt::Files;
-use sync_names::{NameFault, SafeName};
+use sync_names::{NameFault, SafeName, is_temporary};
 
 /// How many bytes of a directory's names are read at once.
 const NAMES: usize = 32_768;
@@ -164,14 +164,6 @@ fn add_safe<R: Files>(disk: &Disk<R>, name: String, found: &mut Walk) -> Result<
     let entry = Listed { name, kind };
     found.listed.push(entry).map_err(AllocError::from)?;
     Ok(())
-}
-
-/// Whether the last component of a name is that of a temporary file.
-fn is_temporary(last: &str) -> bool {
-    match last.strip_prefix(".syncthing.") {
-        Some(rest) => rest.ends_with(".tmp"),
-        None => false,
-    }
 }
 
 fn join(alloc: Global, folder: &str, last: &str) -> Result<String, AllocError> {

@@ -1,13 +1,13 @@
 -- Maps at the parents of a name that are not parents of one further up.
 use Rattle.std.proofs.Common.{◌≡◌, ℕ, ◌<◌, ◌≤◌, ◌⊎◌, Bool, true, false, cond, inl, inr, List, [], ◌∷◌, length, refl, sym, ap, subst, ◌∙◌, arith, Some, None, Option}
-use Rattle.std.specs.Prelude.{bytes_eq, ◌&&◌, ◌||◌, not, IsSome, is_some}
+use Rattle.std.specs.Prelude.{bytes_eq, ◌&&◌, ◌||◌, not, is_some}
 use Rattle.std.proofs.lemmas.Bool.{both_ways, cases_Bool, and_parts, and_from, or_cases, eqb-true, eq-eqb, false≢true}
 use Rattle.std.proofs.lemmas.Slice.Eq.{bytes_eq-Decides}
 use Rattle.file_store.specs.declared.node.Node.{Node}
 use Rattle.file_store.specs.declared.node.Node.TheVariants.{Directory}
 use Rattle.file_store.specs.Maps.{put_at}
 use Rattle.file_store.specs.Names.{Name, is_parent}
-use Rattle.file_store.specs.Trees.{AreGrounded, is_file, or_directory, with_parents}
+use Rattle.file_store.specs.Trees.{is_file}
 
 pub same_bytes : (a : List ℕ) → bytes_eq a a ≡ true
 same_bytes a = (bytes_eq-Decides a a).1 refl
@@ -95,9 +95,6 @@ step_bool true a b c x f is up low = sym (ap (λ m. cond (m && not c) x f) (up r
 step_bool false a b c x f is up low = ap (λ m. cond (a && not m) x f) is
 
 module _ {X : Type 0} (name : Name) (x : Option X) (f : Name → Option X) where
-  pub between_same : (q : Name) → between name name x f q ≡ f q
-  between_same q = elim (is_parent q name) as (λ b. cond (b && not b) x (f q) ≡ f q) [ true ↦ refl | false ↦ refl ]
-
   pub between_up : (p rest : Name) → IsLast p rest → Reaches rest name → (q : Name) → put_at p x (between name rest x f) q ≡ between name p x f q
   between_up p rest last reach q =
       step_bool (bytes_eq p q) (is_parent q name) (is_parent q rest) (is_parent q p) x (f q) (last q)
@@ -110,19 +107,6 @@ pub record IsMaking (f g : Name → Option Node) (name rest : Name) : Type 0 whe
   pub reach : Reaches rest name
   pub made : (q : Name) → g q ≡ between name rest (Some Directory) f q
   pub missing : (q : Name) → is_parent q name ≡ true → is_parent q rest ≡ false → f q ≡ None
-
-pub making_begins : (f : Name → Option Node) (name : Name) → IsMaking f f name name
-making_begins f name = record {
-  reach = inl refl;
-  made = λ q. sym (between_same name (Some Directory) f q);
-  missing = λ q a b. absurd (both_ways _ b a);
-}
-
-all_bool : (a b : Bool) (f : Option Node) → (a ≡ true → b ≡ false → f ≡ None) → (b ≡ true → IsSome f) → cond (a && not b) (Some Directory) f ≡ cond a (or_directory f) f
-all_bool true true None h k = absurd (false≢true (k refl))
-all_bool true true (Some x) h k = refl
-all_bool true false f h k = sym (ap or_directory (h refl refl))
-all_bool false b f h k = refl
 
 undo_bool : (a b : Bool) (f : Option Node) → (a ≡ true → b ≡ false → f ≡ None) → cond (a && not b) None (cond (a && not b) (Some Directory) f) ≡ f
 undo_bool true true f h = refl
@@ -155,19 +139,6 @@ module _ (f g : Name → Option Node) (name rest : Name) (k : IsMaking f g name 
       is_none None e = refl
       is_none (Some x) e = absurd (both_ways true e refl)
 
-  -- the next parent is there, so that all further up are
-  pub making_meets : (p : Name) → AreGrounded f f → IsLast p rest → is_some (g p) ≡ true → (q : Name) → g q ≡ with_parents name f q
-  making_meets p grounded last there q =
-      let some : IsSome (f p) = subst IsSome (as_before p (last_is_parent p rest last)) there in
-      k.made q ∙ all_bool (is_parent q name) (is_parent q rest) (f q) (k.missing q)
-      (λ e. elim (parent_of_last p rest last q e) [
-        | inl same ↦ subst (λ m. IsSome (f m)) same some
-        | inr up ↦ subst IsSome (sym (grounded q p up some)) refl
-      ])
-
-  pub making_ends : ((q : Name) → is_parent q rest ≡ false) → (q : Name) → g q ≡ with_parents name f q
-  making_ends top q = k.made q ∙ all_bool (is_parent q name) (is_parent q rest) (f q) (k.missing q) (λ e. absurd (both_ways _ (top q) e))
-
   pub making_undone : (h : Name → Option Node) → ((q : Name) → h q ≡ between name rest None g q) → (q : Name) → h q ≡ f q
   making_undone h is q =
       is q ∙ ap (λ o. cond (is_parent q name && not (is_parent q rest)) None o) (k.made q) ∙ undo_bool (is_parent q name) (is_parent q rest) (f q) (k.missing q)
@@ -177,31 +148,15 @@ pub record IsLooking (f : Name → Option Node) (name rest : Name) : Type 0 wher
   pub reach : Reaches rest name
   pub free : (q : Name) → is_parent q name ≡ true → is_parent q rest ≡ false → is_file (f q) ≡ false
 
-module _ (f : Name → Option Node) (name : Name) where
-  pub looking_begins : IsLooking f name name
-  looking_begins = record { reach = inl refl; free = λ q a b. absurd (both_ways _ b a) }
-
-  module _ (rest : Name) (k : IsLooking f name rest) where
-    pub looking_goes_on : (p : Name) → IsLast p rest → is_file (f p) ≡ false → IsLooking f name p
-    looking_goes_on p last no' = record {
-      reach = reach_up p rest last name k.reach;
-      free = λ q a b. elim (cases_Bool (is_parent q rest)) [
-        | inl e ↦ elim (parent_of_last p rest last q e) [ inl same ↦ ap (λ m. is_file (f m)) (sym same) ∙ no' | inr up ↦ absurd (both_ways _ b up) ]
-        | inr e ↦ k.free q a e
-      ];
-    }
-
-    pub looking_meets : (p : Name) → AreGrounded f f → IsLast p rest → f p ≡ Some Directory → (q : Name) → is_parent q name ≡ true → is_file (f q) ≡ false
-    looking_meets p grounded last is q a = elim (cases_Bool (is_parent q rest)) [
-      | inl e ↦ elim (parent_of_last p rest last q e) [
-        | inl same ↦ ap (λ m. is_file (f m)) (sym same) ∙ ap is_file is
-        | inr up ↦ ap is_file (grounded q p up (subst IsSome (sym is) refl))
-      ]
+module _ (f : Name → Option Node) (name rest : Name) (k : IsLooking f name rest) where
+  pub looking_goes_on : (p : Name) → IsLast p rest → is_file (f p) ≡ false → IsLooking f name p
+  looking_goes_on p last no' = record {
+    reach = reach_up p rest last name k.reach;
+    free = λ q a b. elim (cases_Bool (is_parent q rest)) [
+      | inl e ↦ elim (parent_of_last p rest last q e) [ inl same ↦ ap (λ m. is_file (f m)) (sym same) ∙ no' | inr up ↦ absurd (both_ways _ b up) ]
       | inr e ↦ k.free q a e
-    ]
+    ];
+  }
 
-    pub looking_ends : ((q : Name) → is_parent q rest ≡ false) → (q : Name) → is_parent q name ≡ true → is_file (f q) ≡ false
-    looking_ends top q a = k.free q a (top q)
-
-    pub looking_finds : (p : Name) → IsLast p rest → is_parent p name ≡ true
-    looking_finds p last = reached_parent rest name k.reach p (last_is_parent p rest last)
+  pub looking_finds : (p : Name) → IsLast p rest → is_parent p name ≡ true
+  looking_finds p last = reached_parent rest name k.reach p (last_is_parent p rest last)

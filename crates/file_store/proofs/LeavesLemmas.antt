@@ -2,7 +2,7 @@
 use Rattle.std.proofs.Common.{◌≡◌, ℕ, ◌+◌, ◌-◌, true, false, cond, inl, inr, List, [], ◌∷◌, ◌++◌, take, drop, length, Option, Some, None, Result, Ok, Err, refl, sym, ap, subst, ◌∙◌, arith}
 use Rattle.std.specs.Prelude.{⊤, bytes_eq, replicate, unwrap_or, IsSome}
 use Rattle.std.proofs.lemmas.Bool.{false≢true}
-use Rattle.std.proofs.lemmas.List.{append-nil}
+use Rattle.std.proofs.lemmas.List.{append-nil, append_assoc}
 use Rattle.std.proofs.Math.ListN.{drop_of_length-le}
 use Rattle.std.proofs.Math.Seq.{take-append_seam, drop-append_seam, take-length}
 use Rattle.std.proofs.lemmas.Grind.{common_steps}
@@ -16,12 +16,6 @@ use Rattle.file_store.specs.Maps.{put_at}
 use Rattle.file_store.specs.Names.{Name, is_parent}
 use Rattle.file_store.specs.Trees.{Tree, or_directory, with_parents}
 use Rattle.file_store.proofs.PutLemmas.{put_elsewhere, put_here}
-
-same_leaves : (old new : Tree) (q : Name) → new ≡ old → Leaves old new q
-same_leaves old new q e = record { names = ap (λ (w : Tree). w.names q) e; temps = ap (λ (w : Tree). w.temps q) e }
-
-then_leaves : (old done new : Tree) (q : Name) → Leaves old done q → new ≡ done → Leaves old new q
-then_leaves old done new q l e = record { names = ap (λ (w : Tree). w.names q) e ∙ l.names; temps = ap (λ (w : Tree). w.temps q) e ∙ l.temps }
 
 module _ (partly : Type 0) (refused : StoreRefusal → Type 0) (old done new : Tree) where
   -- what holds of an unchanged tree, of the tree when all is done and of one that is partly done holds after the call
@@ -129,10 +123,6 @@ written_read bytes (b ∷ bs) offset =
     ap (λ l. take (length (b ∷ bs)) (drop offset l)) (append_assoc front (b ∷ bs) back)
     ∙ ap (λ k. take (length (b ∷ bs)) (drop k (front ++ ((b ∷ bs) ++ back)))) (sym long)
     ∙ ap (take (length (b ∷ bs))) (drop-append_seam front ((b ∷ bs) ++ back)) ∙ take-append_seam (b ∷ bs) back
-  where
-    append_assoc : (xs ys zs : List ℕ) → (xs ++ ys) ++ zs ≡ xs ++ (ys ++ zs)
-    append_assoc [] ys zs = refl
-    append_assoc (x ∷ xs) ys zs = ap (λ l. x ∷ l) (append_assoc xs ys zs)
 
 pub written_appended : (bytes piece : List ℕ) → overwritten bytes (length bytes) piece ≡ bytes ++ piece
 written_appended bytes [] = sym (append-nil bytes)

@@ -10,7 +10,6 @@ use Rattle.std.specs.Ordering.{nat_cmp}
 use Rattle.std.specs.String.{string_cmp}
 use Rattle.std.specs.declared.cmp.Ordering.{Ordering}
 use Rattle.std.specs.declared.cmp.Ordering.TheVariants.{Less}
-use Rattle.std.proofs.lemmas.List.{append-nil}
 use Rattle.std.specs.declared.string.String.{String}
 use Rattle.std.proofs.lemmas.Bool.{both_ways, false≢true}
 use Rattle.std.proofs.lemmas.Map.Text.{is_eq-slice_cmp, text_cmp}
@@ -18,7 +17,7 @@ use Rattle.sync_names.specs.Refusal.{refusal}
 use Rattle.file_store.specs.declared.node.Kind.{Kind}
 use Rattle.file_store.specs.declared.node.Listed.{Listed}
 use Rattle.file_store.specs.declared.node.Node.{Node}
-use Rattle.file_store.specs.Listings.{IsListing, kind_of, kind_at, listed_at}
+use Rattle.file_store.specs.Listings.{kind_of, kind_at, listed_at}
 use Rattle.file_store.specs.Names.{Name, is_parent}
 use Rattle.file_store.proofs.BetweenLemmas.{same_bytes, same_name}
 
@@ -98,17 +97,6 @@ sorted_names (e ∷ es) h = (all_names (string_bytes e.0) es h.0, sorted_names e
 module _ {Y : Type 0} (names : Name → Option Node) where
   pub listing_begins : (es : List (String Y × Node)) → ((q : Name) → names q ≡ left_at es q) → IsStrictlySortedBy string_cmp (keys_of es) → IsListed names es []
   listing_begins es is order = record { each = λ q. ap (safe_kind q) (is q); order = sorted_names es order }
-
-  pub listing_ends : (es : List (String Y × Node)) (out : List Listed) → IsListed names es out → es ≡ [] → IsListing names out
-  listing_ends es out k e = record {
-    order = subst (IsStrictlySortedBy (slice_cmp nat_cmp)) (ap (λ l. map listed_name out ++ map entry_name l) e ∙ append-nil (map listed_name out)) k.order;
-    each = λ q. sym (k.each q ∙ ap (λ l. or_else (listed_at out q) (safe_kind q (left_at l q))) e ∙ nothing (is_none (refusal q)) (listed_at out q));
-  }
-    where
-      nothing : (b : Bool) (o : Option Kind) → or_else o (cond b None None) ≡ o
-      nothing true None = refl
-      nothing false None = refl
-      nothing b (Some x) = refl
 
   module _ (e : String Y × Node) (es rest : List (String Y × Node)) (is : rest ≡ e ∷ es) (out : List Listed) (k : IsListed names rest out) where
     go_safe : (safe b : Bool) (o : Option Kind) (n : Node) (r : Option Node) → (b ≡ true → safe ≡ true)

@@ -46,11 +46,6 @@ pub ran_out : (fails partly : Type 0) (refused : StoreRefusal → Type 0) (old d
     → Answers fails partly refused old done r new
 ran_out fails partly refused old done new r is may same = subst (λ a. Answers fails partly refused old done a new) (sym is) (inl (may, same))
 
--- one that does not fit what is there
-pub faulted : (fails partly : Type 0) (refused : StoreRefusal → Type 0) (old done new : Tree) (r : StoreRefusal) → r ≡ StoreFault → refused StoreFault → new ≡ old
-    → Answers fails partly refused old done (Err r) new
-faulted fails partly refused old done new r is may same = inl (subst refused (sym is) may, same)
-
 pub not_none : {X : Type 0} (o : Option X) → IsSome o → IsNone o → ⊥
 not_none None h k = false≢true h
 not_none (Some x) h k = both_ways true k h

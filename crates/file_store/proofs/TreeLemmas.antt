@@ -31,9 +31,6 @@ module _ (F : Name → Option Node) where
       go false o e = e
 
   module _ {X : Type 0} (f : Name → Option X) where
-    pub grounded_on_parents : (n : Name) → AreGrounded F f → AreGrounded (with_parents n F) f
-    grounded_on_parents n g p q h some = kept_parent n p (g p q h some)
-
     pub grounded_put : (n : Name) (x : Option X) → AreGrounded F f → ((p : Name) → is_parent p n ≡ true → F p ≡ Some Directory) → AreGrounded F (put_at n x f)
     grounded_put n x g at p q h some = elim (cases_Bool (bytes_eq n q)) [
       | inl e ↦ at p (subst (λ m. is_parent p m ≡ true) (sym (same_name n q e)) h)

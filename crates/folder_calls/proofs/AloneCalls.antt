@@ -1,8 +1,7 @@
 -- What a folder with one caller tells it, with and without a change of another caller just before.
-use Rattle.std.proofs.Common.{◌≡◌, ℕ, ◌+◌, ◌-◌, ◌≤◌, Bool, true, false, List, [], ◌∷◌, ◌++◌, length, refl, sym, ap, subst, ◌∙◌, arith, inl}
-use Rattle.std.specs.Prelude.{cond, drop, take, nat_le, Option, Some, None, IfOk, IfSome, MatchBool, Result, Ok, Err}
-use Rattle.std.proofs.lemmas.List.{length-append, take-append-drop, take-append-le, take_all}
-use Rattle.std.proofs.lemmas.Option.{none-some}
+use Rattle.std.proofs.Common.{◌≡◌, ℕ, ◌+◌, Bool, true, false, List, [], ◌∷◌, ◌++◌, length, refl, sym, ap, subst, ◌∙◌, arith, inl}
+use Rattle.std.specs.Prelude.{cond, drop, take, Some, IfOk, IfSome, Result, Ok, Err}
+use Rattle.std.proofs.lemmas.List.{length-append, take-append-drop, take_all}
 use mathlib.Core.List.{IsPrefix}
 use Rattle.folder_core.specs.declared.answer.Answer.{Answer}
 use Rattle.folder_core.specs.declared.change.Change.{Change}
@@ -10,16 +9,14 @@ use Rattle.folder_core.specs.Reads.{Query, Reply, Reads}
 use Rattle.folder_core.specs.States.{FolderState}
 use Rattle.folder_core.specs.Steps.{MayChange, is_accepted}
 use Rattle.folder_calls.specs.declared.alone.Alone.{Alone}
-use Rattle.folder_calls.specs.declared.alone.Plan.{Plan}
 use Rattle.folder_calls.specs.declared.at.At.{At}
 use Rattle.folder_calls.specs.declared.entry.Entry.{Entry}
 use Rattle.folder_calls.specs.declared.history.History.{History}
 use Rattle.folder_calls.specs.Calls.{told}
-use Rattle.folder_calls.specs.Alone.{ChangesAlone, GoesOn, IsAlone, IsAsked, IsLookedUp, IsMade, IsToldAt, ReadsAlone, change_of, seen_by}
+use Rattle.folder_calls.specs.Alone.{ChangesAlone, GoesOn, IsAlone, IsAsked, IsLookedUp, IsToldAt, ReadsAlone, change_of, seen_by}
 use Rattle.folder_calls.specs.Histories.{IsLegal, own_entries}
 use Rattle.folder_calls.specs.Journals.{Enters, IsHistory, answered, end, with_entry}
 use Rattle.folder_calls.specs.Shared.{Closes, IsLegalView, ReadsThere, Tells, View, own_entry, seeing}
-use Rattle.folder_calls.proofs.HistoryEntries.{own-skip}
 use Rattle.folder_calls.proofs.HistoryFronts.{view-front}
 use Rattle.folder_calls.proofs.HistoryMeetings.{may-close}
 use Rattle.folder_calls.proofs.HistoryShared.{declined-there, made-there, read-there}
@@ -83,66 +80,10 @@ module _ (a : Alone) (alone : IsAlone a) where
         (subst (λ xs. Tells (seen_by a) change (Some (record { at = length es + 1; value = answer })) (seeing (seen_by a) xs)) (sym (take_all (length es + 1) (es ++ own_entry (seen_by a) change answer ∷ []) (let l = length-append es (own_entry (seen_by a) change answer ∷ []) in omega arith)))
         (made-there (seen_by a) es seen-front alone.own all-legal change answer may entered.0 accepted)))
 
-  -- a read
-  pub read-alone : IsAlone (record a { seen = length es })
-  read-alone = record {
-    history = alone.history;
-    passes = alone.passes;
-    seen = omega arith;
-    own = ap (own_entries 1) (sym (take_all (length es) es (omega arith)));
-    may = alone.may;
-    whole = λ none. (refl, (alone.whole none).1);
-  }
-
   pub read-tells : (q : Query) (r : Reply q) → Reads (end a.history) q r → ReadsThere (seen_by a) q (Some (record { at = length es; value = r })) (view_of a.history (length es))
   read-tells q r reads = subst (ReadsThere (seen_by a) q (Some (record { at = length es; value = r }))) all-seen (read-there (seen_by a) es seen-front alone.own all-legal q r reads)
 
-  -- a change of the other caller, which was planned
-  module _ (h : History) (change : Change) where
-    abbrev Other : History → Type 0
-    Other h =
-        (h.passes ≡ 2) × (a.seen ≤ length h.entries) × (own_entries 1 h.entries ≡ own_entries 1 (take a.seen h.entries))
-        × (view_of h a.seen ≡ seen_by a)
-
-    other : (answer : Option Answer) → Enters a.history 2 change answer h → Other h
-    other None same = subst Other (sym same) (alone.passes, alone.seen, alone.own, refl)
-    other (Some answer) entered = on-entering Other a.history h 2 change answer entered
-        (λ _. (alone.passes, alone.seen, alone.own, refl))
-        (λ _.
-        let e : Entry = record { pass = 2; change = change; answer = answer } in
-        let front = take-append-le a.seen es (e ∷ []) alone.seen in (
-          alone.passes,
-          let l = length-append es (e ∷ []) in let s = alone.seen in omega arith,
-          own-skip 1 es e (λ (same : 2 ≡ 1). omega arith) ∙ alone.own ∙ ap (own_entries 1) (sym front),
-          ap (λ xs. record (seen_by a) { seen = xs }) front,
-        ))
-
-    pub other-alone : (p : Plan) → a.plan ≡ Some p → (answer : Option Answer) → Enters a.history 2 change answer h → IsHistory h → IsAlone (record a { history = h; plan = None })
-    other-alone p planned answer entered history = let o = other answer entered in record {
-      history = history;
-      passes = o.0;
-      seen = o.1;
-      own = o.2;
-      may = tt;
-      whole = λ none. absurd (none-some p (sym (alone.whole none).1 ∙ planned));
-    }
-
-    pub other-seen : (answer : Option Answer) → Enters a.history 2 change answer h → view_of h a.seen ≡ seen_by a
-    other-seen answer entered = (other answer entered).3
-
 -- ---- whole calls, from what was planned before them
-
--- the caller has not seen the change of the other
-pub unseen : (old new : Alone) → IsAlone old → GoesOn old.plan old new → seen_by new ≡ seen_by old
-unseen old new alone went = by old.plan went
-  where
-    by : (plan : Option Plan) → GoesOn plan old new → seen_by new ≡ seen_by old
-    by None same = ap seen_by same
-    by (Some p) went = on (nat_le p.call 1) went
-      where
-        on : (b : Bool) → MatchBool b (IsMade old p new) (new ≡ record old { plan = Some (record p { call = p.call - 1 }) }) → seen_by new ≡ seen_by old
-        on true made = ap seen_by made.2 ∙ other-seen old alone new.history (change_of p.change) made.0 made.1
-        on false later = ap seen_by later
 
 module _ (old point given : Alone) (view_is : point ≡ given) (alone : IsAlone point) (before : GoesOn old.plan old given) (unchanged : seen_by given ≡ seen_by old) where
   went : GoesOn old.plan old point
@@ -189,9 +130,6 @@ module _ (old point given : Alone) (view_is : point ≡ given) (alone : IsAlone 
     abbrev ended : Alone
     ended = record { history = h; seen = n; plan = point.plan; planned = point.planned }
 
-    pub end-alone : IsHistory h → IsAlone ended
-    end-alone history = subst (λ n. IsAlone (record point { history = h; seen = n })) (sym many) (own-alone point alone h change answer entered history)
-
     pub end-tells : MayChange old.history.opening.me change → Tells (seen_by old) change (Some (record { at = n; value = answer })) (seen_by ended)
     end-tells may = subst (λ n. Tells (seen_by old) change (Some (record { at = n; value = answer })) (view_of h n)) (sym many)
         (subst (λ v. Tells v change (Some (record { at = length h.entries; value = answer })) (view_of h (length h.entries))) same (own-tells point alone h change answer entered (may-here change may)))
@@ -210,13 +148,6 @@ module _ (old point given : Alone) (view_is : point ≡ given) (alone : IsAlone 
 
     reads : HasRead answer
     reads = subst (λ s. IfOk answer (λ x. Reads s q (f x))) state_is given_reads
-
-    pub look-alone : IsAlone looked
-    look-alone = by answer is
-      where
-        by : (answer : Result X E) → IsToldAt (length point.history.entries) answer result point.seen seen → IsAlone looked
-        by (Ok x) is = subst (λ n. IsAlone (record point { seen = n })) (sym is.1) (read-alone point alone)
-        by (Err e) is = subst (λ n. IsAlone (record point { seen = n })) (sym is.1) alone
 
     pub look-tells : ReadsThere (seen_by old) q (told f result) (seen_by looked)
     look-tells = subst (λ v. ReadsThere v q (told f result) (seen_by looked)) same (by answer reads is)
@@ -240,9 +171,6 @@ module _ (old point given : Alone) (view_is : point ≡ given) (alone : IsAlone 
 
     known-reads : Reads (end point.history) q r
     known-reads = subst (λ s. Reads s q r) state_is given_reads
-
-    pub count-alone : IsAlone counted
-    count-alone = subst (λ n. IsAlone (record point { seen = n })) (sym many) (read-alone point alone)
 
     pub count-tells : ReadsThere (seen_by old) q (Some (record { at = n; value = r })) (seen_by counted)
     count-tells = subst (λ n. ReadsThere (seen_by old) q (Some (record { at = n; value = r })) (view_of point.history n)) (sym many)

@@ -4,6 +4,7 @@ use Rattle.std.specs.Prelude.{cond, ◌==◌, nat_lt, nat_le, Some, is_some}
 use Rattle.std.specs.FinMap.{get, remove, len, len-remove, empty_of_len, get-empty}
 use Rattle.std.proofs.lemmas.Bool.{cond-true, cond-false, and_from, and_left, and_right, true≢false, lt-ltb, ltb-true, leb-true, leb-false, eq-eqb, ne_eqb, false_from_ne_true}
 use Rattle.std.proofs.lemmas.List.Elements.{filter-append}
+use Rattle.std.proofs.lemmas.Option.{none-some}
 use Rattle.sync_record.specs.Devices.{bytes_cmp}
 use Rattle.sync_record.specs.Records.{Name, FileRecord}
 use Rattle.sync_version.proofs.Lists.{zero_or_above}
@@ -23,7 +24,6 @@ use Rattle.folder_core.proofs.PullOpen.{pull_of-is}
 use Rattle.folder_core.proofs.ChangeCases.{step-cases}
 use Rattle.folder_core.proofs.ChangeFolders.{step-folder}
 use Rattle.folder_core.proofs.ChangeRest.{step-me}
-use Rattle.folder_core.proofs.ListTests.{none_some}
 
 -- ---- one more entry
 
@@ -108,7 +108,7 @@ pulls-fewer s n p g = by (zero_or_above (len s.pulls))
     less = len-remove bytes_total s.pulls n ∙ ap (λ o. cond (is_some o) (len s.pulls - 1) (len s.pulls)) g
 
     by : (len s.pulls ≡ 0) ⊎ (0 < len s.pulls) → len (remove s.pulls n) + 1 ≤ len s.pulls
-    by (inl none) = absurd (none_some p (sym (ap (λ m. get m n) (empty_of_len s.pulls none) ∙ get-empty bytes_cmp n) ∙ g))
+    by (inl none) = absurd (none-some p (sym (ap (λ m. get m n) (empty_of_len s.pulls none) ∙ get-empty bytes_cmp n) ∙ g))
     by (inr some) = let e = less in omega arith
 
 abbrev Frees : FolderState → Change → Answer × FolderState → Type 0

@@ -1,13 +1,9 @@
 -- Of a journal's pulls: a commit that was entered has its ticket's token, a pull that is given up at once leaves the folder as it
 -- was, and one that begins is entered with room for the entry that ends it.
-use Rattle.std.proofs.Common.{◌≡◌, ℕ, ◌+◌, ◌≤◌, Bool, true, false, List, [], ◌∷◌, ◌++◌, length, refl, sym, ap, subst, ◌∙◌, arith}
-use Rattle.std.specs.Prelude.{cond, if◌then◌else◌, ⊤, nat_le, Option, None, Some, is_some, option_map, unwrap_or, Result, Ok, Err, IfOk, IfSome}
-use Rattle.std.specs.Cmp.{Equal-is, tied_itself}
-use Rattle.std.specs.FinMap.{get, get-insert, get-remove, insert, len, remove, same_map}
-use Rattle.std.specs.Ordering.{eq_by_cmp, is_eq}
+use Rattle.std.proofs.Common.{◌≡◌, ℕ, ◌+◌, ◌≤◌, true, false, List, [], ◌∷◌, ◌++◌, length, refl, sym, ap, subst, ◌∙◌, arith}
+use Rattle.std.specs.Prelude.{if◌then◌else◌, ⊤, nat_le, Option, None, Some, is_some, option_map, unwrap_or, Result, Ok, Err, IfOk, IfSome}
+use Rattle.std.specs.FinMap.{get, len}
 use Rattle.std.proofs.lemmas.Bool.{true≢false}
-use Rattle.std.proofs.lemmas.Map.Lookups.{exact_bytes}
-use Rattle.sync_record.specs.Devices.{bytes_cmp}
 use Rattle.sync_record.specs.Records.{Name}
 use Rattle.folder_core.specs.Calls.{Changes, enter_answer}
 use Rattle.folder_core.specs.States.{FolderState, Pull}
@@ -22,7 +18,9 @@ use Rattle.folder_core.specs.declared.token.Token.{Token}
 use Rattle.folder_core.proofs.ChangeAnswers.{ticket-found}
 use Rattle.folder_core.proofs.ChangeCases.{step-cases}
 use Rattle.folder_core.proofs.ChangeKept.{step-keeps}
-use Rattle.folder_core.proofs.Orders.{bytes_total}
+use Rattle.folder_core.proofs.AnnouncedMaps.{insert_here, remove_inserted}
+use Rattle.folder_core.proofs.ListTests.{none_of}
+use Rattle.folder_core.proofs.Orders.{bytes_total, exact_names}
 use Rattle.folder_calls.specs.declared.entry.Entry.{Entry}
 use Rattle.folder_calls.specs.declared.history.History.{History}
 use Rattle.folder_calls.specs.Journals.{Enters, IsJournal, end, entered_items}
@@ -67,27 +65,11 @@ commit-copies s after t one two (Err refused) e f made = tt
 
 -- ---- begun and given up
 
-none-there : (o : Option Pull) → is_some o ≡ false → o ≡ None
-none-there None e = refl
-none-there (Some p) e = absurd (true≢false e)
-
-back-at : (s : FolderState) (n : Name) (p : Pull) → is_some (get s.pulls n) ≡ false → (q : Name) (b : Bool) → eq_by_cmp bytes_cmp q n ≡ b → cond b None (get (insert s.pulls n p) q) ≡ get s.pulls q
-back-at s n p free q true t = sym (ap (get s.pulls) (exact_bytes q n ((Equal-is (bytes_cmp q n)).0 t)) ∙ none-there (get s.pulls n) free)
-back-at s n p free q false t = get-insert bytes_total s.pulls n p q ∙ ap (λ b. cond b (Some p) (get s.pulls q)) t
-
-taken-back : (s : FolderState) (n : Name) (p : Pull) → is_some (get s.pulls n) ≡ false → remove (insert s.pulls n p) n ≡ s.pulls
-taken-back s n p free =
-    same_map bytes_total exact_bytes (remove (insert s.pulls n p) n) s.pulls (λ q.
-    get-remove bytes_total (insert s.pulls n p) n q ∙ back-at s n p free q (eq_by_cmp bytes_cmp q n) refl)
-
-put-there : (s : FolderState) (n : Name) (p : Pull) → get (insert s.pulls n p) n ≡ Some p
-put-there s n p = get-insert bytes_total s.pulls n p n ∙ ap (λ b. cond b (Some p) (get s.pulls n)) (ap is_eq (tied_itself bytes_total n))
-
 closed-again : (s : FolderState) (t : Token) → is_some (get s.pulls t.name) ≡ false → (step (with_pull s t Pulling) (GiveUp t)).1 ≡ s
 closed-again s t free =
     let p : Pull = record { number = t.number; base = option_map (λ r. r.version) t.base; target = t.target; stage = Pulling } in
-    ap (λ o. (close_pull (with_pull s t Pulling) t o).1) (ticket-found (with_pull s t Pulling) t Pulling p (record { open_pull = put-there s t.name p; at_stage = refl; number = refl; target = refl }))
-    ∙ ap (λ m. record s { pulls = m }) (taken-back s t.name p free)
+    ap (λ o. (close_pull (with_pull s t Pulling) t o).1) (ticket-found (with_pull s t Pulling) t Pulling p (record { open_pull = insert_here bytes_total exact_names s.pulls t.name p; at_stage = refl; number = refl; target = refl }))
+    ∙ ap (λ m. record s { pulls = m }) (remove_inserted bytes_total exact_names s.pulls t.name p (none_of (get s.pulls t.name) free))
 
 abbrev Undone : FolderState → FolderState → Answer → Type 0
 Undone s begun (Begun t) = (step begun (GiveUp t)).1 ≡ s

@@ -11,11 +11,12 @@ use Rattle.std.proofs.Math.Seq.{take-length}
 use Rattle.std.proofs.lemmas.List.{take_more}
 use Rattle.std.proofs.lemmas.List.Elements.{Contains-append_left, Contains-append_right, Contains-push}
 use Rattle.std.proofs.lemmas.Option.{get_or_from_slice_get, slice_get-get_or, slice_get_within}
+use Rattle.std.proofs.lemmas.Option.{none-some}
 use mathlib.Core.List.{IsPrefix}
 use Rattle.sync_record.specs.Records.{Name, FileRecord}
 use Rattle.folder_core.specs.Reads.{LocalSince, local_since}
 use Rattle.folder_core.specs.States.{FolderState, IsFolder, local}
-use Rattle.folder_core.proofs.ListTests.{In, inside, none_some}
+use Rattle.folder_core.proofs.ListTests.{In, inside}
 use Rattle.folder_core.proofs.ReadPages.{IsFull, Stops, page-has, page-of, page-rises}
 use Rattle.folder_calls.specs.declared.at.At.{At}
 use Rattle.folder_calls.specs.declared.entry.Entry.{Entry}
@@ -208,7 +209,7 @@ gives-nothing s from given = record {
 
 none-last : (rs : List FileRecord) → None ≡ slice_get rs (length rs - 1) → length rs ≡ 0
 none-last [] none = refl
-none-last (r ∷ rs) none = absurd (none_some _ (none ∙ slice_get-get_or (r ∷ rs) (length (r ∷ rs) - 1) r (omega arith)))
+none-last (r ∷ rs) none = absurd (none-some _ (none ∙ slice_get-get_or (r ∷ rs) (length (r ∷ rs) - 1) r (omega arith)))
 
 module _ (first before after : View) (from upto limit : ℕ) (start given : List FileRecord)
     (sees : Sees first before) (gives : Gives (now before) from upto start given) (bound : (upto ≤ (now before).last) ⊎ (upto ≡ from))

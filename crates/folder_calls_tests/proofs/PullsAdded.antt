@@ -44,9 +44,6 @@ adds-on a b c xs ys first second = record {
   same = second.same ∙ ap (λ (v : View). seeing v c.seen) first.same;
 }
 
-pub adds-nothing : (old new : View) → new ≡ old → Adds old [] new
-adds-nothing old new same = subst (Adds old []) (sym same) (record { longer = ([], append-nil old.seen); own = sym (append-nil (own_entries old.pass old.seen)); same = refl })
-
 module _ (old new : View) (c : Change) (t : At Answer) (tells : Tells old c (Some t) new) where
   one : (new.opening ≡ old.opening) × (new.limit ≡ old.limit) × (new.pass ≡ old.pass)
   one = (answered-longer old new c t.value tells.answered).1

@@ -5,7 +5,7 @@ use Rattle.folder_core.proofs.AnnouncedListings.{lists-entries}
 use Rattle.folder_core.proofs.AnnouncedMaps.{insert_split}
 use Rattle.folder_core.proofs.PullNeed.{Rising, bests-rising, names-rising}
 use Rattle.folder_core.proofs.Orders.{bytes_total, keys_total, exact_keys}
-use Rattle.folder_core.proofs.ListTests.{none_some, In, in_contains, contains_in, of_filter, found_in, in_get}
+use Rattle.folder_core.proofs.ListTests.{In, in_contains, contains_in, of_filter, found_in, in_get}
 use Rattle.folder_core.specs.Announced.{Announced, Announcement, Key, key, is_of, is_best, announce, without, best, bests}
 use Rattle.folder_core.specs.States.{FolderState}
 use Rattle.folder_core.specs.declared.change.Change.TheVariants.{IndexFull, IndexMore}
@@ -21,6 +21,7 @@ use Rattle.std.specs.Option.{option_map_or}
 use Rattle.std.specs.Ordering.{is_lt}
 use Rattle.std.specs.Prelude.{bytes_eq, cond, map, filter_map, flat_map, find, not, Option, Some, None, Contains}
 use Rattle.std.specs.declared.cmp.Ordering.TheVariants.{Less}
+use Rattle.std.proofs.lemmas.Option.{none-some}
 use Rattle.sync_record.specs.Devices.{Identity, bytes_cmp}
 use Rattle.sync_record.specs.Records.{Name, FileRecord}
 
@@ -137,7 +138,7 @@ announced_names d [] a k r e = inr e
 announced_names d (q ∷ records) a k r e = one_or_was a k r q d records (announced_names d records (insert a (key q.name d) q) k r e)
 
 kept_was : (b : Bool) (o : Option FileRecord) (r : FileRecord) → cond (not b) o None ≡ Some r → o ≡ Some r
-kept_was true o r e = absurd (none_some r e)
+kept_was true o r e = absurd (none-some r e)
 kept_was false o r e = e
 
 pub more-names : (s : FolderState) (d : Identity) (records : List FileRecord) (k : Key) (r : FileRecord) → get (step s (IndexMore d records)).1.announced k ≡ Some r → IsOneOrWas s.announced records k r

@@ -4,7 +4,7 @@ use Rattle.folder_core.proofs.PullNeed.{Rising, bests-rising, rising-filter}
 use Rattle.folder_core.proofs.Orders.{bytes_total}
 use Rattle.folder_core.proofs.ListFilters.{filter_filter, none_left}
 use Rattle.folder_core.proofs.ReadAnswers.{IsAfter, after_it, in_take, of_after, sorted_take, take_or_after}
-use Rattle.folder_core.proofs.ListTests.{inside, none_some, In, in_contains, contains_in, in_filter, in_map, of_filter, of_map}
+use Rattle.folder_core.proofs.ListTests.{inside, In, in_contains, contains_in, in_filter, in_map, of_filter, of_map}
 use Rattle.folder_core.specs.Announced.{Announcement, IsNamed, best, bests}
 use Rattle.folder_core.specs.Reads.{ArePages, Found, best_found, bests_after, bests_page, is_after, last_page, next_page, with_devices}
 use Rattle.folder_core.specs.States.{FolderState}
@@ -19,6 +19,7 @@ use Rattle.std.specs.Ordering.{is_gt, ordering_reverse}
 use Rattle.std.specs.Prelude.{◌&&◌, cond, filter, flat_map, map, slice_get, Option, Some, None, option_map, Contains}
 use Rattle.std.specs.declared.cmp.Ordering.{Ordering}
 use Rattle.std.specs.declared.cmp.Ordering.TheVariants.{Less}
+use Rattle.std.proofs.lemmas.Option.{none-some}
 use Rattle.sync_record.specs.Devices.{bytes_cmp}
 use Rattle.sync_record.specs.Records.{Name, FileRecord}
 
@@ -188,7 +189,7 @@ module _ (s : FolderState) (after : Option Name) (n : Name) (is_after_it : IsAft
   Found_at b = (e : Announcement) × In e (filter (λ f. is_after after f.0.name) (bests es)) × (e.0.name ≡ n) × (with_devices es e ≡ b)
 
   found_at : (b : Found) (o : Option Announcement) → best es n ≡ o → Some b ≡ option_map (with_devices es) o → Found_at b
-  found_at b None is e = absurd (none_some b (sym e))
+  found_at b None is e = absurd (none-some b (sym e))
   found_at b (Some f) is e =
       let t = (bests-listed s.announced n f).1 is in
       (f, in_filter (λ g. is_after after g.0.name) (bests es) f (contains_in (bests es) f t.0) (subst (λ m. is_after after m ≡ true) (sym t.1) (of_after after n is_after_it)), t.1, sym (inside b (with_devices es f) e))
@@ -245,7 +246,7 @@ bests_after-lines s line =
 
 -- a page and what is after its last element
 split_last : {A : Type 0} (xs : List A) (b : A) → slice_get xs (length xs - 1) ≡ Some b → (front : List A) × (xs ≡ front ++ b ∷ [])
-split_last [] b is = absurd (none_some b is)
+split_last [] b is = absurd (none-some b is)
 split_last (x ∷ []) b is = ([], ap (λ y. y ∷ []) (inside x b is))
 split_last (x ∷ y ∷ xs) b is =
     let less : length (x ∷ y ∷ xs) - 1 ≡ suc (length (y ∷ xs) - 1) = omega arith in

@@ -1,6 +1,6 @@
 -- The best of a name, in the words of the rules: a candidate that is preferred to every other.
 use Rattle.folder_core.proofs.AnnouncedListings.{lists-entries}
-use Rattle.folder_core.proofs.ListTests.{inside, none_some, same_bytes as same, alike_bytes as alike, by_or, In, all_in, in_all, any_in, in_any, in_filter, of_filter, found_in, only_found, some_free, Lists}
+use Rattle.folder_core.proofs.ListTests.{inside, same_bytes as same, alike_bytes as alike, by_or, In, all_in, in_all, any_in, in_any, in_filter, of_filter, found_in, only_found, some_free, Lists}
 use Rattle.folder_core.specs.Announced.{Announced, Announcement, key, is_of, is_by, is_candidate, is_best, best, bests, IsCandidate, IsBest}
 use Rattle.std.proofs.Common.{◌≡◌, Bool, true, false, List, [], ◌∷◌, refl, sym, ap, subst, ◌∙◌, ◌↔◌}
 use Rattle.std.proofs.lemmas.Bool.{true≢false, and_parts, and_from, not-true, false_from_ne_true}
@@ -13,6 +13,7 @@ use Rattle.std.specs.Ordering.{is_gt, ordering_reverse}
 use Rattle.std.specs.Prelude.{bytes_eq, ◌&&◌, ◌||◌, not, IsTrue, Option, Some, None, filter}
 use Rattle.std.specs.declared.cmp.Ordering.{Ordering}
 use Rattle.std.specs.declared.cmp.Ordering.TheVariants.{Less, Equal, Greater}
+use Rattle.std.proofs.lemmas.Option.{none-some}
 use Rattle.sync_record.specs.Devices.{Identity}
 use Rattle.sync_record.specs.Preference.{preference}
 use Rattle.sync_record.specs.Records.{Name, FileRecord}
@@ -237,7 +238,7 @@ best-some a = valid_has_best a (entries a) (lists-entries a)
 
 pub best-none : (a : Announced) (n : Name) → (best (entries a) n ≡ None) ↔ ((d : Identity) (r : FileRecord) → get a (key n d) ≡ Some r → is_valid r ≡ false)
 best-none a n = (
-  λ none d r g. false_from_ne_true (is_valid r) (λ v. let e = best-some a n d r g v in none_some e.0 (sym none ∙ e.1)),
+  λ none d r g. false_from_ne_true (is_valid r) (λ v. let e = best-some a n d r g v in none-some e.0 (sym none ∙ e.1)),
   λ each. no_best (best (entries a) n) (λ e is.
       let c = (best-found a n e is).1.candidate in
       true≢false (sym c.valid ∙ each e.0.device e.1 c.announced)),

@@ -1,9 +1,10 @@
 -- Each change of a folder leaves a folder.
-use Rattle.std.proofs.Common.{◌≡◌, ◌≢◌, ℕ, ◌+◌, ◌-◌, ◌^◌, ◌≤◌, Bool, true, false, List, [], ◌∷◌, refl, sym, ap, ◌∙◌, arith, ◌⊎◌, inl, inr}
+use Rattle.std.proofs.Common.{◌≡◌, ◌≢◌, ◌+◌, ◌-◌, ◌^◌, ◌≤◌, Bool, true, false, List, [], ◌∷◌, refl, sym, ap, ◌∙◌, arith, ◌⊎◌, inl, inr}
 use Rattle.std.specs.Prelude.{bytes_eq, cond, not, nat_lt, Option, Some, None, option_map, IsTrue}
 use Rattle.std.specs.Option.{option_map_or}
 use Rattle.std.specs.FinMap.{get, insert, entries, empty, len-entries, len-empty, get-empty}
 use Rattle.std.proofs.lemmas.Bool.{leb-false, not-false, and_parts, true≢false}
+use Rattle.std.proofs.lemmas.Option.{none-some}
 use Rattle.sync_version.proofs.Lemmas.{same_version_tells}
 use Rattle.sync_version.specs.Versions.{Vector}
 use Rattle.sync_record.specs.Devices.{Identity, bytes_cmp}
@@ -18,7 +19,6 @@ use Rattle.folder_core.specs.declared.finding.FoundContent.{FoundContent}
 use Rattle.folder_core.specs.declared.finding.FoundContent.TheVariants.{Directory as FoundDirectory, File as FoundFile}
 use Rattle.folder_core.specs.Steps.{step, is_pull_committing, with_local, without_pull, is_found, found_record, committed_record, next_version, next_ticket, MayChange}
 use Rattle.folder_core.proofs.Orders.{keys_total, exact_keys, bytes_total, exact_names}
-use Rattle.folder_core.proofs.ListTests.{none_some}
 use Rattle.folder_core.proofs.AnnouncedMaps.{insert_split, insert_other, remove_split}
 use Rattle.folder_core.proofs.PullCommits.{commits-put, commits-remove, commits-finish, none_counted}
 use Rattle.folder_core.proofs.PullOpen.{pull_of-is}
@@ -187,7 +187,7 @@ step-folder s c old = step-cases s (λ x d. MayChange s.me x → IsFolder d.1) (
 }) c
 
 none_there : {A : Type 0} (x : A) (P : Type 0) → None ≡ Some x → P
-none_there x P e = absurd (none_some x e)
+none_there x P e = absurd (none-some x e)
 
 -- a folder in which nothing is
 pub empty-folder : (me : Identity) → IsFolder (record { me = me; announced = empty; last = 0; pulls = empty })

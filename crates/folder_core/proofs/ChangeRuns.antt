@@ -1,8 +1,7 @@
 -- Changes that are made one after the other.
-use Rattle.std.proofs.Common.{◌≡◌, ℕ, ◌<◌, List, [], ◌∷◌, ◌++◌, length, refl, sym, ap, subst, ◌∙◌, arith, append_assoc, append-nil}
+use Rattle.std.proofs.Common.{◌≡◌, ℕ, List, [], ◌∷◌, ◌++◌, refl, sym, ap, ◌∙◌, arith, append_assoc}
 use Rattle.std.specs.List.{All}
-use Rattle.std.specs.Prelude.{IfErr, Result, Ok, Err}
-use Rattle.folder_core.specs.Runs.{IsPartway, run}
+use Rattle.folder_core.specs.Runs.{run}
 use Rattle.folder_core.specs.States.{FolderState}
 use Rattle.folder_core.specs.declared.answer.Answer.{Answer}
 use Rattle.folder_core.specs.declared.change.Change.{Change}
@@ -21,9 +20,6 @@ run-push : (s : FolderState) (cs : List Change) (c : Change) → run s (cs ++ c 
 run-push s [] c = refl
 run-push s (d ∷ cs) c = ap (λ (r : List Answer × FolderState). ((step s d).0 ∷ r.0, r.1)) (run-push (step s d).1 cs c)
 
-pub ran-none : (s : FolderState) (all : List Change) → All (MayChange s.me) all → Ran s s all all []
-ran-none s all may = record { made = []; divided = refl; answered = refl; may = may; me = refl }
-
 All-tail : (P : Change → Type 0) (x : Change) (xs : List Change) → All P (x ∷ xs) → All P xs
 All-tail P x xs all k d short = all (ℕ.suc k) d (omega arith)
 
@@ -39,16 +35,3 @@ ran-more start now next all rest answers c a r is = record {
   may = All-tail (MayChange start.me) c rest r.may;
   me = ap (λ (d : Answer × FolderState). d.1.me) (sym is) ∙ step-me now c ∙ r.me;
 }
-
-pub ran-may : (start now : FolderState) (all rest : List Change) (answers : List Answer) (c : Change) → Ran start now all (c ∷ rest) answers → MayChange now.me c
-ran-may start now all rest answers c r = subst (λ d. MayChange d c) (sym r.me) (r.may 0 c (omega arith))
-
-pub ran-all : (start now : FolderState) (all rest : List Change) (answers : List Answer) → Ran start now all rest answers → rest ≡ [] → (answers, now) ≡ run start all
-ran-all start now all rest answers r none = sym r.answered ∙ ap (run start) (sym (r.divided ∙ ap (λ cs. r.made ++ cs) none ∙ append-nil r.made))
-
-pub ran-partway : (start now : FolderState) (all rest : List Change) (answers : List Answer) → Ran start now all rest answers → IsPartway start all answers now
-ran-partway start now all rest answers r = record { made = r.made; rest = rest; divided = r.divided; ran = sym r.answered }
-
-pub if_err : {A E P : Type 0} → (r : Result A E) → P → IfErr r (λ _. P)
-if_err (Ok x) p = tt
-if_err (Err e) p = p

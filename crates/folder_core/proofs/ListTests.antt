@@ -1,13 +1,14 @@
 -- Tests of lists of entries, and what they say of the map.
 use Rattle.std.proofs.Common.{◌≡◌, ℕ, zero, suc, ◌<◌, length, get_or, arith, Bool, true, false, List, [], ◌∷◌, refl, sym, ap, subst, ◌∙◌, inl, inr}
 use Rattle.std.proofs.lemmas.Bool.{true≢false, and_parts, and_from, or_cases, false_from_ne_true}
+use Rattle.std.proofs.lemmas.Option.{none-some}
 use Rattle.std.proofs.lemmas.Slice.Eq.{bytes_eq-Decides}
 use Rattle.std.specs.Cmp.{IsTotalOrder, Equal-is, tied_itself}
 use Rattle.std.specs.FinMap.{FinMap, IsAntisymmetric, entries, entries_sorted, get, get-entries, find, is_sorted}
 use Rattle.std.specs.FinMap.Entries.{below_all}
 use Rattle.std.specs.List.{list_all, list_any, find as first_where}
 use Rattle.std.specs.Ordering.{eq_by_cmp, is_lt, is_eq, ordering_reverse}
-use Rattle.std.specs.Prelude.{bytes_eq, ◌&&◌, ◌||◌, ◌⊎◌, cond, T, Some, None, Result, Ok, Err, IfOk, unwrap_or, map, filter, Contains}
+use Rattle.std.specs.Prelude.{bytes_eq, ◌&&◌, ◌||◌, ◌⊎◌, cond, T, Option, Some, None, is_some, Result, Ok, Err, IfOk, unwrap_or, map, filter, Contains}
 use Rattle.std.specs.declared.cmp.Ordering.{Ordering}
 use Rattle.std.specs.declared.cmp.Ordering.TheVariants.{Less, Equal, Greater}
 use Rattle.folder_core.specs.Announced.{Announced, Announcement, Key}
@@ -26,8 +27,9 @@ pub record Lists (a : Announced) (es : List Announcement) : Type 0 where
 pub inside : {A : Type 0} (x y : A) → Some x ≡ Some y → x ≡ y
 inside x y e = ap (λ o. unwrap_or o x) e
 
-pub none_some : {A : Type 0} (x : A) → None ≡ Some x → ⊥
-none_some x e = cc
+pub none_of : {A : Type 0} (o : Option A) → is_some o ≡ false → o ≡ None
+none_of None e = refl
+none_of (Some x) e = absurd (true≢false e)
 
 pub same_bytes : (xs ys : List ℕ) → bytes_eq xs ys ≡ true → xs ≡ ys
 same_bytes xs ys e = (bytes_eq-Decides xs ys).0 e
@@ -90,7 +92,7 @@ module _ {A : Type 0} (p : A → Bool) where
       ] refl i
 
   pub found_in : (xs : List A) (x : A) → first_where p xs ≡ Some x → In x xs × (p x ≡ true)
-  found_in [] x e = absurd (none_some x e)
+  found_in [] x e = absurd (none-some x e)
   found_in (y ∷ ys) x e =
       elim (p y) as (λ b. p y ≡ b → cond b (Some y) (first_where p ys) ≡ Some x → ((x ≡ y) ⊎ In x ys) × (p x ≡ true)) [
         | true ↦ λ t s. (inl (sym (inside y x s)), ap p (sym (inside y x s)) ∙ t)
@@ -156,7 +158,7 @@ not_equal r e x y = ap (λ o. cond (is_eq o) x y) e
 
 module _ {K X : Type 0} {R : K → K → Ordering} (o : IsTotalOrder R) (same : IsAntisymmetric R) where
   pub find_in : (es : List (K × X)) (k : K) (v : X) → find R k es ≡ Some v → In (k, v) es
-  find_in [] k v e = absurd (none_some v e)
+  find_in [] k v e = absurd (none-some v e)
   find_in (e ∷ es) k v f =
       elim (eq_by_cmp R k e.0) as (λ b. eq_by_cmp R k e.0 ≡ b → cond b (Some e.1) (find R k es) ≡ Some v → ((k, v) ≡ e) ⊎ In (k, v) es) [
         | true ↦ λ t s. inl (λ i. (tied same k e.0 t i, sym (inside e.1 v s) i))

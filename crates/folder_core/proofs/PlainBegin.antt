@@ -8,7 +8,7 @@ use Rattle.std.specs.FinMap.{entries, entries-from_sorted, find, from_sorted, ge
 use Rattle.std.specs.FinMap.Entries.{is_sorted-put}
 use Rattle.std.specs.List.{insert, list_any}
 use Rattle.std.specs.Result.{result_err}
-use Rattle.std.proofs.lemmas.Bool.{true≢false}
+use Rattle.std.proofs.lemmas.Option.{none-some}
 use Rattle.sync_record.specs.Devices.{Identity, bytes_cmp}
 use Rattle.sync_record.specs.Records.{Name, FileRecord}
 use Rattle.folder_core.specs.declared.announcement.Announcement.{Announcement as Entry}
@@ -28,7 +28,7 @@ use Rattle.folder_core.specs.declared.change.Change.TheVariants.{BeginPull}
 use Rattle.folder_core.specs.declared.token.Token.{Token}
 use Rattle.folder_core.specs.Steps.{begin_pull, first_answer, is_accepted, least_free, next_ticket, step, with_pull}
 use Rattle.folder_core.proofs.ChangeFolders.{step-folder}
-use Rattle.folder_core.proofs.ListTests.{none_some}
+use Rattle.folder_core.proofs.ListTests.{none_of}
 use Rattle.folder_core.proofs.Orders.{bytes_total, exact_names, entries_listed, insert_listed, is_true}
 use Rattle.folder_core.proofs.PlainFound.{best_is, named_best}
 use Rattle.folder_core.proofs.PlainGroup.{is_named}
@@ -55,10 +55,6 @@ open_found n (p ∷ ps) =
 
 pub open-is : (n : Name) (ps : List OpenPull) → PullsRise ps → is_some (get (pulls_of ps) n) ≡ is_open n ps
 open-is n ps rise = ap is_some (get-from_sorted bytes_cmp (map pulled ps) n (passes _ rise)) ∙ open_found n ps
-
-none_of : {A : Type 0} (o : Option A) → is_some o ≡ false → o ≡ None
-none_of None e = refl
-none_of (Some x) e = absurd (true≢false e)
 
 -- ---- one more pull, which has nothing ready
 
@@ -200,6 +196,6 @@ module _ (me : Identity) (es : List Entry) (capacity last : ℕ) (ps : List Open
       rises = old.rises;
       pulls_rise = new_rise;
       folder = subst IsFolder (ap (λ (d : Answer × FolderState). d.1) (begin-begun (ticket o b.record) refl)) (step-folder folder (BeginPull n) old.folder tt);
-      ready = subst (All IsReady) (sym is) (insert-ready ps (place_of b.record.name ps) (opened_pull o b.record) (λ r e. absurd (none_some r e)) old.ready);
+      ready = subst (All IsReady) (sym is) (insert-ready ps (place_of b.record.name ps) (opened_pull o b.record) (λ r e. absurd (none-some r e)) old.ready);
       room = let h = ap commits is ∙ insert-commits ps (place_of b.record.name ps) (opened_pull o b.record) refl in let k = old.room in omega arith;
     }

@@ -15,6 +15,7 @@ use Rattle.std.specs.FinMap.Entries.{is_sorted-where_key}
 use Rattle.std.proofs.lemmas.Bool.{and_from, false_from_ne_true, true≢false}
 use Rattle.std.proofs.lemmas.List.{append_assoc, length-drop, map-append, take-append-drop, take_more}
 use Rattle.std.proofs.lemmas.List.Elements.{filter-append}
+use Rattle.std.proofs.lemmas.Option.{none-some}
 use Rattle.sync_record.specs.Contents.{same_content}
 use Rattle.sync_record.specs.Devices.{Identity, bytes_cmp}
 use Rattle.sync_record.specs.Records.{Name}
@@ -32,7 +33,7 @@ use Rattle.folder_core.specs.Codes.{Pulls}
 use Rattle.folder_core.specs.Reads.{best_found, bests_after, is_after, with_devices}
 use Rattle.folder_core.specs.Plain.{Rises, better, better_of, devices_with, filed, folder_of, group_best, is_undominated, listed_bests}
 use Rattle.folder_core.proofs.ListFilters.{filter_in, filter_map, filter_swap, any_map, none_found}
-use Rattle.folder_core.proofs.ListTests.{same_bytes, alike_bytes, below_in, in_map, inside, none_some, of_filter, parts, In}
+use Rattle.folder_core.proofs.ListTests.{same_bytes, alike_bytes, below_in, in_map, inside, of_filter, parts, In}
 use Rattle.folder_core.proofs.PlainBest.{undominated, higher, best_reduced, top}
 use Rattle.folder_core.proofs.PlainGroup.{after_prefix, best_in_group, bests_in_part, devices_in_group, drop_rises, found_in_part, group, is_before, is_named, named_down, partitioned, prefix_passes}
 
@@ -194,17 +195,21 @@ module _ (es : List Entry) (rises : Rises es) where
       ∙ found_in_part p (map filed es)
 
   -- where all that pass are before the others
-  pub listed_split : (p : Name → Bool) → es ≡ filter (λ e. p e.record.name) es ++ filter (λ e. not (p e.record.name)) es →
-      listed_bests es ≡ listed_bests (filter (λ e. p e.record.name) es) ++ listed_bests (filter (λ e. not (p e.record.name)) es)
-  listed_split p split =
+  pub bests_split : (p : Name → Bool) → es ≡ filter (λ e. p e.record.name) es ++ filter (λ e. not (p e.record.name)) es
+      → bests (map filed es) ≡ filter (λ b. p b.0.name) (bests (map filed es)) ++ filter (λ b. not (p b.0.name)) (bests (map filed es))
+  bests_split p split =
       let xs : List Announcement = map filed es in
       let parts : xs ≡ filter (λ e. p e.0.name) xs ++ filter (λ e. not (p e.0.name)) xs =
       ap (map filed) split ∙ map-append filed (filter (λ e. p e.record.name) es) (filter (λ e. not (p e.record.name)) es)
       ∙ (λ i. sym (filter_map filed (λ e. p e.0.name) es) i ++ sym (filter_map filed (λ e. not (p e.0.name)) es) i) in
-      let chosen : bests xs ≡ filter (λ e. p e.0.name) (bests xs) ++ filter (λ e. not (p e.0.name)) (bests xs) =
       ap (filter (is_best xs)) parts ∙ filter-append (is_best xs) (filter (λ e. p e.0.name) xs) (filter (λ e. not (p e.0.name)) xs)
-      ∙ (λ i. filter_swap (is_best xs) (λ e. p e.0.name) xs i ++ filter_swap (is_best xs) (λ e. not (p e.0.name)) xs i) in
-      ap (map (with_devices xs)) chosen ∙ map-append (with_devices xs) (filter (λ e. p e.0.name) (bests xs)) (filter (λ e. not (p e.0.name)) (bests xs))
+      ∙ (λ i. filter_swap (is_best xs) (λ e. p e.0.name) xs i ++ filter_swap (is_best xs) (λ e. not (p e.0.name)) xs i)
+
+  listed_split : (p : Name → Bool) → es ≡ filter (λ e. p e.record.name) es ++ filter (λ e. not (p e.record.name)) es →
+      listed_bests es ≡ listed_bests (filter (λ e. p e.record.name) es) ++ listed_bests (filter (λ e. not (p e.record.name)) es)
+  listed_split p split =
+      let xs : List Announcement = map filed es in
+      ap (map (with_devices xs)) (bests_split p split) ∙ map-append (with_devices xs) (filter (λ e. p e.0.name) (bests xs)) (filter (λ e. not (p e.0.name)) (bests xs))
       ∙ (λ i. sym (listed_part p) i ++ sym (listed_part (λ m. not (p m))) i)
 
 -- the bests after a name are those of the entries after it
@@ -252,20 +257,34 @@ module _ (e : Entry) (es : List Entry) (rises : Rises (e ∷ es)) where
   pub count_positive : 1 ≤ count
   count_positive = subst (λ b. 1 ≤ cond b (1 + prefix_len (is_named e.record.name) es) 0) (sym (alike_bytes e.record.name e.record.name refl)) (omega arith)
 
--- what the first name of a list has, and the list after it
-pub record IsFirstStep (rest : List Entry) (e : Entry) (k : ℕ) : Type 0 where
-  pub listed : listed_bests rest ≡ option_to_list (group_best (take k rest)) ++ listed_bests (drop k rest)
-  pub rises : Rises (drop k rest)
-  pub shorter : length (drop k rest) < length rest
+-- what holds of a list that is cut after its first name holds of the two parts
+pub at_cut : (P : List Entry → List Entry → Type 0) (rest front back : List Entry) (e : Entry) (n : Name) (k : ℕ)
+    → n ≡ e.record.name → k ≡ prefix_len (is_named n) rest → front ≡ take k rest → back ≡ drop k rest
+    → P (take (prefix_len (is_named e.record.name) rest) rest) (drop (prefix_len (is_named e.record.name) rest) rest) → P front back
+at_cut P rest front back e n k named counted front_is back_is holds =
+    let all : prefix_len (is_named e.record.name) rest ≡ k = sym (counted ∙ ap (λ m. prefix_len (is_named m) rest) named) in
+    subst (λ f. P f back) (sym front_is) (subst (λ b. P (take k rest) b) (sym back_is) (subst (λ m. P (take m rest) (drop m rest)) all holds))
 
-pub first_step : (rest : List Entry) (e : Entry) → Rises rest → slice_get rest 0 ≡ Some e → IsFirstStep rest e (prefix_len (is_named e.record.name) rest)
-first_step [] e rises is = absurd (none_some e is)
-first_step (x ∷ xs) e rises is =
-    subst (λ (y : Entry). IsFirstStep (x ∷ xs) y (prefix_len (is_named y.record.name) (x ∷ xs))) (inside x e is) (record {
+-- what the first name of a list has, whose entries are the front, and the list after it
+pub record IsFirstStep (rest front back : List Entry) : Type 0 where
+  pub listed : listed_bests rest ≡ option_to_list (group_best front) ++ listed_bests back
+  pub rises : Rises back
+  pub shorter : length back < length rest
+
+pub first_at : (rest : List Entry) (e : Entry) → Rises rest → slice_get rest 0 ≡ Some e
+    → IsFirstStep rest (take (prefix_len (is_named e.record.name) rest) rest) (drop (prefix_len (is_named e.record.name) rest) rest)
+first_at [] e rises is = absurd (none-some e is)
+first_at (x ∷ xs) e rises is =
+    subst (λ (y : Entry). IsFirstStep (x ∷ xs) (take (prefix_len (is_named y.record.name) (x ∷ xs)) (x ∷ xs)) (drop (prefix_len (is_named y.record.name) (x ∷ xs)) (x ∷ xs))) (inside x e is) (record {
       listed = first_listed x xs rises;
       rises = drop_rises (count x xs rises) (x ∷ xs) rises;
       shorter = let p = count_positive x xs rises in omega (arith, length-drop (count x xs rises) (x ∷ xs));
     })
+
+pub first_step : (rest front back : List Entry) (e : Entry) (n : Name) (k : ℕ) → Rises rest → Some e ≡ slice_get rest 0
+    → n ≡ e.record.name → k ≡ prefix_len (is_named n) rest → front ≡ take k rest → back ≡ drop k rest → IsFirstStep rest front back
+first_step rest front back e n k rises is named counted front_is back_is =
+    at_cut (IsFirstStep rest) rest front back e n k named counted front_is back_is (first_at rest e rises (sym is))
 
 -- ---- a page
 

@@ -7,18 +7,19 @@ use Rattle.std.specs.List.{prefix_len, reduce}
 use Rattle.std.specs.Option.{option_to_list}
 use Rattle.std.proofs.lemmas.List.{map-append, take-append-drop}
 use Rattle.std.proofs.lemmas.List.Elements.{filter-append}
+use Rattle.std.proofs.lemmas.Option.{none-some}
 use Rattle.sync_record.specs.Devices.{Identity}
 use Rattle.sync_record.specs.Records.{Name}
 use Rattle.folder_core.specs.declared.announcement.Announcement.{Announcement as Entry}
-use Rattle.folder_core.specs.Announced.{Announcement, bests, is_best, key_cmp}
+use Rattle.folder_core.specs.Announced.{Announcement, bests, key_cmp}
 use Rattle.folder_core.specs.Codes.{Pulls}
 use Rattle.folder_core.specs.Plain.{Rises, better, filed, folder_of, is_undominated}
 use Rattle.folder_core.specs.PlainReads.{is_needed_over, needed_names, needed_of, record_from, record_of}
 use Rattle.folder_core.specs.Reads.{is_after, need_page}
 use Rattle.folder_core.specs.States.{is_needed, need}
 use Rattle.folder_core.proofs.ListFilters.{filter_filter, filter_in, filter_map, filter_swap, none_left}
-use Rattle.folder_core.proofs.ListTests.{inside, none_some, of_filter, same_bytes}
-use Rattle.folder_core.proofs.PlainFound.{best_is, count, first_step, group_front, group_is, named_best, only_of, others_after, rising, IsFirstStep}
+use Rattle.folder_core.proofs.ListTests.{inside, of_filter, same_bytes}
+use Rattle.folder_core.proofs.PlainFound.{at_cut, best_is, bests_split, count, first_at, group_front, group_is, named_best, only_of, others_after, rising}
 use Rattle.folder_core.proofs.PlainGroup.{bests_in_part, is_named}
 use Rattle.folder_core.proofs.PlainOwn.{local_is}
 
@@ -67,13 +68,7 @@ module _ (d : Identity) (es : List Entry) (rises : Rises es) where
       needed_names d es ≡ needed_names d (filter (λ e. p e.record.name) es) ++ needed_names d (filter (λ e. not (p e.record.name)) es)
   needed_split p split =
       let xs : List Announcement = map filed es in
-      let parts : xs ≡ filter (λ e. p e.0.name) xs ++ filter (λ e. not (p e.0.name)) xs =
-      ap (map filed) split ∙ map-append filed (filter (λ e. p e.record.name) es) (filter (λ e. not (p e.record.name)) es)
-      ∙ (λ i. sym (filter_map filed (λ e. p e.0.name) es) i ++ sym (filter_map filed (λ e. not (p e.0.name)) es) i) in
-      let chosen : bests xs ≡ filter (λ e. p e.0.name) (bests xs) ++ filter (λ e. not (p e.0.name)) (bests xs) =
-      ap (filter (is_best xs)) parts ∙ filter-append (is_best xs) (filter (λ e. p e.0.name) xs) (filter (λ e. not (p e.0.name)) xs)
-      ∙ (λ i. filter_swap (is_best xs) (λ e. p e.0.name) xs i ++ filter_swap (is_best xs) (λ e. not (p e.0.name)) xs i) in
-      ap (λ bs. map name_of (filter (is_wanted d es) bs)) chosen
+      ap (λ bs. map name_of (filter (is_wanted d es) bs)) (bests_split es rises p split)
       ∙ ap (map name_of) (filter-append (is_wanted d es) (filter (λ e. p e.0.name) (bests xs)) (filter (λ e. not (p e.0.name)) (bests xs)))
       ∙ map-append name_of (filter (is_wanted d es) (filter (λ e. p e.0.name) (bests xs))) (filter (is_wanted d es) (filter (λ e. not (p e.0.name)) (bests xs)))
       ∙ (λ i. moved p i ++ moved (λ m. not (p m)) i)
@@ -126,18 +121,16 @@ first_needed d e es rises =
     ∙ (λ i. (needed_group d (e ∷ es) rises e.record.name ∙ ap (λ g. option_to_list (option_map entry_name (needed_of d g))) (sym (group_front e es rises))) i ++ needed_names d (sym (others_after e es rises) i))
 
 step_at : (d : Identity) (rest : List Entry) (e : Entry) → Rises rest → slice_get rest 0 ≡ Some e → IsNeedStep d rest (take (prefix_len (is_named e.record.name) rest) rest) (drop (prefix_len (is_named e.record.name) rest) rest)
-step_at d [] e rises is = absurd (none_some e is)
+step_at d [] e rises is = absurd (none-some e is)
 step_at d (x ∷ xs) e rises is =
-    let first : IsFirstStep (x ∷ xs) x (prefix_len (is_named x.record.name) (x ∷ xs)) = first_step (x ∷ xs) x rises refl in
+    let first = first_at (x ∷ xs) x rises refl in
     subst (λ (y : Entry). IsNeedStep d (x ∷ xs) (take (prefix_len (is_named y.record.name) (x ∷ xs)) (x ∷ xs)) (drop (prefix_len (is_named y.record.name) (x ∷ xs)) (x ∷ xs))) (inside x e is)
     (record { listed = first_needed d x xs rises; rises = first.rises; shorter = first.shorter })
 
 pub need_step : (d : Identity) (rest front back : List Entry) (e : Entry) (n : Name) (k : ℕ) → Rises rest → Some e ≡ slice_get rest 0 →
     n ≡ e.record.name → k ≡ prefix_len (is_named n) rest → front ≡ take k rest → back ≡ drop k rest → IsNeedStep d rest front back
 need_step d rest front back e n k rises is named counted front_is back_is =
-    let all : prefix_len (is_named e.record.name) rest ≡ k = sym (counted ∙ ap (λ m. prefix_len (is_named m) rest) named) in
-    subst (λ f. IsNeedStep d rest f back) (sym front_is) (subst (λ b. IsNeedStep d rest (take k rest) b) (sym back_is)
-    (subst (λ m. IsNeedStep d rest (take m rest) (drop m rest)) all (step_at d rest e rises (sym is))))
+    at_cut (IsNeedStep d rest) rest front back e n k named counted front_is back_is (step_at d rest e rises (sym is))
 
 -- ---- the folder's need
 

@@ -3,9 +3,10 @@ use Rattle.std.proofs.Common.{◌≡◌, ℕ, zero, suc, ◌+◌, ◌<◌, ◌�
 use Rattle.std.specs.Prelude.{cond, not, ◌==◌, ◌||◌, find, map, Option, Some, None, unwrap_or}
 use Rattle.std.specs.List.{list_any, range_with_len}
 use Rattle.std.proofs.lemmas.Bool.{true≢false, eq-eqb, eqb-true}
+use Rattle.std.proofs.lemmas.Option.{none-some}
 use Rattle.folder_core.specs.declared.plain.pull.OpenPull.{OpenPull}
 use Rattle.folder_core.specs.Steps.{least_free}
-use Rattle.folder_core.proofs.ListTests.{In, any_in, in_any, inside, none_some}
+use Rattle.folder_core.proofs.ListTests.{In, any_in, in_any, inside}
 use Rattle.folder_core.proofs.PullNumbers.{below_least, least_new, least_positive}
 
 abbrev pub numbers_of : List OpenPull → List ℕ
@@ -31,7 +32,7 @@ in-used : (ps : List OpenPull) (n : ℕ) → In n (numbers_of ps) → is_used ps
 in-used ps n i = sym (used_by ps n) ∙ in_any (λ m. m == n) (numbers_of ps) n i (eq-eqb n n refl)
 
 range_end : (p : ℕ → Bool) (a n k : ℕ) → find p (range_with_len a n) ≡ Some k → k < a + n
-range_end p a zero k e = absurd (none_some k e)
+range_end p a zero k e = absurd (none-some k e)
 range_end p a (suc n) k e =
     elim (p a) as (λ b. cond b (Some a) (find p (range_with_len (a + 1) n)) ≡ Some k → k < a + suc n) [
       | true ↦ λ s. let here : a ≡ k = inside a k s in omega arith

@@ -5,6 +5,7 @@ use Rattle.std.proofs.lemmas.Bool.{and_parts}
 use Rattle.std.proofs.lemmas.Grind.{flat_map-append}
 use Rattle.std.proofs.lemmas.List.{map-append, take_more}
 use Rattle.std.proofs.lemmas.List.Elements.{filter-append}
+use Rattle.std.proofs.lemmas.Option.{none-some}
 use Rattle.folder_core.specs.declared.announcement.Announcement.{Announcement as Entry}
 use Rattle.folder_core.specs.declared.place.Place.{Place}
 use Rattle.sync_blocks.specs.declared.block.Block.{Block}
@@ -15,14 +16,14 @@ use Rattle.folder_core.specs.Plain.{Rises, folder_of}
 use Rattle.folder_core.specs.Reads.{places}
 use Rattle.folder_core.proofs.PlainOwn.{locals_are}
 use Rattle.folder_core.specs.PlainReads.{block_from, is_from, place, places_from, records_from}
-use Rattle.folder_core.proofs.ListTests.{found_in, in_filter, in_map, none_some, In}
+use Rattle.folder_core.proofs.ListTests.{found_in, in_filter, in_map, In}
 use Rattle.folder_core.proofs.ReadAnswers.{in_flat_map}
 
 none_kept : {A : Type 0} (p : A → Bool) (xs : List A) → None ≡ find p xs → filter p xs ≡ []
 none_kept p [] none = refl
 none_kept p (x ∷ xs) none =
     elim (p x) as (λ b. None ≡ cond b (Some x) (find p xs) → cond b (x ∷ filter p xs) (filter p xs) ≡ []) [
-      | true ↦ λ n. absurd (none_some x n)
+      | true ↦ λ n. absurd (none-some x n)
       | false ↦ λ n. none_kept p xs n
     ] none
 
@@ -70,7 +71,7 @@ module _ (d : Identity) (hash : List ℕ) where
             in_flat_map places_in (filter is_live_file (records_from d es)) e.record (place e.record b)
             (in_filter is_live_file (records_from d es) e.record (in_map recorded (filter (is_from d) es) e (in_filter (is_from d) es e i p.0)) p.1)
             (in_map (place e.record) (filter is_wanted e.record.blocks) b (in_filter is_wanted e.record.blocks b w.0 w.1))
-        | false ↦ λ t s. absurd (none_some b (sym s))
+        | false ↦ λ t s. absurd (none-some b (sym s))
       ] refl some
 
 -- the folder's places

@@ -1,14 +1,14 @@
 -- The plain folder's list of open pulls, as the map of the states.
-use Rattle.std.proofs.Common.{◌≡◌, ℕ, ◌+◌, true, false, List, [], ◌∷◌, refl, sym, ap, ◌∙◌}
+use Rattle.std.proofs.Common.{◌≡◌, ℕ, ◌+◌, List, [], ◌∷◌, refl, sym, ap, ◌∙◌}
 use Rattle.std.specs.Prelude.{cond, map, count_by, is_some, Option, Some, None}
 use Rattle.std.specs.Bool.{passes}
-use Rattle.std.specs.FinMap.{entries, entries-from_sorted}
+use Rattle.std.specs.FinMap.{entries-from_sorted}
 use Rattle.std.proofs.lemmas.List.Sums.{sum_by-cons, length-filter}
 use Rattle.sync_record.specs.Devices.{Identity, bytes_cmp}
 use Rattle.sync_record.specs.Records.{FileRecord}
 use Rattle.folder_core.specs.declared.announcement.Announcement.{Announcement as Entry}
 use Rattle.folder_core.specs.declared.plain.pull.OpenPull.{OpenPull}
-use Rattle.folder_core.specs.States.{open_commits, is_committing, same_stage}
+use Rattle.folder_core.specs.States.{open_commits, is_committing}
 use Rattle.folder_core.specs.Plain.{PullsRise, commits, folder_of, opened, pulled, pulls_of, stage_of}
 
 pub commits_stage : (o : Option FileRecord) → (p : OpenPull) → p.ready ≡ o → is_committing (opened p) ≡ is_some p.ready

@@ -1,5 +1,5 @@
 -- A record that is put in its place among the entries.
-use Rattle.std.proofs.Common.{◌≡◌, ℕ, suc, Bool, Bor, get_or, ◌<◌, ◌≤◌, true, false, List, [], ◌∷◌, ◌++◌, length, refl, sym, ap, ◌∙◌, arith}
+use Rattle.std.proofs.Common.{◌≡◌, ℕ, suc, Bool, Bor, get_or, ◌≤◌, true, false, List, [], ◌∷◌, length, refl, sym, ap, ◌∙◌, arith}
 use Rattle.std.specs.Prelude.{IfSome, Option, Some, None, MatchOption, is_some, map, nat_lt, option_copied, slice_set}
 use Rattle.std.proofs.lemmas.Option.{get_or_from_slice_get, slice_get-get_or, slice_get_past, slice_get_within}
 use Rattle.folder_core.proofs.ListTests.{inside}

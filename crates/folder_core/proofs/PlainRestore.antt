@@ -7,6 +7,7 @@ use Rattle.std.specs.FinMap.{entries, entries-from_sorted, from_sorted, get, get
 use Rattle.std.specs.List.{list_all, find as first_where}
 use Rattle.std.specs.List.Sorted.{IsPermutation}
 use Rattle.std.specs.Prelude.{AllPairs, Contains, IsTrue, Option, Some, None, pos, cond, filter, map}
+use Rattle.std.proofs.lemmas.Option.{none-some}
 use Rattle.sync_record.specs.Devices.{Identity}
 use Rattle.sync_record.specs.Records.{FileRecord}
 use Rattle.sync_record.specs.Validity.{is_valid}
@@ -17,7 +18,7 @@ use Rattle.folder_core.specs.PlainReads.{is_from}
 use Rattle.folder_core.specs.PlainRestores.{AreNumbered, IsOnce, given, is_numbered}
 use Rattle.folder_core.specs.Restores.{MayRestore, key_of, restored_folder}
 use Rattle.folder_core.specs.States.{IsFolder}
-use Rattle.folder_core.proofs.ListTests.{In, alike_bytes, all_in, contains_in, find_in, in_all, in_contains, in_filter, in_get, in_map, none_some, of_filter, of_map, same_bytes}
+use Rattle.folder_core.proofs.ListTests.{In, alike_bytes, all_in, contains_in, find_in, in_all, in_contains, in_filter, in_get, in_map, of_filter, of_map, same_bytes}
 use Rattle.folder_core.proofs.Orders.{exact_keys, keys_total}
 use Rattle.folder_core.proofs.PlainChange.{no_pulls}
 use Rattle.folder_core.proofs.PlainRestoreLists.{key_at, keys-permuted, rising-keys}
@@ -33,7 +34,7 @@ pub none-found : (p : Entry → Bool) (es : List Entry) → first_where p es ≡
 none-found p [] e = refl
 none-found p (x ∷ es) e =
     elim (p x) as (λ b. cond b (Some x) (first_where p es) ≡ None → cond b (x ∷ filter p es) (filter p es) ≡ []) [
-      | true ↦ λ s. absurd (none_some x (sym s))
+      | true ↦ λ s. absurd (none-some x (sym s))
       | false ↦ λ s. none-found p es s
     ] e
 

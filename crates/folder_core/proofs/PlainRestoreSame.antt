@@ -7,6 +7,7 @@ use Rattle.std.specs.Cmp.Lexicographic.{pointwise}
 use Rattle.std.specs.FinMap.{FinMap, empty, entries, entries-from_sorted, from_sorted, len-empty, len-entries}
 use Rattle.std.specs.Option.{option_eq}
 use Rattle.std.specs.Prelude.{bytes_eq, ◌&&◌, IsTrue, Option, Some, None, is_some, map, option_map}
+use Rattle.std.proofs.lemmas.Option.{none-some}
 use Rattle.sync_record.specs.Devices.{Identity, bytes_cmp}
 use Rattle.sync_record.specs.Records.{FileRecord, Name}
 use Rattle.sync_record.specs.Same.{same_record}
@@ -19,7 +20,7 @@ use Rattle.folder_core.specs.Announced.{Announcement, key_cmp}
 use Rattle.folder_core.specs.Plain.{PullsRise, Rises, filed, folder_of, pulled, pulls_of, stage_of}
 use Rattle.folder_core.specs.PlainRestores.{same_pull}
 use Rattle.folder_core.specs.States.{FolderState, Pull, same_stage}
-use Rattle.folder_core.proofs.ListTests.{alike_bytes, inside, none_some, same_bytes}
+use Rattle.folder_core.proofs.ListTests.{alike_bytes, inside, same_bytes}
 
 abbrev pub RecordsAreSame : Type 0
 RecordsAreSame = (a b : FileRecord) → IsTrue (same_record a b) ↔ (a ≡ b)
@@ -41,8 +42,8 @@ entry-Decides records e f = (
 
 base-Decides : VersionsAreSame → (o p : Option Vector) → Decides (option_eq same_version o p) (o ≡ p)
 base-Decides versions None None = (λ t. refl, λ e. refl)
-base-Decides versions None (Some b) = (λ t. absurd (true≢false (sym t)), λ e. absurd (none_some b e))
-base-Decides versions (Some a) None = (λ t. absurd (true≢false (sym t)), λ e. absurd (none_some a (sym e)))
+base-Decides versions None (Some b) = (λ t. absurd (true≢false (sym t)), λ e. absurd (none-some b e))
+base-Decides versions (Some a) None = (λ t. absurd (true≢false (sym t)), λ e. absurd (none-some a (sym e)))
 base-Decides versions (Some a) (Some b) = (λ t. ap Some ((versions a b).0 t), λ e. (versions a b).1 (inside a b e))
 
 ready-Decides : (o p : Option FileRecord) → Decides (beq (is_some o) (is_some p)) (stage_of o ≡ stage_of p)

@@ -3,13 +3,14 @@ use Rattle.std.proofs.Common.{◌≡◌, ◌≢◌, ◌↔◌, true, false, refl
 use Rattle.std.specs.Prelude.{ℤ, pos, Option, Some, None, not, IsTrue}
 use Rattle.std.proofs.lemmas.Bool.{true≢false, and_parts, and_from, not-true, not_from_false, false_from_ne_true}
 use Rattle.std.proofs.lemmas.Bool.Decides.{Decides-int_eq}
+use Rattle.std.proofs.lemmas.Option.{none-some}
 use Rattle.sync_version.proofs.Lemmas.{covers_tells}
 use Rattle.sync_version.specs.Computed.{covers}
 use Rattle.sync_version.specs.Versions.{Vector, Covers}
 use Rattle.sync_record.specs.Contents.{same_content}
 use Rattle.sync_record.specs.Records.{FileRecord, is_file}
 use Rattle.folder_core.specs.Steps.{is_copy_due}
-use Rattle.folder_core.proofs.ListTests.{inside, none_some}
+use Rattle.folder_core.proofs.ListTests.{inside}
 
 uncovered : (a b : Vector) → covers a b ≡ false → ¬ (Covers a b)
 uncovered a b e c = true≢false (sym ((covers_tells a b).1 c) ∙ e)
@@ -24,7 +25,7 @@ InConflict most_copies base target =
     × ¬ (Covers b.version target.version) × ¬ (Covers target.version b.version) × (same_content b target ≡ false)
 
 pub copy-due : (most_copies : ℤ) (base : Option FileRecord) (target : FileRecord) → IsTrue (is_copy_due most_copies base target) ↔ InConflict most_copies base target
-copy-due most_copies None target = (λ e. absurd (true≢false (sym e)), λ c. absurd (none_some c.0 c.1))
+copy-due most_copies None target = (λ e. absurd (true≢false (sym e)), λ c. absurd (none-some c.0 c.1))
 copy-due most_copies (Some base) target = (
   λ e.
       let other = and_parts _ _ e in

@@ -2,7 +2,7 @@
 use Rattle.folder_core.proofs.BestRule.{of_is_best, one_best, is_best_found}
 use Rattle.folder_core.proofs.AnnouncedListings.{lists-entries}
 use Rattle.folder_core.proofs.Orders.{bytes_total, keys_total, exact_keys}
-use Rattle.folder_core.proofs.ListTests.{parts, inside, none_some, In, in_contains, contains_in, in_map, of_map, in_filter, of_filter, found_in, below_in, in_get}
+use Rattle.folder_core.proofs.ListTests.{parts, inside, In, in_contains, contains_in, in_map, of_map, in_filter, of_filter, found_in, below_in, in_get}
 use Rattle.folder_core.specs.Announced.{Announced, Announcement, key_cmp, is_of, is_best, best, bests, IsBest}
 use Rattle.folder_core.specs.States.{FolderState, local, local_version, same_local_version, is_needed, need}
 use Rattle.std.proofs.Common.{◌≡◌, Bool, true, false, List, [], ◌∷◌, refl, sym, ap, subst, ◌∙◌, ◌↔◌, ◌≢◌, inl, inr}
@@ -18,6 +18,7 @@ use Rattle.std.specs.Ordering.{is_gt, is_lt, ordering_then}
 use Rattle.std.specs.Prelude.{T, cond, map, filter, ⊤, not, ◌&&◌, ◌||◌, Option, Some, None, is_some, option_map, IsTrue, Contains}
 use Rattle.std.specs.declared.cmp.Ordering.{Ordering}
 use Rattle.std.specs.declared.cmp.Ordering.TheVariants.{Less, Equal, Greater}
+use Rattle.std.proofs.lemmas.Option.{none-some}
 use Rattle.sync_record.specs.Devices.{Identity, bytes_cmp}
 use Rattle.sync_record.specs.Records.{Name, FileRecord, is_live}
 
@@ -85,7 +86,7 @@ need-rising s = names-rising _ (rising-filter (is_needed s) (bests (entries s.an
 rule : (o : Option FileRecord) (q : FileRecord) → (not (same_local_version (option_map (λ r. r.version) o) (Some q.version)) && (is_live q || is_some o)) ≡ true
     ↔ (((r : FileRecord) → o ≡ Some r → r.version ≢ q.version) × ¬ (IsTrue q.deleted × (o ≡ None)))
 rule None q = (
-  λ t. (λ r e. absurd (none_some r e), λ d. true≢false (sym t ∙ ap (λ b. not b || false) d.0)),
+  λ t. (λ r e. absurd (none-some r e), λ d. true≢false (sym t ∙ ap (λ b. not b || false) d.0)),
   λ h. live_or (q.deleted) (λ d. h.1 (d, refl)),
 )
   where
@@ -95,7 +96,7 @@ rule None q = (
 rule (Some r) q = (
   λ t. (
     λ x e same. true≢false (sym ((same_version_tells r.version q.version).1 (ap (λ (f : FileRecord). f.version) (inside r x e) ∙ same)) ∙ not-true _ (and_parts _ _ t).0),
-    λ d. none_some r (sym d.1),
+    λ d. none-some r (sym d.1),
   ),
   λ h. and_from _ _ (not_from_false _ (false_from_ne_true _ (λ t. h.0 r refl ((same_version_tells r.version q.version).0 t)))) (or_right _ _ refl),
 )

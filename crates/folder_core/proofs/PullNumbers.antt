@@ -4,16 +4,17 @@ use Rattle.std.specs.Prelude.{cond, not, ◌==◌, filter, find, map, Option, So
 use Rattle.std.specs.List.{list_any, range_with_len}
 use Rattle.std.specs.FinMap.{get, entries}
 use Rattle.std.proofs.lemmas.Bool.{true≢false, not-true, not-false, not_from_false, ne_eqb, eq-eqb, eqb-true, cases_eq}
+use Rattle.std.proofs.lemmas.Option.{none-some}
 use Rattle.sync_record.specs.Records.{Name}
 use Rattle.folder_core.specs.States.{FolderState, Pull}
 use Rattle.folder_core.specs.Steps.{least_free}
 use Rattle.folder_core.proofs.Orders.{bytes_total, exact_names}
-use Rattle.folder_core.proofs.ListTests.{inside, none_some, In, any_in, in_any, in_filter, in_map, of_map, get_in, in_get}
+use Rattle.folder_core.proofs.ListTests.{inside, In, any_in, in_any, in_filter, in_map, of_map, get_in, in_get}
 
 -- the first number of a range that passes
 module _ (p : ℕ → Bool) where
   pub first-found : (a n k : ℕ) → find p (range_with_len a n) ≡ Some k → (a ≤ k) × (p k ≡ true) × ((m : ℕ) → a ≤ m → m < k → p m ≡ false)
-  first-found a zero k e = absurd (none_some k e)
+  first-found a zero k e = absurd (none-some k e)
   first-found a (suc n) k e =
       elim (p a) as (λ b. p a ≡ b → cond b (Some a) (find p (range_with_len (a + 1) n)) ≡ Some k → (a ≤ k) × (p k ≡ true) × ((m : ℕ) → a ≤ m → m < k → p m ≡ false)) [
         | true ↦ λ t s. let here : a ≡ k = inside a k s in ((omega arith), ap p (sym here) ∙ t, λ m h l. absurd (omega arith))
@@ -28,7 +29,7 @@ module _ (p : ℕ → Bool) where
   none-found a zero e m h l = absurd (omega arith)
   none-found a (suc n) e m h l =
       elim (p a) as (λ b. p a ≡ b → cond b (Some a) (find p (range_with_len (a + 1) n)) ≡ None → p m ≡ false) [
-        | true ↦ λ t s. absurd (none_some a (sym s))
+        | true ↦ λ t s. absurd (none-some a (sym s))
         | false ↦ λ t s. by t (none-found (a + 1) n s m) (cases_eq m a)
       ] refl e
     where

@@ -1,9 +1,7 @@
 -- The open pull of a name after a change of it.
 use Rattle.std.proofs.Common.{◌≡◌, false, sym, ap, ◌∙◌}
-use Rattle.std.specs.Prelude.{cond, Some, None, option_map, ⊤}
-use Rattle.std.specs.Cmp.{tied_itself}
-use Rattle.std.specs.FinMap.{get, insert, remove, get-insert, get-remove}
-use Rattle.std.specs.Ordering.{is_eq}
+use Rattle.std.specs.Prelude.{Some, None, option_map, ⊤}
+use Rattle.std.specs.FinMap.{get}
 use Rattle.std.proofs.lemmas.Bool.{true≢false}
 use Rattle.sync_record.specs.Records.{Name}
 use Rattle.folder_core.specs.declared.stage.Stage.TheVariants.{Pulling, Committing}
@@ -14,16 +12,11 @@ use Rattle.folder_core.specs.declared.change.Change.{Change}
 use Rattle.folder_core.specs.declared.change.Change.TheVariants.{ScanFound, ScanGone, IndexFull, IndexMore, Forget, BeginPull, EnterCommit, Finish, GiveUp, Abort}
 use Rattle.folder_core.specs.declared.token.Token.{Token}
 use Rattle.folder_core.specs.Steps.{is_accepted, step, next_ticket}
-use Rattle.folder_core.proofs.Orders.{bytes_total}
+use Rattle.folder_core.proofs.Orders.{bytes_total, exact_names}
+use Rattle.folder_core.proofs.AnnouncedMaps.{insert_here, remove_here}
 use Rattle.folder_core.proofs.PullOpen.{pull_of-is}
 use Rattle.folder_core.proofs.ChangeCases.{step-cases}
 use Rattle.folder_core.proofs.ListTests.{inside}
-
-inserted : (s : FolderState) (n : Name) (p : Pull) → get (insert s.pulls n p) n ≡ Some p
-inserted s n p = get-insert bytes_total s.pulls n p n ∙ ap (λ o. cond (is_eq o) (Some p) (get s.pulls n)) (tied_itself bytes_total n)
-
-removed : (s : FolderState) (n : Name) → get (remove s.pulls n) n ≡ None
-removed s n = get-remove bytes_total s.pulls n n ∙ ap (λ o. cond (is_eq o) None (get s.pulls n)) (tied_itself bytes_total n)
 
 -- the pull that a ticket begins
 abbrev pub begun_pull : Token → Pull
@@ -60,13 +53,13 @@ opens s = step-cases s (Opens s) (record {
   full = λ d rs. tt;
   more = λ d rs. tt;
   forgotten = λ d. tt;
-  begun = λ n b _ _ t is. inserted s n (begun_pull (next_ticket s n b.1)) ∙ ap (λ a. Some (begun_pull (ticket_in t a))) is;
+  begun = λ n b _ _ t is. insert_here bytes_total exact_names s.pulls n (begun_pull (next_ticket s n b.1)) ∙ ap (λ a. Some (begun_pull (ticket_in t a))) is;
   entered = λ t p found _ q g _.
-      inserted s t.name (record p { stage = Committing })
+      insert_here bytes_total exact_names s.pulls t.name (record p { stage = Committing })
       ∙ ap (λ (x : Pull). Some (record x { stage = Committing })) (inside p q (sym (pull_of-is s t Pulling p found).0 ∙ g));
   finished = λ t assembled p _. tt;
-  given_up = λ t p _ _. removed s t.name;
-  aborted = λ t p _ _. removed s t.name;
+  given_up = λ t p _ _. remove_here bytes_total exact_names s.pulls t.name;
+  aborted = λ t p _ _. remove_here bytes_total exact_names s.pulls t.name;
 })
 
 pub begin-opens : (s : FolderState) (n : Name) (t : Token) → (step s (BeginPull n)).0 ≡ Begun t → get (step s (BeginPull n)).1.pulls n ≡ Some (begun_pull t)

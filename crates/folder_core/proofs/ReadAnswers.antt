@@ -12,6 +12,7 @@ use Rattle.std.proofs.lemmas.List.{length-take}
 use Rattle.std.proofs.lemmas.List.Kept.{IsStrictlySortedBy-filter}
 use Rattle.std.proofs.lemmas.List.Concat.{flat_map-cons}
 use Rattle.std.proofs.lemmas.Slice.Eq.{bytes_eq-Decides}
+use Rattle.std.proofs.lemmas.Option.{none-some}
 use Rattle.folder_core.specs.declared.place.Place.{Place}
 use Rattle.sync_blocks.specs.declared.block.Block.{Block}
 use Rattle.sync_record.specs.Contents.{same_content}
@@ -25,7 +26,7 @@ use Rattle.folder_core.proofs.Orders.{keys_total, exact_keys}
 use Rattle.folder_core.proofs.BestRule.{best-found, best-none}
 use Rattle.folder_core.proofs.BestDevices.{devices-rise, devices-listed}
 use Rattle.folder_core.proofs.PullNeed.{need-rising}
-use Rattle.folder_core.proofs.ListTests.{inside, none_some, In, in_contains, contains_in, in_map, of_map, in_filter, of_filter, get_in, in_get}
+use Rattle.folder_core.proofs.ListTests.{inside, In, in_contains, contains_in, in_map, of_map, in_filter, of_filter, get_in, in_get}
 
 -- ---- the best, with its devices
 
@@ -41,7 +42,7 @@ module _ (s : FolderState) (n : Name) where
   shown o = option_map (λ b. (b.1, devices_of (entries s.announced) b)) o
 
   best-by : (o : Option Announcement) → best (entries s.announced) n ≡ o → (r : FileRecord) (ds : List Identity) → Some (r, ds) ≡ shown o → BestFound s n r ds
-  best-by None is r ds e = absurd (none_some (r, ds) (sym e))
+  best-by None is r ds e = absurd (none-some (r, ds) (sym e))
   best-by (Some b) is r ds e =
       let same : (b.1, devices_of (entries s.announced) b) ≡ (r, ds) = inside (b.1, devices_of (entries s.announced) b) (r, ds) (sym e) in
       subst (λ (x : FileRecord × List Identity). BestFound s n x.0 x.1) same
@@ -52,7 +53,7 @@ module _ (s : FolderState) (n : Name) where
 
   none-by : (o : Option Announcement) → None ≡ shown o → o ≡ None
   none-by None e = refl
-  none-by (Some b) e = absurd (none_some (b.1, devices_of (entries s.announced) b) e)
+  none-by (Some b) e = absurd (none-some (b.1, devices_of (entries s.announced) b) e)
 
   pub no_best-read : None ≡ best_found s n → (d : Identity) (r : FileRecord) → get s.announced (key n d) ≡ Some r → is_valid r ≡ false
   no_best-read e = (best-none s.announced n).0 (none-by (best (entries s.announced) n) e)

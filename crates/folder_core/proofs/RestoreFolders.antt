@@ -5,13 +5,14 @@ use Rattle.std.specs.Cmp.{Equal-is, tied_itself}
 use Rattle.std.specs.Ordering.{eq_by_cmp, is_eq}
 use Rattle.std.specs.FinMap.{get, entries, empty, find, from_entries, get-from_entries, get-entries, get-empty, len-entries, len-empty, same_map}
 use Rattle.std.proofs.lemmas.Bool.{false_from_ne_true, true≢false}
+use Rattle.std.proofs.lemmas.Option.{none-some}
 use Rattle.sync_record.specs.Devices.{Identity, bytes_cmp}
 use Rattle.sync_record.specs.Infos.{is_natural, natural}
 use Rattle.sync_record.specs.Records.{Name, FileRecord}
 use Rattle.folder_core.specs.Announced.{Announced, Announcement, IsNamed, Key, key, key_cmp, by_device}
 use Rattle.folder_core.specs.States.{FolderState, Pull, IsFolder, local}
 use Rattle.folder_core.specs.Restores.{MayRestore, key_of, records_of, restored_folder}
-use Rattle.folder_core.proofs.ListTests.{inside, none_some, In, in_contains, contains_in, in_map, of_map, in_get}
+use Rattle.folder_core.proofs.ListTests.{inside, In, in_contains, contains_in, in_map, of_map, in_get}
 use Rattle.folder_core.proofs.Orders.{keys_total, exact_keys}
 use Rattle.folder_core.proofs.PullCommits.{none_counted}
 use Rattle.folder_core.proofs.ReadLists.{Apart, at_in, apart-map}
@@ -62,7 +63,7 @@ found-filed (q ∷ ps) p apart (inr i) =
     ap (λ b. cond b (Some q.1) (find key_cmp (key_of p) (map filed ps))) other ∙ found-filed ps p apart.1 i
 
 filed-found : (ps : List (Identity × FileRecord)) (k : Key) (r : FileRecord) → find key_cmp k (map filed ps) ≡ Some r → In (k.device, r) ps × (r.name ≡ k.name)
-filed-found [] k r e = absurd (none_some r e)
+filed-found [] k r e = absurd (none-some r e)
 filed-found (q ∷ ps) k r e =
     elim (eq_by_cmp key_cmp k (key_of q)) as (λ b. eq_by_cmp key_cmp k (key_of q) ≡ b → cond b (Some q.1) (find key_cmp k (map filed ps)) ≡ Some r → (((k.device, r) ≡ q) ⊎ In (k.device, r) ps) × (r.name ≡ k.name)) [
       | true ↦ λ t f.
@@ -82,7 +83,7 @@ module _ (records : List (Identity × FileRecord)) where
 -- ---- a folder is restored
 
 none_there : {A B : Type 0} (x : A) → None ≡ Some x → B
-none_there x e = absurd (none_some x e)
+none_there x e = absurd (none-some x e)
 
 module _ (me : Identity) (records : List (Identity × FileRecord)) (last : ℤ) where
   abbrev restored : FolderState

@@ -1,5 +1,5 @@
 -- Values that pass the test `==` are one.
-use Rattle.std.proofs.Common.{◌≡◌, refl, sym, ap, ◌∙◌, ℕ, Bool, true, false, ◌&&◌, List, [], ◌∷◌, Option, Some, None, Decides, ◌⊎◌, unwrap_or}
+use Rattle.std.proofs.Common.{◌≡◌, refl, sym, ap, ◌∙◌, Bool, true, false, ◌&&◌, List, [], ◌∷◌, Option, Some, None, Decides, unwrap_or}
 use Rattle.std.specs.Prelude.{⊤}
 use mathlib.Core.Logic.{inl, inr}
 use Rattle.std.specs.Option.{option_eq}

@@ -1,9 +1,7 @@
 -- What scans and commits record.
 use Rattle.std.proofs.Common.{◌≡◌, ◌≢◌, ℕ, ◌+◌, true, false, List, [], refl, sym, ap, subst, ◌∙◌}
-use Rattle.std.specs.Prelude.{cond, Option, Some, None, unwrap_or, option_map, IsTrue, ⊤}
-use Rattle.std.specs.Ordering.{eq_by_cmp, is_eq}
-use Rattle.std.specs.Cmp.{tied_itself}
-use Rattle.std.specs.FinMap.{get, remove, get-insert, get-remove}
+use Rattle.std.specs.Prelude.{Option, Some, None, unwrap_or, option_map, IsTrue, ⊤}
+use Rattle.std.specs.FinMap.{get}
 use Rattle.std.proofs.lemmas.Bool.{and_parts, eqb-true, true≢false}
 use Rattle.sync_version.specs.Computed.{merge, raised}
 use Rattle.sync_version.specs.Versions.{Vector}
@@ -13,7 +11,7 @@ use Rattle.sync_record.specs.Records.{Name, FileRecord}
 use Rattle.sync_record.specs.Validity.{is_valid}
 use Rattle.folder_core.specs.declared.stage.Stage.{Stage}
 use Rattle.folder_core.specs.declared.stage.Stage.TheVariants.{Pulling, Committing}
-use Rattle.folder_core.specs.Announced.{Key, key, key_cmp}
+use Rattle.folder_core.specs.Announced.{Key, key}
 use Rattle.folder_core.specs.States.{FolderState, Pull, local, local_version, same_stage, IsFolder}
 use Rattle.folder_core.specs.declared.answer.Answer.{Answer}
 use Rattle.folder_core.specs.declared.answer.Answer.TheVariants.{Recorded, Done}
@@ -23,8 +21,8 @@ use Rattle.folder_core.specs.declared.finding.Finding.{Finding}
 use Rattle.folder_core.specs.declared.finding.FoundContent.TheVariants.{Directory as FoundDirectory, File as FoundFile}
 use Rattle.folder_core.specs.declared.token.Token.{Token}
 use Rattle.folder_core.specs.Steps.{is_accepted, step, with_local, without_pull, committed_record, gone_record, next_version}
-use Rattle.folder_core.proofs.Orders.{keys_total, exact_keys, bytes_total}
-use Rattle.folder_core.proofs.AnnouncedMaps.{insert_other}
+use Rattle.folder_core.proofs.Orders.{keys_total, exact_keys, bytes_total, exact_names}
+use Rattle.folder_core.proofs.AnnouncedMaps.{insert_here, insert_other, remove_here}
 use Rattle.folder_core.proofs.PullOpen.{pull_of-is, pull_of-fits}
 use Rattle.sync_record.proofs.Lemmas.{same_record-is}
 use Rattle.folder_core.proofs.ChangeCases.{step-cases, found_now, gone_now}
@@ -37,9 +35,7 @@ numbered s r = record r { sequence = s.last + 1 }
 -- what is at its name, and at every other
 pub local-here : (s : FolderState) (r : FileRecord) (n : Name) → r.name ≡ n → local (with_local s r) n ≡ Some (numbered s r)
 local-here s r n here =
-    get-insert keys_total s.announced (key r.name s.me) (numbered s r) (key n s.me)
-    ∙ ap (λ m. cond (eq_by_cmp key_cmp (key m s.me) (key r.name s.me)) (Some (numbered s r)) (local s n)) (sym here)
-    ∙ ap (λ o. cond (is_eq o) (Some (numbered s r)) (local s n)) (tied_itself keys_total (key r.name s.me))
+    subst (λ m. local (with_local s r) m ≡ Some (numbered s r)) here (insert_here keys_total exact_keys s.announced (key r.name s.me) (numbered s r))
 
 pub local-elsewhere : (s : FolderState) (r : FileRecord) (n m : Name) → r.name ≡ n → m ≢ n → local (with_local s r) m ≡ local s m
 local-elsewhere s r n m here other =
@@ -156,9 +152,6 @@ pub record Finishes (s : FolderState) (c : Token) (k : ℕ) (t : FolderState) : 
   pub elsewhere : (m : Name) → m ≢ c.name → local t m ≡ local s m
   pub closed : get t.pulls c.name ≡ None
 
-removed : (s : FolderState) (n : Name) → get (remove s.pulls n) n ≡ None
-removed s n = get-remove bytes_total s.pulls n n ∙ ap (λ o. cond (is_eq o) None (get s.pulls n)) (tied_itself bytes_total n)
-
 abbrev Finished : FolderState → Change → Answer × FolderState → Type 0
 Finished s (Finish c assembled) d = (k : ℕ) → IsFolder s → d.0 ≡ Done k → Finishes s c k d.1
 Finished s _ d = ⊤
@@ -177,7 +170,7 @@ finishes s c p k folder is stage number target given = record {
   here = local-here s (committed_record p.base p.target) c.name name
       ∙ (λ i. Some (record (target i) { version = merge (unwrap_or p.base []) (target i).version; sequence = sym given i }));
   elsewhere = λ m other. local-elsewhere s (committed_record p.base p.target) c.name m name other;
-  closed = removed s c.name;
+  closed = remove_here bytes_total exact_names s.pulls c.name;
 }
   where
     name : p.target.name ≡ c.name

@@ -1,5 +1,5 @@
 -- Worked rows: small folders, and what the rules make of them.
-use Rattle.std.specs.Prelude.{◌≡◌, ℕ, ◌+◌, true, false, if◌then◌else◌, pos, List, [], ◌∷◌, ◌++◌, Some, None, replicate, ⊤}
+use Rattle.std.specs.Prelude.{◌≡◌, ℕ, true, false, pos, List, [], ◌∷◌, ◌++◌, Some, None, replicate, ⊤}
 use Rattle.std.specs.FinMap.{FinMap, from_sorted}
 use Rattle.sync_blocks.specs.declared.block.Block.{Block}
 use Rattle.sync_record.specs.Devices.{Identity, bytes_cmp}
@@ -12,13 +12,13 @@ use Rattle.folder_core.specs.declared.stage.Stage.TheVariants.{Pulling, Committi
 use Rattle.folder_core.specs.Announced.{Announced, Announcement, key}
 use Rattle.folder_core.specs.States.{FolderState, Pull}
 use Rattle.folder_core.specs.declared.answer.Answer.{Answer}
-use Rattle.folder_core.specs.declared.answer.Answer.TheVariants.{Busy, Moved, Unchanged, CounterFull, SequenceFull, HistoryFull, NotNeeded, Stray, LocalMoved, Superseded, Applied, Closed, Recorded, Done, Begun, Entered}
+use Rattle.folder_core.specs.declared.answer.Answer.TheVariants.{Busy, Moved, Unchanged, CounterFull, SequenceFull, NotNeeded, Stray, LocalMoved, Superseded, Applied, Closed, Recorded, Done, Begun, Entered}
 use Rattle.folder_core.specs.declared.change.Change.{Change}
 use Rattle.folder_core.specs.declared.change.Change.TheVariants.{ScanFound, ScanGone, IndexFull, BeginPull, EnterCommit, Finish, GiveUp, Abort}
 use Rattle.folder_core.specs.declared.finding.Finding.{Finding}
 use Rattle.folder_core.specs.declared.finding.FoundContent.TheVariants.{File as FoundFile, Directory as FoundDirectory}
 use Rattle.folder_core.specs.declared.token.Token.{Token}
-use Rattle.folder_core.specs.Steps.{step, is_accepted}
+use Rattle.folder_core.specs.Steps.{step}
 
 -- ---- devices, names, records
 

@@ -7,7 +7,7 @@ use Rattle.std.specs.FinMap.{get, insert, remove, entries}
 use Rattle.folder_core.specs.declared.stage.Stage.{Stage}
 use Rattle.folder_core.specs.declared.stage.Stage.TheVariants.{Pulling, Committing}
 use Rattle.folder_core.specs.declared.answer.Answer.{Answer}
-use Rattle.folder_core.specs.declared.answer.Answer.TheVariants.{Busy, Unchanged, CounterFull, SequenceFull, HistoryFull, NotNeeded, Unsupported, Stray, LocalMoved, Superseded, Applied, Closed, Moved, Recorded, Done, Begun, Entered}
+use Rattle.folder_core.specs.declared.answer.Answer.TheVariants.{Busy, Unchanged, CounterFull, SequenceFull, NotNeeded, Unsupported, Stray, LocalMoved, Superseded, Applied, Closed, Moved, Recorded, Done, Begun, Entered}
 use Rattle.folder_core.specs.declared.change.Change.{Change}
 use Rattle.folder_core.specs.declared.change.Change.TheVariants.{ScanFound, ScanGone, IndexFull, IndexMore, Forget, BeginPull, EnterCommit, Finish, GiveUp, Abort}
 use Rattle.folder_core.specs.declared.finding.Finding.{Finding}
@@ -16,7 +16,6 @@ use Rattle.folder_core.specs.declared.finding.FoundContent.TheVariants.{Director
 use Rattle.folder_core.specs.declared.token.Token.{Token}
 use Rattle.sync_record.specs.Assemblies.{IsAssembled}
 use Rattle.sync_record.specs.Contents.{same_content}
-use Rattle.sync_blocks.specs.declared.block.Block.{Block}
 use Rattle.sync_record.specs.Devices.{Identity, short_id}
 use Rattle.sync_record.specs.Records.{Name, FileRecord, is_live, is_file, is_directory}
 use Rattle.sync_record.specs.Same.{same_record}

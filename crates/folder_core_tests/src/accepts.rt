@@ -2,7 +2,6 @@
 
 use crate::calls::{assembled, copied, folder, restored};
 use crate::rows::{ME, Row, device, directory, file, moment, name, records, version};
-use crate::runs::may_change;
 use bep_messages::Items;
 use folder_core::{Answer, Change, FolderCore, PlainFolder, Token, make};
 use std::process::Abort;
@@ -123,7 +122,7 @@ fn makes(
     let me = folder.me();
     let before = copied(rt, folder);
     let again = change.copy().expect(rt, "a copy");
-    assert!(rt; may_change(me, &change) && may_change(me, &again));
+    assert!(rt; change.is_allowed(me) && again.is_allowed(me));
     assert!(rt; folder.accepts(&change) == is_accepted, "{wanted}");
     assert!(rt; folder.same_state(&before));
     let answer = match make(folder, change) {

@@ -3,9 +3,7 @@ ghost use Rattle.std.specs.Prelude.{◌≡◌, ◌&&◌};
 ghost use Rattle.sync_record.specs.Records.{is_live_file};
 ghost use Rattle.sync_record.specs.Validity.{is_valid};
 
-use crate::rows::{
-    Announced, Row, announcements, device, is_found, moment, name, records, version,
-};
+use crate::rows::{Announced, Row, announcements, device, moment, name, records, version};
 use bep_messages::Items;
 use folder_core::{
     Answer, BeginAnswer, Best, Commit, Finding, FolderCore, NotEntered, Place, PlainFolder,
@@ -106,7 +104,7 @@ pub(crate) fn finds(
 ) {
     let name = name(rt, text);
     let expected = expected.map(|counters| version(rt, counters));
-    assert!(rt; is_found(&found.content));
+    assert!(rt; found.content.is_found());
     let before = copied(rt, folder);
     let mut answer = folder.scan_found(&name, expected.as_ref(), found, moment(rt, 0));
     if matches!(&answer, Err(ScanFault::OutOfMemory)) {

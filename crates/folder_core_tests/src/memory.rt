@@ -1,6 +1,6 @@
 //! Ends of pulls when no memory is left: with a commit and a pull open, other calls may fail, and these may not.
 use crate::calls::{assembled, begins, copied, enters, folder, more};
-use crate::rows::{device, directory, file, is_found, moment, name, records};
+use crate::rows::{device, directory, file, moment, name, records};
 use bep_messages::Items;
 use folder_core::{BeginAnswer, Commit, FolderCore, NotEntered, PlainFolder, Ticket};
 use std::process::Abort;
@@ -74,7 +74,7 @@ fn tries_changes(rt: &(impl AllocGlobal + Abort), folder: &mut PlainFolder) {
 /// Records a directory, if there is memory. Returns whether there was.
 fn tries_scan(rt: &impl Abort, folder: &mut PlainFolder, name: &SafeName) -> bool {
     let found = directory(1);
-    assert!(rt; is_found(&found.content));
+    assert!(rt; found.content.is_found());
     folder.scan_found(name, None, &found, moment(rt, 0)).is_ok()
 }
 

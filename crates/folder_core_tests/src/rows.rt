@@ -1,11 +1,9 @@
 //! Records as rows of a table, and what else is given to a folder.
-ghost use Rattle.std.specs.Prelude.{IsTrue};
-ghost use Rattle.folder_core.specs.Steps.{is_found};
 
 use bep_messages::{BlockInfo, Counter, FileInfo, Items, Octets, ShortOctets, Text, Vector};
 use folder_core::{Announcement, Finding, FoundContent};
 use std::process::Abort;
-use sync_blocks::{Block, tiles};
+use sync_blocks::Block;
 use sync_names::SafeName;
 use sync_record::{DeviceId, Record};
 use sync_version::{Moment, Version};
@@ -185,19 +183,5 @@ pub(crate) fn file_content(
         size: u64::from(size),
         block_size: 131_072,
         blocks,
-    }
-}
-
-/// Whether it is a directory, or a file that its blocks make up.
-pub(crate) fn is_found(content: &FoundContent) -> bool
-    ensures { IsTrue result → IsTrue (is_found content.now) }
-{
-    match content {
-        FoundContent::Directory => true,
-        FoundContent::File {
-            size,
-            block_size,
-            blocks,
-        } => *size < 1 << 63 && *block_size == 131_072 && tiles(blocks.as_slice(), *size, 131_072),
     }
 }

@@ -5,7 +5,7 @@ ghost use Rattle.folder_core.specs.Steps.{MayChange};
 use crate::calls::{
     assembled, begins, copied, enters, finds, finishes, folder, forgets, full, loses, more,
 };
-use crate::rows::{Row, device, directory, is_found, moment, name, record, records, version};
+use crate::rows::{Row, device, directory, moment, name, record, records, version};
 use bep_messages::Items;
 use folder_core::{Answer, Change, FolderCore, Partway, PlainFolder, Token, make, make_all};
 use std::process::Abort;
@@ -209,7 +209,7 @@ fn makes(
     let before = copied(rt, folder);
     let first = change.copy().expect(rt, "a copy");
     let again = change.copy().expect(rt, "a copy");
-    assert!(rt; may_change(me, &first) && may_change(me, &again));
+    assert!(rt; first.is_allowed(me) && again.is_allowed(me));
     let answer = match make(folder, first) {
         Err(_) => {
             assert!(rt; folder.same_state(&before));
@@ -224,23 +224,5 @@ fn makes(
 fn may_make(me: DeviceId, changes: &[Change]) -> bool
     ensures { IsTrue result → All (MayChange me) changes.now }
 {
-    changes.iter().all(|change| may_change(me, change))
-}
-
-/// Whether a caller may ask for the change.
-pub(crate) fn may_change(me: DeviceId, change: &Change) -> bool
-    ensures { IsTrue result → MayChange me change.now }
-{
-    match change {
-        Change::IndexFull { device, .. }
-        | Change::IndexMore { device, .. }
-        | Change::Forget { device } => *device != me,
-        Change::ScanFound { found, .. } => is_found(&found.content),
-        Change::Finish { commit, assembled } => *assembled.target() == commit.target,
-        Change::ScanGone { .. }
-        | Change::BeginPull { .. }
-        | Change::EnterCommit { .. }
-        | Change::GiveUp { .. }
-        | Change::Abort { .. } => true,
-    }
+    changes.iter().all(|change| change.is_allowed(me))
 }

@@ -1,6 +1,6 @@
 -- What a call learns between taking the folder and putting it back, as it was or with one entry more.
-use Rattle.std.proofs.Common.{◌≡◌, ◌⊎◌, ℕ, ◌≤◌, Bool, true, false, cond, List, [], ◌∷◌, ◌++◌, append-nil, length, take, sym, refl, ap, ◌∙◌, subst, inl, inr, arith}
-use Rattle.std.specs.Prelude.{IfErr, IfOk, MatchBool, Option, Some, Result, Ok, Err}
+use Rattle.std.proofs.Common.{◌≡◌, ◌⊎◌, ℕ, ◌≤◌, Bool, true, false, cond, List, [], ◌∷◌, ◌++◌, length, take, sym, refl, ap, ◌∙◌, subst, inl, inr, arith}
+use Rattle.std.specs.Prelude.{IfErr, IfOk, MatchBool, Some, Result, Ok, Err}
 use Rattle.std.proofs.lemmas.List.{take_all}
 use mathlib.Core.List.{IsPrefix}
 use mathlib.Core.Option.{some}
@@ -51,10 +51,6 @@ grown-same x y n (inr g) = (ap (λ (m : History). m.opening) g.2, ap (λ (m : Hi
 grown-passes : (x y : History) (n : ℕ) → IsGrown x n y → y.passes ≡ x.passes
 grown-passes x y n (inl is) = ap (λ (m : History). m.passes) is
 grown-passes x y n (inr g) = ap (λ (m : History). m.passes) g.2
-
-grown-longer : (x y : History) (n : ℕ) → IsGrown x n y → IsPrefix x.entries y.entries
-grown-longer x y n (inl is) = ([], append-nil x.entries ∙ ap (λ (m : History). m.entries) (sym is))
-grown-longer x y n (inr g) = (g.0 ∷ [], ap (λ (m : History). m.entries) (sym g.2))
 
 grown-put : (v : Known) (x y : History) (n : ℕ) (log : List Entry) → v.memo ≡ x → v.claims ≡ claim n log ∷ [] → IsGrown x n y → MayPut v y
 grown-put v x y n log memo one grown = let same = grown-same x y n grown in

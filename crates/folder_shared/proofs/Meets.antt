@@ -7,12 +7,12 @@ use Rattle.std.proofs.lemmas.Bool.Decides.{nat_tests}
 use Rattle.std.proofs.lemmas.List.{length-take-le}
 use mathlib.Core.List.{IsPrefix}
 use lib.ListN.{get_elem?}
-use Rattle.crossbeam_channel.specs.Claims.{IsSeatAt, view}
+use Rattle.crossbeam_channel.specs.Claims.{IsSeatAt}
 use Rattle.crossbeam_channel.specs.Ends.{sends_on}
 use Rattle.folder_calls.specs.declared.entry.Entry.{Entry}
 use Rattle.folder_calls.specs.declared.history.History.{History}
 use Rattle.folder_calls.specs.Histories.{own_entries}
-use Rattle.folder_calls.specs.Shared.{IsLegalView, Meets, Sees, View, seeing}
+use Rattle.folder_calls.specs.Shared.{IsLegalView, Meets, seeing}
 use Rattle.folder_calls.proofs.HistoryMeetings.{meet-legal}
 use Rattle.folder_shared.specs.declared.known.Claim.{Claim}
 use Rattle.folder_shared.specs.declared.known.Known.{Known}
@@ -20,7 +20,7 @@ use Rattle.folder_shared.specs.declared.known.Stage.TheVariants.{Idle}
 use Rattle.folder_shared.specs.declared.shared.Pass.{Pass}
 use Rattle.folder_shared.specs.declared.shared.SharedFolder.{SharedFolder}
 use Rattle.folder_shared.specs.Rule.{claim, claimed, Agree, IsFit, joined, left_of, longer, first_claim, right_of, second_claim}
-use Rattle.folder_shared.specs.Passes.{IsPassOf, claimed_of, knows, limit_of, opened_of, opening_of, seen_of, view_of}
+use Rattle.folder_shared.specs.Passes.{IsPassOf, claimed_of, knows, limit_of, opening_of, seen_of, view_of}
 use Rattle.folder_shared.proofs.Histories.{length_starts, longer_starts, own_between, starts_trans, take_same, take_starts}
 
 -- a token of one pass that claims a whole history, and has seen the first k entries of it

@@ -4,16 +4,13 @@ use mathlib.Core.Option.{some}
 use lib.ListN.{get_elem?}
 use Rattle.crossbeam_channel.specs.Fifo.{Pushes, Pops, Forks, Learns}
 use Rattle.folder_calls.specs.declared.history.History.{History}
-use Rattle.folder_shared.specs.declared.known.Stage.TheVariants.{New, Idle, Holding, Spent}
+use Rattle.folder_shared.specs.declared.known.Stage.TheVariants.{New, Idle, Holding}
 use Rattle.folder_shared.specs.declared.known.Known.{Known}
 use Rattle.folder_shared.specs.Rule.{Agree, known, newcomer, AreFit, SitAt, IsSame, Fits, Runs, Kept, Opened, Taken, blank_of}
 use Rattle.folder_shared.proofs.Lists.{at_none, at_one, all_set, all_end}
 
 pub idle_new : Idle ≢ New
 idle_new e = cc
-
-pub idle_spent : Idle ≢ Spent
-idle_spent e = cc
 
 pub idle_holding : Idle ≢ Holding
 idle_holding e = cc

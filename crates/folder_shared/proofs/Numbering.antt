@@ -1,5 +1,5 @@
 -- A pass is numbered: what may be put then, and that the pass is one of the folder, which has seen nothing.
-use Rattle.std.proofs.Common.{◌≡◌, ℕ, ◌+◌, ◌^◌, ◌<◌, cond, List, [], ◌∷◌, take, sym, refl, ap, ◌∙◌, subst, inl, arith}
+use Rattle.std.proofs.Common.{◌≡◌, ℕ, ◌+◌, ◌<◌, cond, List, [], ◌∷◌, take, sym, refl, ap, ◌∙◌, subst, inl, arith}
 use Rattle.std.specs.FinMap.{len}
 use Rattle.std.proofs.lemmas.Bool.{ne_eqb}
 use Rattle.crossbeam_channel.specs.Claims.{Pass as Token, view, IsSeatAt}
@@ -15,11 +15,10 @@ use Rattle.folder_calls.proofs.HistoryShared.{view-opened}
 use Rattle.folder_shared.specs.declared.known.Known.{Known}
 use Rattle.folder_shared.specs.declared.known.Stage.TheVariants.{Holding}
 use Rattle.folder_shared.specs.declared.shared.Pass.{Pass}
-use Rattle.folder_shared.specs.declared.shared.PassesFull.{PassesFull}
 use Rattle.folder_shared.specs.declared.shared.SharedFolder.{SharedFolder}
 use Rattle.folder_shared.specs.Root.{IsRootOf}
 use Rattle.folder_shared.specs.Rule.{blank_of, claim, claimed, IsSame, Kept, MayNumber, Numbered, PutBack, Taken}
-use Rattle.folder_shared.specs.Passes.{IsFullOf, IsPassOf, claimed_of, knows, limit_of, opened_of, opening_of, seen_of}
+use Rattle.folder_shared.specs.Passes.{IsPassOf, claimed_of, knows, limit_of, opened_of, opening_of, seen_of}
 use Rattle.folder_shared.proofs.Puts.{numbers, puts}
 
 -- a pass that was not given out has no entries
@@ -73,11 +72,3 @@ module _ {C : Type 0} (s : SharedFolder C) (root : Token History Known) (m : IsR
       pub back-rule : (n port : ℕ) → Pushes Kept n port w y (PutBack w y)
       back-rule n port = puts n port w y holds
           ((ap (λ (h : History). h.opening) (is ∙ sym memo), ap (λ (h : History). h.limit) (is ∙ sym memo)), ap (λ (h : History). h.passes) (is ∙ sym memo), inl (ap (λ (h : History). h.entries) (is ∙ sym memo)))
-
-      pub full-passes : x.passes ≡ 2 ^ 32 → (e : PassesFull C) → IsSeatAt (sends_on s.sender) e.token → PutBack w y (view e.token) → IsFullOf s e
-      full-passes full e seat put = record {
-        seat = seat;
-        idle = ap (λ (u : Known). u.stage) put;
-        same = (ap (λ (u : Known). u.memo.opening) put ∙ ap (λ (h : History). h.opening) is ∙ same-opened.0, ap (λ (u : Known). u.memo.limit) put ∙ ap (λ (h : History). h.limit) is ∙ same-opened.1);
-        full = ap (λ (u : Known). u.memo.passes) put ∙ ap (λ (h : History). h.passes) is ∙ full;
-      }

@@ -1,5 +1,5 @@
 pub mod BlockLists
 pub mod Blocks
-pub mod Filling
+pub mod Filled
 pub mod Groups
 pub mod Tilings

@@ -3,6 +3,7 @@
 
 mod block;
 mod fault;
+mod filling;
 mod hashing;
 pub mod laws;
 mod reading;
@@ -13,6 +14,7 @@ mod tiling;
 
 pub use block::Block;
 pub use fault::ReadFault;
+pub use filling::fill;
 pub use reading::blocks_of;
 pub use size::{MAX_BLOCK_SIZE, MIN_BLOCK_SIZE, block_size_for, is_block_size};
 pub use tiling::tiles;

@@ -1,15 +1,16 @@
-ghost use Rattle.std.specs.Prelude.{◌≡◌, ◌+◌, ◌*◌, ◌^◌, ◌<◌, ◌≤◌, ◌++◌, ◌∷◌, ℕ, List, [], min, take, length};
+ghost use Rattle.std.specs.Prelude.{◌≡◌, ◌+◌, ◌*◌, ◌^◌, ◌<◌, ◌≤◌, ◌++◌, ◌∷◌, ℕ, List, [], min, length};
 ghost use Rattle.std.specs.Prelude.{Err, IfErr, IfOk, IfSome, OnOk};
 ghost use Rattle.std.specs.Io.KnownBytes.{Consumes, IsAtEnd};
 ghost use Rattle.sync_blocks.specs.BlockList.{block_at, block_list};
 ghost use Rattle.sync_blocks.specs.Groups.{blocks_from, group_bytes};
 ghost use Rattle.sync_blocks.specs.Reading.{TakesFront, Tells, TellsEarly};
 
+use crate::filling::fill;
 use crate::hashing::push_blocks;
 use crate::{Block, ReadFault};
 use sha2::{Digest, Sha256};
 use std::alloc::{AllocError, Global};
-use std::io::{ErrorKind, Read};
+use std::io::Read;
 use std::thread::Threads;
 
 /// As many whole blocks are read at once as fit this many bytes, and at least one.
@@ -136,27 +137,4 @@ fn read_group<R: Read>(
     }
     push_blocks(rt, alloc, first, buffer, block_size, blocks)?;
     Ok(())
-}
-
-// Reads until the buffer is full or the reader is at its end, and returns the number of bytes.
-fn fill<R: Read>(reader: &mut R, buffer: &mut [u8]) -> Result<usize, ReadFault>
-    ensures bound { IfOk result (λ n. n ≤ length buffer.new) }
-    ensures bytes { IfOk result (λ n. Consumes (R.remaining reader.old) (R.remaining reader.new) (take n buffer.new)) }
-    ensures end { IfOk result (λ n. n < length buffer.new → IsAtEnd (R.remaining reader.new)) }
-    ensures refused { IfErr result (λ fault. fault ≡ ReadFault.Read) }
-    ensures taken { TakesFront (R.remaining reader.old) (R.remaining reader.new) }
-{
-    let mut filled = 0;
-    for _ in 0..u64::MAX {
-        if filled == buffer.len() {
-            return Ok(filled);
-        }
-        match reader.read(&mut buffer[filled..]) {
-            Ok(0) => return Ok(filled),
-            Ok(count) => filled += count,
-            Err(error) if error.kind() == ErrorKind::Interrupted => {}
-            Err(_) => return Err(ReadFault::Read),
-        }
-    }
-    Err(ReadFault::Read)
 }

@@ -148,16 +148,6 @@ pub shape-memory : (text : List ℕ) (fault : NameFault) → shape_refusal text 
 shape-memory text fault h e =
     ((refusal-first text OutOfMemory).0 (refusal-shape text OutOfMemory (h ∙ ap (λ (f : NameFault). Some f) e))).3
 
--- a fault other than out of memory is the text's first refusal
-pub IsToldOf-refusal : (text : List ℕ) (fault : NameFault) → IsToldOf text fault → ¬ (fault ≡ OutOfMemory) → refusal text ≡ Some fault
-IsToldOf-refusal text Empty told other = told
-IsToldOf-refusal text Absolute told other = told
-IsToldOf-refusal text BadComponent told other = told
-IsToldOf-refusal text Nul told other = told
-IsToldOf-refusal text NotNfc told other = told
-IsToldOf-refusal text Internal told other = told
-IsToldOf-refusal text OutOfMemory told other = absurd (other refl)
-
 -- ---- a text that no test refuses is safe
 
 pub safe_from_none : (text : List ℕ) → IsUtf8 text → refusal text ≡ None → IsSafe text

@@ -24,7 +24,9 @@ fn is_reserved(component: &str) -> bool
     component == ".stfolder" || component == ".stignore" || component == ".stversions"
 }
 
-fn is_temporary(component: &str) -> bool
+/// Whether a component is that of a temporary file, as the last one of a temporary name is: it has at least 15 bytes, begins
+/// with `.syncthing.` and ends with `.tmp`. Does not allocate. O(1).
+pub fn is_temporary(component: &str) -> bool
     ensures { result ≡ is_temporary component.now }
 {
     component.len() >= SHORTEST_TEMPORARY

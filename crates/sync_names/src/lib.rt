@@ -18,6 +18,6 @@ mod text;
 mod utc;
 
 pub use fault::NameFault;
-pub use internal::is_internal;
+pub use internal::{is_internal, is_temporary};
 pub use made::{TempName, conflict_name, temp_name};
 pub use name::SafeName;

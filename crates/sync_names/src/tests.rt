@@ -1,6 +1,6 @@
 //! Names that are accepted, rejected and made. The dates are those of Python's `datetime`, the base32
 //! texts those of its `base64`.
-use crate::{NameFault, SafeName, TempName, conflict_name, is_internal, temp_name};
+use crate::{NameFault, SafeName, TempName, conflict_name, is_internal, is_temporary, temp_name};
 use std::alloc::Global;
 use std::process::Abort;
 use std::test::Fail;
@@ -214,6 +214,20 @@ fn makes_temporary_names(rt: HostRuntime) -> Result<(), Fail> {
         assert!(rt; is_internal(made.as_str()), "of {text:?}");
     }
     Ok(())
+}
+
+#[test]
+fn knows_components_of_temporary_files(rt: HostRuntime) {
+    let table = [
+        (".syncthing.a.txt.tmp", true),
+        (".syncthing..tmp", true),
+        (".syncthing.tmp", false),
+        (".syncthing.a.txt", false),
+        ("a.txt.tmp", false),
+    ];
+    for (component, wanted) in table {
+        assert_eq!(rt; is_temporary(component), wanted, "of {component:?}");
+    }
 }
 
 /// What `parse` returns; a failed allocation is tried once more.

@@ -1,7 +1,7 @@
 use Rattle.std.proofs.Common.{◌≡◌, ◌<◌, [], Vec, Global, length, arith, refl, ap, ◌∙◌}
 use Rattle.sync_blocks.specs.declared.block.Block.{Block}
 use Rattle.sync_blocks.specs.BlockList.{block_at}
-use Rattle.sync_blocks.proofs.Filling.{one_more, taken_more, read_none}
+use Rattle.sync_blocks.proofs.Filled.{one_more, taken_more, read_none}
 use Rattle.sync_blocks.proofs.BlockLists.{blocks_of_none, list_from_start, known_all}
 use Rattle.sync_blocks.proofs.reading.blocks_of.Goals as goal
 use Rattle.sync_blocks.proofs.reading.blocks_of.Goals.{then-size-eq0+in_ok-push_empty_block, else-size-eq0}

@@ -1,5 +1,5 @@
 use Rattle.std.proofs.Common.{◌≡◌, ◌+◌, ◌++◌, rules, arith, length, take, ◌∙◌, length-take-le}
-use Rattle.sync_blocks.proofs.Filling.{taken_more}
+use Rattle.sync_blocks.proofs.Filled.{taken_more}
 use Rattle.sync_blocks.proofs.Groups.{group_joined, stays_whole}
 use Rattle.std.proofs.KnownBytes.{Consumes-trans}
 use Rattle.std.proofs.lemmas.List.{length-append}

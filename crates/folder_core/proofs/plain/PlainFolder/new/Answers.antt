@@ -1,4 +1,4 @@
-use Rattle.std.proofs.Common.{◌≡◌, List, [], ap, sym, subst, ◌∙◌, vec_capacity}
+use Rattle.std.proofs.Common.{List, [], ap, sym, subst, ◌∙◌, vec_capacity}
 use Rattle.std.specs.FinMap.{empty}
 use Rattle.folder_core.specs.declared.announcement.Announcement.{Announcement as Entry}
 use Rattle.folder_core.specs.declared.plain.pull.OpenPull.{OpenPull}

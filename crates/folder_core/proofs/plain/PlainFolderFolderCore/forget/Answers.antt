@@ -1,11 +1,7 @@
-use Rattle.std.proofs.Common.{◌≡◌, ◌≢◌, List, map, subst, sym, ap, ◌∙◌, arith, rules}
+use Rattle.std.proofs.Common.{◌≡◌, ◌≢◌, subst, sym, arith, rules}
 use Rattle.std.specs.Prelude.{filter}
-use Rattle.std.specs.FinMap.{from_sorted}
 use Rattle.std.proofs.lemmas.Fn.{filter_same}
-use Rattle.folder_core.specs.declared.announcement.Announcement.{Announcement as Entry}
-use Rattle.folder_core.specs.Announced.{Announced}
-use Rattle.folder_core.specs.Plain.{Rises, filed, folder_of, pulls_of}
-use Rattle.folder_core.specs.declared.answer.Answer.TheVariants.{Applied}
+use Rattle.folder_core.specs.Plain.{Rises, pulls_of}
 use Rattle.folder_core.specs.declared.change.Change.TheVariants.{Forget}
 use Rattle.folder_core.proofs.PlainChange.{forgot, is_of_another, others-rise, plain_with}
 use Rattle.folder_core.proofs.plain.PlainFolderFolderCore.forget.Goals as goal

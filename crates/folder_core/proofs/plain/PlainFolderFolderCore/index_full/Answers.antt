@@ -2,7 +2,7 @@ use Rattle.std.proofs.Common.{◌≢◌, ◌≡◌, List, map, subst, sym, ap, �
 use Rattle.std.specs.Prelude.{filter}
 use Rattle.std.proofs.lemmas.Fn.{filter_same}
 use Rattle.folder_core.specs.declared.announcement.Announcement.{Announcement as Entry}
-use Rattle.folder_core.specs.Plain.{IsLastOfEach, commits, Rises, filed, filed_by, folder_of, pulls_of, put_all}
+use Rattle.folder_core.specs.Plain.{IsLastOfEach, commits, Rises, filed, filed_by, pulls_of, put_all}
 use Rattle.folder_core.specs.declared.change.Change.TheVariants.{IndexFull}
 use Rattle.folder_core.proofs.PlainChange.{full_rises, full_step, is_of_another, others-rise, plain_with}
 use Rattle.folder_core.proofs.plain.PlainFolderFolderCore.index_full.Goals as goal

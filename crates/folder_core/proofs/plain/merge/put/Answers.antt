@@ -1,8 +1,7 @@
-use Rattle.std.proofs.Common.{◌≡◌, true, false, List, length, map, arith, sym, ap, subst, ◌∙◌, rules}
-use Rattle.std.specs.Prelude.{None, Some, slice_get, option_copied}
+use Rattle.std.proofs.Common.{◌≡◌, true, false, length, map, arith, sym, ap, subst, ◌∙◌, rules}
+use Rattle.std.specs.Prelude.{slice_get, option_copied}
 use Rattle.std.specs.List.{AllWithin}
 use Rattle.std.proofs.lemmas.List.Sorted.{IsPartitionPoint-from_clause}
-use Rattle.folder_core.specs.declared.announcement.Announcement.{Announcement as Entry}
 use Rattle.folder_core.specs.Announced.{key}
 use Rattle.folder_core.specs.Plain.{Rises, filed}
 use Rattle.folder_core.proofs.PlainGroup.{partitioned}

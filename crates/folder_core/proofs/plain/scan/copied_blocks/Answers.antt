@@ -1,4 +1,4 @@
-use Rattle.std.proofs.Common.{◌≡◌, length, take, sym, ap, subst, ◌∙◌, ◌++◌, [], ◌∷◌, All, arith}
+use Rattle.std.proofs.Common.{◌≡◌, length, sym, subst, ◌∙◌, ◌++◌, [], ◌∷◌, All, arith}
 use Rattle.std.proofs.lemmas.List.{take_more}
 use Rattle.std.proofs.lemmas.List.Elements.{All-push}
 use Rattle.sync_blocks.specs.declared.block.Block.{Block}

@@ -1,7 +1,7 @@
 -- What was filled is what was consumed.
 use Rattle.std.proofs.Common.{◌≡◌, ◌≤◌, take, length}
 use Rattle.std.specs.Io.KnownBytes.{Consumes}
-use Rattle.sync_blocks.proofs.reading.fill.Given as goal
+use Rattle.sync_blocks.proofs.filling.fill.Given as goal
 
 abbrev pub invariant-loop : goal.invariant-loop
 invariant-loop g l = record {

@@ -1,8 +1,8 @@
 use Rattle.std.proofs.Common.{◌≡◌, ◌-◌, rules, arith, length}
 use borrow.Rule.Slice.PartMut.{put_mid}
-use Rattle.file_dir.proofs.Filling.{filled_more, filled_kept}
-use Rattle.file_dir.proofs.opened.fill.Goals as goal
-use Rattle.file_dir.proofs.opened.fill.Goals.{in-Ok, in-Err}
+use Rattle.sync_blocks.proofs.Filled.{filled_more, filled_kept}
+use Rattle.sync_blocks.proofs.filling.fill.Goals as goal
+use Rattle.sync_blocks.proofs.filling.fill.Goals.{in-Ok, in-Err}
 
 pub loop-preserved : goal.loop-preserved
 loop-preserved g c =
