@@ -65,7 +65,7 @@ fn given<R: Wait>(
     rt: &R,
     folder: &SharedFolder<PlainFolder>,
 ) -> Result<Pass<PlainFolder>, AllocError>
-    ensures { IfOk result (λ pass. IsPassOf folder.now pass) }
+    ensures { IfOk result (λ pass. IsPassOf folder.now.locked pass) }
 {
     folder.pass(rt).map_err(|_| AllocError)
 }
@@ -77,7 +77,7 @@ fn by_one<R: AllocGlobal + Wait>(
     work: Work,
     names: &[SafeName],
 ) -> Result<usize, AllocError>
-    requires { IsPassOf folder.now pass }
+    requires { IsPassOf folder.now.locked pass }
 {
     match work {
         Work::Reads => read(rt, folder, &mut pass, names),
@@ -92,8 +92,8 @@ fn read<R: Wait>(
     pass: &mut Pass<PlainFolder>,
     names: &[SafeName],
 ) -> Result<usize, AllocError>
-    requires { IsPassOf folder.now pass.old }
-    ensures { IsPassOf folder.now pass.new }
+    requires { IsPassOf folder.now.locked pass.old }
+    ensures { IsPassOf folder.now.locked pass.new }
 {
     let mut found = 0usize;
     for _round in 0..ROUNDS {
@@ -108,8 +108,8 @@ fn read_once<R: Wait>(
     pass: &mut Pass<PlainFolder>,
     names: &[SafeName],
 ) -> Result<usize, AllocError>
-    requires { IsPassOf folder.now pass.old }
-    ensures { IsPassOf folder.now pass.new }
+    requires { IsPassOf folder.now.locked pass.old }
+    ensures { IsPassOf folder.now.locked pass.new }
 {
     let mut found = 0usize;
     for name in names {
@@ -127,8 +127,8 @@ fn scan<R: AllocGlobal + Wait>(
     names: &[SafeName],
     digests: Range<u8>,
 ) -> Result<usize, AllocError>
-    requires { IsPassOf folder.now pass.old }
-    ensures { IsPassOf folder.now pass.new }
+    requires { IsPassOf folder.now.locked pass.old }
+    ensures { IsPassOf folder.now.locked pass.new }
 {
     let Some(moment) = Moment::new(1_700_000_000) else {
         return Ok(0);
@@ -149,9 +149,9 @@ fn scan_once<R: Wait>(
     found: &Finding,
     moment: Moment,
 ) -> Result<usize, AllocError>
-    requires pass { IsPassOf folder.now pass.old }
+    requires pass { IsPassOf folder.now.locked pass.old }
     requires found { IsTrue (is_found found.now.content) }
-    ensures { IsPassOf folder.now pass.new }
+    ensures { IsPassOf folder.now.locked pass.new }
 {
     let mut recorded = 0usize;
     for name in names {
@@ -171,17 +171,17 @@ fn by_two<R: AllocGlobal + Threads + Wait + Sync>(
     work: Work,
     names: &[SafeName],
 ) -> Result<usize, AllocError>
-    requires { IsPassOf folder.now passes.0 × IsPassOf folder.now passes.1 }
+    requires { IsPassOf folder.now.locked passes.0 × IsPassOf folder.now.locked passes.1 }
 {
     let (one, other) = passes;
     let (front, back) = names.split_at(names.len() / 2);
     let (first, second) = join(
         rt,
         || -> Result<usize, AllocError>
-            requires { IsPassOf folder.now one }
+            requires { IsPassOf folder.now.locked one }
         { by_one(rt, folder, one, work, front) },
         || -> Result<usize, AllocError>
-            requires { IsPassOf folder.now other }
+            requires { IsPassOf folder.now.locked other }
         { by_one(rt, folder, other, work, back) },
     );
     Ok(first?.saturating_add(second?))
@@ -195,16 +195,16 @@ fn by_four<R: AllocGlobal + Threads + Wait + Sync>(
     work: Work,
     names: &[SafeName],
 ) -> Result<usize, AllocError>
-    requires { IsPassOf folder.now one.0 × IsPassOf folder.now one.1 × IsPassOf folder.now other.0 × IsPassOf folder.now other.1 }
+    requires { IsPassOf folder.now.locked one.0 × IsPassOf folder.now.locked one.1 × IsPassOf folder.now.locked other.0 × IsPassOf folder.now.locked other.1 }
 {
     let (front, back) = names.split_at(names.len() / 2);
     let (first, second) = join(
         rt,
         || -> Result<usize, AllocError>
-            requires { IsPassOf folder.now one.0 × IsPassOf folder.now one.1 }
+            requires { IsPassOf folder.now.locked one.0 × IsPassOf folder.now.locked one.1 }
         { by_two(rt, folder, one, work, front) },
         || -> Result<usize, AllocError>
-            requires { IsPassOf folder.now other.0 × IsPassOf folder.now other.1 }
+            requires { IsPassOf folder.now.locked other.0 × IsPassOf folder.now.locked other.1 }
         { by_two(rt, folder, other, work, back) },
     );
     Ok(first?.saturating_add(second?))

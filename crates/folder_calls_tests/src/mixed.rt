@@ -105,19 +105,19 @@ fn four_work<C: FolderCore + Drop + Send, R: AllocGlobal + Abort + Threads + Wai
     folder: &SharedFolder<C>,
     passes: (Pair<C>, Pair<C>),
 ) -> ((Worked<C>, Worked<C>), (Worked<C>, Worked<C>))
-    requires { IsPassOf folder.now passes.0.0 × IsPassOf folder.now passes.0.1 × IsPassOf folder.now passes.1.0 × IsPassOf folder.now passes.1.1 }
-    ensures { IsPassOf folder.now result.0.0.pass × IsPassOf folder.now result.0.1.pass × IsPassOf folder.now result.1.0.pass × IsPassOf folder.now result.1.1.pass }
+    requires { IsPassOf folder.now.locked passes.0.0 × IsPassOf folder.now.locked passes.0.1 × IsPassOf folder.now.locked passes.1.0 × IsPassOf folder.now.locked passes.1.1 }
+    ensures { IsPassOf folder.now.locked result.0.0.pass × IsPassOf folder.now.locked result.0.1.pass × IsPassOf folder.now.locked result.1.0.pass × IsPassOf folder.now.locked result.1.1.pass }
 {
     let (one, other) = passes;
     join(
         rt,
         || -> (Worked<C>, Worked<C>)
-            requires { IsPassOf folder.now one.0 × IsPassOf folder.now one.1 }
-            ensures { IsPassOf folder.entry.now result.0.pass × IsPassOf folder.entry.now result.1.pass }
+            requires { IsPassOf folder.now.locked one.0 × IsPassOf folder.now.locked one.1 }
+            ensures { IsPassOf folder.entry.now.locked result.0.pass × IsPassOf folder.entry.now.locked result.1.pass }
         { two_work(rt, folder, one, "a", "b") },
         || -> (Worked<C>, Worked<C>)
-            requires { IsPassOf folder.now other.0 × IsPassOf folder.now other.1 }
-            ensures { IsPassOf folder.entry.now result.0.pass × IsPassOf folder.entry.now result.1.pass }
+            requires { IsPassOf folder.now.locked other.0 × IsPassOf folder.now.locked other.1 }
+            ensures { IsPassOf folder.entry.now.locked result.0.pass × IsPassOf folder.entry.now.locked result.1.pass }
         { two_work(rt, folder, other, "c", "d") },
     )
 }
@@ -129,19 +129,19 @@ fn two_work<C: FolderCore + Drop + Send, R: AllocGlobal + Abort + Threads + Wait
     one: &str,
     other: &str,
 ) -> (Worked<C>, Worked<C>)
-    requires { IsPassOf folder.now passes.0 × IsPassOf folder.now passes.1 }
-    ensures { IsPassOf folder.now result.0.pass × IsPassOf folder.now result.1.pass }
+    requires { IsPassOf folder.now.locked passes.0 × IsPassOf folder.now.locked passes.1 }
+    ensures { IsPassOf folder.now.locked result.0.pass × IsPassOf folder.now.locked result.1.pass }
 {
     let (first, second) = passes;
     join(
         rt,
         || -> Worked<C>
-            requires { IsPassOf folder.now first }
-            ensures { IsPassOf folder.entry.now result.pass }
+            requires { IsPassOf folder.now.locked first }
+            ensures { IsPassOf folder.entry.now.locked result.pass }
         { works(rt, folder, first, one) },
         || -> Worked<C>
-            requires { IsPassOf folder.now second }
-            ensures { IsPassOf folder.entry.now result.pass }
+            requires { IsPassOf folder.now.locked second }
+            ensures { IsPassOf folder.entry.now.locked result.pass }
         { works(rt, folder, second, other) },
     )
 }
@@ -153,8 +153,8 @@ fn works<C: FolderCore + Drop, R: AllocGlobal + Abort + Wait>(
     mut pass: Pass<C>,
     front: &str,
 ) -> Worked<C>
-    requires { IsPassOf folder.now pass }
-    ensures { IsPassOf folder.now result.pass }
+    requires { IsPassOf folder.now.locked pass }
+    ensures { IsPassOf folder.now.locked result.pass }
 {
     let mut made = Vec::new(rt.alloc());
     let pulled = name(rt, "x");
@@ -175,8 +175,8 @@ fn scans<C: FolderCore + Drop>(
     pass: &mut Pass<C>,
     name: &SafeName,
 ) -> u64
-    requires { IsPassOf folder.now pass.old }
-    ensures { IsPassOf folder.now pass.new }
+    requires { IsPassOf folder.now.locked pass.old }
+    ensures { IsPassOf folder.now.locked pass.new }
 {
     match folder.scan_found(rt, pass, name, None, &directory(), moment(rt)) {
         Ok(
@@ -198,8 +198,8 @@ fn pulls<C: FolderCore + Drop>(
     name: &SafeName,
     made: &mut Vec<(u64, Made)>,
 )
-    requires { IsPassOf folder.now pass.old }
-    ensures { IsPassOf folder.now pass.new }
+    requires { IsPassOf folder.now.locked pass.old }
+    ensures { IsPassOf folder.now.locked pass.new }
 {
     let At { at, value } = folder.begin_pull(rt, pass, name).expect(rt, "an answer");
     match value {

@@ -136,8 +136,8 @@ fn scans<C: FolderCore + Drop>(
     pass: &mut Pass<C>,
     text: &str,
 ) -> (&'static str, u64)
-    requires { IsPassOf folder.now pass.old }
-    ensures { IsPassOf folder.now pass.new }
+    requires { IsPassOf folder.now.locked pass.old }
+    ensures { IsPassOf folder.now.locked pass.new }
 {
     match folder.scan_found(rt, pass, &name(rt, text), None, &directory(), moment(rt)) {
         Ok(scanned) => scanned_as(scanned.value),
@@ -152,8 +152,8 @@ pub(crate) fn announces<C: FolderCore + Drop>(
     pass: &mut Pass<C>,
     text: &str,
 )
-    requires { IsPassOf folder.now pass.old }
-    ensures { IsPassOf folder.now pass.new }
+    requires { IsPassOf folder.now.locked pass.old }
+    ensures { IsPassOf folder.now.locked pass.new }
 {
     let peer = device(1);
     assert!(rt; peer != folder.me());
@@ -172,8 +172,8 @@ fn begins<C: FolderCore + Drop>(
     pass: &mut Pass<C>,
     text: &str,
 ) -> Ticket
-    requires { IsPassOf folder.now pass.old }
-    ensures { IsPassOf folder.now pass.new }
+    requires { IsPassOf folder.now.locked pass.old }
+    ensures { IsPassOf folder.now.locked pass.new }
 {
     match folder.begin_pull(rt, pass, &name(rt, text)) {
         Ok(At { at: _, value }) => match value {
@@ -190,8 +190,8 @@ fn enters<C: FolderCore + Drop>(
     pass: &mut Pass<C>,
     ticket: Ticket,
 ) -> Commit
-    requires { IsPassOf folder.now pass.old }
-    ensures { IsPassOf folder.now pass.new }
+    requires { IsPassOf folder.now.locked pass.old }
+    ensures { IsPassOf folder.now.locked pass.new }
 {
     match folder.enter_commit(rt, pass, ticket) {
         Ok(At { at: _, value }) => match value {
@@ -209,8 +209,8 @@ fn is_stray<C: FolderCore + Drop>(
     pass: &mut Pass<C>,
     ticket: Ticket,
 ) -> bool
-    requires { IsPassOf folder.now pass.old }
-    ensures { IsPassOf folder.now pass.new }
+    requires { IsPassOf folder.now.locked pass.old }
+    ensures { IsPassOf folder.now.locked pass.new }
 {
     match folder.enter_commit(rt, pass, ticket) {
         Ok(At { at: _, value }) => match value {
@@ -228,8 +228,8 @@ fn finishes<C: FolderCore + Drop>(
     pass: &mut Pass<C>,
     commit: Commit,
 )
-    requires { IsPassOf folder.now pass.old }
-    ensures { IsPassOf folder.now pass.new }
+    requires { IsPassOf folder.now.locked pass.old }
+    ensures { IsPassOf folder.now.locked pass.new }
 {
     let target = commit.target().copy().expect(rt, "a copy");
     assert!(rt; target.is_deleted() || is_directory(&target));
@@ -259,7 +259,7 @@ fn closed(
     folder: SharedFolder<PlainFolder>,
     pass: Pass<PlainFolder>,
 ) -> (PlainFolder, u64)
-    requires { IsPassOf folder pass }
+    requires { IsPassOf folder.locked pass }
 {
     let mut passes = Vec::new(rt.alloc());
     passes.push(pass).expect(rt, "a list");
@@ -271,7 +271,7 @@ pub(crate) fn given(
     rt: &(impl Abort + Wait),
     folder: &SharedFolder<PlainFolder>,
 ) -> Pass<PlainFolder>
-    ensures { IsPassOf folder.now result }
+    ensures { IsPassOf folder.now.locked result }
 {
     match folder.pass(rt) {
         Ok(pass) => pass,
@@ -286,9 +286,9 @@ pub(crate) fn listed<C: FolderCore + Drop>(
     one: (Pass<C>, Pass<C>),
     other: (Pass<C>, Pass<C>),
 ) -> Vec<Pass<C>>
-    requires { IsPassOf folder.now one.0 × IsPassOf folder.now one.1 × IsPassOf folder.now other.0 × IsPassOf folder.now other.1 }
+    requires { IsPassOf folder.now.locked one.0 × IsPassOf folder.now.locked one.1 × IsPassOf folder.now.locked other.0 × IsPassOf folder.now.locked other.1 }
     ensures some { 0 < length result.items }
-    ensures passes { (i : ℕ) (p : PassOf C) → get_elem? result.items i ≡ some p → IsPassOf folder.now p }
+    ensures passes { (i : ℕ) (p : PassOf C) → get_elem? result.items i ≡ some p → IsPassOf folder.now.locked p }
 {
     let mut passes = Vec::new(rt.alloc());
     passes.push(one.0).expect(rt, "a list");

@@ -44,19 +44,19 @@ fn four_scan<C: FolderCore + Drop + Send, R: AllocGlobal + Abort + Threads + Wai
     folder: &SharedFolder<C>,
     passes: ((Pass<C>, Pass<C>), (Pass<C>, Pass<C>)),
 ) -> ((Scanned<C>, Scanned<C>), (Scanned<C>, Scanned<C>))
-    requires { IsPassOf folder.now passes.0.0 × IsPassOf folder.now passes.0.1 × IsPassOf folder.now passes.1.0 × IsPassOf folder.now passes.1.1 }
-    ensures { IsPassOf folder.now result.0.0.pass × IsPassOf folder.now result.0.1.pass × IsPassOf folder.now result.1.0.pass × IsPassOf folder.now result.1.1.pass }
+    requires { IsPassOf folder.now.locked passes.0.0 × IsPassOf folder.now.locked passes.0.1 × IsPassOf folder.now.locked passes.1.0 × IsPassOf folder.now.locked passes.1.1 }
+    ensures { IsPassOf folder.now.locked result.0.0.pass × IsPassOf folder.now.locked result.0.1.pass × IsPassOf folder.now.locked result.1.0.pass × IsPassOf folder.now.locked result.1.1.pass }
 {
     let (one, other) = passes;
     join(
         rt,
         || -> (Scanned<C>, Scanned<C>)
-            requires { IsPassOf folder.now one.0 × IsPassOf folder.now one.1 }
-            ensures { IsPassOf folder.entry.now result.0.pass × IsPassOf folder.entry.now result.1.pass }
+            requires { IsPassOf folder.now.locked one.0 × IsPassOf folder.now.locked one.1 }
+            ensures { IsPassOf folder.entry.now.locked result.0.pass × IsPassOf folder.entry.now.locked result.1.pass }
         { two_scan(rt, folder, one, "a", "b") },
         || -> (Scanned<C>, Scanned<C>)
-            requires { IsPassOf folder.now other.0 × IsPassOf folder.now other.1 }
-            ensures { IsPassOf folder.entry.now result.0.pass × IsPassOf folder.entry.now result.1.pass }
+            requires { IsPassOf folder.now.locked other.0 × IsPassOf folder.now.locked other.1 }
+            ensures { IsPassOf folder.entry.now.locked result.0.pass × IsPassOf folder.entry.now.locked result.1.pass }
         { two_scan(rt, folder, other, "c", "d") },
     )
 }
@@ -68,19 +68,19 @@ fn two_scan<C: FolderCore + Drop + Send, R: AllocGlobal + Abort + Threads + Wait
     one: &str,
     other: &str,
 ) -> (Scanned<C>, Scanned<C>)
-    requires { IsPassOf folder.now passes.0 × IsPassOf folder.now passes.1 }
-    ensures { IsPassOf folder.now result.0.pass × IsPassOf folder.now result.1.pass }
+    requires { IsPassOf folder.now.locked passes.0 × IsPassOf folder.now.locked passes.1 }
+    ensures { IsPassOf folder.now.locked result.0.pass × IsPassOf folder.now.locked result.1.pass }
 {
     let (first, second) = passes;
     join(
         rt,
         || -> Scanned<C>
-            requires { IsPassOf folder.now first }
-            ensures { IsPassOf folder.entry.now result.pass }
+            requires { IsPassOf folder.now.locked first }
+            ensures { IsPassOf folder.entry.now.locked result.pass }
         { scans_a_hundred(rt, folder, first, one) },
         || -> Scanned<C>
-            requires { IsPassOf folder.now second }
-            ensures { IsPassOf folder.entry.now result.pass }
+            requires { IsPassOf folder.now.locked second }
+            ensures { IsPassOf folder.entry.now.locked result.pass }
         { scans_a_hundred(rt, folder, second, other) },
     )
 }
@@ -92,8 +92,8 @@ fn scans_a_hundred<C: FolderCore + Drop, R: AllocGlobal + Abort + Wait>(
     mut pass: Pass<C>,
     front: &str,
 ) -> Scanned<C>
-    requires { IsPassOf folder.now pass }
-    ensures { IsPassOf folder.now result.pass }
+    requires { IsPassOf folder.now.locked pass }
+    ensures { IsPassOf folder.now.locked result.pass }
 {
     let mut sequences = Vec::new(rt.alloc());
     for number in 0..100_u32 {
@@ -111,8 +111,8 @@ fn recorded<C: FolderCore + Drop>(
     pass: &mut Pass<C>,
     name: &SafeName,
 ) -> u64
-    requires { IsPassOf folder.now pass.old }
-    ensures { IsPassOf folder.now pass.new }
+    requires { IsPassOf folder.now.locked pass.old }
+    ensures { IsPassOf folder.now.locked pass.new }
 {
     match folder.scan_found(rt, pass, name, None, &directory(), moment(rt)) {
         Ok(

@@ -22,7 +22,7 @@ use Rattle.folder_calls.specs.Shared.{Declines, IsAnswered, IsLegalView, Makes, 
 use Rattle.folder_shared.specs.declared.known.Claim.{Claim}
 use Rattle.folder_shared.specs.declared.known.Known.{Known}
 use Rattle.folder_shared.specs.declared.shared.Pass.{Pass}
-use Rattle.folder_shared.specs.declared.shared.SharedFolder.{SharedFolder}
+use Rattle.folder_shared.specs.declared.shared.LockedFolder.{LockedFolder}
 use Rattle.folder_shared.specs.Rule.{claim, claimed, IsFit, IsSame, Kept, MayPut, PutBack, seen_all}
 use Rattle.folder_shared.specs.Passes.{IsGivenBack, IsGrown, IsHeld, IsPassOf, IsPutBack, MayPutBack, claimed_of, knows, limit_of, opened_of, opening_of, seen_of, view_of}
 use Rattle.folder_shared.proofs.Histories.{length_starts, starts_trans, take_same, take_starts}
@@ -104,7 +104,7 @@ there old now x y change answer entered same sees is legal = record {
       answer_is = at ∙ ap (λ (v : View). shared_answer old.limit old.opening v.seen change) (sym same);
     }
 
-module _ {C : Type 0} (s : SharedFolder C) (before held : Pass C) (x : History) (of : IsPassOf s before) (h : IsHeld s before held x) where
+module _ {C : Type 0} (s : LockedFolder C) (before held : Pass C) (x : History) (of : IsPassOf s before) (h : IsHeld s before held x) where
   memo-held : (knows held).memo ≡ x
   memo-held = ap (λ (v : Known). v.memo) h.taken.after
 

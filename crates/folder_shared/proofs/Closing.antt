@@ -22,7 +22,7 @@ use Rattle.folder_shared.specs.declared.known.Claim.{Claim}
 use Rattle.folder_shared.specs.declared.known.Known.{Known}
 use Rattle.folder_shared.specs.declared.shared.Pass.{Pass}
 use Rattle.folder_shared.specs.Rule.{claim, IsFit, AreFit, AreApart, Taken}
-use Rattle.folder_shared.specs.declared.shared.SharedFolder.{SharedFolder}
+use Rattle.folder_shared.specs.declared.shared.LockedFolder.{LockedFolder}
 use Rattle.folder_shared.specs.Passes.{IsPassOf, claimed_of, limit_of, opening_of, seen_of, view_of}
 use Rattle.folder_shared.proofs.Lists.{at_none, at_one, at_append}
 use Rattle.folder_shared.proofs.Histories.{starts_trans, take_starts}
@@ -181,7 +181,7 @@ module _ {C : Type 0} where
   mapped f (q ∷ ps) zero p e = (0, omega arith, ap f (some-injective q p e))
   mapped f (q ∷ ps) (suc i) p e = let r = mapped f ps i p e in (suc r.0, (let l = r.1 in omega arith), r.2)
 
-  pub closes : (s : SharedFolder C) (x : History) (v w : Known) (ps : List (Pass C)) → Taken v x w → v.claims ≡ claims_back ps → (x.opening ≡ opening_of s) × (x.limit ≡ limit_of s) → IsHistory x → 0 < length ps
+  pub closes : (s : LockedFolder C) (x : History) (v w : Known) (ps : List (Pass C)) → Taken v x w → v.claims ≡ claims_back ps → (x.opening ≡ opening_of s) × (x.limit ≡ limit_of s) → IsHistory x → 0 < length ps
       → ((i : ℕ) (p : Pass C) → get_elem? ps i ≡ some p → IsPassOf s p) → (state : FolderState) → state ≡ end x → (given : ℕ) → given ≡ x.passes → Closes (opening_of s) (limit_of s) given (map (view_of s) ps) state
   closes s x v w ps t claims same history some_pass of state state_is given passes =
       let fit : AreFit x (claims_back ps) = subst (AreFit x) claims t.fit in

@@ -18,7 +18,7 @@ use Rattle.folder_shared.specs.declared.known.Claim.{Claim}
 use Rattle.folder_shared.specs.declared.known.Known.{Known}
 use Rattle.folder_shared.specs.declared.known.Stage.TheVariants.{Idle}
 use Rattle.folder_shared.specs.declared.shared.Pass.{Pass}
-use Rattle.folder_shared.specs.declared.shared.SharedFolder.{SharedFolder}
+use Rattle.folder_shared.specs.declared.shared.LockedFolder.{LockedFolder}
 use Rattle.folder_shared.specs.Rule.{claim, claimed, Agree, IsFit, joined, left_of, longer, first_claim, right_of, second_claim}
 use Rattle.folder_shared.specs.Passes.{IsPassOf, claimed_of, knows, limit_of, opening_of, seen_of, view_of}
 use Rattle.folder_shared.proofs.Histories.{length_starts, longer_starts, own_between, starts_trans, take_same, take_starts}
@@ -126,7 +126,7 @@ course_memos : (v v' w w' j l one other : Known) (items : List History) → Cour
 course_memos v v' w w' j l one other items c = let e : l.memo ≡ v.memo = ap (λ (u : Known). u.memo) (c.learns ∙ c.joins ∙ (λ i. joined (c.first i) (c.second i))) in
     (ap (λ (u : Known). u.memo) c.cuts ∙ e, ap (λ (u : Known). u.memo) c.rest ∙ e)
 
-module _ {C : Type 0} (s : SharedFolder C) (one other one' other' : Pass C) (w w' j l : Known) (items : List History) (of : IsPassOf s one) (of' : IsPassOf s other)
+module _ {C : Type 0} (s : LockedFolder C) (one other one' other' : Pass C) (w w' j l : Known) (items : List History) (of : IsPassOf s one) (of' : IsPassOf s other)
     (course : Course (knows one) (knows other) w w' j l (knows one') (knows other') items)
     (number : one'.number ≡ one.number) (number' : other'.number ≡ other.number)
     (seen : one'.seen ≡ max one.seen other.seen) (seen' : other'.seen ≡ one'.seen)

@@ -29,8 +29,11 @@ none-given passes n s (e ∷ es) more legal =
     ∙ none-given passes n (after s e) es more legal.1
 
 module _ {C : Type 0} (s : SharedFolder C) (root : Token History Known) (m : IsRootOf s.root.table.shared.key root) (v : Known) (v_is : v ≡ blank_of (view root)) (x : History) (w : Known) (t : Taken v x w) where
-  same-opened : IsSame x (opened_of s)
-  same-opened = (t.same.0 ∙ ap (λ (u : Known). u.memo.opening) v_is ∙ m.same.0, t.same.1 ∙ ap (λ (u : Known). u.memo.limit) v_is ∙ m.same.1)
+  same-opened : IsSame x (opened_of s.locked)
+  same-opened = (
+    t.same.0 ∙ ap (λ (u : Known). u.memo.opening) v_is ∙ m.same.0 ∙ ap (λ (h : History). h.opening) s.same,
+    t.same.1 ∙ ap (λ (u : Known). u.memo.limit) v_is ∙ m.same.1 ∙ ap (λ (h : History). h.limit) s.same,
+  )
 
   holds : w.stage ≡ Holding
   holds = ap (λ (u : Known). u.stage) t.after
@@ -52,7 +55,7 @@ module _ {C : Type 0} (s : SharedFolder C) (root : Token History Known) (m : IsR
       pub number-rule : (n port : ℕ) → Pushes Kept n port w y (Numbered w y)
       number-rule n port = numbers n port w y holds may
 
-      pub numbered-pass : IsHistory x → (p : Pass C) → p.number ≡ number → p.seen ≡ 0 → IsSeatAt (sends_on s.sender) p.token → Numbered w y (knows p) → IsPassOf s p
+      pub numbered-pass : IsHistory x → (p : Pass C) → p.number ≡ number → p.seen ≡ 0 → IsSeatAt (sends_on s.locked.sender) p.token → Numbered w y (knows p) → IsPassOf s.locked p
       numbered-pass history p number_is none seat put =
           let c : claimed_of p ≡ x.entries = ap (λ (u : Known). claimed u.claims) put ∙ ap (λ (h : History). h.entries) is in
           let nothing : seen_of p ≡ [] = ap (λ n. take n (claimed_of p)) none in
@@ -63,8 +66,8 @@ module _ {C : Type 0} (s : SharedFolder C) (root : Token History Known) (m : IsR
             claims = ap (λ (u : Known). u.claims) put ∙ (λ i. claim ((ap (λ (h : History). h.passes) is ∙ sym number_is) i) (ap (λ (h : History). h.entries) is i) ∷ []) ∙ (λ i. claim p.number (sym c i) ∷ []);
             counted = omega arith;
             own = ap (own_entries p.number) nothing ∙ sym (none-given x.passes p.number x.opening x.entries (omega arith) history.legal) ∙ ap (own_entries p.number) (sym c);
-            legal = ∣ subst (λ es. IsLegalView (record { opening = opening_of s; limit = limit_of s; pass = p.number; seen = es })) (sym nothing)
-                (view-opened (opening_of s) (limit_of s) p.number (subst IsFolder same-opened.0 history.opening) (subst (λ (f : FolderState). len f.pulls ≡ 0) same-opened.0 history.no_pull) (omega arith)) ∣₁;
+            legal = ∣ subst (λ es. IsLegalView (record { opening = opening_of s.locked; limit = limit_of s.locked; pass = p.number; seen = es })) (sym nothing)
+                (view-opened (opening_of s.locked) (limit_of s.locked) p.number (subst IsFolder same-opened.0 history.opening) (subst (λ (f : FolderState). len f.pulls ≡ 0) same-opened.0 history.no_pull) (omega arith)) ∣₁;
           }
 
     -- as it was

@@ -12,7 +12,7 @@ use Rattle.folder_shared.specs.declared.known.Known.{Known}
 use Rattle.folder_shared.specs.declared.known.Stage.TheVariants.{Idle}
 use Rattle.folder_shared.specs.declared.shared.Pass.{Pass}
 use Rattle.folder_shared.specs.declared.shared.PassesFull.{PassesFull}
-use Rattle.folder_shared.specs.declared.shared.SharedFolder.{SharedFolder}
+use Rattle.folder_shared.specs.declared.shared.LockedFolder.{LockedFolder}
 use Rattle.folder_shared.specs.Rule.{claim, claimed, IsSame, Taken}
 
 -- the history is as it was, or has one entry more, of this pass
@@ -36,22 +36,22 @@ module _ {C : Type 0} where
   seen_of p = take p.seen (claimed_of p)
 
   -- the history when the folder was opened
-  abbrev pub opened_of : SharedFolder C → History
-  opened_of s = s.root.table.shared.key.first.value
+  abbrev pub opened_of : LockedFolder C → History
+  opened_of s = s.first.value
 
-  abbrev pub opening_of : SharedFolder C → FolderState
+  abbrev pub opening_of : LockedFolder C → FolderState
   opening_of s = (opened_of s).opening
 
-  abbrev pub limit_of : SharedFolder C → ℕ
+  abbrev pub limit_of : LockedFolder C → ℕ
   limit_of s = (opened_of s).limit
 
   -- what the pass knows
-  abbrev pub view_of : SharedFolder C → Pass C → View
+  abbrev pub view_of : LockedFolder C → Pass C → View
   view_of s p = record { opening = opening_of s; limit = limit_of s; pass = p.number; seen = seen_of p }
 
   -- The pass is one of this folder. It claims what it has seen, with all its entries; it may claim more, after a call that was
   -- out of memory.
-  pub record IsPassOf (s : SharedFolder C) (p : Pass C) : Type 0 where
+  pub record IsPassOf (s : LockedFolder C) (p : Pass C) : Type 0 where
     pub seat : IsSeatAt (sends_on s.sender) p.token
     pub idle : (knows p).stage ≡ Idle
     pub same : IsSame (knows p).memo (opened_of s)
@@ -61,28 +61,28 @@ module _ {C : Type 0} where
     pub legal : ∥ IsLegalView (view_of s p) ∥₁
 
   -- The folder that the call put back has as many passes as there may be. By the rule it has no fewer from then on.
-  pub record IsFullOf (s : SharedFolder C) (e : PassesFull C) : Type 0 where
+  pub record IsFullOf (s : LockedFolder C) (e : PassesFull C) : Type 0 where
     pub seat : IsSeatAt (sends_on s.sender) e.token
     pub idle : (view e.token).stage ≡ Idle
     pub same : IsSame (view e.token).memo (opened_of s)
     pub full : (view e.token).memo.passes ≡ 2 ^ 32
 
   -- a call has taken the folder, with this history, by the pass
-  pub record IsHeld (s : SharedFolder C) (before now : Pass C) (x : History) : Type 0 where
+  pub record IsHeld (s : LockedFolder C) (before now : Pass C) (x : History) : Type 0 where
     pub number : now.number ≡ before.number
     pub seen : now.seen ≡ before.seen
     pub seat : IsSeatAt (sends_on s.sender) now.token
     pub taken : Taken (knows before) x (knows now)
 
   -- the call put the folder back with this history: the pass has then seen it all, if there is an answer
-  abbrev pub IsPutBack : {X E : Type 0} → SharedFolder C → Pass C → History → Result X E → Result (At X) E → Pass C → Type 0
+  abbrev pub IsPutBack : {X E : Type 0} → LockedFolder C → Pass C → History → Result X E → Result (At X) E → Pass C → Type 0
   IsPutBack s before y (Ok answer) result now =
       (result ≡ Ok (record { at = length y.entries; value = answer })) × (view_of s now ≡ seeing (view_of s before) y.entries)
       × IsLegalView (view_of s now)
   IsPutBack s before y (Err fault) result now = (result ≡ Err fault) × (view_of s now ≡ view_of s before)
 
   -- the call put the folder back as it was: the pass has then seen the history, without an entry of its own, if there is an answer
-  abbrev pub IsGivenBack : {X E : Type 0} → SharedFolder C → Pass C → History → Result X E → Result (At X) E → Pass C → Type 0
+  abbrev pub IsGivenBack : {X E : Type 0} → LockedFolder C → Pass C → History → Result X E → Result (At X) E → Pass C → Type 0
   IsGivenBack s before x (Ok answer) result now =
       (result ≡ Ok (record { at = length x.entries; value = answer })) × (view_of s now ≡ seeing (view_of s before) x.entries)
       × Sees (view_of s before) (view_of s now) × IsLegalView (view_of s now)

@@ -7,7 +7,7 @@ ghost use Rattle.folder_calls.specs.Calls.{GivesBack, begin_value, enter_value, 
 ghost use Rattle.folder_calls.specs.Shared.{Tells};
 ghost use Rattle.folder_shared.specs.Passes.{IsPassOf, opening_of, view_of};
 
-use crate::{Pass, SharedFolder};
+use crate::{LockedFolder, Pass};
 use bep_messages::Items;
 use folder_calls::{
     At, BeginAnswer, Commit, EnterRefusal, HistoryFull, NotEntered, ScanRefusal, Ticket,
@@ -22,7 +22,7 @@ use sync_version::{Moment, Version};
 
 /// A change that is accepted becomes the last entry of the history, with its answer, as one of the pass's; all else adds no
 /// entry. Without an answer nothing was changed, and the pass has seen no more.
-impl<C: FolderCore + Drop> SharedFolder<C> {
+impl<C: FolderCore + Drop> LockedFolder<C> {
     /// Records what is found at a name, if its local version is still the expected one. The version is raised by this device
     /// at the moment. Returns `Moved` with the local version if it is another, and `Busy` while a commit of the name is open.
     pub fn scan_found<R: Wait>(

@@ -3,12 +3,12 @@ ghost use Rattle.std.specs.Prelude.{◌≡◌, IfErr, IfOk, true};
 ghost use Rattle.folder_calls.specs.Shared.{Sees};
 ghost use Rattle.folder_shared.specs.Passes.{IsPassOf, view_of};
 
-use crate::{Pass, SharedFolder};
+use crate::{LockedFolder, Pass};
 use folder_core::FolderCore;
 use std::alloc::AllocError;
 use std::sync::Wait;
 
-impl<C: FolderCore + Drop> SharedFolder<C> {
+impl<C: FolderCore + Drop> LockedFolder<C> {
     /// Whether the history leads from the folder that was opened to the one that is kept, by [`folder_calls::replays`]. It does, so this
     /// is for whoever doubts it. The pass has then seen the history. Returns `Err` only if out of memory; then it has seen no
     /// more. The folder is out of other calls' reach while its changes are made once more, at their cost on a plain folder.

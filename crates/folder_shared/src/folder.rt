@@ -5,19 +5,20 @@ ghost use mathlib.Core.Option.{some};
 ghost use lib.ListN.{get_elem?};
 ghost use Rattle.folder_calls.specs.Journals.{new_history};
 ghost use Rattle.folder_calls.specs.Shared.{Closes, Meets};
-ghost use Rattle.folder_shared.specs.declared.shared.SharedFolder.{SharedFolder as Folder};
+ghost use Rattle.folder_shared.specs.declared.shared.LockedFolder.{LockedFolder as Folder};
 ghost use Rattle.folder_shared.specs.Passes.{IsPassOf, IsFullOf, knows, limit_of, opened_of, opening_of, seen_of, view_of};
 
 use crate::known::Known;
 use crate::lock::{put, take};
 use crate::root::Origin;
 use crate::rule::{Apart, Blank, Both, Compares, Numbers, OneHistory, Opens, Puts};
-use crate::shared::{Pass, PassesFull, Root, SharedFolder};
+use crate::shared::{LockedFolder, Pass, PassesFull, Root, SharedFolder};
 use crossbeam_channel::bounded_with;
 use folder_calls::Journal;
 use folder_core::FolderCore;
 use std::alloc::Global;
 use std::mem::replace;
+use std::ops::Deref;
 use std::snapshot::Snapshot;
 use std::sync::Wait;
 use sync_record::DeviceId;
@@ -50,7 +51,7 @@ impl<C: FolderCore + Drop> SharedFolder<C> {
         history_limit: u64,
     ) -> Result<SharedFolder<C>, C>
         requires { len (C.state core).pulls ≡ 0 }
-        ensures ok { IfOk result (λ folder. opened_of folder ≡ new_history (C.state core) history_limit 0) }
+        ensures ok { IfOk result (λ folder. opened_of folder.locked ≡ new_history (C.state core) history_limit 0) }
         ensures err { IfErr result (λ back. C.state back ≡ C.state core) }
     {
         let me = core.me();
@@ -67,41 +68,36 @@ impl<C: FolderCore + Drop> SharedFolder<C> {
             seat: Snapshot::of(&keeper),
             first: Snapshot::of(&journal),
         };
+        let first = Snapshot::of(&journal);
         let Ok((root, loan)) = Root::new(alloc, &origin) else {
             return Err(journal.into_core());
         };
         put::<C, Opens, R>(rt, &sender, &mut keeper, journal);
         root.lay(keeper, loan);
-        Ok(SharedFolder {
+        let locked = LockedFolder {
             sender,
             receiver,
-            root,
+            first,
             me,
-        })
-    }
-
-    /// This device. O(1).
-    pub fn me(&self) -> DeviceId
-        ensures { result ≡ (opening_of self.now).me }
-    {
-        self.me
+        };
+        Ok(SharedFolder { locked, root })
     }
 
     /// One more pass, which has seen nothing of the history. They are numbered from 1 as they are given out. Returns `Err` only after 2^32 of
     /// them.
     pub fn pass<R: Wait>(&self, rt: &R) -> Result<Pass<C>, PassesFull<C>>
-        ensures pass { IfOk result (λ pass. IsPassOf self.now pass × (seen_of pass ≡ [])) }
+        ensures pass { IfOk result (λ pass. IsPassOf self.now.locked pass × (seen_of pass ≡ [])) }
         ensures number { IfOk result (λ pass. (0 < pass.number) × (pass.number ≤ 2 ^ 32) × ((knows pass).memo.passes ≡ pass.number)) }
-        ensures full { IfErr result (IsFullOf self.now) }
+        ensures full { IfErr result (IsFullOf self.now.locked) }
     {
         let (mut root, loan) = self.root.lift(rt);
-        let mut token = self.sender.another::<Blank>(&mut root);
+        let mut token = self.locked.sender.another::<Blank>(&mut root);
         self.root.lay(root, loan);
-        let mut journal = take::<C, R>(rt, &self.receiver, &mut token);
+        let mut journal = take::<C, R>(rt, &self.locked.receiver, &mut token);
         let _ = journal.len();
         match journal.add_pass() {
             Some(number) => {
-                put::<C, Numbers, R>(rt, &self.sender, &mut token, journal);
+                put::<C, Numbers, R>(rt, &self.locked.sender, &mut token, journal);
                 Ok(Pass {
                     number,
                     seen: 0,
@@ -109,45 +105,27 @@ impl<C: FolderCore + Drop> SharedFolder<C> {
                 })
             }
             None => {
-                put::<C, Puts, R>(rt, &self.sender, &mut token, journal);
+                put::<C, Puts, R>(rt, &self.locked.sender, &mut token, journal);
                 Err(PassesFull { token })
             }
         }
-    }
-
-    /// Two passes meet: both have then seen the longer of the two histories that they had seen. Neither waits for the folder nor
-    /// allocates. O(1).
-    pub fn meet(&self, one: &mut Pass<C>, other: &mut Pass<C>)
-        requires one { IsPassOf self.now one.old }
-        requires other { IsPassOf self.now other.old }
-        ensures one { IsPassOf self.now one.new × (one.new.number ≡ one.old.number) }
-        ensures other { IsPassOf self.now other.new × (other.new.number ≡ other.old.number) }
-        ensures meets { Meets (view_of self.now one.old) (view_of self.now other.old) (view_of self.now one.new) (view_of self.now other.new) }
-    {
-        let blank = self.sender.another::<Blank>(&mut one.token);
-        let token = replace(&mut other.token, blank);
-        self.sender.absorb::<Both>(&mut one.token, token);
-        self.sender.learn_as::<Compares>(&mut one.token);
-        other.token = self.sender.another::<Apart>(&mut one.token);
-        let seen = one.seen.max(other.seen);
-        one.seen = seen;
-        other.seen = seen;
     }
 
     /// The folder, and how many passes were given out. It is in the state after a history that goes on from what each of these
     /// passes has seen, without further entries of theirs. Of passes that are not among them it may lack what only they had seen.
     pub fn close<R: Wait>(self, rt: &R, mut passes: Vec<Pass<C>>) -> (C, u64)
         requires some { 0 < length passes.items }
-        requires passes { (i : ℕ) (p : _) → get_elem? passes.items i ≡ some p → IsPassOf self p }
-        ensures closes { Closes (opening_of self) (limit_of self) result.1 (map (view_of self) passes.items) (C.state result.0) }
+        requires passes { (i : ℕ) (p : _) → get_elem? passes.items i ≡ some p → IsPassOf self.locked p }
+        ensures closes { Closes (opening_of self.locked) (limit_of self.locked) result.1 (map (view_of self.locked) passes.items) (C.state result.0) }
         ensures given { (i : ℕ) (p : _) → get_elem? passes.items i ≡ some p → p.number ≤ result.1 }
     {
-        let SharedFolder {
+        let SharedFolder { locked, root: _ } = self;
+        let LockedFolder {
             sender,
             receiver,
-            root: _,
+            first: _,
             me: _,
-        } = self;
+        } = locked;
         let Some(last) = passes.pop() else {
             unreachable!()
         };
@@ -167,5 +145,43 @@ impl<C: FolderCore + Drop> SharedFolder<C> {
         let journal = take::<C, R>(rt, &receiver, &mut keeper);
         let given = journal.passes();
         (journal.into_core(), given)
+    }
+}
+
+impl<C: FolderCore + Drop> Deref for SharedFolder<C> {
+    type Target = LockedFolder<C>;
+
+    ghost deref_gives = { λ folder locked. locked ≡ folder.locked };
+
+    fn deref(&self) -> &LockedFolder<C> {
+        &self.locked
+    }
+}
+
+impl<C: FolderCore + Drop> LockedFolder<C> {
+    /// This device. O(1).
+    pub fn me(&self) -> DeviceId
+        ensures { result ≡ (opening_of self.now).me }
+    {
+        self.me
+    }
+
+    /// Two passes meet: both have then seen the longer of the two histories that they had seen. Neither waits for the folder nor
+    /// allocates. O(1).
+    pub fn meet(&self, one: &mut Pass<C>, other: &mut Pass<C>)
+        requires one { IsPassOf self.now one.old }
+        requires other { IsPassOf self.now other.old }
+        ensures one { IsPassOf self.now one.new × (one.new.number ≡ one.old.number) }
+        ensures other { IsPassOf self.now other.new × (other.new.number ≡ other.old.number) }
+        ensures meets { Meets (view_of self.now one.old) (view_of self.now other.old) (view_of self.now one.new) (view_of self.now other.new) }
+    {
+        let blank = self.sender.another::<Blank>(&mut one.token);
+        let token = replace(&mut other.token, blank);
+        self.sender.absorb::<Both>(&mut one.token, token);
+        self.sender.learn_as::<Compares>(&mut one.token);
+        other.token = self.sender.another::<Apart>(&mut one.token);
+        let seen = one.seen.max(other.seen);
+        one.seen = seen;
+        other.seen = seen;
     }
 }

@@ -20,4 +20,4 @@ pub use known::{Claim, Known, Stage};
 pub use member::Member;
 pub use root::{Lying, Origin};
 pub use rule::OneHistory;
-pub use shared::{Pass, PassesFull, Root, SharedFolder};
+pub use shared::{LockedFolder, Pass, PassesFull, Root, SharedFolder};

@@ -6,7 +6,7 @@ ghost use Rattle.folder_core.specs.Codes.{coded_folder};
 ghost use Rattle.folder_calls.specs.Codes.{coded_history};
 ghost use Rattle.folder_shared.specs.Passes.{IsPassOf, view_of};
 
-use crate::{Pass, SharedFolder};
+use crate::{LockedFolder, Pass, SharedFolder};
 use bep_messages::Items;
 use folder_calls::{
     At, BeginAnswer, Commit, EnterRefusal, FolderCalls, HistoryFull, NotEntered, ScanRefusal,
@@ -22,7 +22,7 @@ use sync_version::{Moment, Version};
 /// A worker of a shared folder: it makes its calls by a pass of its own, and need not know that others make theirs.
 #[derive(Drop)]
 pub struct Member<'a, C: FolderCore + Drop, R: Wait> {
-    folder: &'a SharedFolder<C>,
+    folder: &'a LockedFolder<C>,
     rt: &'a R,
     pass: Pass<C>,
     ghost of: { IsPassOf folder.now pass } by { Prim.hlevel (props, codes, coded_history, coded_folder) },
@@ -31,10 +31,14 @@ pub struct Member<'a, C: FolderCore + Drop, R: Wait> {
 impl<'a, C: FolderCore + Drop, R: Wait> Member<'a, C, R> {
     /// The worker that makes its calls by this pass. O(1).
     pub fn new(folder: &'a SharedFolder<C>, rt: &'a R, pass: Pass<C>) -> Member<'a, C, R>
-        requires { IsPassOf folder.now pass }
-        ensures { (result.folder.now ≡ folder.now) × (result.pass ≡ pass) }
+        requires { IsPassOf folder.now.locked pass }
+        ensures { (result.folder.now ≡ folder.now.locked) × (result.pass ≡ pass) }
     {
-        Member { folder, rt, pass }
+        Member {
+            folder: &folder.locked,
+            rt,
+            pass,
+        }
     }
 
     /// The pass, with what was seen by it. O(1).
@@ -52,7 +56,7 @@ impl<'a, C: FolderCore + Drop, R: Wait> Member<'a, C, R> {
 }
 
 impl<'a, C: FolderCore + Drop, R: Wait> FolderCalls for Member<'a, C, R> {
-    type Home = SharedFolder<C>;
+    type Home = LockedFolder<C>;
 
     ghost home = { λ m. m.folder.now };
 

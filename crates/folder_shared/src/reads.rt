@@ -5,7 +5,7 @@ ghost use Rattle.folder_calls.specs.Calls.{found, told, told_at};
 ghost use Rattle.folder_calls.specs.Shared.{ReadsThere};
 ghost use Rattle.folder_shared.specs.Passes.{IsPassOf, view_of};
 
-use crate::{Pass, SharedFolder};
+use crate::{LockedFolder, Pass};
 use bep_messages::Items;
 use folder_calls::At;
 use folder_core::{Best, Counts, FolderCore, Place};
@@ -15,7 +15,7 @@ use std::sync::Wait;
 use sync_names::SafeName;
 use sync_record::{DeviceId, Record};
 
-impl<C: FolderCore + Drop> SharedFolder<C> {
+impl<C: FolderCore + Drop> LockedFolder<C> {
     /// A copy of the best record of a name, and the devices whose valid record of the name has its version and its
     /// content; `None` where no valid record of the name is announced.
     pub fn best<R: Wait>(

@@ -1,5 +1,9 @@
 //! A folder that threads share, and the passes of its callers.
 ghost use Rattle.std.specs.Prelude.{◌≡◌};
+ghost use Rattle.std.proofs.Props.{props};
+ghost use Rattle.std.specs.Coded.{codes};
+ghost use Rattle.folder_core.specs.Codes.{coded_folder};
+ghost use Rattle.folder_calls.specs.Codes.{coded_history};
 ghost use Rattle.crossbeam_channel.specs.Claims.{IsSeatAt};
 ghost use Rattle.crossbeam_channel.specs.Ends.{sends_on, receives_on};
 
@@ -11,6 +15,7 @@ use crossbeam_channel::{Pass as ChannelPass, RuledReceiver, RuledSender};
 use folder_calls::Journal;
 use folder_core::FolderCore;
 use std::alloc::Global;
+use std::snapshot::Snapshot;
 use sync_record::DeviceId;
 
 /// A token of the channel that is the lock.
@@ -23,16 +28,24 @@ pub struct Root<C: FolderCore + Drop> {
     ghost sized: { (table.shared.table_id.words ≡ 1) × (table.shared.table_id.slots ≡ 1) },
 }
 
-/// A folder that threads share. Each call waits until no other has the folder, and then makes one change or one read of it.
+/// A folder under its lock. Each call waits until no other has the folder, and then makes one change or one read of it.
 #[derive(Drop)]
-pub struct SharedFolder<C: FolderCore + Drop> {
+pub struct LockedFolder<C: FolderCore + Drop> {
     pub(crate) sender: RuledSender<Journal<C>, Known, OneHistory>,
     pub(crate) receiver: RuledReceiver<Journal<C>, Known, OneHistory>,
-    pub(crate) root: Root<C>,
+    pub(crate) first: Snapshot<Journal<C>>,
     pub(crate) me: DeviceId,
     ghost one: { receives_on receiver ≡ sends_on sender },
-    ghost of: { IsSeatAt (sends_on sender) root.table.shared.key.seat.value },
-    ghost mine: { me ≡ root.table.shared.key.first.value.opening.me },
+    ghost mine: { me ≡ first.value.opening.me },
+}
+
+/// A folder that threads share: it gives out passes, and is called by them as a [`LockedFolder`].
+#[derive(Drop)]
+pub struct SharedFolder<C: FolderCore + Drop> {
+    pub(crate) locked: LockedFolder<C>,
+    pub(crate) root: Root<C>,
+    ghost of: { IsSeatAt (sends_on locked.sender) root.table.shared.key.seat.value } by { Prim.hlevel (props, codes, coded_history, coded_folder) },
+    ghost same: { root.table.shared.key.first.value ≡ locked.first.value } by { Prim.hlevel (props, codes, coded_history, coded_folder) },
 }
 
 /// One caller of a shared folder: its number, and how much of the history it has seen.

@@ -12,12 +12,12 @@ ghost use Rattle.folder_shared.specs.Passes.{IsGivenBack, IsHeld, IsPassOf, IsPu
 
 use crate::lock::{put, take};
 use crate::rule::Puts;
-use crate::{Pass, SharedFolder};
+use crate::{LockedFolder, Pass};
 use folder_calls::{At, Journal};
 use folder_core::FolderCore;
 use std::sync::Wait;
 
-impl<C: FolderCore + Drop> SharedFolder<C> {
+impl<C: FolderCore + Drop> LockedFolder<C> {
     // Takes the folder, as soon as no other call has it.
     pub(crate) fn lend<R: Wait>(&self, rt: &R, pass: &mut Pass<C>) -> Journal<C>
         requires { IsPassOf self.now pass.old }

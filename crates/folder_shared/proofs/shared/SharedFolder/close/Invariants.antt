@@ -12,7 +12,7 @@ abbrev pub invariant-loop-pass : goal.invariant-loop-pass
 invariant-loop-pass g l = record {
   seat : IsSeatAt (sends_on l.sender) l.keeper;
   idle : (view l.keeper).stage ≡ Idle;
-  memo : IsSame (view l.keeper).memo (opened_of l.fn.self);
+  memo : IsSame (view l.keeper).memo (opened_of l.fn.self.locked);
   joined : (tail : List (Pass g.row.C.Denot)) × (l.fn.passes.items ≡ l.passes.items ++ tail) × ((view l.keeper).claims ≡ claims_back tail);
 }
 

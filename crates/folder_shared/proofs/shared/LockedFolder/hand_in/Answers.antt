@@ -1,5 +1,5 @@
 use Rattle.folder_shared.proofs.Calls.{change-grown, change-tells, put-fault, put-value}
-use Rattle.folder_shared.proofs.shared.SharedFolder.hand_in.Goals as goal
+use Rattle.folder_shared.proofs.shared.LockedFolder.hand_in.Goals as goal
 
 pub put_back-requires : goal.put_back-requires
 put_back-requires g c = let r = c.requires in (r.0, r.1, r.4, r.5, change-grown c.args.self.now r.0 c.args.pass.now r.1 r.4 r.5 c.args.journal r.2 r.3 c.args.answer r.6)

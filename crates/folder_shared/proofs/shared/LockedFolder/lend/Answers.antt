@@ -1,7 +1,7 @@
 use Rattle.std.proofs.Common.{refl, subst}
 use Rattle.crossbeam_channel.specs.Claims.{IsSeatAt}
 use Rattle.folder_shared.proofs.Calls.{given-held}
-use Rattle.folder_shared.proofs.shared.SharedFolder.lend.Goals as goal
+use Rattle.folder_shared.proofs.shared.LockedFolder.lend.Goals as goal
 
 pub returns-clause-given : goal.returns-clause-given
 returns-clause-given g c =

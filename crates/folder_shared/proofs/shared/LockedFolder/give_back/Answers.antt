@@ -1,5 +1,5 @@
 use Rattle.folder_shared.proofs.Calls.{may-unchanged, read-given}
-use Rattle.folder_shared.proofs.shared.SharedFolder.give_back.Goals as goal
+use Rattle.folder_shared.proofs.shared.LockedFolder.give_back.Goals as goal
 
 pub put_back-requires : goal.put_back-requires
 put_back-requires g c = let r = c.requires in (r.0, c.args.journal, r.1, r.2, may-unchanged _ _ _)

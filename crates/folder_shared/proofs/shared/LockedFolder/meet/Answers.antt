@@ -7,7 +7,7 @@ use Rattle.folder_shared.proofs.Joins.{joins}
 use Rattle.folder_shared.proofs.Meets.{Course, met, met-one, met-other}
 use Rattle.folder_shared.proofs.Moves.{blanks, compares}
 use Rattle.folder_shared.proofs.Parts.{parts}
-use Rattle.folder_shared.proofs.shared.SharedFolder.meet.Goals as goal
+use Rattle.folder_shared.proofs.shared.LockedFolder.meet.Goals as goal
 
 pub another-blank-requires-clause-rule : goal.another-blank-requires-clause-rule
 another-blank-requires-clause-rule g c = blanks _ _ c.requires.one.idle

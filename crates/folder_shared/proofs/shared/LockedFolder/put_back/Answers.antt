@@ -1,6 +1,6 @@
 use Rattle.std.proofs.Common.{refl}
 use Rattle.folder_shared.proofs.Calls.{answered-pass, back-err, back-ok, kept-pass, may-grown, may-same, rule-back}
-use Rattle.folder_shared.proofs.shared.SharedFolder.put_back.Goals as goal
+use Rattle.folder_shared.proofs.shared.LockedFolder.put_back.Goals as goal
 
 pub put-requires-clause-rule : goal.put-requires-clause-rule
 put-requires-clause-rule g c = let r = c.requires in (rule-back c.args.self.now r.0 c.args.pass.now r.1 r.2 r.3 c.args.journal (may-grown _ _ _ _ r.4) _ _, λ items views k at. tt)

@@ -1,6 +1,6 @@
 use Rattle.folder_core.specs.Calls.{close_answer}
 use Rattle.folder_core.specs.declared.change.Change.TheVariants.{GiveUp}
-use Rattle.folder_shared.proofs.shared.SharedFolder.give_up.Goals as goal
+use Rattle.folder_shared.proofs.shared.LockedFolder.give_up.Goals as goal
 
 pub hand_in-told-requires : goal.hand_in-told-requires
 hand_in-told-requires g c = (c.args.pass.now, c.lend-journal.result, close_answer, GiveUp c.args.ticket, c.requires.pass, c.lend-journal.ensures.held, c.give_up-value.ensures.enters)
