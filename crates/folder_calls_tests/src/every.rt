@@ -1,16 +1,36 @@
 //! Each call of a folder with a history once, with the answers that the rules give, over whoever keeps it.
 ghost use Rattle.std.specs.Prelude.{◌≢◌};
+ghost use Rattle.folder_shared.specs.Passes.{IsPassOf};
 
 use crate::limits::{begins, enters};
+use crate::shared::{given, shared};
 use crate::values::{announces, device, lone, moment, name, scans};
 use bep_messages::Items;
 use folder_calls::{At, FolderCalls};
-use folder_core::ScanAnswer;
+use folder_core::{FolderCore, ScanAnswer};
+use folder_shared::{Member, Pass, SharedFolder};
 use std::process::Abort;
+use std::sync::Wait;
 
 #[test]
 fn every_call_of_a_folder_alone(rt: HostRuntime) {
     every_call(&rt, &mut lone(&rt, 20));
+}
+
+#[test]
+fn every_call_of_a_shared_folder(rt: HostRuntime) {
+    let folder = shared(&rt, 20);
+    member_makes_every_call(&rt, &folder, given(&rt, &folder));
+}
+
+fn member_makes_every_call<C: FolderCore + Drop, R: AllocGlobal + Abort + Wait>(
+    rt: &R,
+    folder: &SharedFolder<C>,
+    pass: Pass<C>,
+)
+    requires { IsPassOf folder.now.locked pass }
+{
+    every_call(rt, &mut Member::new(folder, rt, pass));
 }
 
 /// The folder is empty at first.

@@ -1,11 +1,11 @@
 //! Four threads that scan, pull and read one folder, and the same changes once more, one after the other.
 ghost use Rattle.folder_shared.specs.Passes.{IsPassOf};
 
-use crate::shared::{announces, given, listed, shared};
-use crate::values::{device, directory, moment, name, numbered, one_directory};
+use crate::shared::{given, listed, shared};
+use crate::values::{announces, device, directory, moment, name, numbered, one_directory};
 use folder_calls::{At, BeginAnswer};
 use folder_core::{FolderCore, PlainFolder, ScanAnswer};
-use folder_shared::{Pass, SharedFolder};
+use folder_shared::{Member, Pass, SharedFolder};
 use std::mem::replace;
 use std::process::Abort;
 use std::sync::Wait;
@@ -31,8 +31,7 @@ struct Worked<C: FolderCore + Drop> {
 #[test]
 fn four_workers_make_one_history(rt: HostRuntime) {
     let folder = shared(&rt, 1_000);
-    let mut first = given(&rt, &folder);
-    announces(&rt, &folder, &mut first, "x");
+    let first = announced(&rt, &folder, given(&rt, &folder));
     let passes = (
         (first, given(&rt, &folder)),
         (given(&rt, &folder), given(&rt, &folder)),
@@ -53,6 +52,20 @@ fn four_workers_make_one_history(rt: HostRuntime) {
     assert_eq!(rt; given, 4);
     assert_eq!(rt; core.counts().last, 100);
     assert!(rt; core.same_state(&replayed(&rt, &made)));
+}
+
+/// The pass by which the first device announced the directory x.
+fn announced<C: FolderCore + Drop, R: AllocGlobal + Abort + Wait>(
+    rt: &R,
+    folder: &SharedFolder<C>,
+    pass: Pass<C>,
+) -> Pass<C>
+    requires { IsPassOf folder.now.locked pass }
+    ensures { IsPassOf folder.now.locked result }
+{
+    let mut member = Member::new(folder, rt, pass);
+    announces(rt, &mut member, "x");
+    member.into_pass()
 }
 
 /// The folder after the same changes, made by one caller.

@@ -1,5 +1,5 @@
 //! Local records that are given out page after page.
-ghost use Rattle.std.specs.Prelude.{◌≤◌};
+ghost use Rattle.std.specs.Prelude.{◌≡◌, ◌≤◌};
 
 use crate::give_pages;
 use crate::values::{directory, lone, moment, name, scans};
@@ -45,7 +45,9 @@ pub(crate) fn gives<W: FolderCalls>(
     calls: &mut W,
     after: u64,
     given: &mut Vec<Record>,
-) -> u64 {
+) -> u64
+    ensures { W.home calls.new ≡ W.home calls.old }
+{
     let mut cursor = after;
     if give_pages(calls, &mut cursor, 2, given) == Err(AllocError) {
         give_pages(calls, &mut cursor, 2, given).expect(rt, "pages");

@@ -1,5 +1,5 @@
 //! Pulls of a file whose bytes are at hand.
-ghost use Rattle.std.specs.Prelude.{◌≤◌};
+ghost use Rattle.std.specs.Prelude.{◌≡◌, ◌≤◌};
 
 use crate::values::{device, directory, lone, moment, name};
 use crate::{Pulled, pull_bytes};
@@ -85,7 +85,9 @@ pub(crate) fn pulls<W: FolderCalls>(
     calls: &mut W,
     text: &str,
     bytes: &[u8],
-) -> Pulled {
+) -> Pulled
+    ensures { W.home calls.new ≡ W.home calls.old }
+{
     let name = name(rt, text);
     match pull_bytes(rt.alloc(), calls, &name, bytes) {
         Ok(pulled) => pulled,
@@ -104,7 +106,9 @@ fn offered(rt: &(impl AllocGlobal + Abort), limit: u64) -> Lone<PlainFolder> {
 }
 
 /// The first device announces the file x, which has the bytes "abc", and nothing else.
-pub(crate) fn offers<W: FolderCalls>(rt: &(impl AllocGlobal + Abort), calls: &mut W) {
+pub(crate) fn offers<W: FolderCalls>(rt: &(impl AllocGlobal + Abort), calls: &mut W)
+    ensures { W.home calls.new ≡ W.home calls.old }
+{
     let peer = device(1);
     assert!(rt; peer != calls.me());
     let answer = calls.index_full(peer, one_file(rt)).expect(rt, "an answer");

@@ -1,19 +1,20 @@
-//! A folder that callers share: passes that meet, the check of its history, how many entries it takes, and tickets of another folder.
+//! A folder that callers share: passes that meet, the check of its history, and workers that call it by a pass of their own.
 ghost use Rattle.std.specs.Prelude.{◌≡◌, ◌<◌, ℕ, length};
 ghost use mathlib.Core.Option.{some};
 ghost use lib.ListN.{get_elem?};
 ghost use Rattle.folder_shared.specs.declared.shared.Pass.{Pass as PassOf};
 ghost use Rattle.folder_shared.specs.Passes.{IsPassOf};
 
-use crate::values::{device, directory, is_directory, moment, name, one_directory, scanned_as};
-use folder_calls::{
-    At, BeginAnswer, Commit, EnterRefusal, FolderCalls, HistoryFull, NotEntered, Ticket,
-};
+use crate::limits::{begins, enter_commit, finishes_when_full, takes_two};
+use crate::paging::{are, gives};
+use crate::pulls::{offers, pulls};
+use crate::values::{announces, device, directory, moment, name, scanned_as};
+use crate::{Pulled, begin_and_give_up, record_over};
+use folder_calls::{At, EnterRefusal, FolderCalls};
 use folder_core::{FolderCore, PlainFolder, ScanAnswer};
 use folder_shared::{Member, Pass, SharedFolder};
 use std::process::Abort;
 use std::sync::Wait;
-use sync_record::Assembled;
 
 #[test]
 fn is_known_after_a_meeting(rt: HostRuntime) {
@@ -71,46 +72,68 @@ fn verify_replays(rt: HostRuntime) {
     assert_eq!(rt; pass.seen(), 1);
 }
 
-/// A member makes its calls by its pass, and gives that back.
 #[test]
-fn members_call_by_their_pass(rt: HostRuntime) {
+fn workers_do_their_work(rt: HostRuntime) {
     let folder = shared(&rt, 9);
-    let pass = given(&rt, &folder);
-    let mut member = Member::new(&folder, &rt, pass);
-    let name = name(&rt, "x");
-    match member.scan_found(&name, None, &directory(), moment(&rt)) {
-        Ok(scanned) => assert_eq!(rt; scanned_as(scanned.value), ("Recorded", 1)),
-        Err(_) => panic!(&rt; "OutOfMemory"),
+    let mut pass = three_work(&rt, &folder, given(&rt, &folder));
+    assert_eq!(rt; pass.seen(), 5);
+    assert_eq!(rt; folder.counts(&rt, &mut pass).at, 5);
+}
+
+/// Each worker that is proved over any `FolderCalls`, over a member. The pass that it gives back has seen what was done.
+fn three_work<C: FolderCore + Drop, R: AllocGlobal + Abort + Wait>(
+    rt: &R,
+    folder: &SharedFolder<C>,
+    pass: Pass<C>,
+) -> Pass<C>
+    requires { IsPassOf folder.now.locked pass }
+    ensures { IsPassOf folder.now.locked result }
+{
+    let mut member = Member::new(folder, rt, pass);
+    offers(rt, &mut member);
+    assert_eq!(rt; pulls(rt, &mut member, "x", b"abc"), Pulled::Done(1));
+    let name = name(rt, "y");
+    match record_over(&mut member, &name, &directory(), moment(rt)) {
+        Ok(answer) => assert_eq!(rt; scanned_as(answer), ("Recorded", 2)),
+        Err(_) => panic!(rt; "OutOfMemory"),
     }
-    assert_eq!(rt; member.counts().at, 1);
-    let mut pass = member.into_pass();
-    assert_eq!(rt; pass.seen(), 1);
-    assert_eq!(rt; scans(&rt, &folder, &mut pass, "y"), ("Recorded", 2));
+    let mut records = Vec::new(rt.alloc());
+    assert_eq!(rt; gives(rt, &mut member, 0, &mut records), 2);
+    are(rt, &records, &[("x", 1), ("y", 2)]);
+    assert_eq!(rt; begin_and_give_up(&mut member, &name), Ok(None));
+    member.into_pass()
 }
 
 #[test]
 fn takes_as_many_entries_as_its_limit(rt: HostRuntime) {
     let folder = shared(&rt, 2);
-    let mut pass = given(&rt, &folder);
-    assert_eq!(rt; scans(&rt, &folder, &mut pass, "x"), ("Recorded", 1));
-    assert_eq!(rt; scans(&rt, &folder, &mut pass, "x"), ("Moved", 0));
-    assert_eq!(rt; scans(&rt, &folder, &mut pass, "y"), ("Recorded", 2));
-    assert_eq!(rt; scans(&rt, &folder, &mut pass, "z"), ("HistoryFull", 0));
-    assert_eq!(rt; scans(&rt, &folder, &mut pass, "x"), ("Moved", 0));
-    assert_eq!(rt; pass.seen(), 2);
+    member_takes_two(&rt, &folder, given(&rt, &folder));
 }
 
-/// A history of four entries has room for the finish of a pull after an index, a begin and an entrance.
+fn member_takes_two<C: FolderCore + Drop, R: AllocGlobal + Abort + Wait>(
+    rt: &R,
+    folder: &SharedFolder<C>,
+    pass: Pass<C>,
+)
+    requires { IsPassOf folder.now.locked pass }
+{
+    takes_two(rt, &mut Member::new(folder, rt, pass));
+}
+
 #[test]
 fn keeps_room_for_the_finish(rt: HostRuntime) {
     let folder = shared(&rt, 4);
-    let mut pass = given(&rt, &folder);
-    announces(&rt, &folder, &mut pass, "x");
-    let ticket = begins(&rt, &folder, &mut pass, "x");
-    let commit = enters(&rt, &folder, &mut pass, ticket);
-    assert_eq!(rt; scans(&rt, &folder, &mut pass, "y"), ("HistoryFull", 0));
-    finishes(&rt, &folder, &mut pass, commit);
-    assert_eq!(rt; pass.seen(), 4);
+    member_finishes_when_full(&rt, &folder, given(&rt, &folder));
+}
+
+fn member_finishes_when_full<C: FolderCore + Drop, R: AllocGlobal + Abort + Wait>(
+    rt: &R,
+    folder: &SharedFolder<C>,
+    pass: Pass<C>,
+)
+    requires { IsPassOf folder.now.locked pass }
+{
+    finishes_when_full(rt, &mut Member::new(folder, rt, pass));
 }
 
 /// Two tickets of one folder are stray in another.
@@ -118,123 +141,33 @@ fn keeps_room_for_the_finish(rt: HostRuntime) {
 fn tickets_of_another_folder_are_stray(rt: HostRuntime) {
     let folder = shared(&rt, 9);
     let other = shared(&rt, 9);
-    let (mut pass, mut foreign) = (given(&rt, &folder), given(&rt, &other));
-    announces(&rt, &folder, &mut pass, "x");
-    announces(&rt, &folder, &mut pass, "y");
-    let ticket = begins(&rt, &folder, &mut pass, "x");
-    assert!(rt; !other.give_up(&rt, &mut foreign, ticket).value);
-    let ticket = begins(&rt, &folder, &mut pass, "y");
-    assert!(rt; is_stray(&rt, &other, &mut foreign, ticket));
-    assert_eq!(rt; folder.counts(&rt, &mut pass).value.pulls, 2);
-    assert_eq!(rt; other.counts(&rt, &mut foreign).at, 0);
+    tickets_are_stray(
+        &rt,
+        (&folder, given(&rt, &folder)),
+        (&other, given(&rt, &other)),
+    );
 }
 
-/// What it comes to that a directory is found where nothing was, and the sequence if it is recorded.
-fn scans<C: FolderCore + Drop>(
-    rt: &(impl AllocGlobal + Abort + Wait),
-    folder: &SharedFolder<C>,
-    pass: &mut Pass<C>,
-    text: &str,
-) -> (&'static str, u64)
-    requires { IsPassOf folder.now.locked pass.old }
-    ensures { IsPassOf folder.now.locked pass.new }
-{
-    match folder.scan_found(rt, pass, &name(rt, text), None, &directory(), moment(rt)) {
-        Ok(scanned) => scanned_as(scanned.value),
-        Err(_) => panic!(rt; "OutOfMemory"),
-    }
-}
-
-/// The first device announces a directory too.
-pub(crate) fn announces<C: FolderCore + Drop>(
-    rt: &(impl AllocGlobal + Abort + Wait),
-    folder: &SharedFolder<C>,
-    pass: &mut Pass<C>,
-    text: &str,
+fn tickets_are_stray<C: FolderCore + Drop, R: AllocGlobal + Abort + Wait>(
+    rt: &R,
+    home: (&SharedFolder<C>, Pass<C>),
+    other: (&SharedFolder<C>, Pass<C>),
 )
-    requires { IsPassOf folder.now.locked pass.old }
-    ensures { IsPassOf folder.now.locked pass.new }
+    requires { IsPassOf home.0.now.locked home.1 × IsPassOf other.0.now.locked other.1 }
 {
-    let peer = device(1);
-    assert!(rt; peer != folder.me());
-    match folder.index_more(rt, pass, peer, one_directory(rt, text)) {
-        Ok(At { at: _, value }) => match value {
-            Ok(()) => {}
-            Err(HistoryFull) => panic!(rt; "HistoryFull"),
-        },
-        Err(_) => panic!(rt; "OutOfMemory"),
+    let mut member = Member::new(home.0, rt, home.1);
+    let mut stranger = Member::new(other.0, rt, other.1);
+    announces(rt, &mut member, "x");
+    announces(rt, &mut member, "y");
+    let ticket = begins(rt, &mut member, "x");
+    assert!(rt; !stranger.give_up(ticket).value);
+    let ticket = begins(rt, &mut member, "y");
+    match enter_commit(rt, &mut stranger, ticket) {
+        Err(EnterRefusal::Stray) => {}
+        answer => panic!(rt; "{answer:?}"),
     }
-}
-
-fn begins<C: FolderCore + Drop>(
-    rt: &(impl AllocGlobal + Abort + Wait),
-    folder: &SharedFolder<C>,
-    pass: &mut Pass<C>,
-    text: &str,
-) -> Ticket
-    requires { IsPassOf folder.now.locked pass.old }
-    ensures { IsPassOf folder.now.locked pass.new }
-{
-    match folder.begin_pull(rt, pass, &name(rt, text)) {
-        Ok(At { at: _, value }) => match value {
-            Ok(BeginAnswer::Begun(ticket)) => ticket,
-            answer => panic!(rt; "{answer:?}"),
-        },
-        Err(_) => panic!(rt; "OutOfMemory"),
-    }
-}
-
-fn enters<C: FolderCore + Drop>(
-    rt: &(impl Abort + Wait),
-    folder: &SharedFolder<C>,
-    pass: &mut Pass<C>,
-    ticket: Ticket,
-) -> Commit
-    requires { IsPassOf folder.now.locked pass.old }
-    ensures { IsPassOf folder.now.locked pass.new }
-{
-    match folder.enter_commit(rt, pass, ticket) {
-        Ok(At { at: _, value }) => match value {
-            Ok(commit) => commit,
-            answer => panic!(rt; "{answer:?}"),
-        },
-        Err(NotEntered(ticket)) => panic!(rt; "OutOfMemory: {ticket:?}"),
-    }
-}
-
-/// Whether the ticket is stray where its commit is to be entered.
-fn is_stray<C: FolderCore + Drop>(
-    rt: &(impl Abort + Wait),
-    folder: &SharedFolder<C>,
-    pass: &mut Pass<C>,
-    ticket: Ticket,
-) -> bool
-    requires { IsPassOf folder.now.locked pass.old }
-    ensures { IsPassOf folder.now.locked pass.new }
-{
-    match folder.enter_commit(rt, pass, ticket) {
-        Ok(At { at: _, value }) => match value {
-            Err(EnterRefusal::Stray) => true,
-            answer => panic!(rt; "{answer:?}"),
-        },
-        Err(NotEntered(ticket)) => panic!(rt; "OutOfMemory: {ticket:?}"),
-    }
-}
-
-/// Finishes the commit of a directory, under sequence 1.
-fn finishes<C: FolderCore + Drop>(
-    rt: &(impl Abort + Wait),
-    folder: &SharedFolder<C>,
-    pass: &mut Pass<C>,
-    commit: Commit,
-)
-    requires { IsPassOf folder.now.locked pass.old }
-    ensures { IsPassOf folder.now.locked pass.new }
-{
-    let target = commit.target().copy().expect(rt, "a copy");
-    assert!(rt; target.is_deleted() || is_directory(&target));
-    let assembled = Assembled::plain(target);
-    assert_eq!(rt; folder.finish(rt, pass, commit, assembled).value, Ok(1));
+    assert_eq!(rt; member.counts().value.pulls, 2);
+    assert_eq!(rt; stranger.counts().at, 0);
 }
 
 /// The empty folder of device 9, whose history takes so many entries.
