@@ -1,9 +1,10 @@
 //! Four threads that scan, pull and read one folder, and the same changes once more, one after the other.
+ghost use Rattle.std.specs.Prelude.{◌≡◌};
 ghost use Rattle.folder_shared.specs.Passes.{IsPassOf};
 
 use crate::shared::{given, listed, shared};
 use crate::values::{announces, device, directory, moment, name, numbered, one_directory};
-use folder_calls::{At, BeginAnswer};
+use folder_calls::{At, BeginAnswer, FolderCalls};
 use folder_core::{FolderCore, PlainFolder, ScanAnswer};
 use folder_shared::{Member, Pass, SharedFolder};
 use std::mem::replace;
@@ -151,47 +152,57 @@ fn two_work<C: FolderCore + Drop + Send, R: AllocGlobal + Abort + Threads + Wait
         || -> Worked<C>
             requires { IsPassOf folder.now.locked first }
             ensures { IsPassOf folder.entry.now.locked result.pass }
-        { works(rt, folder, first, one) },
+        { works_by(rt, folder, first, one) },
         || -> Worked<C>
             requires { IsPassOf folder.now.locked second }
             ensures { IsPassOf folder.entry.now.locked result.pass }
-        { works(rt, folder, second, other) },
+        { works_by(rt, folder, second, other) },
     )
 }
 
-/// Records 25 directories whose names begin so; between them it reads, and begins a pull and gives it up.
-fn works<C: FolderCore + Drop, R: AllocGlobal + Abort + Wait>(
+/// What a worker does by a pass of its own.
+fn works_by<C: FolderCore + Drop, R: AllocGlobal + Abort + Wait>(
     rt: &R,
     folder: &SharedFolder<C>,
-    mut pass: Pass<C>,
+    pass: Pass<C>,
     front: &str,
 ) -> Worked<C>
     requires { IsPassOf folder.now.locked pass }
     ensures { IsPassOf folder.now.locked result.pass }
 {
+    let mut member = Member::new(folder, rt, pass);
+    let made = works(rt, &mut member, front);
+    Worked {
+        pass: member.into_pass(),
+        made,
+    }
+}
+
+/// Records 25 directories whose names begin so; between them it reads, and begins a pull and gives it up.
+fn works<W: FolderCalls>(
+    rt: &(impl AllocGlobal + Abort),
+    calls: &mut W,
+    front: &str,
+) -> Vec<(u64, Made)>
+    ensures { W.home calls.new ≡ W.home calls.old }
+{
     let mut made = Vec::new(rt.alloc());
     let pulled = name(rt, "x");
     for number in 0..25_u32 {
         let name = numbered(rt, front, number);
-        let at = scans(rt, folder, &mut pass, &name);
+        let at = scans(rt, calls, &name);
         made.push((at, Made::Scanned(name))).expect(rt, "a list");
-        folder.counts(rt, &mut pass);
-        pulls(rt, folder, &mut pass, &pulled, &mut made);
+        calls.counts();
+        pulls(rt, calls, &pulled, &mut made);
     }
-    Worked { pass, made }
+    made
 }
 
 /// Records a directory, and returns the number of entries then.
-fn scans<C: FolderCore + Drop>(
-    rt: &(impl AllocGlobal + Abort + Wait),
-    folder: &SharedFolder<C>,
-    pass: &mut Pass<C>,
-    name: &SafeName,
-) -> u64
-    requires { IsPassOf folder.now.locked pass.old }
-    ensures { IsPassOf folder.now.locked pass.new }
+fn scans<W: FolderCalls>(rt: &(impl AllocGlobal + Abort), calls: &mut W, name: &SafeName) -> u64
+    ensures { W.home calls.new ≡ W.home calls.old }
 {
-    match folder.scan_found(rt, pass, name, None, &directory(), moment(rt)) {
+    match calls.scan_found(name, None, &directory(), moment(rt)) {
         Ok(
             At {
                 at,
@@ -204,21 +215,19 @@ fn scans<C: FolderCore + Drop>(
 }
 
 /// Begins to pull the name, unless another worker does, and gives the pull up.
-fn pulls<C: FolderCore + Drop>(
-    rt: &(impl AllocGlobal + Abort + Wait),
-    folder: &SharedFolder<C>,
-    pass: &mut Pass<C>,
+fn pulls<W: FolderCalls>(
+    rt: &(impl AllocGlobal + Abort),
+    calls: &mut W,
     name: &SafeName,
     made: &mut Vec<(u64, Made)>,
 )
-    requires { IsPassOf folder.now.locked pass.old }
-    ensures { IsPassOf folder.now.locked pass.new }
+    ensures { W.home calls.new ≡ W.home calls.old }
 {
-    let At { at, value } = folder.begin_pull(rt, pass, name).expect(rt, "an answer");
+    let At { at, value } = calls.begin_pull(name).expect(rt, "an answer");
     match value {
         Ok(BeginAnswer::Begun(ticket)) => {
             made.push((at, Made::Begun)).expect(rt, "a list");
-            let At { at, value } = folder.give_up(rt, pass, ticket);
+            let At { at, value } = calls.give_up(ticket);
             assert!(rt; value);
             made.push((at, Made::GivenUp)).expect(rt, "a list");
         }

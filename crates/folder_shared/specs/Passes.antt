@@ -37,7 +37,7 @@ module _ {C : Type 0} where
 
   -- the history when the folder was opened
   abbrev pub opened_of : LockedFolder C → History
-  opened_of s = s.first.value
+  opened_of s = s.mark.view
 
   abbrev pub opening_of : LockedFolder C → FolderState
   opening_of s = (opened_of s).opening

@@ -10,6 +10,7 @@ ghost use Rattle.folder_shared.specs.Passes.{IsPassOf, IsFullOf, knows, limit_of
 
 use crate::known::Known;
 use crate::lock::{put, take};
+use crate::mark::marked;
 use crate::root::Origin;
 use crate::rule::{Apart, Blank, Both, Compares, Numbers, OneHistory, Opens, Puts};
 use crate::shared::{LockedFolder, Pass, PassesFull, Root, SharedFolder};
@@ -68,7 +69,9 @@ impl<C: FolderCore + Drop> SharedFolder<C> {
             seat: Snapshot::of(&keeper),
             first: Snapshot::of(&journal),
         };
-        let first = Snapshot::of(&journal);
+        let Ok(mark) = marked(alloc, &journal) else {
+            return Err(journal.into_core());
+        };
         let Ok((root, loan)) = Root::new(alloc, &origin) else {
             return Err(journal.into_core());
         };
@@ -77,7 +80,7 @@ impl<C: FolderCore + Drop> SharedFolder<C> {
         let locked = LockedFolder {
             sender,
             receiver,
-            first,
+            mark,
             me,
         };
         Ok(SharedFolder { locked, root })
@@ -123,7 +126,7 @@ impl<C: FolderCore + Drop> SharedFolder<C> {
         let LockedFolder {
             sender,
             receiver,
-            first: _,
+            mark: _,
             me: _,
         } = locked;
         let Some(last) = passes.pop() else {

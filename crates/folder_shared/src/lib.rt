@@ -9,6 +9,7 @@ mod check;
 mod folder;
 mod known;
 mod lock;
+mod mark;
 mod member;
 mod reads;
 mod root;

@@ -8,6 +8,7 @@ ghost use Rattle.crossbeam_channel.specs.Claims.{IsSeatAt};
 ghost use Rattle.crossbeam_channel.specs.Ends.{sends_on, receives_on};
 
 use crate::known::Known;
+use crate::mark::Mark;
 use crate::root::{Lying, Origin};
 use crate::rule::OneHistory;
 use atomic_table::Table;
@@ -15,7 +16,6 @@ use crossbeam_channel::{Pass as ChannelPass, RuledReceiver, RuledSender};
 use folder_calls::Journal;
 use folder_core::FolderCore;
 use std::alloc::Global;
-use std::snapshot::Snapshot;
 use sync_record::DeviceId;
 
 /// A token of the channel that is the lock.
@@ -33,10 +33,10 @@ pub struct Root<C: FolderCore + Drop> {
 pub struct LockedFolder<C: FolderCore + Drop> {
     pub(crate) sender: RuledSender<Journal<C>, Known, OneHistory>,
     pub(crate) receiver: RuledReceiver<Journal<C>, Known, OneHistory>,
-    pub(crate) first: Snapshot<Journal<C>>,
+    pub(crate) mark: Mark<C>,
     pub(crate) me: DeviceId,
     ghost one: { receives_on receiver ≡ sends_on sender },
-    ghost mine: { me ≡ first.value.opening.me },
+    ghost mine: { me ≡ mark.view.opening.me },
 }
 
 /// A folder that threads share: it gives out passes, and is called by them as a [`LockedFolder`].
@@ -45,7 +45,7 @@ pub struct SharedFolder<C: FolderCore + Drop> {
     pub(crate) locked: LockedFolder<C>,
     pub(crate) root: Root<C>,
     ghost of: { IsSeatAt (sends_on locked.sender) root.table.shared.key.seat.value } by { Prim.hlevel (props, codes, coded_history, coded_folder) },
-    ghost same: { root.table.shared.key.first.value ≡ locked.first.value } by { Prim.hlevel (props, codes, coded_history, coded_folder) },
+    ghost same: { root.table.shared.key.first.value ≡ locked.mark.view } by { Prim.hlevel (props, codes, coded_history, coded_folder) },
 }
 
 /// One caller of a shared folder: its number, and how much of the history it has seen.

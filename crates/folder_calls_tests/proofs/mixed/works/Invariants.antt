@@ -1,5 +1,5 @@
-use Rattle.folder_shared.specs.Passes.{IsPassOf}
+use Rattle.std.proofs.Common.{◌≡◌}
 use Rattle.folder_calls_tests.proofs.mixed.works.Given as goal
 
 abbrev pub invariant-loop-number : goal.invariant-loop-number
-invariant-loop-number g l = IsPassOf l.folder.locked l.pass
+invariant-loop-number g l = g.W.FolderCalls.home l.calls ≡ g.W.FolderCalls.home l.initial.calls
