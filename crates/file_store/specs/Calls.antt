@@ -1,14 +1,14 @@
 -- What each call of a store does: the tree before, the answer, the tree after (own rule). `fails` says that the store
 -- may return `StoreFault` for a reason outside the tree, and may then have done the call, or a part of it.
-use Rattle.std.specs.Prelude.{bytes_eq, ◌≡◌, ◌⊎◌, ⊤, ℕ, ◌-◌, true, false, List, [], min, take, drop, length, Option, Some, None, unwrap_or, Result, Ok, Err, IfOk, IfErr, IsSome, IsNone, Vec}
-use Rattle.std.specs.Global.{Global}
+use Rattle.std.specs.Prelude.{bytes_eq, ◌≡◌, ◌⊎◌, ⊤, ℕ, ◌-◌, true, false, List, [], min, take, drop, length, Option, Some, None, unwrap_or, Result, Ok, Err, IfOk, IfErr, IsSome, IsNone}
 use Rattle.file_store.specs.declared.node.Node.{Node}
 use Rattle.file_store.specs.declared.node.Node.TheVariants.{Directory, File}
 use Rattle.file_store.specs.declared.refusal.StoreRefusal.{StoreRefusal}
 use Rattle.file_store.specs.declared.refusal.StoreRefusal.TheVariants.{StoreFault, NotEmpty, BadParent, OutOfMemory}
-use Rattle.file_store.specs.declared.node.Listed.{Listed}
+use Rattle.file_store.specs.declared.node.Listing.{Listing}
 use Rattle.file_store.specs.declared.node.Stat.{Stat}
 use Rattle.file_store.specs.declared.node.Stat.TheVariants as stat
+use Rattle.file_store.specs.Asked.{Call, Value, ListAll, StatAt, ReadAt, MakeTemp, WriteAt, CommitTemp, DropTemp, Rename, Remove, MakeDir, RemoveDir}
 use Rattle.file_store.specs.Contents.{overwritten}
 use Rattle.file_store.specs.Listings.{IsListing}
 use Rattle.file_store.specs.Maps.{put_at}
@@ -41,8 +41,8 @@ abbrev pub IsWhole : (StoreRefusal → Type 0) → Tree → Tree → Tree → Ty
 IsWhole refused old done new = (new ≡ old) ⊎ (IsAllowed refused × (new ≡ done))
 
 -- `list` returns the listing of what is there
-pub record Lists (fails : Type 0) (old : Tree) (result : Result (Vec Listed Global) StoreRefusal) (new : Tree) : Type 0 where
-  pub value : IfOk result (λ listing. IsListing old.names listing.items)
+pub record Lists (fails : Type 0) (old : Tree) (result : Result Listing StoreRefusal) (new : Tree) : Type 0 where
+  pub value : IfOk result (λ listing. IsListing old.names listing)
   pub failed : IfErr result (λ refusal. refusal ≡ StoreFault → fails)
   pub kept : new ≡ old
 
@@ -199,3 +199,17 @@ RemoveDirRefused t n OutOfMemory = ⊤
 abbrev pub RemovesDir : Type 0 → Tree → Name → Result (Unit {0}) StoreRefusal → Tree → Type 0
 RemovesDir fails old n result new =
     Answers fails (IsWhole (RemoveDirRefused old n) old (removed old n) new) (RemoveDirRefused old n) old (removed old n) result new
+
+-- what a call does to the tree
+abbrev pub Does : Type 0 → Tree → (call : Call) → Result (Value call) StoreRefusal → Tree → Type 0
+Does fails old ListAll result new = Lists fails old result new
+Does fails old (StatAt n) result new = Stats fails old n result new
+Does fails old (ReadAt n offset before after) result new = Reads fails old n offset before after result new
+Does fails old (MakeTemp n) result new = MakesTemp fails old n result new
+Does fails old (WriteAt n offset piece) result new = Writes fails old n offset piece result new
+Does fails old (CommitTemp n) result new = Commits fails old n result new
+Does fails old (DropTemp n) result new = Drops fails old n result new
+Does fails old (Rename from to) result new = Renames fails old from to result new
+Does fails old (Remove n) result new = Removes fails old n result new
+Does fails old (MakeDir n) result new = MakesDir fails old n result new
+Does fails old (RemoveDir n) result new = RemovesDir fails old n result new

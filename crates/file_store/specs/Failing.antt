@@ -1,9 +1,10 @@
 -- Which call of a failing store fails: the one before which no calls are left (own rule).
-use Rattle.std.specs.Prelude.{ℕ, ◌⊎◌, ◌-◌, ◌==◌, ◌≡◌, Bool, false, IsTrue, if◌then◌else◌, Option, Some, None, Result}
+use Rattle.std.specs.Prelude.{ℕ, ◌⊎◌, ◌-◌, ◌==◌, ◌≡◌, Bool, false, IsTrue, if◌then◌else◌, Option, Some, None, Result, Err}
 use Rattle.file_store.specs.declared.failing.FailingStore.{FailingStore}
 use Rattle.file_store.specs.declared.failing.FailureTime.{FailureTime}
 use Rattle.file_store.specs.declared.failing.FailureTime.TheVariants.{Before, After}
 use Rattle.file_store.specs.declared.refusal.StoreRefusal.{StoreRefusal}
+use Rattle.file_store.specs.declared.refusal.StoreRefusal.TheVariants.{StoreFault}
 
 -- the store that it wraps
 abbrev pub wrapped : {S : Type 0} → FailingStore S → S
@@ -35,15 +36,12 @@ after_one (Some left) = if left == 0 then None else Some (left - 1)
 abbrev pub MayFail : Option ℕ → Type 0 → Type 0
 MayFail left inner = IsTrue (is_next left) ⊎ inner
 
--- a call that is due and fails after the wrapped store is asked: that store has answered it, whatever it returned
-abbrev pub IsAnswered : {S R : Type 0} → FailingStore S → (Result R StoreRefusal → Type 0) → Type 0
-IsAnswered {S} {R} old answered =
-    IsTrue (is_next (calls_left old)) → failure_time old ≡ After → (answer : Result R StoreRefusal) × answered answer
-
--- what each call does besides what the wrapped store does: it is counted, the one that is due fails, and if it fails
--- before the wrapped store is asked, that store stays as it is
-pub record IsCounted {S : Type 0} (old new : FailingStore S) (failed : Type 0) : Type 0 where
+-- What each call gives: it is counted, and is the wrapped store's unless it is the one that is due. That one fails: before
+-- the wrapped store is asked, which stays as it is, or after that store has answered, whatever it returned.
+pub record FailsOne {S V : Type 0} (old new : FailingStore S) (result : Result V StoreRefusal) (asked : Result V StoreRefusal → Type 0) : Type 0 where
   pub left : calls_left new ≡ after_one (calls_left old)
   pub time : failure_time new ≡ failure_time old
-  pub due : IsTrue (is_next (calls_left old)) → failed
+  pub other : is_next (calls_left old) ≡ false → asked result
+  pub due : IsTrue (is_next (calls_left old)) → result ≡ Err StoreFault
   pub before : IsTrue (is_next (calls_left old)) → failure_time old ≡ Before → wrapped new ≡ wrapped old
+  pub after : IsTrue (is_next (calls_left old)) → failure_time old ≡ After → (answer : Result V StoreRefusal) × asked answer

@@ -3,6 +3,7 @@ pub mod Maps
 pub mod Contents
 pub mod Trees
 pub mod Refusals
+pub mod Asked
 pub mod Calls
 pub mod Listings
 pub mod Laws

@@ -6,7 +6,7 @@ ghost use Rattle.file_store.specs.Refusals.{count_after};
 ghost use Rattle.file_store.specs.Trees.{IsTree};
 
 use crate::mem::fault;
-use crate::{FileStore, Listed, Stat, StoreRefusal};
+use crate::{FileStore, Listing, Stat, StoreRefusal};
 use sync_names::SafeName;
 
 /// When a [`FailingStore`] fails its call: before the wrapped store is asked, or after.
@@ -56,13 +56,8 @@ impl<S> FailingStore<S> {
 }
 
 impl<S: FileStore> FileStore for FailingStore<S> {
-    ghost use Rattle.std.specs.Prelude.{◌≡◌, ◌≢◌, ◌≤◌, length, Err, IfOk, IfErr};
-    ghost use Rattle.file_store.specs.declared.refusal.StoreRefusal.TheVariants.{StoreFault, NotEmpty, BadParent};
-    ghost use Rattle.file_store.specs.Calls.{Lists, Stats, Reads, MakesTemp, Writes, Commits, Drops, Renames, Removes, MakesDir, RemovesDir};
-    ghost use Rattle.file_store.specs.Failing.{IsAnswered, IsCounted, MayFail, calls_left, own_faults, wrapped};
-    ghost use Rattle.file_store.specs.Listings.{IsListing};
-    ghost use Rattle.file_store.specs.Refusals.{count_after, IsPlain};
-    ghost use Rattle.file_store.specs.Trees.{IsTree};
+    ghost use Rattle.file_store.specs.Calls.{Does};
+    ghost use Rattle.file_store.specs.Failing.{FailsOne, MayFail, calls_left, own_faults, wrapped};
 
     ghost keeps = { S.keeps };
 
@@ -72,22 +67,17 @@ impl<S: FileStore> FileStore for FailingStore<S> {
 
     ghost fault_count = { own_faults };
 
+    ghost gives = { λ old call result new. FailsOne old new result (λ answer.
+        S.gives (wrapped old) call answer (wrapped new)
+        × (S.keeps → Does (S.fails (wrapped old)) (S.tree (wrapped old)) call answer (S.tree (wrapped new)))) };
+
     fn faults(&self) -> u64 {
         // That the wrapped store has a tree is known only after a call of it.
         let _ = self.inner.faults();
         self.faults
     }
 
-    fn list(&mut self) -> Result<Vec<Listed>, StoreRefusal>
-        ensures call { IsCounted self.old self.new (result ≡ Err StoreFault) }
-        ensures lists { S.keeps → IfOk result (λ listing. IsListing (S.tree (wrapped self.old)).names listing.items) }
-        ensures failed { S.keeps → IfErr result (λ refusal. refusal ≡ StoreFault → MayFail (calls_left self.old) (S.fails (wrapped self.old))) }
-        ensures kept { S.keeps → S.tree (wrapped self.new) ≡ S.tree (wrapped self.old) }
-        ensures asked { S.keeps → IsAnswered self.old (λ answer. Lists (S.fails (wrapped self.old)) (S.tree (wrapped self.old)) answer (S.tree (wrapped self.new))) }
-        ensures refusals { IfErr result IsPlain }
-        ensures counted { own_faults self.new ≡ count_after result (own_faults self.old) }
-        ensures tree { S.keeps → IsTree (S.tree (wrapped self.new)) }
-    {
+    fn list(&mut self) -> Result<Listing, StoreRefusal> {
         let due = is_due(&mut self.left);
         if due && self.time == FailureTime::Before {
             return Err(fail(&self.inner, &mut self.faults));
@@ -96,14 +86,7 @@ impl<S: FileStore> FileStore for FailingStore<S> {
         settle(&mut self.faults, due, answer)
     }
 
-    fn stat(&mut self, name: &SafeName) -> Result<Stat, StoreRefusal>
-        ensures call { IsCounted self.old self.new (result ≡ Err StoreFault) }
-        ensures stats { S.keeps → Stats (MayFail (calls_left self.old) (S.fails (wrapped self.old))) (S.tree (wrapped self.old)) name.now result (S.tree (wrapped self.new)) }
-        ensures asked { S.keeps → IsAnswered self.old (λ answer. Stats (S.fails (wrapped self.old)) (S.tree (wrapped self.old)) name.now answer (S.tree (wrapped self.new))) }
-        ensures refusals { IfErr result IsPlain }
-        ensures counted { own_faults self.new ≡ count_after result (own_faults self.old) }
-        ensures tree { S.keeps → IsTree (S.tree (wrapped self.new)) }
-    {
+    fn stat(&mut self, name: &SafeName) -> Result<Stat, StoreRefusal> {
         let due = is_due(&mut self.left);
         if due && self.time == FailureTime::Before {
             return Err(fail(&self.inner, &mut self.faults));
@@ -117,15 +100,7 @@ impl<S: FileStore> FileStore for FailingStore<S> {
         name: &SafeName,
         offset: u64,
         buffer: &mut [u8],
-    ) -> Result<usize, StoreRefusal>
-        ensures call { IsCounted self.old self.new (result ≡ Err StoreFault) }
-        ensures bound { IfOk result (λ k. k ≤ length buffer.new) }
-        ensures reads { S.keeps → Reads (MayFail (calls_left self.old) (S.fails (wrapped self.old))) (S.tree (wrapped self.old)) name.now offset buffer.old buffer.new result (S.tree (wrapped self.new)) }
-        ensures asked { S.keeps → IsAnswered self.old (λ answer. Reads (S.fails (wrapped self.old)) (S.tree (wrapped self.old)) name.now offset buffer.old buffer.new answer (S.tree (wrapped self.new))) }
-        ensures refusals { IfErr result IsPlain }
-        ensures counted { own_faults self.new ≡ count_after result (own_faults self.old) }
-        ensures tree { S.keeps → IsTree (S.tree (wrapped self.new)) }
-    {
+    ) -> Result<usize, StoreRefusal> {
         let due = is_due(&mut self.left);
         if due && self.time == FailureTime::Before {
             return Err(fail(&self.inner, &mut self.faults));
@@ -134,14 +109,7 @@ impl<S: FileStore> FileStore for FailingStore<S> {
         settle(&mut self.faults, due, answer)
     }
 
-    fn make_temp(&mut self, name: &SafeName) -> Result<(), StoreRefusal>
-        ensures call { IsCounted self.old self.new (result ≡ Err StoreFault) }
-        ensures makes { S.keeps → MakesTemp (MayFail (calls_left self.old) (S.fails (wrapped self.old))) (S.tree (wrapped self.old)) name.now result (S.tree (wrapped self.new)) }
-        ensures asked { S.keeps → IsAnswered self.old (λ answer. MakesTemp (S.fails (wrapped self.old)) (S.tree (wrapped self.old)) name.now answer (S.tree (wrapped self.new))) }
-        ensures refusals { result ≢ Err NotEmpty }
-        ensures counted { own_faults self.new ≡ count_after result (own_faults self.old) }
-        ensures tree { S.keeps → IsTree (S.tree (wrapped self.new)) }
-    {
+    fn make_temp(&mut self, name: &SafeName) -> Result<(), StoreRefusal> {
         let due = is_due(&mut self.left);
         if due && self.time == FailureTime::Before {
             return Err(fail(&self.inner, &mut self.faults));
@@ -150,14 +118,7 @@ impl<S: FileStore> FileStore for FailingStore<S> {
         settle(&mut self.faults, due, answer)
     }
 
-    fn write_at(&mut self, name: &SafeName, offset: u64, bytes: &[u8]) -> Result<(), StoreRefusal>
-        ensures call { IsCounted self.old self.new (result ≡ Err StoreFault) }
-        ensures writes { S.keeps → Writes (MayFail (calls_left self.old) (S.fails (wrapped self.old))) (S.tree (wrapped self.old)) name.now offset bytes.now result (S.tree (wrapped self.new)) }
-        ensures asked { S.keeps → IsAnswered self.old (λ answer. Writes (S.fails (wrapped self.old)) (S.tree (wrapped self.old)) name.now offset bytes.now answer (S.tree (wrapped self.new))) }
-        ensures refusals { IfErr result IsPlain }
-        ensures counted { own_faults self.new ≡ count_after result (own_faults self.old) }
-        ensures tree { S.keeps → IsTree (S.tree (wrapped self.new)) }
-    {
+    fn write_at(&mut self, name: &SafeName, offset: u64, bytes: &[u8]) -> Result<(), StoreRefusal> {
         let due = is_due(&mut self.left);
         if due && self.time == FailureTime::Before {
             return Err(fail(&self.inner, &mut self.faults));
@@ -166,14 +127,7 @@ impl<S: FileStore> FileStore for FailingStore<S> {
         settle(&mut self.faults, due, answer)
     }
 
-    fn commit_temp(&mut self, name: &SafeName) -> Result<(), StoreRefusal>
-        ensures call { IsCounted self.old self.new (result ≡ Err StoreFault) }
-        ensures commits { S.keeps → Commits (MayFail (calls_left self.old) (S.fails (wrapped self.old))) (S.tree (wrapped self.old)) name.now result (S.tree (wrapped self.new)) }
-        ensures asked { S.keeps → IsAnswered self.old (λ answer. Commits (S.fails (wrapped self.old)) (S.tree (wrapped self.old)) name.now answer (S.tree (wrapped self.new))) }
-        ensures refusals { IfErr result IsPlain }
-        ensures counted { own_faults self.new ≡ count_after result (own_faults self.old) }
-        ensures tree { S.keeps → IsTree (S.tree (wrapped self.new)) }
-    {
+    fn commit_temp(&mut self, name: &SafeName) -> Result<(), StoreRefusal> {
         let due = is_due(&mut self.left);
         if due && self.time == FailureTime::Before {
             return Err(fail(&self.inner, &mut self.faults));
@@ -182,14 +136,7 @@ impl<S: FileStore> FileStore for FailingStore<S> {
         settle(&mut self.faults, due, answer)
     }
 
-    fn drop_temp(&mut self, name: &SafeName) -> Result<(), StoreRefusal>
-        ensures call { IsCounted self.old self.new (result ≡ Err StoreFault) }
-        ensures drops { S.keeps → Drops (MayFail (calls_left self.old) (S.fails (wrapped self.old))) (S.tree (wrapped self.old)) name.now result (S.tree (wrapped self.new)) }
-        ensures asked { S.keeps → IsAnswered self.old (λ answer. Drops (S.fails (wrapped self.old)) (S.tree (wrapped self.old)) name.now answer (S.tree (wrapped self.new))) }
-        ensures refusals { IfErr result IsPlain }
-        ensures counted { own_faults self.new ≡ count_after result (own_faults self.old) }
-        ensures tree { S.keeps → IsTree (S.tree (wrapped self.new)) }
-    {
+    fn drop_temp(&mut self, name: &SafeName) -> Result<(), StoreRefusal> {
         let due = is_due(&mut self.left);
         if due && self.time == FailureTime::Before {
             return Err(fail(&self.inner, &mut self.faults));
@@ -198,14 +145,7 @@ impl<S: FileStore> FileStore for FailingStore<S> {
         settle(&mut self.faults, due, answer)
     }
 
-    fn rename(&mut self, from: &SafeName, to: &SafeName) -> Result<(), StoreRefusal>
-        ensures call { IsCounted self.old self.new (result ≡ Err StoreFault) }
-        ensures renames { S.keeps → Renames (MayFail (calls_left self.old) (S.fails (wrapped self.old))) (S.tree (wrapped self.old)) from.now to.now result (S.tree (wrapped self.new)) }
-        ensures asked { S.keeps → IsAnswered self.old (λ answer. Renames (S.fails (wrapped self.old)) (S.tree (wrapped self.old)) from.now to.now answer (S.tree (wrapped self.new))) }
-        ensures refusals { result ≢ Err NotEmpty }
-        ensures counted { own_faults self.new ≡ count_after result (own_faults self.old) }
-        ensures tree { S.keeps → IsTree (S.tree (wrapped self.new)) }
-    {
+    fn rename(&mut self, from: &SafeName, to: &SafeName) -> Result<(), StoreRefusal> {
         let due = is_due(&mut self.left);
         if due && self.time == FailureTime::Before {
             return Err(fail(&self.inner, &mut self.faults));
@@ -214,14 +154,7 @@ impl<S: FileStore> FileStore for FailingStore<S> {
         settle(&mut self.faults, due, answer)
     }
 
-    fn remove(&mut self, name: &SafeName) -> Result<(), StoreRefusal>
-        ensures call { IsCounted self.old self.new (result ≡ Err StoreFault) }
-        ensures removes { S.keeps → Removes (MayFail (calls_left self.old) (S.fails (wrapped self.old))) (S.tree (wrapped self.old)) name.now result (S.tree (wrapped self.new)) }
-        ensures asked { S.keeps → IsAnswered self.old (λ answer. Removes (S.fails (wrapped self.old)) (S.tree (wrapped self.old)) name.now answer (S.tree (wrapped self.new))) }
-        ensures refusals { IfErr result IsPlain }
-        ensures counted { own_faults self.new ≡ count_after result (own_faults self.old) }
-        ensures tree { S.keeps → IsTree (S.tree (wrapped self.new)) }
-    {
+    fn remove(&mut self, name: &SafeName) -> Result<(), StoreRefusal> {
         let due = is_due(&mut self.left);
         if due && self.time == FailureTime::Before {
             return Err(fail(&self.inner, &mut self.faults));
@@ -230,14 +163,7 @@ impl<S: FileStore> FileStore for FailingStore<S> {
         settle(&mut self.faults, due, answer)
     }
 
-    fn make_dir(&mut self, name: &SafeName) -> Result<(), StoreRefusal>
-        ensures call { IsCounted self.old self.new (result ≡ Err StoreFault) }
-        ensures makes { S.keeps → MakesDir (MayFail (calls_left self.old) (S.fails (wrapped self.old))) (S.tree (wrapped self.old)) name.now result (S.tree (wrapped self.new)) }
-        ensures asked { S.keeps → IsAnswered self.old (λ answer. MakesDir (S.fails (wrapped self.old)) (S.tree (wrapped self.old)) name.now answer (S.tree (wrapped self.new))) }
-        ensures refusals { result ≢ Err NotEmpty }
-        ensures counted { own_faults self.new ≡ count_after result (own_faults self.old) }
-        ensures tree { S.keeps → IsTree (S.tree (wrapped self.new)) }
-    {
+    fn make_dir(&mut self, name: &SafeName) -> Result<(), StoreRefusal> {
         let due = is_due(&mut self.left);
         if due && self.time == FailureTime::Before {
             return Err(fail(&self.inner, &mut self.faults));
@@ -246,14 +172,7 @@ impl<S: FileStore> FileStore for FailingStore<S> {
         settle(&mut self.faults, due, answer)
     }
 
-    fn remove_dir(&mut self, name: &SafeName) -> Result<(), StoreRefusal>
-        ensures call { IsCounted self.old self.new (result ≡ Err StoreFault) }
-        ensures removes { S.keeps → RemovesDir (MayFail (calls_left self.old) (S.fails (wrapped self.old))) (S.tree (wrapped self.old)) name.now result (S.tree (wrapped self.new)) }
-        ensures asked { S.keeps → IsAnswered self.old (λ answer. RemovesDir (S.fails (wrapped self.old)) (S.tree (wrapped self.old)) name.now answer (S.tree (wrapped self.new))) }
-        ensures refusals { result ≢ Err BadParent }
-        ensures counted { own_faults self.new ≡ count_after result (own_faults self.old) }
-        ensures tree { S.keeps → IsTree (S.tree (wrapped self.new)) }
-    {
+    fn remove_dir(&mut self, name: &SafeName) -> Result<(), StoreRefusal> {
         let due = is_due(&mut self.left);
         if due && self.time == FailureTime::Before {
             return Err(fail(&self.inner, &mut self.faults));

@@ -22,6 +22,6 @@ pub use content::Content;
 pub use failing::{FailingStore, FailureTime};
 pub use mem::MemStore;
 pub use name_map::NameMap;
-pub use node::{Kind, Listed, Node, Stat};
+pub use node::{Kind, Listed, Listing, Node, Stat};
 pub use refusal::StoreRefusal;
 pub use store::FileStore;

@@ -10,7 +10,7 @@ ghost use Rattle.file_store.specs.Trees.{AreGrounded, IsTree, is_directory, is_f
 use crate::missing::has_bad_parent;
 use crate::name_map::NameMap;
 use crate::parents::parent_of;
-use crate::{Content, FileStore, Listed, Node, Stat, StoreRefusal, changes};
+use crate::{Content, FileStore, Listing, Node, Stat, StoreRefusal, changes};
 use std::alloc::Global;
 use sync_names::SafeName;
 
@@ -44,12 +44,8 @@ impl MemStore {
 }
 
 impl FileStore for MemStore {
-    ghost use Rattle.std.specs.Prelude.{◌≡◌, ◌≢◌, ◌≤◌, ◌-◌, ⊤, length, min, Ok, Err, IfOk, IfErr};
-    ghost use Rattle.file_store.specs.declared.refusal.StoreRefusal.TheVariants.{BadParent, OutOfMemory};
-    ghost use Rattle.file_store.specs.Calls.{Stats, Reads, Commits, Drops, Removes, RemovesDir, committed, stat_of};
-    ghost use Rattle.file_store.specs.Refusals.{count_after, IsPlain};
-    ghost use Rattle.file_store.specs.Stores.{mem_faults, mem_tree};
-    ghost use Rattle.file_store.specs.Trees.{IsTree, bytes_of};
+    ghost use Rattle.std.specs.Prelude.{⊤};
+    ghost use Rattle.file_store.specs.Stores.{MemGives, mem_faults, mem_tree};
 
     ghost keeps = { ⊤ };
 
@@ -59,24 +55,20 @@ impl FileStore for MemStore {
 
     ghost fault_count = { mem_faults };
 
+    ghost gives = { λ old call result new. MemGives (mem_tree old) call result (mem_tree new) };
+
     /// O(1).
     fn faults(&self) -> u64 {
         self.faults
     }
 
     /// O(n), and a copy of each name.
-    fn list(&mut self) -> Result<Vec<Listed>, StoreRefusal> {
+    fn list(&mut self) -> Result<Listing, StoreRefusal> {
         Ok(self.names.list(self.alloc)?)
     }
 
     /// Does not allocate. O(log n).
-    fn stat(&mut self, name: &SafeName) -> Result<Stat, StoreRefusal>
-        ensures value { result ≡ Ok (stat_of ((mem_tree self.old).names name.now)) }
-        ensures stats { ⊤ → Stats ⊥ (mem_tree self.old) name.now result (mem_tree self.new) }
-        ensures refusals { IfErr result IsPlain }
-        ensures counted { mem_faults self.new ≡ count_after result (mem_faults self.old) }
-        ensures tree { ⊤ → IsTree (mem_tree self.new) }
-    {
+    fn stat(&mut self, name: &SafeName) -> Result<Stat, StoreRefusal> {
         Ok(stat_of(self.names.get(name.as_str())))
     }
 
@@ -86,14 +78,7 @@ impl FileStore for MemStore {
         name: &SafeName,
         offset: u64,
         buffer: &mut [u8],
-    ) -> Result<usize, StoreRefusal>
-        ensures value { result ≡ Ok (min (length buffer.old) (length (bytes_of ((mem_tree self.old).names name.now)) - offset)) }
-        ensures bound { IfOk result (λ k. k ≤ length buffer.new) }
-        ensures reads { ⊤ → Reads ⊥ (mem_tree self.old) name.now offset buffer.old buffer.new result (mem_tree self.new) }
-        ensures refusals { IfErr result IsPlain }
-        ensures counted { mem_faults self.new ≡ count_after result (mem_faults self.old) }
-        ensures tree { ⊤ → IsTree (mem_tree self.new) }
-    {
+    ) -> Result<usize, StoreRefusal> {
         match self.names.get(name.as_str()) {
             Some(Node::File(content, _)) => Ok(content.read_at(offset as usize, buffer)),
             _ => Ok(0),
@@ -120,13 +105,7 @@ impl FileStore for MemStore {
     }
 
     /// O(log n), whatever the size of the file.
-    fn commit_temp(&mut self, name: &SafeName) -> Result<(), StoreRefusal>
-        ensures epoch { IfOk result (λ _. mem_tree self.new ≡ committed (mem_tree self.old) name.now 0) }
-        ensures commits { ⊤ → Commits ⊥ (mem_tree self.old) name.now result (mem_tree self.new) }
-        ensures refusals { IfErr result IsPlain }
-        ensures counted { mem_faults self.new ≡ count_after result (mem_faults self.old) }
-        ensures tree { ⊤ → IsTree (mem_tree self.new) }
-    {
+    fn commit_temp(&mut self, name: &SafeName) -> Result<(), StoreRefusal> {
         let name = name.as_str();
         if !self.temps.contains(name) {
             return Err(fault(&mut self.faults));
@@ -139,13 +118,7 @@ impl FileStore for MemStore {
     }
 
     /// Does not allocate. O(log n).
-    fn drop_temp(&mut self, name: &SafeName) -> Result<(), StoreRefusal>
-        ensures value { result ≡ Ok tt }
-        ensures drops { ⊤ → Drops ⊥ (mem_tree self.old) name.now result (mem_tree self.new) }
-        ensures refusals { IfErr result IsPlain }
-        ensures counted { mem_faults self.new ≡ count_after result (mem_faults self.old) }
-        ensures tree { ⊤ → IsTree (mem_tree self.new) }
-    {
+    fn drop_temp(&mut self, name: &SafeName) -> Result<(), StoreRefusal> {
         self.temps.remove(name.as_str());
         Ok(())
     }
@@ -164,13 +137,7 @@ impl FileStore for MemStore {
     }
 
     /// Does not allocate. O(log n).
-    fn remove(&mut self, name: &SafeName) -> Result<(), StoreRefusal>
-        ensures ample { result ≢ Err OutOfMemory }
-        ensures removes { ⊤ → Removes ⊥ (mem_tree self.old) name.now result (mem_tree self.new) }
-        ensures refusals { IfErr result IsPlain }
-        ensures counted { mem_faults self.new ≡ count_after result (mem_faults self.old) }
-        ensures tree { ⊤ → IsTree (mem_tree self.new) }
-    {
+    fn remove(&mut self, name: &SafeName) -> Result<(), StoreRefusal> {
         if !is_file(self.names.get(name.as_str())) {
             return Err(fault(&mut self.faults));
         }
@@ -192,13 +159,7 @@ impl FileStore for MemStore {
     }
 
     /// Does not allocate. O(n): it looks for what is in the directory among all names.
-    fn remove_dir(&mut self, name: &SafeName) -> Result<(), StoreRefusal>
-        ensures ample { result ≢ Err OutOfMemory }
-        ensures removes { ⊤ → RemovesDir ⊥ (mem_tree self.old) name.now result (mem_tree self.new) }
-        ensures refusals { result ≢ Err BadParent }
-        ensures counted { mem_faults self.new ≡ count_after result (mem_faults self.old) }
-        ensures tree { ⊤ → IsTree (mem_tree self.new) }
-    {
+    fn remove_dir(&mut self, name: &SafeName) -> Result<(), StoreRefusal> {
         let name = name.as_str();
         if !is_directory(self.names.get(name)) {
             return Err(fault(&mut self.faults));

@@ -7,7 +7,7 @@ ghost use Rattle.file_store.specs.Names.{Name, is_parent};
 
 use crate::listing::{kind_of, safe_name};
 use crate::parents::is_below;
-use crate::{Content, Listed, Node};
+use crate::{Content, Listed, Listing, Node};
 use std::alloc::{AllocError, Global};
 use std::collections::BTreeMap;
 
@@ -57,19 +57,22 @@ impl<V> NameMap<V> {
 
 impl NameMap<Node> {
     /// The safe names among all, with their kinds, in the order of their bytes. O(n), and the test of each name.
-    pub(crate) fn list(&self, alloc: Global) -> Result<Vec<Listed>, AllocError>
-        ensures { IfOk result (λ listing. IsListing (found_at self.now) listing.items) }
+    pub(crate) fn list(&self, alloc: Global) -> Result<Listing, AllocError>
+        ensures { IfOk result (λ listing. IsListing (found_at self.now) listing) }
     {
-        let mut listing = Vec::new(alloc);
+        let mut entries = Vec::new(alloc);
         for (text, node) in self.map.iter() {
             if let Some(name) = safe_name(alloc, text.as_str())? {
-                listing.push(Listed {
+                entries.push(Listed {
                     name,
                     kind: kind_of(node),
                 })?;
             }
         }
-        Ok(listing)
+        Ok(Listing {
+            entries,
+            unread: Vec::new(alloc),
+        })
     }
 }
 

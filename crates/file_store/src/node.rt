@@ -21,6 +21,8 @@ pub enum Stat {
     Directory,
     /// A file of so many bytes, and when it was modified: 1970-01-01T00:00:00Z if the store does not know.
     File(u64, Moment),
+    /// Something else is there: a symbolic link, a pipe, a socket or a device.
+    Other,
 }
 
 /// Whether a listed name is that of a directory or of a file.
@@ -39,4 +41,16 @@ pub struct Listed {
     pub name: SafeName,
     /// What is there.
     pub kind: Kind,
+}
+
+/// What a store has, as [`FileStore::list`] returns it.
+///
+/// [`FileStore::list`]: crate::FileStore::list
+#[derive(Debug, Drop)]
+pub struct Listing {
+    /// The names of files and directories with their kinds, in the order of their bytes, each once.
+    pub entries: Vec<Listed>,
+    /// The directories whose entries could not be read, in the order of their bytes, each once. What is below them is not
+    /// in `entries`, and may be there all the same; they themselves are in `entries`.
+    pub unread: Vec<SafeName>,
 }

@@ -14,9 +14,9 @@ use Rattle.file_store.proofs.name_map.NameMap+Node.list.Goals as goal
 pub loop-text-init : goal.loop-text-init
 loop-text-init c =
     let all : c.into_iter-text-iterator.result ≡ c.args.self.now.map.entries = search rules in
-    let none : c.new-listing.result.items ≡ [] = search rules in
+    let none : c.new-entries.result.items ≡ [] = search rules in
     let order : IsStrictlySortedBy string_cmp (keys_of c.args.self.now.map.entries) = search rules in
-    subst (λ es. IsListed (found_at c.args.self.now) es c.new-listing.result.items) (sym all)
+    subst (λ es. IsListed (found_at c.args.self.now) es c.new-entries.result.items) (sym all)
     (subst (IsListed (found_at c.args.self.now) c.args.self.now.map.entries) (sym none)
     (listing_begins (found_at c.args.self.now) c.args.self.now.map.entries (λ q. refl) order))
 
@@ -25,15 +25,15 @@ loop-text-preserved-in-Continue-branch-3 c =
     let e : String Global × Node = (c.in-Some.text.now, c.in-Some.node.now) in
     let is : c.loop-text.text-iterator ≡ e ∷ c.next.new.self = search rules in
     let l : Listed = record { name = c.in-Some-2.name; kind = c.kind_of.result } in
-    let pushed : c.push.new.self.items ≡ c.loop-text.listing.items ++ l ∷ [] = search rules in
+    let pushed : c.push.new.self.items ≡ c.loop-text.entries.items ++ l ∷ [] = search rules in
     let name : l.name ≡ string_bytes c.in-Some.text.now = search rules in
     let safe : is_none (refusal (string_bytes c.in-Some.text.now)) ≡ true = search rules in
     subst (IsListed (found_at c.args.self.now) c.next.new.self) (sym pushed)
-    (listing_adds (found_at c.args.self.now) e c.next.new.self c.loop-text.text-iterator is c.loop-text.listing.items c.loop-text.invariant l name c.kind_of.ensures safe)
+    (listing_adds (found_at c.args.self.now) e c.next.new.self c.loop-text.text-iterator is c.loop-text.entries.items c.loop-text.invariant l name c.kind_of.ensures safe)
 
 pub loop-text-preserved : goal.loop-text-preserved
 loop-text-preserved c =
     let e : String Global × Node = (c.in-Some.text.now, c.in-Some.node.now) in
     let is : c.loop-text.text-iterator ≡ e ∷ c.next.new.self = search rules in
     let unsafe : is_none (refusal (string_bytes c.in-Some.text.now)) ≡ false = search rules in
-    listing_skips (found_at c.args.self.now) e c.next.new.self c.loop-text.text-iterator is c.loop-text.listing.items c.loop-text.invariant unsafe
+    listing_skips (found_at c.args.self.now) e c.next.new.self c.loop-text.text-iterator is c.loop-text.entries.items c.loop-text.invariant unsafe
