@@ -34,7 +34,11 @@ pub(crate) fn temporary_permissions(mode: u32) -> u32
 
 /// Makes an empty file at a path where nothing is: one that may replace a file at another path, if a file is there, else
 /// with the permissions of any new file.
-pub(crate) fn create<R: Files>(disk: &Disk<R>, path: &str, replaced: &str) -> Result<R::File, StoreRefusal>
+pub(crate) fn create<R: Files>(
+    disk: &Disk<R>,
+    path: &str,
+    replaced: &str,
+) -> Result<R::File, StoreRefusal>
     ensures { IfErr result IsPlain }
 {
     let mut options = OpenOptions::new();

@@ -261,21 +261,36 @@ pub(crate) fn list_all<S: FileStore>(
     unread: &[&str],
 ) {
     let listing = listing(rt, store, unread.is_empty());
-    let is_expected = listing.entries.len() == expected.len()
-        && listing.unread.len() == unread.len()
-        && listing.entries.iter().zip(expected).all(|(listed, row)| is_listed(listed, row.0, row.1))
-        && listing.unread.iter().zip(unread).all(|(name, text)| name.as_str() == *text);
+    let is_expected = lists_these(&listing.entries, expected)
+        && names_these(&listing.unread, unread);
     assert!(rt; is_expected, "{listing:?}");
 }
 
-fn is_listed(listed: &Listed, path: &str, kind: Kind) -> bool {
-    listed.name.as_str() == path && listed.kind == kind
+fn lists_these(entries: &[Listed], expected: &[(&str, Kind)]) -> bool {
+    for (listed, row) in entries.iter().zip(expected) {
+        if listed.name.as_str() != row.0 || listed.kind != row.1 {
+            return false;
+        }
+    }
+    entries.len() == expected.len()
+}
+
+fn names_these(names: &[SafeName], expected: &[&str]) -> bool {
+    for (name, text) in names.iter().zip(expected) {
+        if name.as_str() != *text {
+            return false;
+        }
+    }
+    names.len() == expected.len()
 }
 
 /// So many names are listed, and so many were not read.
 pub(crate) fn lists<S: FileStore>(rt: &impl Abort, store: &mut S, expected: usize, unread: usize) {
     let listing = listing(rt, store, unread == 0);
-    assert_eq!(rt; (listing.entries.len(), listing.unread.len()), (expected, unread));
+    assert_eq!(rt;
+        (listing.entries.len(), listing.unread.len()),
+        (expected, unread)
+    );
 }
 
 /// What the store lists. It is asked again where one call failed, if that may be why something was not read.

@@ -6,7 +6,11 @@ use std::process::Abort;
 use std::rt::Files;
 
 /// A store in a new folder below a test's folder.
-fn store_in<'a, R: Files + AllocGlobal + Abort>(rt: &'a R, path: &str, name: &str) -> DirStore<&'a R> {
+fn store_in<'a, R: Files + AllocGlobal + Abort>(
+    rt: &'a R,
+    path: &str,
+    name: &str,
+) -> DirStore<&'a R> {
     directory(rt, path, name);
     let path = below(rt, path, name);
     store(rt, path.as_str())

@@ -22,29 +22,33 @@ use sync_version::Moment;
 fn long_names(rt: HostRuntime) {
     let path = folder(&rt, "long_names");
     let mut store = store(&rt, path.as_str());
-    let letters = "n".repeat(rt.alloc(), 256).expect(&rt, "a text");
-    let letters = letters.as_str();
-    stat_fails(&rt, &mut store, letters, 40);
-    read_fails(&rt, &mut store, letters, 40);
-    make_temp(&rt, &mut store, letters, 40);
-    make_dir(&rt, &mut store, letters, 40);
-    write(&rt, path.as_str(), &letters[..255], "xyz");
-    read_at(&rt, &mut store, &letters[..255], 0, 8, "xyz");
-    make_temp(&rt, &mut store, &letters[..255], 40);
-    make_temp(&rt, &mut store, &letters[..241], 40);
+    for (length, stated) in [(256, 40), (255, 0), (241, 0)] {
+        let long = letters(&rt, length);
+        let long = long.as_str();
+        stat_fails(&rt, &mut store, long, stated);
+        read_fails(&rt, &mut store, long, stated);
+        make_temp(&rt, &mut store, long, 40);
+        make_dir(&rt, &mut store, long, stated);
+    }
     faults(&rt, &store, 6);
     for (length, answer) in [(218, 40), (217, 0)] {
-        let original = &letters[..length];
-        put(&rt, &mut store, original, "u");
-        let copy = conflict_name(&name(&rt, original), Moment::new(0).expect(&rt, "a moment"), 1);
-        let copy = copy.expect(&rt, "a name");
-        rename(&rt, &mut store, original, copy.as_str(), answer);
+        let original = letters(&rt, length);
+        put(&rt, &mut store, original.as_str(), "u");
+        let moment = Moment::new(0).expect(&rt, "a moment");
+        let copy = conflict_name(&name(&rt, original.as_str()), moment, 1).expect(&rt, "a name");
+        rename(&rt, &mut store, original.as_str(), copy.as_str(), answer);
     }
     faults(&rt, &store, 7);
-    put(&rt, &mut store, &letters[..240], "xyz");
-    make_dir(&rt, &mut store, &letters[1..255], 0);
-    lists(&rt, &mut store, 5, 0);
+    put(&rt, &mut store, letters(&rt, 240).as_str(), "xyz");
+    let most = below(&rt, path.as_str(), letters(&rt, 254).as_str());
+    fs::write(&rt, most.as_str(), "xyz").expect(&rt, "a file");
+    read_at(&rt, &mut store, letters(&rt, 254).as_str(), 0, 8, "xyz");
+    lists(&rt, &mut store, 6, 0);
     remove_folder(&rt, path.as_str());
+}
+
+fn letters(rt: &(impl AllocGlobal + Abort), count: usize) -> String {
+    "n".repeat(rt.alloc(), count).expect(rt, "a text")
 }
 
 /// A folder that vanishes is no folder without files.
@@ -84,7 +88,10 @@ fn directories_without_permissions(rt: HostRuntime) {
     put(&rt, &mut store, "d/a", "xyz");
     put(&rt, &mut store, "e/b", "xyz");
     put(&rt, &mut store, "f", "xyz");
-    let (d, e) = (below(&rt, path.as_str(), "d"), below(&rt, path.as_str(), "e"));
+    let (d, e) = (
+        below(&rt, path.as_str(), "d"),
+        below(&rt, path.as_str(), "e"),
+    );
     set_mode(&rt, d.as_str(), 0o000);
     set_mode(&rt, e.as_str(), 0o444);
     let inside = below(&rt, path.as_str(), "d/a");
@@ -97,7 +104,12 @@ fn directories_without_permissions(rt: HostRuntime) {
     ];
     if fs::metadata(&rt, inside.as_str()).is_err() {
         let unseen = ("e/b", Kind::Directory);
-        list_all(&rt, &mut store, &[all[0], all[2], unseen, all[4]], &["d", "e/b"]);
+        list_all(
+            &rt,
+            &mut store,
+            &[all[0], all[2], unseen, all[4]],
+            &["d", "e/b"],
+        );
         faults(&rt, &store, 0);
         stat_fails(&rt, &mut store, "d/a", 40);
         faults(&rt, &store, 1);
@@ -282,7 +294,10 @@ fn permissions(rt: HostRuntime) {
     let mut store = store(&rt, path.as_str());
     write(&rt, path.as_str(), "new", "u");
     put(&rt, &mut store, "a", "u");
-    let (a, copy) = (below(&rt, path.as_str(), "a"), below(&rt, path.as_str(), "copy"));
+    let (a, copy) = (
+        below(&rt, path.as_str(), "a"),
+        below(&rt, path.as_str(), "copy"),
+    );
     let new = below(&rt, path.as_str(), "new");
     let temp = below(&rt, path.as_str(), ".syncthing.a.tmp");
     assert_eq!(rt; mode(&rt, a.as_str()), mode(&rt, new.as_str()));
@@ -308,7 +323,10 @@ fn permissions(rt: HostRuntime) {
     make_temp(&rt, &mut store, "a", 0);
     rename(&rt, &mut store, "a", "copy", 0);
     commit_temp(&rt, &mut store, "a", 0);
-    assert_eq!(rt; (mode(&rt, a.as_str()), mode(&rt, copy.as_str())), (0o600, 0o600));
+    assert_eq!(rt;
+        (mode(&rt, a.as_str()), mode(&rt, copy.as_str())),
+        (0o600, 0o600)
+    );
     faults(&rt, &store, 0);
     remove_folder(&rt, path.as_str());
 }
