@@ -1,6 +1,6 @@
 -- The entries of a map that are left to go through, and what is listed of those before.
-use Rattle.std.proofs.Common.{◌≡◌, Bool, true, false, cond, List, [], ◌∷◌, ◌++◌, map, refl, sym, ap, subst, ◌∙◌, Some, None, Option, string_bytes}
-use Rattle.std.specs.Prelude.{bytes_eq, is_none, IsSome, is_some, if◌then◌else◌}
+use Rattle.std.proofs.Common.{◌≡◌, Bool, true, false, cond, List, [], ◌∷◌, ◌++◌, map, refl, sym, ap, subst, ◌∙◌, Some, None, Option, Result, Ok, Err, string_bytes}
+use Rattle.std.specs.Prelude.{bytes_eq, IfErr, is_none, IsSome, is_some, if◌then◌else◌}
 use Rattle.std.specs.BTreeMap.{is_at}
 use Rattle.std.specs.Cmp.Lexicographic.{slice_cmp}
 use Rattle.std.specs.List.{AllByRecursion}
@@ -12,12 +12,14 @@ use Rattle.std.specs.declared.cmp.Ordering.{Ordering}
 use Rattle.std.specs.declared.cmp.Ordering.TheVariants.{Less}
 use Rattle.std.specs.declared.string.String.{String}
 use Rattle.std.proofs.lemmas.Bool.{both_ways, false≢true}
+use Rattle.std.proofs.lemmas.List.{append-nil}
 use Rattle.std.proofs.lemmas.Map.Text.{is_eq-slice_cmp, text_cmp}
 use Rattle.sync_names.specs.Refusal.{refusal}
 use Rattle.file_store.specs.declared.node.Kind.{Kind}
 use Rattle.file_store.specs.declared.node.Listed.{Listed}
 use Rattle.file_store.specs.declared.node.Node.{Node}
-use Rattle.file_store.specs.Listings.{kind_of, kind_at, listed_at}
+use Rattle.file_store.specs.declared.node.Listing.{Listing}
+use Rattle.file_store.specs.Listings.{AreAscending, IsListing, kind_of, kind_at, listed_at}
 use Rattle.file_store.specs.Names.{Name, is_parent}
 use Rattle.file_store.proofs.BetweenLemmas.{same_bytes, same_name}
 
@@ -63,7 +65,8 @@ safe_kind q o = if is_none (refusal q) then kind_at o else None
 
 pub record IsListed {Y : Type 0} (names : Name → Option Node) (rest : List (String Y × Node)) (out : List Listed) : Type 0 where
   pub each : (q : Name) → safe_kind q (names q) ≡ or_else (listed_at out q) (safe_kind q (left_at rest q))
-  pub order : IsStrictlySortedBy (slice_cmp nat_cmp) (map listed_name out ++ map entry_name rest)
+  pub order : AreAscending (map listed_name out ++ map entry_name rest)
+  pub left : (q : Name) → IsSome (left_at rest q) → IsSome (names q)
 
 listed_more : (out : List Listed) (l : Listed) (q : Name) → listed_at (out ++ l ∷ []) q ≡ or_else (listed_at out q) (cond (bytes_eq q l.name) (Some l.kind) None)
 listed_more [] l q = refl
@@ -96,7 +99,24 @@ sorted_names (e ∷ es) h = (all_names (string_bytes e.0) es h.0, sorted_names e
 
 module _ {Y : Type 0} (names : Name → Option Node) where
   pub listing_begins : (es : List (String Y × Node)) → ((q : Name) → names q ≡ left_at es q) → IsStrictlySortedBy string_cmp (keys_of es) → IsListed names es []
-  listing_begins es is order = record { each = λ q. ap (safe_kind q) (is q); order = sorted_names es order }
+  listing_begins es is order = record { each = λ q. ap (safe_kind q) (is q); order = sorted_names es order; left = λ q h. ap is_some (is q) ∙ h }
+
+  -- all have been gone through
+  pub listing_ends : (rest : List (String Y × Node)) (listing : Listing) → rest ≡ [] → listing.unread.items ≡ [] → IsListed names rest listing.entries.items → IsListing names listing
+  unfolding IsStrictlySortedBy
+  listing_ends rest listing ends none k = record {
+    order = record {
+      entries = subst AreAscending (append-nil (map listed_name listing.entries.items)) (subst (λ es. AreAscending (map listed_name listing.entries.items ++ map entry_name es)) ends k.order);
+      unread = subst AreAscending (sym none) tt;
+    };
+    each = λ q. sym (k.each q ∙ ap (λ es. or_else (listed_at listing.entries.items q) (safe_kind q (left_at es q))) ends ∙ nothing (listed_at listing.entries.items q) (is_none (refusal q)));
+    unread = none;
+  }
+    where
+      nothing : (o : Option Kind) (safe : Bool) → or_else o (cond safe (kind_at None) None) ≡ o
+      nothing (Some x) safe = refl
+      nothing None true = refl
+      nothing None false = refl
 
   module _ (e : String Y × Node) (es rest : List (String Y × Node)) (is : rest ≡ e ∷ es) (out : List Listed) (k : IsListed names rest out) where
     go_safe : (safe b : Bool) (o : Option Kind) (n : Node) (r : Option Node) → (b ≡ true → safe ≡ true)
@@ -111,8 +131,22 @@ module _ {Y : Type 0} (names : Name → Option Node) where
     go_unsafe false b n r h = refl
     go_unsafe true false n r h = refl
 
+    at_rest : (q : Name) → left_at rest q ≡ cond (bytes_eq q (string_bytes e.0)) (Some e.1) (left_at es q)
+    at_rest q = ap (λ l. left_at l q) is ∙ left_more e es q
+
     at_left : (q : Name) → safe_kind q (left_at rest q) ≡ safe_kind q (cond (bytes_eq q (string_bytes e.0)) (Some e.1) (left_at es q))
-    at_left q = ap (safe_kind q) (ap (λ l. left_at l q) is ∙ left_more e es q)
+    at_left q = ap (safe_kind q) (at_rest q)
+
+    still_left : (q : Name) → IsSome (left_at es q) → IsSome (names q)
+    still_left q h = k.left q (ap is_some (at_rest q) ∙ go (bytes_eq q (string_bytes e.0)) (left_at es q) h)
+      where
+        go : (b : Bool) (o : Option Node) → is_some o ≡ true → is_some (cond b (Some e.1) o) ≡ true
+        go true o h = refl
+        go false o h = h
+
+    -- the next entry is one of the map
+    pub listing_has : IsSome (names (string_bytes e.0))
+    listing_has = k.left (string_bytes e.0) (ap is_some (at_rest (string_bytes e.0)) ∙ ap (λ b. is_some (cond b (Some e.1) (left_at es (string_bytes e.0)))) (same_bytes (string_bytes e.0)))
 
     in_order : IsStrictlySortedBy (slice_cmp nat_cmp) (map listed_name out ++ string_bytes e.0 ∷ map entry_name es)
     in_order = subst (λ l. IsStrictlySortedBy (slice_cmp nat_cmp) (map listed_name out ++ map entry_name l)) is k.order
@@ -125,6 +159,7 @@ module _ {Y : Type 0} (names : Name → Option Node) where
           (ap (λ m. or_else (listed_at out q) (cond (bytes_eq q m) (Some (kind_of e.1)) None)) (sym name)
           ∙ ap (λ m. or_else (listed_at out q) (cond (bytes_eq q l.name) (Some m) None)) (sym kind) ∙ sym (listed_more out l q));
       order = subst (IsStrictlySortedBy (slice_cmp nat_cmp)) (ap (λ m. map listed_name out ++ m ∷ map entry_name es) (sym name) ∙ sym (names_more out l (map entry_name es))) in_order;
+      left = still_left;
     }
 
     pub listing_skips : is_none (refusal (string_bytes e.0)) ≡ false → IsListed names es out
@@ -132,4 +167,10 @@ module _ {Y : Type 0} (names : Name → Option Node) where
       each = λ q. k.each q ∙ ap (or_else (listed_at out q)) (at_left q
           ∙ go_unsafe (is_none (refusal q)) (bytes_eq q (string_bytes e.0)) e.1 (left_at es q) (λ t. ap (λ m. is_none (refusal m)) (same_name _ _ t) ∙ unsafe));
       order = sorted_without (slice_cmp nat_cmp) (map listed_name out) (string_bytes e.0) (map entry_name es) in_order;
+      left = still_left;
     }
+
+-- whatever the refusal
+pub if_err : {X Y P : Type 0} (r : Result X Y) → P → IfErr r (λ _. P)
+if_err (Ok x) p = tt
+if_err (Err e) p = p

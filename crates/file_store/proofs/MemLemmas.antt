@@ -6,11 +6,11 @@ use Rattle.file_store.specs.declared.node.Node.{Node}
 use Rattle.file_store.specs.declared.node.Node.TheVariants.{Directory}
 use Rattle.file_store.specs.declared.refusal.StoreRefusal.{StoreRefusal}
 use Rattle.file_store.specs.declared.refusal.StoreRefusal.TheVariants.{StoreFault, OutOfMemory}
-use Rattle.file_store.specs.Calls.{Answers, IsAllowed, RenameRefused}
+use Rattle.file_store.specs.Calls.{Answers, HasBadParent, IsAllowed, MakeTempRefused, WriteRefused, CommitRefused, RenameRefused}
 use Rattle.file_store.specs.Contents.{overwritten}
 use Rattle.file_store.specs.Maps.{put_at}
 use Rattle.file_store.specs.Names.{Name, is_parent}
-use Rattle.file_store.specs.Trees.{Tree, IsTree, is_file, tree_of}
+use Rattle.file_store.specs.Trees.{Tree, IsTree, is_directory, is_file, tree_of}
 use Rattle.file_store.proofs.TreeLemmas.{temp_written_tree}
 
 pub same_tree : (F F' : Name → Option Node) (S S' : Name → Option (List ℕ)) → F' ≡ F → S' ≡ S → tree_of F' S' ≡ tree_of F S
@@ -71,3 +71,19 @@ rename_faults t from to free h = (
   λ bad. both_ways true (sym bad.2 ∙ free bad.0 bad.1) refl,
   elim h [ inl a ↦ inl a | inr (inl b) ↦ inr (inl b) | inr (inr m) ↦ inr (inr (m.0, m.1, none_is _ m.2)) ],
 )
+
+no_bad_parent : (t : Tree) (n : Name) → ((p : Name) → is_parent p n ≡ true → is_file (t.names p) ≡ false) → ¬ (HasBadParent t n)
+no_bad_parent t n free bad = both_ways true (sym bad.2 ∙ free bad.0 bad.1) refl
+
+pub make_temp_allowed : (t : Tree) (n : Name) → ((p : Name) → is_parent p n ≡ true → is_file (t.names p) ≡ false) → IsAllowed (MakeTempRefused t n)
+make_temp_allowed t n free = record { fault = λ h. h; empty = λ h. h; parents = no_bad_parent t n free }
+
+pub write_allowed : (t : Tree) (n : Name) → IsSome (t.temps n) → IsAllowed (WriteRefused t n)
+write_allowed t n there = record { fault = not_none (t.temps n) there; empty = λ h. h; parents = λ h. h }
+
+pub commit_allowed : (t : Tree) (n : Name) → IsSome (t.temps n) → is_directory (t.names n) ≡ false → IsAllowed (CommitRefused t n)
+commit_allowed t n there no' = record {
+  fault = λ h. elim h [ inl none ↦ not_none (t.temps n) there none | inr dir ↦ false≢true (sym no' ∙ dir) ];
+  empty = λ h. h;
+  parents = λ h. h;
+}

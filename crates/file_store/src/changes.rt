@@ -1,5 +1,5 @@
 //! Changes of the two maps of a store in memory: each is made wholly, or runs out of memory and changes nothing.
-ghost use Rattle.std.specs.Prelude.{◌≡◌, ◌≢◌, [], true, false, Option, Some, None, is_some, IsNone, IsSome, MatchResult, unwrap_or};
+ghost use Rattle.std.specs.Prelude.{◌≡◌, ◌≢◌, [], true, false, Option, Some, None, is_some, IsNone, IsSome, IfErr, MatchResult, unwrap_or};
 ghost use Rattle.file_store.specs.declared.node.Node.TheVariants.{Directory, File};
 ghost use Rattle.file_store.specs.Maps.{found_at, put_at};
 ghost use Rattle.file_store.specs.Trees.{AreGrounded, with_parents};
@@ -17,7 +17,7 @@ pub(crate) fn epoch() -> Moment
     Moment::new(0).unwrap()
 }
 
-/// Makes missing parents, and an empty temporary file in place of one that is there.
+/// Makes missing parents, and an empty temporary file in place of one that is there. Allocates only if none is there.
 pub(crate) fn make_temp(
     alloc: Global,
     names: &mut NameMap<Node>,
@@ -25,15 +25,16 @@ pub(crate) fn make_temp(
     name: &str,
 ) -> Result<(), AllocError>
     requires grounded { AreGrounded (found_at names.old) (found_at names.old) }
+    requires temps_grounded { AreGrounded (found_at names.old) (found_at temps.old) }
     ensures names { MatchResult result
         (λ _. found_at names.new ≡ with_parents name.now (found_at names.old))
         (λ _. found_at names.new ≡ found_at names.old) }
     ensures temps { MatchResult result
         (λ _. found_at temps.new ≡ put_at name.now (Some []) (found_at temps.old))
         (λ _. found_at temps.new ≡ found_at temps.old) }
+    ensures failed { IfErr result (λ _. found_at temps.old name.now ≡ None) }
 {
     if temps.contains(name) {
-        make_parents(alloc, names, name)?;
         temps.replace(name, Content::new(alloc));
         return Ok(());
     }
@@ -45,7 +46,7 @@ pub(crate) fn make_temp(
     Ok(())
 }
 
-/// Puts the temporary file of a name in its place.
+/// Puts the temporary file of a name in its place. Allocates only if nothing is there.
 pub(crate) fn commit_temp(
     alloc: Global,
     names: &mut NameMap<Node>,
@@ -59,8 +60,11 @@ pub(crate) fn commit_temp(
     ensures temps { MatchResult result
         (λ _. found_at temps.new ≡ put_at name.now None (found_at temps.old))
         (λ _. found_at temps.new ≡ found_at temps.old) }
+    ensures failed { IfErr result (λ _. found_at names.old name.now ≡ None) }
 {
-    names.insert(alloc, name, Node::Directory)?;
+    if !names.contains(name) {
+        names.insert(alloc, name, Node::Directory)?;
+    }
     if let Some(bytes) = temps.remove(name) {
         names.replace(name, Node::File(bytes, epoch()));
     }

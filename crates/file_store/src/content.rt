@@ -1,4 +1,4 @@
-ghost use Rattle.std.specs.Prelude.{◌≡◌, ◌≤◌, ◌+◌, ◌-◌, ◌++◌, [], List, ℕ, min, take, drop, length, replicate, MatchResult};
+ghost use Rattle.std.specs.Prelude.{◌≡◌, ◌≢◌, ◌<◌, ◌≤◌, IfErr, ◌+◌, ◌-◌, ◌++◌, [], List, ℕ, min, take, drop, length, replicate, MatchResult};
 ghost use Rattle.file_store.specs.Contents.{overwritten};
 
 use std::alloc::{AllocError, Global};
@@ -54,28 +54,31 @@ impl Content {
     /// Writes bytes from an offset on, over those that are there and after them, with 0 in a gap. Out of memory changes
     /// nothing. O(n) for n written bytes, and amortized O(1) a byte that the content grows by.
     pub(crate) fn write_at(&mut self, offset: usize, piece: &[u8]) -> Result<(), AllocError>
-        ensures { MatchResult result (λ _. self.new ≡ overwritten self.old offset piece.now) (λ _. self.new ≡ self.old) }
+        ensures written { MatchResult result (λ _. self.new ≡ overwritten self.old offset piece.now) (λ _. self.new ≡ self.old) }
+        ensures failed { IfErr result (λ _. (piece.now ≢ []) × (length self.old < offset + length piece.now)) }
     {
         if piece.is_empty() {
             return Ok(());
         }
-        let Some(end) = offset.checked_add(piece.len()) else {
-            return Err(AllocError);
-        };
-        grow(&mut self.bytes, end)?;
+        grow(&mut self.bytes, offset, piece.len())?;
         overwrite(&mut self.bytes, offset, piece);
         Ok(())
     }
 }
 
-/// Puts 0 at the end until there are so many bytes. Out of memory changes nothing.
-fn grow(bytes: &mut Vec<u8>, len: usize) -> Result<(), AllocError>
-    ensures { MatchResult result
-        (λ _. bytes.new.items ≡ bytes.old.items ++ replicate (len - length bytes.old.items) 0)
+/// Puts 0 at the end until so many bytes can be written from an offset on. Allocates only if there are fewer.
+fn grow(bytes: &mut Vec<u8>, offset: usize, count: usize) -> Result<(), AllocError>
+    ensures grown { MatchResult result
+        (λ _. bytes.new.items ≡ bytes.old.items ++ replicate ((offset + count) - length bytes.old.items) 0)
         (λ _. bytes.new.items ≡ bytes.old.items) }
+    ensures failed { IfErr result (λ _. length bytes.old.items < offset + count) }
 {
-    if bytes.len() < len {
-        bytes.resize(len, 0)?;
+    let len = bytes.len();
+    let Some(end) = offset.checked_add(count) else {
+        return Err(AllocError);
+    };
+    if len < end {
+        bytes.resize(end, 0)?;
     }
     Ok(())
 }

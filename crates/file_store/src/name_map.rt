@@ -1,5 +1,5 @@
 //! Values by name.
-ghost use Rattle.std.specs.Prelude.{◌≡◌, true, false, IfOk, IsTrue, List, ℕ, Option, Some, None, is_some, IsSome, unwrap_or, [], if◌then◌else◌, MatchResult, MatchOption, option_copied};
+ghost use Rattle.std.specs.Prelude.{◌≡◌, ◌≢◌, ◌<◌, ◌+◌, length, true, false, IfErr, IfOk, IfSome, IsTrue, List, ℕ, Option, Some, None, is_some, IsSome, unwrap_or, [], if◌then◌else◌, MatchResult, MatchOption, option_copied};
 ghost use Rattle.file_store.specs.Contents.{overwritten};
 ghost use Rattle.file_store.specs.Listings.{IsListing};
 ghost use Rattle.file_store.specs.Maps.{found_at, put_at};
@@ -58,7 +58,8 @@ impl<V> NameMap<V> {
 impl NameMap<Node> {
     /// The safe names among all, with their kinds, in the order of their bytes. O(n), and the test of each name.
     pub(crate) fn list(&self, alloc: Global) -> Result<Listing, AllocError>
-        ensures { IfOk result (λ listing. IsListing (found_at self.now) listing) }
+        ensures listing { IfOk result (λ listing. IsListing (found_at self.now) listing) }
+        ensures failed { IfErr result (λ _. (q : Name) × IsSome (found_at self.now q)) }
     {
         let mut entries = Vec::new(alloc);
         for (text, node) in self.map.iter() {
@@ -123,6 +124,8 @@ impl NameMap<Content> {
             (λ _. found_at self.new
             ≡ put_at name.now (Some (overwritten (unwrap_or (found_at self.old name.now) []) offset piece.now)) (found_at self.old))
             (λ _. found_at self.new ≡ found_at self.old)) }
+        ensures failed { IfSome result (λ written. IfErr written (λ _.
+            (piece.now ≢ []) × (length (unwrap_or (found_at self.old name.now) []) < offset + length piece.now))) }
     {
         match self.map.get_mut(name) {
             Some(content) => Some(content.write_at(offset, piece)),

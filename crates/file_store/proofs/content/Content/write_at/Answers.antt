@@ -3,8 +3,8 @@ use Rattle.std.specs.Prelude.{replicate}
 use Rattle.file_store.proofs.WriteLemmas.{spliced, written}
 use Rattle.file_store.proofs.content.Content.write_at.Goals as goal
 
-pub returns : goal.returns
-returns c =
+pub returns-clause-written : goal.returns-clause-written
+returns-clause-written c =
     let old = c.args.self.now in
     let piece = c.args.piece.now in
     let offset = c.args.offset in

@@ -4,7 +4,7 @@ use Rattle.file_store.specs.declared.node.Node.TheVariants.{File}
 use Rattle.file_store.specs.Maps.{found_at, put_at}
 use Rattle.file_store.specs.Trees.{is_directory, tree_of}
 use Rattle.file_store.specs.Calls.{CommitRefused, committed}
-use Rattle.file_store.proofs.MemLemmas.{changed_tree, same_tree}
+use Rattle.file_store.proofs.MemLemmas.{changed_tree, commit_allowed, none_is, same_tree}
 use Rattle.file_store.proofs.TreeLemmas.{committed_tree}
 use Rattle.file_store.proofs.mem.MemStoreFileStore.commit_temp.Goals as goal
 
@@ -28,11 +28,23 @@ returns-then-not-contains-clause-commits c =
     let none : IsNone (S c.args.name.now) = search rules in
     λ k. (0, inl (subst (CommitRefused (tree_of (found_at c.args.self.now.names) S) c.args.name.now) (sym c.fault.ensures.refusal) (inl none), refl))
 
-pub returns-clause-epoch : goal.returns-clause-epoch
-returns-clause-epoch c =
+pub returns-clause-gives : goal.returns-clause-gives
+returns-clause-gives c =
     let m = c.as_str-name.result.now in
     let F = found_at c.args.self.now.names in
+    let S = found_at c.args.self.now.temps in (
+      same_tree (put_at m (Some (File (unwrap_or (S m) []) 0)) F) (found_at c.commit_temp.new.names) (put_at m None S) (found_at c.commit_temp.new.temps)
+          c.in_ok-commit_temp.ensures.names c.in_ok-commit_temp.ensures.temps
+          ∙ ap (λ q. committed (tree_of F S) q 0) c.as_str-name.ensures.value,
+      search rules,
+    )
+
+pub returns-in_err-commit_temp-clause-gives : goal.returns-in_err-commit_temp-clause-gives
+returns-in_err-commit_temp-clause-gives c =
+    let n = c.args.name.now in
+    let F = found_at c.args.self.now.names in
     let S = found_at c.args.self.now.temps in
-    same_tree (put_at m (Some (File (unwrap_or (S m) []) 0)) F) (found_at c.commit_temp.new.names) (put_at m None S) (found_at c.commit_temp.new.temps)
-    c.in_ok-commit_temp.ensures.names c.in_ok-commit_temp.ensures.temps
-    ∙ ap (λ q. committed (tree_of F S) q 0) c.as_str-name.ensures.value
+    let there : IsSome (S n) = search rules in
+    let no' : is_directory (F n) ≡ false = search rules in
+    let none : F n ≡ None = search rules in
+    (search rules, λ h. (commit_allowed (tree_of F S) n there no', none_is (F n) none))

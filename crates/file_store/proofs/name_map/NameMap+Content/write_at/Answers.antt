@@ -11,4 +11,4 @@ returns-in-Some-clause-left c =
     let f = found_at c.args.self.now in
     let there : f n ≡ Some c.in-Some.content.now = search rules in
     let sets = btree_map_updates_text n c.args.self.now.map (c.get_mut.follows.lender w) _ ((c.get_mut.follows.holds w).3 (search rules)) in
-    put_written n f _ c.in-Some.content.now w c.args.piece.now c.args.offset c.write_at.result c.write_at.ensures (λ t q. sets q t) there
+    put_written n f _ c.in-Some.content.now w c.args.piece.now c.args.offset c.write_at.result c.write_at.ensures.written (λ t q. sets q t) there

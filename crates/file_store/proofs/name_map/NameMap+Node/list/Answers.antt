@@ -8,7 +8,7 @@ use Rattle.file_store.specs.declared.node.Listed.{Listed}
 use Rattle.file_store.specs.declared.node.Node.{Node}
 use Rattle.sync_names.specs.Refusal.{refusal}
 use Rattle.file_store.specs.Maps.{found_at}
-use Rattle.file_store.proofs.ListingLemmas.{IsListed, listing_adds, listing_begins, listing_skips}
+use Rattle.file_store.proofs.ListingLemmas.{IsListed, if_err, listing_adds, listing_begins, listing_ends, listing_has, listing_skips}
 use Rattle.file_store.proofs.name_map.NameMap+Node.list.Goals as goal
 
 pub loop-text-init : goal.loop-text-init
@@ -37,3 +37,21 @@ loop-text-preserved c =
     let is : c.loop-text.text-iterator ≡ e ∷ c.next.new.self = search rules in
     let unsafe : is_none (refusal (string_bytes c.in-Some.text.now)) ≡ false = search rules in
     listing_skips (found_at c.args.self.now) e c.next.new.self c.loop-text.text-iterator is c.loop-text.entries.items c.loop-text.invariant unsafe
+
+pub returns-in_err-name-clause-failed : goal.returns-in_err-name-clause-failed
+returns-in_err-name-clause-failed c =
+    let e : String Global × Node = (c.in-Some.text.now, c.in-Some.node.now) in
+    let is : c.loop-text.text-iterator ≡ e ∷ c.next.new.self = search rules in
+    if_err c.from_residual.result (string_bytes e.0, listing_has (found_at c.args.self.now) e c.next.new.self c.loop-text.text-iterator is c.loop-text.entries.items c.loop-text.invariant)
+
+pub returns-in_err-push-clause-failed : goal.returns-in_err-push-clause-failed
+returns-in_err-push-clause-failed c =
+    let e : String Global × Node = (c.in-Some.text.now, c.in-Some.node.now) in
+    let is : c.loop-text.text-iterator ≡ e ∷ c.next.new.self = search rules in
+    if_err c.from_residual-in_err-push.result (string_bytes e.0, listing_has (found_at c.args.self.now) e c.next.new.self c.loop-text.text-iterator is c.loop-text.entries.items c.loop-text.invariant)
+
+pub returns-clause-listing : goal.returns-clause-listing
+returns-clause-listing c =
+    let ends : c.loop-text.text-iterator ≡ [] = search rules in
+    let none : c.new.result.items ≡ [] = search rules in
+    listing_ends (found_at c.args.self.now) c.loop-text.text-iterator (record { entries = c.loop-text.entries; unread = c.new.result }) ends none c.loop-text.invariant
