@@ -1,5 +1,5 @@
 -- Entries in the order of their names, each once.
-use Rattle.std.proofs.Common.{◌≡◌, Bool, true, List, [], ◌∷◌}
+use Rattle.std.proofs.Common.{◌≡◌, Bool, List, [], ◌∷◌}
 use Rattle.std.specs.Prelude.{bytes_eq, map}
 use Rattle.std.specs.List.{AllByRecursion, dedup}
 use Rattle.std.specs.List.Sorted.{IsSortedBy, IsStrictlySortedBy}
