@@ -3,7 +3,7 @@ use crate::calls::{
     commit_temp, faults, is_file, is_missing, list_all, list_fails, make_dir, make_temp, put,
     read_at, read_fails, remove, rename, stat_fails, write_at,
 };
-use crate::folder::{folder, remove_folder};
+use crate::folder::{below, folder, remove_folder};
 use crate::watched::{Trouble, Watch, Watched};
 use file_dir::DirStore;
 use file_store::Kind;
@@ -12,22 +12,14 @@ use std::io::ErrorKind;
 use std::process::Abort;
 use std::rt::Files;
 
-/// A store in a folder of a watched disk.
-fn watched<'a, R: Files + AllocGlobal + Abort>(
-    rt: &'a R,
-    watch: &'a Watch,
-    path: &str,
-) -> DirStore<Watched<'a, R>> {
-    DirStore::open(Watched::new(rt, watch), rt.alloc(), path).expect(rt, "a store")
-}
-
 /// A file's bytes reach the disk before it gets its name, and its name after; so do new directories, and both folders of a file
 /// that is renamed, each once.
 #[test]
 fn what_reaches_the_disk(rt: HostRuntime) {
     let path = folder(&rt, "what_reaches_the_disk");
     let watch = Watch::new(u64::MAX);
-    let mut store = watched(&rt, &watch, path.as_str());
+    let disk = Watched::new(&rt, &watch);
+    let mut store = DirStore::open(disk, rt.alloc(), path.as_str()).expect(&rt, "a store");
     put(&rt, &mut store, "a", "xyz");
     assert_eq!(rt; watch.notes(), 1234);
     make_dir(&rt, &mut store, "d", 0);
@@ -37,9 +29,13 @@ fn what_reaches_the_disk(rt: HostRuntime) {
     rename(&rt, &mut store, "d/a", "d/b", 0);
     rename(&rt, &mut store, "d/b", "e/b", 0);
     assert_eq!(rt; watch.notes(), 123_444_635_435_365);
-    store.make_marker().expect(&rt, "a marker");
+    make_marker(&rt, &mut store);
     assert_eq!(rt; watch.notes(), 1_234_446_354_353_654);
     remove_folder(&rt, path.as_str());
+}
+
+fn make_marker<R: Files>(rt: &impl Abort, store: &mut DirStore<R>) {
+    store.make_marker().expect(rt, "a marker");
 }
 
 /// What a commit returns if something does not reach the disk: a file's bytes must, and a directory's names unless the file system
@@ -48,7 +44,8 @@ fn what_reaches_the_disk(rt: HostRuntime) {
 fn what_does_not_reach_the_disk(rt: HostRuntime) {
     let path = folder(&rt, "what_does_not_reach_the_disk");
     let watch = Watch::new(u64::MAX);
-    let mut store = watched(&rt, &watch, path.as_str());
+    let disk = Watched::new(&rt, &watch);
+    let mut store = DirStore::open(disk, rt.alloc(), path.as_str()).expect(&rt, "a store");
     make_dir(&rt, &mut store, "d", 0);
     for (end, error, answer, size) in [
         (".tmp", ErrorKind::Other, 40, 0),
@@ -76,7 +73,8 @@ fn what_does_not_reach_the_disk(rt: HostRuntime) {
 fn short_writes(rt: HostRuntime) {
     let path = folder(&rt, "short_writes");
     let watch = Watch::new(u64::MAX);
-    let mut store = watched(&rt, &watch, path.as_str());
+    let disk = Watched::new(&rt, &watch);
+    let mut store = DirStore::open(disk, rt.alloc(), path.as_str()).expect(&rt, "a store");
     watch.trouble(Trouble::ShortWrite, ".tmp");
     put(&rt, &mut store, "a", "xyz");
     read_at(&rt, &mut store, "a", 0, 8, "xyz");
@@ -88,7 +86,8 @@ fn short_writes(rt: HostRuntime) {
 fn a_directory_is_not_read(rt: HostRuntime) {
     let path = folder(&rt, "a_directory_is_not_read");
     let watch = Watch::new(u64::MAX);
-    let mut store = watched(&rt, &watch, path.as_str());
+    let disk = Watched::new(&rt, &watch);
+    let mut store = DirStore::open(disk, rt.alloc(), path.as_str()).expect(&rt, "a store");
     put(&rt, &mut store, "x/a", "1");
     put(&rt, &mut store, "x-", "2");
     put(&rt, &mut store, "y/z/b", "3");
@@ -142,7 +141,8 @@ fn a_directory_is_not_read(rt: HostRuntime) {
 fn the_folder_is_not_read(rt: HostRuntime) {
     let path = folder(&rt, "the_folder_is_not_read");
     let watch = Watch::new(u64::MAX);
-    let mut store = watched(&rt, &watch, path.as_str());
+    let disk = Watched::new(&rt, &watch);
+    let mut store = DirStore::open(disk, rt.alloc(), path.as_str()).expect(&rt, "a store");
     put(&rt, &mut store, "x/a", "1");
     for (trouble, end) in [
         (Trouble::OpenDir(ErrorKind::PermissionDenied), "/"),
@@ -162,12 +162,12 @@ fn the_folder_is_not_read(rt: HostRuntime) {
 fn a_file_is_swapped(rt: HostRuntime) {
     let path = folder(&rt, "a_file_is_swapped");
     let watch = Watch::new(u64::MAX);
-    let mut store = watched(&rt, &watch, path.as_str());
+    let disk = Watched::new(&rt, &watch);
+    let mut store = DirStore::open(disk, rt.alloc(), path.as_str()).expect(&rt, "a store");
     put(&rt, &mut store, "x", "old");
     put(&rt, &mut store, "y", "new");
-    watch.trouble(Trouble::Swap, "/x");
+    watch.swap(below(&rt, path.as_str(), "y"));
     read_fails(&rt, &mut store, "x", 40);
-    watch.trouble(Trouble::Nothing, "");
     is_missing(&rt, &mut store, "y");
     read_at(&rt, &mut store, "x", 0, 8, "new");
     remove(&rt, &mut store, "x", 0);
@@ -180,7 +180,8 @@ fn a_file_is_swapped(rt: HostRuntime) {
 fn a_disk_is_taken_away(rt: HostRuntime) {
     let path = folder(&rt, "a_disk_is_taken_away");
     let watch = Watch::new(u64::MAX);
-    let mut store = watched(&rt, &watch, path.as_str());
+    let disk = Watched::new(&rt, &watch);
+    let mut store = DirStore::open(disk, rt.alloc(), path.as_str()).expect(&rt, "a store");
     watch.take_away();
     stat_fails(&rt, &mut store, "a", 40);
     list_fails(&rt, &mut store, 40);

@@ -23,8 +23,6 @@ pub(crate) enum Trouble {
     Sync(ErrorKind),
     /// A write takes one byte.
     ShortWrite,
-    /// When the file is opened, the one called `y` gets its name.
-    Swap,
 }
 
 /// What the calls of a disk are, and what is wrong with them.
@@ -40,6 +38,8 @@ pub(crate) struct Watch {
     trouble: Cell<Trouble>,
     /// How the paths end at which there is trouble.
     end: Cell<&'static str>,
+    /// The path of a file that gets the name of the next one that is opened.
+    other: Cell<Option<String>>,
 }
 
 impl Watch {
@@ -50,6 +50,7 @@ impl Watch {
             is_gone: Cell::new(false),
             trouble: Cell::new(Trouble::Nothing),
             end: Cell::new(""),
+            other: Cell::new(None),
         }
     }
 
@@ -72,6 +73,11 @@ impl Watch {
     pub(crate) fn trouble(&self, trouble: Trouble, end: &'static str) {
         self.trouble.set(trouble);
         self.end.set(end);
+    }
+
+    /// When the next file is opened, the one at this path gets its name.
+    pub(crate) fn swap(&self, other: String) {
+        self.other.set(Some(other));
     }
 
     fn note(&self, digit: u64) {
@@ -195,18 +201,16 @@ impl<F: OpenFile> OpenFile for WatchedFile<'_, F> {
     }
 }
 
-/// An open directory that is read, watched.
+/// An open directory that is read, with what is wrong with it.
 #[derive(Drop)]
-pub(crate) struct WatchedDir<'a, D> {
+pub(crate) struct WatchedDir<D> {
     dir: D,
-    watch: &'a Watch,
     trouble: Trouble,
     was_read: bool,
 }
 
-impl<D: Read> Read for WatchedDir<'_, D> {
+impl<D: Read> Read for WatchedDir<D> {
     fn read(&mut self, buffer: &mut [u8]) -> io::Result<usize> {
-        self.watch.count()?;
         if self.was_read && self.trouble == Trouble::ReadDir {
             return Err(Error::from(ErrorKind::Other));
         }
@@ -228,23 +232,16 @@ fn digit_of(path: &str) -> u64 {
     }
 }
 
-/// Gives the file `y` the name of the file `x` beside it.
-fn swap<R: Files + AllocGlobal>(rt: &R, path: &str) -> io::Result<()> {
-    let folder = path.strip_suffix("x").unwrap_or(path);
-    let other = format!(in rt.alloc(); "{folder}y")?;
-    rt.rename(other.as_str(), path)
-}
-
-impl<'a, R: Files + AllocGlobal> Files for Watched<'a, R> {
+impl<'a, R: Files> Files for Watched<'a, R> {
     type File = WatchedFile<'a, R::File>;
 
-    type Dir = WatchedDir<'a, R::Dir>;
+    type Dir = WatchedDir<R::Dir>;
 
     fn open_file(&self, how: &OpenOptions, path: &str) -> io::Result<WatchedFile<'a, R::File>> {
         self.watch.count()?;
         let trouble = self.watch.trouble_at(path);
-        if trouble == Trouble::Swap {
-            swap(self.rt, path)?;
+        if let Some(other) = self.watch.other.take() {
+            self.rt.rename(other.as_str(), path)?;
         }
         Ok(WatchedFile {
             file: self.rt.open_file(how, path)?,
@@ -254,7 +251,7 @@ impl<'a, R: Files + AllocGlobal> Files for Watched<'a, R> {
         })
     }
 
-    fn open_dir(&self, path: &str) -> io::Result<WatchedDir<'a, R::Dir>> {
+    fn open_dir(&self, path: &str) -> io::Result<WatchedDir<R::Dir>> {
         let trouble = self.watch.trouble_at(path);
         if trouble == Trouble::Vanishes {
             self.watch.take_away();
@@ -265,7 +262,6 @@ impl<'a, R: Files + AllocGlobal> Files for Watched<'a, R> {
         }
         Ok(WatchedDir {
             dir: self.rt.open_dir(path)?,
-            watch: self.watch,
             trouble,
             was_read: false,
         })
