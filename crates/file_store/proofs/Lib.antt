@@ -6,3 +6,4 @@ pub mod ListingLemmas
 pub mod TreeLemmas
 pub mod MemLemmas
 pub mod LeavesLemmas
+pub mod LawLemmas

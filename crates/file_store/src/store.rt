@@ -51,8 +51,8 @@ pub trait FileStore {
         ensures gives { gives self.old ListAll result self.new }
         ensures tree { keeps → IsTree (tree self.new) };
 
-    /// What is at a name; nothing if a parent isn't a directory. `Stat::Other` says that a file cannot be put there, nor a
-    /// directory be made: only a store that others change too, as one on a disk, has that.
+    /// What is at a name; nothing if a parent isn't a directory. Only a store that does not keep, as one on a disk, may say
+    /// `Stat::Other`: something is there that is neither a file nor a directory.
     fn stat(&mut self, name: &SafeName) -> Result<Stat, StoreRefusal>
         ensures stats { keeps → Stats (fails self.old) (tree self.old) name.now result (tree self.new) }
         ensures refusals { IfErr result IsPlain }

@@ -1,4 +1,4 @@
-use Rattle.std.proofs.Common.{◌≡◌, Some, None, [], true, rules, sym, ap, ◌∙◌}
+use Rattle.std.proofs.Common.{◌≡◌, Some, [], true, rules, sym, ap, ◌∙◌}
 use Rattle.std.specs.Prelude.{unwrap_or, is_some}
 use Rattle.file_store.specs.declared.node.Node.TheVariants.{Directory, File}
 use Rattle.file_store.specs.Maps.{found_at, put_at}
