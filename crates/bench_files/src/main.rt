@@ -23,7 +23,7 @@ fn list(rt: &(impl Files + AllocGlobal), folder: &str) -> Result<Measured, Store
     let mut store = DirStore::open(rt, rt.alloc(), folder)?;
     let listing = store.list()?;
     Ok(Measured {
-        names: listing.len(),
+        names: listing.entries.len(),
         bytes: 0,
     })
 }
@@ -33,14 +33,14 @@ fn read(rt: &(impl Files + AllocGlobal), folder: &str) -> Result<Measured, Store
     let mut buffer = vec![in rt.alloc(); 0u8; PIECE]?;
     let listing = store.list()?;
     let mut bytes = 0u64;
-    for listed in &listing {
+    for listed in &listing.entries {
         if listed.kind == Kind::File {
             let size = read_file(&mut store, &listed.name, &mut buffer)?;
             bytes = bytes.saturating_add(size);
         }
     }
     Ok(Measured {
-        names: listing.len(),
+        names: listing.entries.len(),
         bytes,
     })
 }

@@ -1,2 +1,3 @@
 pub mod Dir
+pub mod Modes
 pub mod Times

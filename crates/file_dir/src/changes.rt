@@ -7,7 +7,7 @@ use crate::disk::Disk;
 use crate::found::Found;
 use crate::opened::{Access, Opened, reopen};
 use crate::parents::{
-    Parents, find, make_directory, make_parents, open_folder, parents_of, sync_folder,
+    Parents, find, folder_of, make_directory, make_parents, open_folder, parents_of, sync_folder,
 };
 use crate::refuse::or_fault;
 use file_store::{Stat, StoreRefusal};
@@ -15,13 +15,14 @@ use std::fs;
 use std::io::ErrorKind;
 use std::rt::Files;
 
-/// What is at a name. A symbolic link and a special file count as nothing.
+/// What is at a name.
 pub(crate) fn stat<R: Files>(disk: &Disk<R>, name: &str) -> Result<Stat, StoreRefusal>
     ensures { IfErr result IsPlain }
 {
     let path = disk.path_of(name)?;
     Ok(match find(disk, path.as_str())? {
-        Found::Nothing | Found::Other => Stat::Missing,
+        Found::Nothing => Stat::Missing,
+        Found::Other => Stat::Other,
         Found::Directory => Stat::Directory,
         Found::File(file) => Stat::File(file.len, file.modified),
     })
@@ -53,7 +54,7 @@ pub(crate) fn read_at<R: Files>(
     }
 }
 
-/// Moves a file to where nothing is; the new name reaches the disk before this returns.
+/// Moves a file to where nothing is. Both its folders reach the disk before this returns.
 pub(crate) fn rename<R: Files>(disk: &Disk<R>, from: &str, to: &str) -> Result<(), StoreRefusal>
     ensures { result ≢ Err NotEmpty }
 {
@@ -68,11 +69,17 @@ pub(crate) fn rename<R: Files>(disk: &Disk<R>, from: &str, to: &str) -> Result<(
     else {
         return Err(StoreRefusal::StoreFault);
     };
-    let old_folder = open_folder(disk, from.as_str())?;
     let new_folder = open_folder(disk, to.as_str())?;
+    let old_folder = if folder_of(from.as_str()) == folder_of(to.as_str()) {
+        None
+    } else {
+        Some(open_folder(disk, from.as_str())?)
+    };
     or_fault(fs::rename(&disk.files, from.as_str(), to.as_str()))?;
     sync_folder::<R>(&new_folder)?;
-    sync_folder::<R>(&old_folder)?;
+    if let Some(folder) = old_folder {
+        sync_folder::<R>(&folder)?;
+    }
     Ok(())
 }
 

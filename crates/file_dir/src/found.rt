@@ -16,11 +16,12 @@ pub(crate) enum Found {
     Other,
 }
 
-/// What the system says of a file: its bytes, when it was modified, and which file it is.
+/// What the system says of a file: its bytes, when it was modified, its mode, and which file it is.
 #[derive(Clone, Copy)]
 pub(crate) struct FileFacts {
     pub(crate) len: u64,
     pub(crate) modified: Moment,
+    pub(crate) mode: u32,
     pub(crate) id: FileId,
 }
 
@@ -39,6 +40,7 @@ impl Found {
             Found::File(FileFacts {
                 len: metadata.len(),
                 modified: moment_of(metadata.mtime()),
+                mode: metadata.mode(),
                 id: FileId::new(metadata),
             })
         } else {

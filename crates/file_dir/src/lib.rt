@@ -8,6 +8,8 @@
 mod changes;
 mod disk;
 mod found;
+mod marker;
+mod mode;
 mod opened;
 mod parents;
 mod refuse;

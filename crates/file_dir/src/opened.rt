@@ -4,6 +4,7 @@ ghost use Rattle.file_store.specs.Refusals.{IsPlain};
 
 use crate::disk::Disk;
 use crate::found::FileId;
+use crate::mode::set_mode;
 use crate::refuse::or_fault;
 use file_store::StoreRefusal;
 use std::fs::{OpenFile, OpenOptions};
@@ -68,7 +69,14 @@ impl<F: Read + Write + Seek + OpenFile + Drop> Opened<F> {
         or_fault(self.file.write_all(bytes))
     }
 
-    /// Waits until the file's bytes have reached the disk.
+    /// Gives the file this mode.
+    pub(crate) fn set_mode(&self, mode: u32) -> Result<(), StoreRefusal>
+        ensures { IfErr result IsPlain }
+    {
+        set_mode(&self.file, mode)
+    }
+
+    /// Waits until the file's bytes and its mode have reached the disk.
     pub(crate) fn sync(&self) -> Result<(), StoreRefusal>
         ensures { IfErr result IsPlain }
     {
@@ -94,7 +102,8 @@ pub(crate) fn reopen<R: Files>(
     let mut options = OpenOptions::new();
     match access {
         Access::Reading => options.read(true),
-        Access::Writing => options.write(true),
+        // With reading, so that a pipe in the file's place is opened at once, and refused, and not when it gets a reader.
+        Access::Writing => options.read(true).write(true),
     };
     let file = or_fault(options.open(&disk.files, path))?;
     *slot = Some(Opened::new(copy, file, Some(id))?);

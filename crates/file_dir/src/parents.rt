@@ -11,6 +11,7 @@ use std::fs;
 use std::fs::OpenFile;
 use std::io::ErrorKind;
 use std::rt::Files;
+use sync_names::is_temporary;
 
 /// What the parents of a path are.
 #[derive(Clone, Copy)]
@@ -52,7 +53,7 @@ pub(crate) fn find<R: Files>(disk: &Disk<R>, path: &str) -> Result<Found, StoreR
 }
 
 /// Makes the missing parents of a path, which then reach the disk. Fails with `BadParent` if one is there and isn't a
-/// directory.
+/// directory. None is made at the name of a temporary file, which may be needed for that file: that is a fault.
 pub(crate) fn make_parents<R: Files>(disk: &Disk<R>, path: &str) -> Result<(), StoreRefusal>
     ensures { result ≢ Err NotEmpty }
 {
@@ -70,6 +71,7 @@ fn make_parent<R: Files>(disk: &Disk<R>, parent: &str) -> Result<(), StoreRefusa
 {
     match disk.look(parent)? {
         Found::Directory => Ok(()),
+        Found::Nothing if is_temporary(last_of(parent)) => Err(StoreRefusal::StoreFault),
         Found::Nothing => {
             make_directory(disk, parent)?;
             Ok(())
@@ -95,21 +97,34 @@ pub(crate) fn open_folder<R: Files>(disk: &Disk<R>, path: &str) -> Result<R::Fil
 }
 
 /// Waits until what has changed in an open directory has reached the disk. A file system that can't do that for a directory
-/// is not asked for more.
+/// is not asked for more; any other error is a fault.
 pub(crate) fn sync_folder<R: Files>(folder: &R::File) -> Result<(), StoreRefusal>
     ensures { IfErr result IsPlain }
 {
     match folder.sync_all() {
-        Err(error) if error.kind() == ErrorKind::InvalidInput => Ok(()),
+        Err(error) if is_not_done_here(error.kind()) => Ok(()),
         answer => or_fault(answer),
     }
 }
 
+/// Whether an error says that a file system does not do what it was asked for: `EINVAL`, or `ENOSYS` or `EOPNOTSUPP`.
+fn is_not_done_here(kind: ErrorKind) -> bool {
+    kind == ErrorKind::InvalidInput || kind == ErrorKind::Unsupported
+}
+
 /// The directory that a path is in.
-fn folder_of(path: &str) -> &str {
+pub(crate) fn folder_of(path: &str) -> &str {
     match path.rsplit_once('/') {
         Some((folder, _)) if !folder.is_empty() => folder,
         _ => "/",
+    }
+}
+
+/// The last component of a path.
+fn last_of(path: &str) -> &str {
+    match path.rsplit_once('/') {
+        Some((_, last)) => last,
+        None => path,
     }
 }
 

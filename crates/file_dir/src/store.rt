@@ -4,8 +4,8 @@ ghost use Rattle.file_store.specs.Refusals.{count_after, IsPlain};
 
 use crate::disk::Disk;
 use crate::opened::Opened;
-use crate::{changes, temps, walk};
-use file_store::{FileStore, Listed, Stat, StoreRefusal};
+use crate::{changes, marker, temps, walk};
+use file_store::{FileStore, Listing, Stat, StoreRefusal};
 use std::alloc::Global;
 use std::rt::Files;
 use sync_names::SafeName;
@@ -49,8 +49,29 @@ impl<R: Files + Drop> DirStore<R> {
 impl<R: Files> DirStore<R> {
     ghost use Rattle.file_dir.specs.Dir.{dir_faults};
 
+    /// Whether the folder has the marker `.stfolder`, a directory or a file, as Syncthing checks. An empty directory in which a
+    /// disk is not mounted has none. Nothing else that the store does depends on it, and it is never listed.
+    pub fn has_marker(&mut self) -> Result<bool, StoreRefusal>
+        ensures refusals { IfErr result IsPlain }
+        ensures counted { dir_faults self.new ≡ count_after result (dir_faults self.old) }
+    {
+        let answer = marker::has_marker(&self.disk);
+        settle(&mut self.faults, answer)
+    }
+
+    /// Makes the marker, a directory, which reaches the disk before this returns. Does nothing if it is there. A fault if
+    /// something is at its name that is neither a directory nor a file.
+    pub fn make_marker(&mut self) -> Result<(), StoreRefusal>
+        ensures refusals { IfErr result IsPlain }
+        ensures counted { dir_faults self.new ≡ count_after result (dir_faults self.old) }
+    {
+        let answer = marker::make_marker(&self.disk);
+        settle(&mut self.faults, answer)
+    }
+
     /// Removes all temporary files, as those that an earlier run has left, also those that another store on the folder is
-    /// writing. Returns how many there were. After an error some may have been removed. O(n) for n names in the folder.
+    /// writing. Returns how many there were. Those in directories that can't be read stay. After an error some may have been
+    /// removed. O(n) for n names in the folder.
     pub fn remove_temps(&mut self) -> Result<usize, StoreRefusal>
         ensures refusals { IfErr result IsPlain }
         ensures counted { dir_faults self.new ≡ count_after result (dir_faults self.old) }
@@ -74,11 +95,13 @@ impl<R: Files> FileStore for DirStore<R> {
 
     ghost fault_count = { dir_faults };
 
+    ghost gives = { λ old call result new. ⊤ };
+
     fn faults(&self) -> u64 {
         self.faults
     }
 
-    fn list(&mut self) -> Result<Vec<Listed>, StoreRefusal> {
+    fn list(&mut self) -> Result<Listing, StoreRefusal> {
         let answer = walk::list(&self.disk);
         settle(&mut self.faults, answer)
     }

@@ -5,19 +5,20 @@ ghost use Rattle.file_store.specs.declared.refusal.StoreRefusal.TheVariants.{Not
 
 use crate::disk::Disk;
 use crate::found::Found;
+use crate::mode::{create, permissions_of};
 use crate::opened::{Access, Opened, reopen};
 use crate::parents::{find, make_parents, open_folder, sync_folder};
 use crate::refuse::or_fault;
 use crate::walk::walk_folder;
 use file_store::StoreRefusal;
 use std::fs;
-use std::fs::OpenOptions;
 use std::io::ErrorKind;
 use std::rt::Files;
 use sync_names::SafeName;
 
 /// Makes an empty temporary file, which then is the open one, and missing parents. What was at its path is removed; a
-/// symbolic link there is not followed.
+/// symbolic link there is not followed, and a directory is a fault. If a file is at the name, no others than those who may
+/// read that file may read the temporary one.
 pub(crate) fn make_temp<R: Files>(
     disk: &Disk<R>,
     slot: &mut Option<Opened<R::File>>,
@@ -25,14 +26,13 @@ pub(crate) fn make_temp<R: Files>(
 ) -> Result<(), StoreRefusal>
     ensures { result ≢ Err NotEmpty }
 {
-    let path = disk.temp_path_of(name)?;
+    let path = disk.path_of(name.as_str())?;
+    let temp = disk.temp_path_of(name)?;
     *slot = None;
-    make_parents(disk, path.as_str())?;
-    remove_if_there(disk, path.as_str())?;
-    let mut options = OpenOptions::new();
-    options.write(true).create_new(true);
-    let file = or_fault(options.open(&disk.files, path.as_str()))?;
-    *slot = Some(Opened::new(path, file, None)?);
+    make_parents(disk, temp.as_str())?;
+    remove_if_there(disk, temp.as_str())?;
+    let file = create(disk, temp.as_str(), path.as_str())?;
+    *slot = Some(Opened::new(temp, file, None)?);
     Ok(())
 }
 
@@ -78,7 +78,8 @@ pub(crate) fn write_at<R: Files>(
     }
 }
 
-/// Puts the temporary file in its place. Its bytes reach the disk before, and the new name before this returns.
+/// Puts the temporary file in its place, with the permissions of the file that it replaces. Its bytes reach the disk before,
+/// and the new name before this returns.
 pub(crate) fn commit_temp<R: Files>(
     disk: &Disk<R>,
     slot: &mut Option<Opened<R::File>>,
@@ -89,14 +90,15 @@ pub(crate) fn commit_temp<R: Files>(
     let path = disk.path_of(name.as_str())?;
     let temp = disk.temp_path_of(name)?;
     open_temp(disk, slot, temp.as_str())?;
+    let Some(opened) = slot.take() else {
+        return Err(StoreRefusal::StoreFault);
+    };
     match disk.look(path.as_str())? {
-        Found::Nothing | Found::File(_) => {}
+        Found::Nothing => {}
+        Found::File(old) => opened.set_mode(permissions_of(old.mode))?,
         Found::Directory | Found::Other => return Err(StoreRefusal::StoreFault),
     }
-    match slot.take() {
-        Some(opened) => opened.sync()?,
-        None => return Err(StoreRefusal::StoreFault),
-    }
+    opened.sync()?;
     let folder = open_folder(disk, path.as_str())?;
     or_fault(fs::rename(&disk.files, temp.as_str(), path.as_str()))?;
     sync_folder::<R>(&folder)

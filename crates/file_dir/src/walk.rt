@@ -1,10 +1,14 @@
 //! All names of the folder.
-ghost use Rattle.std.specs.Prelude.{IfErr};
+ghost use Rattle.std.specs.Prelude.{◌≡◌, true, map, bytes_eq, IfOk, IfErr};
+ghost use Rattle.std.specs.List.{Any, Contains};
+ghost use Rattle.file_store.specs.Listings.{AreAscending, IsInOrder};
+ghost use Rattle.file_store.specs.Names.{Name};
 ghost use Rattle.file_store.specs.Refusals.{IsPlain};
+ghost use Rattle.file_store.specs.declared.node.Listed.{Listed};
 
 use crate::disk::Disk;
 use crate::found::Found;
-use file_store::{Kind, Listed, StoreRefusal};
+use file_store::{Kind, Listed, Listing, StoreRefusal};
 use std::alloc::{AllocError, Global};
 use std::io::{ErrorKind, Read};
 use std::rt::Files;
@@ -17,30 +21,59 @@ const NAMES: usize = 32_768;
 #[derive(Drop)]
 pub(crate) struct Walk {
     /// The safe names of files and directories.
-    pub(crate) listed: Vec<Listed>,
+    listed: Vec<Listed>,
+    /// The names of directories that could not be read.
+    unread: Vec<SafeName>,
     /// The names of temporary files.
     pub(crate) temps: Vec<String>,
     /// The names of directories that are still to be read.
     folders: Vec<String>,
 }
 
-/// The safe names of files and directories, in the order of their bytes.
-pub(crate) fn list<R: Files>(disk: &Disk<R>) -> Result<Vec<Listed>, StoreRefusal>
-    ensures { IfErr result IsPlain }
+/// The safe names of files and directories, and those of directories that can't be read.
+pub(crate) fn list<R: Files>(disk: &Disk<R>) -> Result<Listing, StoreRefusal>
+    ensures order { IfOk result IsInOrder }
+    ensures refusals { IfErr result IsPlain }
 {
-    let mut listed = walk_folder(disk)?.listed;
-    listed.sort_by(|a, b| a.name.cmp(&b.name))?;
-    Ok(listed)
+    let walk = walk_folder(disk)?;
+    Ok(Listing {
+        entries: in_order(walk.listed)?,
+        unread: names_in_order(walk.unread)?,
+    })
+}
+
+/// The entries in the order of their names, each name once, though a directory that changes while it is read may show one twice.
+fn in_order(mut entries: Vec<Listed>) -> Result<Vec<Listed>, AllocError>
+    ensures order { IfOk result (λ kept. AreAscending (map (λ e. e.name) kept.items)) }
+    ensures all { IfOk result (λ kept. (e : Listed) → Contains entries.items e → Any (λ k. bytes_eq e.name k.name ≡ true) kept.items) }
+    ensures no_more { IfOk result (λ kept. (e : Listed) → Contains kept.items e → Contains entries.items e) }
+{
+    entries.sort_by(|a, b| a.name.cmp(&b.name))?;
+    entries.dedup_by(|a, b| a.name == b.name);
+    Ok(entries)
+}
+
+/// The names in order, each once.
+fn names_in_order(mut names: Vec<SafeName>) -> Result<Vec<SafeName>, AllocError>
+    ensures order { IfOk result (λ kept. AreAscending kept.items) }
+    ensures all { IfOk result (λ kept. (n : Name) → Contains names.items n → Contains kept.items n) }
+    ensures no_more { IfOk result (λ kept. (n : Name) → Contains kept.items n → Contains names.items n) }
+{
+    names.sort()?;
+    names.dedup();
+    Ok(names)
 }
 
 /// Walks through the folder once. A directory is entered when those before it were read, so the stack does not grow with
-/// their depth. Fails if a directory can't be read; one that is gone is passed over.
+/// their depth. Fails if the folder itself can't be read, or is gone when all was read. Another directory that can't be read is
+/// unread; one that is gone is passed over.
 pub(crate) fn walk_folder<R: Files>(disk: &Disk<R>) -> Result<Walk, StoreRefusal>
     ensures { IfErr result IsPlain }
 {
     disk.require_root()?;
     let mut found = Walk {
         listed: Vec::new(disk.alloc),
+        unread: Vec::new(disk.alloc),
         temps: Vec::new(disk.alloc),
         folders: Vec::new(disk.alloc),
     };
@@ -50,13 +83,36 @@ pub(crate) fn walk_folder<R: Files>(disk: &Disk<R>) -> Result<Walk, StoreRefusal
         let Some(folder) = found.folders.pop() else {
             break;
         };
-        read_folder(disk, folder.as_str(), &mut buffer, &mut found)?;
+        read_below(disk, folder.as_str(), &mut buffer, &mut found)?;
     }
     disk.require_root()?;
     Ok(found)
 }
 
-/// Adds what is in a directory.
+/// Adds what is in a directory below the folder. If that can't be read to its end, the directory is unread, and nothing that is
+/// in it is added.
+fn read_below<R: Files>(
+    disk: &Disk<R>,
+    folder: &str,
+    buffer: &mut [u8],
+    found: &mut Walk,
+) -> Result<(), StoreRefusal>
+    ensures { IfErr result IsPlain }
+{
+    let (listed, unread) = (found.listed.len(), found.unread.len());
+    let folders = found.folders.len();
+    match read_folder(disk, folder, buffer, found) {
+        Err(StoreRefusal::StoreFault) => {
+            found.listed.truncate(listed);
+            found.unread.truncate(unread);
+            found.folders.truncate(folders);
+            add_unread(disk.alloc, folder, found)
+        }
+        answer => answer,
+    }
+}
+
+/// Adds what is in a directory, and nothing if it is gone. A fault if it can't be read to its end, or if the folder itself is gone.
 fn read_folder<R: Files>(
     disk: &Disk<R>,
     folder: &str,
@@ -68,7 +124,7 @@ fn read_folder<R: Files>(
     let path = disk.path_of(folder)?;
     let mut names = match disk.files.open_dir(path.as_str()) {
         Ok(names) => names,
-        Err(error) if is_gone(error.kind()) => return Ok(()),
+        Err(error) if error.kind() == ErrorKind::NotFound && !folder.is_empty() => return Ok(()),
         Err(_) => return Err(StoreRefusal::StoreFault),
     };
     for _ in 0..u64::MAX {
@@ -81,11 +137,30 @@ fn read_folder<R: Files>(
     Ok(())
 }
 
-/// Whether what was a directory is gone, or is now something else.
-fn is_gone(kind: ErrorKind) -> bool {
-    kind == ErrorKind::NotFound
-        || kind == ErrorKind::NotADirectory
-        || kind == ErrorKind::FilesystemLoop
+/// Adds a directory that can't be read, or the nearest directory above it that has a safe name. A fault if none has one.
+fn add_unread(alloc: Global, folder: &str, found: &mut Walk) -> Result<(), StoreRefusal>
+    ensures { IfErr result IsPlain }
+{
+    let mut name = folder;
+    for _ in 0..folder.len() {
+        match SafeName::parse(alloc, name) {
+            Ok(name) => {
+                found.unread.push(name).map_err(AllocError::from)?;
+                return Ok(());
+            }
+            Err(NameFault::OutOfMemory) => return Err(StoreRefusal::OutOfMemory),
+            Err(_) => name = folder_of_name(name),
+        }
+    }
+    Err(StoreRefusal::StoreFault)
+}
+
+/// The directory that a name is in; nothing if that is the folder itself.
+fn folder_of_name(name: &str) -> &str {
+    match name.rsplit_once('/') {
+        Some((folder, _)) => folder,
+        None => "",
+    }
 }
 
 /// Adds what is at some names in a directory, each ended by the byte 0.
@@ -134,15 +209,17 @@ fn add_temporary<R: Files>(
     ensures { IfErr result IsPlain }
 {
     let path = disk.path_of(name.as_str())?;
-    match disk.look(path.as_str())? {
-        Found::Directory => found.folders.push(name).map_err(AllocError::from)?,
-        Found::File(_) => found.temps.push(name).map_err(AllocError::from)?,
-        Found::Nothing | Found::Other => {}
+    match disk.look(path.as_str()) {
+        Ok(Found::Directory) => found.folders.push(name).map_err(AllocError::from)?,
+        Ok(Found::File(_)) => found.temps.push(name).map_err(AllocError::from)?,
+        Ok(Found::Nothing | Found::Other) => {}
+        Err(_) => add_unread(disk.alloc, name.as_str(), found)?,
     }
     Ok(())
 }
 
-/// Adds a file or a directory under a safe name. A name that isn't safe is passed over, as then are all names below it.
+/// Adds a file or a directory under a safe name. A name that isn't safe is passed over, as then are all names below it. What
+/// can't be looked at, as a disk that is gone, counts as a directory that can't be read.
 fn add_safe<R: Files>(disk: &Disk<R>, name: String, found: &mut Walk) -> Result<(), StoreRefusal>
     ensures { IfErr result IsPlain }
 {
@@ -152,12 +229,17 @@ fn add_safe<R: Files>(disk: &Disk<R>, name: String, found: &mut Walk) -> Result<
         Err(_) => return Ok(()),
     };
     let path = disk.path_of(name.as_str())?;
-    let kind = match disk.look(path.as_str())? {
-        Found::Directory => Kind::Directory,
-        Found::File(_) => Kind::File,
-        Found::Nothing | Found::Other => return Ok(()),
+    let at = disk.look(path.as_str());
+    let kind = match at {
+        Ok(Found::Directory) => Kind::Directory,
+        Ok(Found::File(_)) => Kind::File,
+        Ok(Found::Nothing | Found::Other) => return Ok(()),
+        Err(_) => {
+            found.unread.push(name.copy()?).map_err(AllocError::from)?;
+            Kind::Directory
+        }
     };
-    if kind == Kind::Directory {
+    if let Ok(Found::Directory) = at {
         let folder = String::from_str(disk.alloc, name.as_str())?;
         found.folders.push(folder).map_err(AllocError::from)?;
     }

@@ -1,6 +1,6 @@
 //! The calls of a store, each with what it must answer: 0 for `Ok`, or the number of a refusal. A call that is out of memory is
 //! made again, and so is one that reads and fails, twice at most.
-use file_store::{FileStore, Kind, Listed, Stat, StoreRefusal};
+use file_store::{FileStore, Kind, Listed, Listing, Stat, StoreRefusal};
 use std::process::Abort;
 use sync_names::SafeName;
 
@@ -190,6 +190,11 @@ pub(crate) fn is_missing<S: FileStore>(rt: &(impl AllocGlobal + Abort), store: &
     assert_eq!(rt; stat(rt, store, path), Stat::Missing, "{path:?}");
 }
 
+/// Something that is neither a file nor a directory is at the name.
+pub(crate) fn is_other<S: FileStore>(rt: &(impl AllocGlobal + Abort), store: &mut S, path: &str) {
+    assert_eq!(rt; stat(rt, store, path), Stat::Other, "{path:?}");
+}
+
 /// A directory is at the name.
 pub(crate) fn is_directory<S: FileStore>(
     rt: &(impl AllocGlobal + Abort),
@@ -239,15 +244,64 @@ pub(crate) fn read_at<S: FileStore>(
     assert_eq!(rt; &bytes[..count.min(8)], text.as_bytes(), "{path:?}");
 }
 
-/// Only these names are listed.
+/// Only these names are listed, and all directories were read.
 pub(crate) fn list<S: FileStore>(
     rt: &(impl AllocGlobal + Abort),
     store: &mut S,
     expected: &[(&str, Kind)],
 ) {
+    list_all(rt, store, expected, &[]);
+}
+
+/// Only these names are listed, and only these were not read.
+pub(crate) fn list_all<S: FileStore>(
+    rt: &(impl AllocGlobal + Abort),
+    store: &mut S,
+    expected: &[(&str, Kind)],
+    unread: &[&str],
+) {
+    let listing = listing(rt, store, unread.is_empty());
+    let is_expected = lists_these(&listing.entries, expected)
+        && names_these(&listing.unread, unread);
+    assert!(rt; is_expected, "{listing:?}");
+}
+
+fn lists_these(entries: &[Listed], expected: &[(&str, Kind)]) -> bool {
+    for (listed, row) in entries.iter().zip(expected) {
+        if listed.name.as_str() != row.0 || listed.kind != row.1 {
+            return false;
+        }
+    }
+    entries.len() == expected.len()
+}
+
+fn names_these(names: &[SafeName], expected: &[&str]) -> bool {
+    for (name, text) in names.iter().zip(expected) {
+        if name.as_str() != *text {
+            return false;
+        }
+    }
+    names.len() == expected.len()
+}
+
+/// So many names are listed, and so many were not read.
+pub(crate) fn lists<S: FileStore>(rt: &impl Abort, store: &mut S, expected: usize, unread: usize) {
+    let listing = listing(rt, store, unread == 0);
+    assert_eq!(rt;
+        (listing.entries.len(), listing.unread.len()),
+        (expected, unread)
+    );
+}
+
+/// What the store lists. It is asked again where one call failed, if that may be why something was not read.
+fn listing<S: FileStore>(rt: &impl Abort, store: &mut S, is_all_read: bool) -> Listing {
     let mut listing = store.list();
     for _ in 0..2 {
-        if listing.is_err() {
+        let is_to_be_asked_again = match &listing {
+            Ok(listing) => is_all_read && !listing.unread.is_empty(),
+            Err(_) => true,
+        };
+        if is_to_be_asked_again {
             let is_out_of_memory = matches!(&listing, Err(StoreRefusal::OutOfMemory));
             let again = store.list();
             if again.is_ok() || !is_out_of_memory {
@@ -255,31 +309,7 @@ pub(crate) fn list<S: FileStore>(
             }
         }
     }
-    let listing = listing.expect(rt, "a listing");
-    assert_eq!(rt; listing.len(), expected.len());
-    for (listed, row) in listing.iter().zip(expected) {
-        is_listed(rt, listed, row.0, row.1);
-    }
-}
-
-/// So many names are listed.
-pub(crate) fn lists<S: FileStore>(rt: &impl Abort, store: &mut S, expected: usize) {
-    let mut listing = store.list();
-    for _ in 0..2 {
-        if listing.is_err() {
-            let is_out_of_memory = matches!(&listing, Err(StoreRefusal::OutOfMemory));
-            let again = store.list();
-            if again.is_ok() || !is_out_of_memory {
-                listing = again;
-            }
-        }
-    }
-    assert_eq!(rt; listing.expect(rt, "a listing").len(), expected);
-}
-
-fn is_listed(rt: &impl Abort, listed: &Listed, path: &str, kind: Kind) {
-    assert_eq!(rt; listed.name.as_str(), path);
-    assert_eq!(rt; listed.kind, kind, "{path:?}");
+    listing.expect(rt, "a listing")
 }
 
 /// The store has returned so many faults.

@@ -1,7 +1,7 @@
 //! Folders of tests on the disk.
 use file_dir::DirStore;
 use std::fs;
-use std::os::unix::fs::symlink;
+use std::os::unix::fs::{PermissionsExt, symlink};
 use std::process::Abort;
 use std::rt::{Env, Files};
 
@@ -71,4 +71,15 @@ pub(crate) fn has_text<R: Files + AllocGlobal + Abort>(
     let path = below(rt, folder, name);
     let found = fs::read_to_string(rt, path.as_str()).expect(rt, "a text");
     assert_eq!(rt; found.as_str(), text, "{name:?}");
+}
+
+/// Gives what is at a path this mode.
+pub(crate) fn set_mode<R: Files + Abort>(rt: &R, path: &str, mode: u32) {
+    fs::set_permissions(rt, path, fs::Permissions::from_mode(mode)).expect(rt, "its mode");
+}
+
+/// The mode of what is at a path, without its kind.
+pub(crate) fn mode<R: Files + Abort>(rt: &R, path: &str) -> u32 {
+    let metadata = fs::metadata(rt, path).expect(rt, "a file");
+    metadata.permissions().mode() & 0o7777
 }

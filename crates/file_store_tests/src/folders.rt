@@ -1,41 +1,54 @@
 //! What a store in a folder of a disk meets besides links.
 use crate::calls::{
-    commit_temp, drop_temp, faults, is_directory, is_missing, list, list_fails, lists, make_dir,
-    make_temp, put, read_at, read_fails, remove, remove_dir, rename, stat, stat_fails, write_at,
+    commit_temp, drop_temp, faults, is_directory, is_missing, list, list_all, list_fails, lists,
+    make_dir, make_temp, name, put, read_at, read_fails, remove, remove_dir, rename, stat,
+    stat_fails, write_at,
 };
-use crate::folder::{below, directory, folder, has_text, link, remove_folder, store, write};
-use file_store::{Kind, Stat};
+use crate::folder::{
+    below, directory, folder, has_text, link, mode, remove_folder, set_mode, store, write,
+};
+use file_dir::DirStore;
+use file_store::{Kind, Stat, StoreRefusal};
 use std::fs;
 use std::fs::{File, OpenOptions};
-use std::os::unix::fs::PermissionsExt;
+use std::process::Abort;
+use std::rt::Files;
 use std::time::{Duration, UNIX_EPOCH};
+use sync_names::conflict_name;
 use sync_version::Moment;
 
-/// A component has at most 255 bytes, and that of a temporary file is 15 bytes longer than its file's.
+/// A component has at most 255 bytes, that of a temporary file is 15 bytes longer than its file's, and that of a conflict copy 38.
 #[test]
 fn long_names(rt: HostRuntime) {
     let path = folder(&rt, "long_names");
     let mut store = store(&rt, path.as_str());
-    let long = "n".repeat(rt.alloc(), 300).expect(&rt, "a text");
-    stat_fails(&rt, &mut store, long.as_str(), 40);
-    read_fails(&rt, &mut store, long.as_str(), 40);
-    make_temp(&rt, &mut store, long.as_str(), 40);
-    make_dir(&rt, &mut store, long.as_str(), 40);
-    faults(&rt, &store, 4);
-    let most = "n".repeat(rt.alloc(), 240).expect(&rt, "a text");
-    put(&rt, &mut store, most.as_str(), "xyz");
-    let most_of_a_directory = "d".repeat(rt.alloc(), 255).expect(&rt, "a text");
-    make_dir(&rt, &mut store, most_of_a_directory.as_str(), 0);
-    faults(&rt, &store, 4);
-    list(
-        &rt,
-        &mut store,
-        &[
-            (most_of_a_directory.as_str(), Kind::Directory),
-            (most.as_str(), Kind::File),
-        ],
-    );
+    for (length, stated) in [(256, 40), (255, 0), (241, 0)] {
+        let long = letters(&rt, length);
+        let long = long.as_str();
+        stat_fails(&rt, &mut store, long, stated);
+        read_fails(&rt, &mut store, long, stated);
+        make_temp(&rt, &mut store, long, 40);
+        make_dir(&rt, &mut store, long, stated);
+    }
+    faults(&rt, &store, 6);
+    for (length, answer) in [(218, 40), (217, 0)] {
+        let original = letters(&rt, length);
+        put(&rt, &mut store, original.as_str(), "u");
+        let moment = Moment::new(0).expect(&rt, "a moment");
+        let copy = conflict_name(&name(&rt, original.as_str()), moment, 1).expect(&rt, "a name");
+        rename(&rt, &mut store, original.as_str(), copy.as_str(), answer);
+    }
+    faults(&rt, &store, 7);
+    put(&rt, &mut store, letters(&rt, 240).as_str(), "xyz");
+    let most = below(&rt, path.as_str(), letters(&rt, 254).as_str());
+    fs::write(&rt, most.as_str(), "xyz").expect(&rt, "a file");
+    read_at(&rt, &mut store, letters(&rt, 254).as_str(), 0, 8, "xyz");
+    lists(&rt, &mut store, 6, 0);
     remove_folder(&rt, path.as_str());
+}
+
+fn letters(rt: &(impl AllocGlobal + Abort), count: usize) -> String {
+    "n".repeat(rt.alloc(), count).expect(rt, "a text")
 }
 
 /// A folder that vanishes is no folder without files.
@@ -66,37 +79,49 @@ fn the_folder_vanishes(rt: HostRuntime) {
     remove_folder(&rt, path.as_str());
 }
 
-/// A directory that can't be read fails the listing. A user who may read every directory sees what is in it.
+/// Directories that can't be read, or in which it can't be seen what is there, stop no listing. A user who may read every
+/// directory sees what is in them.
 #[test]
-fn a_directory_without_permissions(rt: HostRuntime) {
-    let path = folder(&rt, "a_directory_without_permissions");
+fn directories_without_permissions(rt: HostRuntime) {
+    let path = folder(&rt, "directories_without_permissions");
     let mut store = store(&rt, path.as_str());
     put(&rt, &mut store, "d/a", "xyz");
-    let closed = below(&rt, path.as_str(), "d");
-    let inside = below(&rt, path.as_str(), "d/a");
-    fs::set_permissions(&rt, closed.as_str(), fs::Permissions::from_mode(0o000)).expect(
-        &rt,
-        "no permissions",
+    put(&rt, &mut store, "e/b", "xyz");
+    put(&rt, &mut store, "f", "xyz");
+    let (d, e) = (
+        below(&rt, path.as_str(), "d"),
+        below(&rt, path.as_str(), "e"),
     );
+    set_mode(&rt, d.as_str(), 0o000);
+    set_mode(&rt, e.as_str(), 0o444);
+    let inside = below(&rt, path.as_str(), "d/a");
+    let all = [
+        ("d", Kind::Directory),
+        ("d/a", Kind::File),
+        ("e", Kind::Directory),
+        ("e/b", Kind::File),
+        ("f", Kind::File),
+    ];
     if fs::metadata(&rt, inside.as_str()).is_err() {
-        list_fails(&rt, &mut store, 40);
-        stat_fails(&rt, &mut store, "d/a", 40);
-        faults(&rt, &store, 2);
-    } else {
-        list(
+        let unseen = ("e/b", Kind::Directory);
+        list_all(
             &rt,
             &mut store,
-            &[("d", Kind::Directory), ("d/a", Kind::File)],
+            &[all[0], all[2], unseen, all[4]],
+            &["d", "e/b"],
         );
+        faults(&rt, &store, 0);
+        stat_fails(&rt, &mut store, "d/a", 40);
+        faults(&rt, &store, 1);
+    } else {
+        list(&rt, &mut store, &all);
     }
-    fs::set_permissions(&rt, closed.as_str(), fs::Permissions::from_mode(0o755)).expect(
-        &rt,
-        "all permissions",
-    );
+    set_mode(&rt, d.as_str(), 0o755);
+    set_mode(&rt, e.as_str(), 0o755);
     remove_folder(&rt, path.as_str());
 }
 
-/// A directory that is too deep for a path, which is not for a user's permissions, fails the listing too.
+/// A directory that is too deep for a path, which is not for a user's permissions, stops no listing either.
 #[test]
 fn a_directory_that_is_too_deep(rt: HostRuntime) {
     let path = folder(&rt, "a_directory_that_is_too_deep");
@@ -114,8 +139,8 @@ fn a_directory_that_is_too_deep(rt: HostRuntime) {
     let lower = below(&rt, path.as_str(), "l");
     let place = below(&rt, upper.as_str(), "l");
     fs::rename(&rt, lower.as_str(), place.as_str()).expect(&rt, "a move");
-    list_fails(&rt, &mut store, 40);
-    faults(&rt, &store, 1);
+    lists(&rt, &mut store, 17, 1);
+    faults(&rt, &store, 0);
     remove_folder(&rt, path.as_str());
 }
 
@@ -128,7 +153,7 @@ fn deep_directories(rt: HostRuntime) {
     let file = format!(in rt.alloc(); "{folders}a").expect(&rt, "a text");
     put(&rt, &mut store, file.as_str(), "xyz");
     read_at(&rt, &mut store, file.as_str(), 0, 8, "xyz");
-    lists(&rt, &mut store, 41);
+    lists(&rt, &mut store, 41, 0);
     remove_folder(&rt, path.as_str());
 }
 
@@ -192,6 +217,118 @@ fn removes_temporary_files(rt: HostRuntime) {
     let kept = below(&rt, folder, ".syncthing.l.tmp");
     fs::remove_file(&rt, kept.as_str()).expect(&rt, "the link is there");
     remove_folder(&rt, folder);
+}
+
+/// No directory is made at the name of a temporary file, nor is one there replaced.
+#[test]
+fn directories_with_temporary_names(rt: HostRuntime) {
+    let path = folder(&rt, "directories_with_temporary_names");
+    let mut store = store(&rt, path.as_str());
+    make_temp(&rt, &mut store, ".syncthing.x.tmp/y", 40);
+    make_dir(&rt, &mut store, ".syncthing.x.tmp/y", 40);
+    make_temp(&rt, &mut store, "d/.syncthing.x.tmp/e/y", 40);
+    make_dir(&rt, &mut store, "d/.syncthing.x.tmp/e/y", 40);
+    put(&rt, &mut store, "u", "xyz");
+    rename(&rt, &mut store, "u", ".syncthing.x.tmp/y", 40);
+    put(&rt, &mut store, "x", "xyz");
+    put(&rt, &mut store, "d/x", "xyz");
+    faults(&rt, &store, 5);
+    directory(&rt, path.as_str(), ".syncthing.z.tmp");
+    make_temp(&rt, &mut store, "z", 40);
+    write_at(&rt, &mut store, "z", 0, "x", 40);
+    commit_temp(&rt, &mut store, "z", 40);
+    drop_temp(&rt, &mut store, "z", 40);
+    put(&rt, &mut store, ".syncthing.z.tmp/y", "xyz");
+    faults(&rt, &store, 9);
+    list(
+        &rt,
+        &mut store,
+        &[
+            (".syncthing.z.tmp/y", Kind::File),
+            ("d", Kind::Directory),
+            ("d/x", Kind::File),
+            ("u", Kind::File),
+            ("x", Kind::File),
+        ],
+    );
+    remove_folder(&rt, path.as_str());
+}
+
+/// The marker is made when the store is told to, is a directory or a file, and isn't listed.
+#[test]
+fn the_marker(rt: HostRuntime) {
+    let path = folder(&rt, "the_marker");
+    let mut store = store(&rt, path.as_str());
+    has_marker(&rt, &mut store, false);
+    list(&rt, &mut store, &[]);
+    has_marker(&rt, &mut store, false);
+    for _ in 0..2 {
+        store.make_marker().expect(&rt, "a marker");
+        has_marker(&rt, &mut store, true);
+    }
+    list(&rt, &mut store, &[]);
+    let marker = below(&rt, path.as_str(), ".stfolder");
+    fs::remove_dir(&rt, marker.as_str()).expect(&rt, "a directory");
+    write(&rt, path.as_str(), ".stfolder", "x");
+    has_marker(&rt, &mut store, true);
+    fs::remove_file(&rt, marker.as_str()).expect(&rt, "a file");
+    link(&rt, path.as_str(), ".stfolder", ".");
+    has_marker(&rt, &mut store, false);
+    faults(&rt, &store, 0);
+    assert!(rt; store.make_marker() == Err(StoreRefusal::StoreFault));
+    faults(&rt, &store, 1);
+    remove_folder(&rt, path.as_str());
+    assert!(rt; store.has_marker() == Err(StoreRefusal::StoreFault));
+    faults(&rt, &store, 2);
+}
+
+fn has_marker<R: Files>(rt: &impl Abort, store: &mut DirStore<R>, expected: bool) {
+    assert_eq!(rt; store.has_marker(), Ok(expected));
+}
+
+/// A file leaves its permissions to the one that replaces it, and to its temporary file, which its owner may read and write too. A
+/// new file has those of every new file.
+#[test]
+fn permissions(rt: HostRuntime) {
+    let path = folder(&rt, "permissions");
+    let mut store = store(&rt, path.as_str());
+    write(&rt, path.as_str(), "new", "u");
+    put(&rt, &mut store, "a", "u");
+    let (a, copy) = (
+        below(&rt, path.as_str(), "a"),
+        below(&rt, path.as_str(), "copy"),
+    );
+    let new = below(&rt, path.as_str(), "new");
+    let temp = below(&rt, path.as_str(), ".syncthing.a.tmp");
+    assert_eq!(rt; mode(&rt, a.as_str()), mode(&rt, new.as_str()));
+    for (old, temporary, committed) in [
+        (0o600, 0o600, 0o600),
+        (0o640, 0o640, 0o640),
+        (0o666, 0o666, 0o666),
+        (0o444, 0o644, 0o444),
+        (0o4755, 0o755, 0o755),
+        (0o000, 0o600, 0o000),
+    ] {
+        set_mode(&rt, a.as_str(), old);
+        make_temp(&rt, &mut store, "a", 0);
+        assert_eq!(rt; mode(&rt, temp.as_str()), temporary);
+        write_at(&rt, &mut store, "a", 0, "xyz", 0);
+        commit_temp(&rt, &mut store, "a", 0);
+        assert_eq!(rt; mode(&rt, a.as_str()), committed);
+    }
+    set_mode(&rt, a.as_str(), 0o640);
+    make_temp(&rt, &mut store, "a", 0);
+    set_mode(&rt, a.as_str(), 0o600);
+    commit_temp(&rt, &mut store, "a", 0);
+    make_temp(&rt, &mut store, "a", 0);
+    rename(&rt, &mut store, "a", "copy", 0);
+    commit_temp(&rt, &mut store, "a", 0);
+    assert_eq!(rt;
+        (mode(&rt, a.as_str()), mode(&rt, copy.as_str())),
+        (0o600, 0o600)
+    );
+    faults(&rt, &store, 0);
+    remove_folder(&rt, path.as_str());
 }
 
 /// A file that was read is read anew after another store has put another in its place.

@@ -21,4 +21,6 @@ mod memory;
 #[cfg(test)]
 mod suite;
 #[cfg(test)]
+mod troubles;
+#[cfg(test)]
 mod watched;

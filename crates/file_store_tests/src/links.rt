@@ -1,7 +1,7 @@
 //! Symbolic links in a folder of a disk: none is followed, and what one leads to stays as it is.
 use crate::calls::{
-    commit_temp, drop_temp, faults, is_file, is_missing, list, make_dir, make_temp, put, read_at,
-    remove, remove_dir, rename, write_at,
+    commit_temp, drop_temp, faults, is_file, is_missing, is_other, list, make_dir, make_temp, put,
+    read_at, remove, remove_dir, rename, write_at,
 };
 use crate::folder::{below, folder, has_text, is_link, link, remove_folder, store};
 use file_store::Kind;
@@ -28,7 +28,7 @@ fn at_a_name(rt: HostRuntime) {
     let root = below(&rt, path.as_str(), "root");
     let mut store = store(&rt, root.as_str());
     list(&rt, &mut store, &[]);
-    is_missing(&rt, &mut store, "l");
+    is_other(&rt, &mut store, "l");
     read_at(&rt, &mut store, "l", 0, 8, "");
     remove(&rt, &mut store, "l", 40);
     remove_dir(&rt, &mut store, "l", 40);
@@ -54,7 +54,7 @@ fn at_a_parent(rt: HostRuntime) {
     let root = below(&rt, path.as_str(), "root");
     let mut store = store(&rt, root.as_str());
     list(&rt, &mut store, &[]);
-    is_missing(&rt, &mut store, "d");
+    is_other(&rt, &mut store, "d");
     is_missing(&rt, &mut store, "d/x");
     read_at(&rt, &mut store, "d/x", 0, 8, "");
     drop_temp(&rt, &mut store, "d/x", 0);
@@ -98,6 +98,15 @@ fn at_a_temporary_file(rt: HostRuntime) {
     faults(&rt, &store, 2);
     has_text(&rt, path.as_str(), "outside/x", "outside");
     remove_folder(&rt, path.as_str());
+}
+
+/// A device is no file, and isn't read.
+#[test]
+fn a_device(rt: HostRuntime) {
+    let mut store = store(&rt, "/dev");
+    is_other(&rt, &mut store, "null");
+    read_at(&rt, &mut store, "zero", 0, 8, "");
+    faults(&rt, &store, 0);
 }
 
 #[test]

@@ -8,58 +8,19 @@ use file_store::{FailingStore, FailureTime, FileStore, MemStore, StoreRefusal};
 use std::process::Abort;
 
 #[test]
-fn nothing_is_there(rt: HostRuntime) {
+fn the_suite(rt: HostRuntime) {
     suite::nothing_is_there(&rt, &mut MemStore::new(rt.alloc()));
-}
-
-#[test]
-fn reads_a_file(rt: HostRuntime) {
     suite::reads_a_file(&rt, &mut MemStore::new(rt.alloc()));
-}
-
-#[test]
-fn a_file_is_there(rt: HostRuntime) {
     suite::a_file_is_there(&rt, &mut MemStore::new(rt.alloc()));
-}
-
-#[test]
-fn a_parent_is_a_file(rt: HostRuntime) {
     suite::a_parent_is_a_file(&rt, &mut MemStore::new(rt.alloc()));
-}
-
-#[test]
-fn a_directory_is_there(rt: HostRuntime) {
     suite::a_directory_is_there(&rt, &mut MemStore::new(rt.alloc()));
-}
-
-#[test]
-fn removes_directories(rt: HostRuntime) {
     suite::removes_directories(&rt, &mut MemStore::new(rt.alloc()));
-}
-
-#[test]
-fn makes_missing_parents(rt: HostRuntime) {
     suite::makes_missing_parents(&rt, &mut MemStore::new(rt.alloc()));
-}
-
-#[test]
-fn a_temporary_file_is_there(rt: HostRuntime) {
     suite::a_temporary_file_is_there(&rt, &mut MemStore::new(rt.alloc()));
-}
-
-#[test]
-fn writes_at_offsets(rt: HostRuntime) {
     suite::writes_at_offsets(&rt, &mut MemStore::new(rt.alloc()));
-}
-
-#[test]
-fn renames_files(rt: HostRuntime) {
     suite::renames_files(&rt, &mut MemStore::new(rt.alloc()));
-}
-
-#[test]
-fn lists_safe_names(rt: HostRuntime) {
     suite::lists_safe_names(&rt, &mut MemStore::new(rt.alloc()));
+    suite::lists_what_is_below_a_temporary_name(&rt, &mut MemStore::new(rt.alloc()));
 }
 
 /// Out of memory, a call makes no parent and loses no file.

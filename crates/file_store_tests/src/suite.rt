@@ -188,22 +188,39 @@ pub(crate) fn renames_files<S: FileStore>(rt: &(impl AllocGlobal + Abort), store
     faults(rt, store, 3);
 }
 
-/// Names are listed by their bytes, and only those that are safe: a directory may have a name that is kept for temporary files.
+/// Names are listed by their bytes.
 pub(crate) fn lists_safe_names<S: FileStore>(rt: &(impl AllocGlobal + Abort), store: &mut S) {
     put(rt, store, "a/x", "1");
     put(rt, store, "a-b", "2");
-    put(rt, store, "s/.syncthing.x.tmp/y", "3");
     make_dir(rt, store, "\u{e9}", 0);
+    put(rt, store, "a.b", "3");
     list(
         rt,
         store,
         &[
             ("a", Kind::Directory),
             ("a-b", Kind::File),
+            ("a.b", Kind::File),
             ("a/x", Kind::File),
+            ("\u{e9}", Kind::Directory),
+        ],
+    );
+}
+
+/// Only safe names are listed: a directory may have a name that is kept for temporary files.
+pub(crate) fn lists_what_is_below_a_temporary_name<S: FileStore>(
+    rt: &(impl AllocGlobal + Abort),
+    store: &mut S,
+) {
+    put(rt, store, "s/.syncthing.x.tmp/y", "3");
+    put(rt, store, "s/x", "4");
+    list(
+        rt,
+        store,
+        &[
             ("s", Kind::Directory),
             ("s/.syncthing.x.tmp/y", Kind::File),
-            ("\u{e9}", Kind::Directory),
+            ("s/x", Kind::File),
         ],
     );
 }
