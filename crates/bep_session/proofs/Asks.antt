@@ -1,6 +1,6 @@
 -- The least id that isn't open, by the bits of the first ids.
 use Rattle.std.proofs.Common.{◌≡◌, ◌≢◌, ℕ, zero, suc, ◌+◌, ◌<◌, ◌≤◌, ℤ, pos, negsuc, Bool, true, false, List, [], ◌∷◌, length, refl, sym, ap, subst, ◌∙◌, add-one, arith}
-use Rattle.std.specs.Prelude.{if◌then◌else◌, ◌||◌, ◌&&◌, nat_lt, not}
+use Rattle.std.specs.Prelude.{◌||◌, ◌&&◌, nat_lt, not}
 use Rattle.std.specs.Int.Signed.{lt_z}
 use Rattle.std.specs.List.{AllByRecursion, IsDistinct}
 use Rattle.std.specs.Ordering.{eq_by_cmp, int_cmp}
@@ -12,32 +12,27 @@ use Rattle.std.proofs.lemmas.Map.Keys.{IsDistinct-cons}
 use Rattle.std.proofs.lemmas.Map.Lookups.{exact_signed}
 use Rattle.std.proofs.lemmas.Map.Made.{length-le_from_is_member}
 use Rattle.std.proofs.lemmas.Map.Views.{tells_apart}
-use Rattle.bep_session.specs.Ids.{can_book, IsIndexed, IsLeastFree, bit, is_open, max_asks}
+use Rattle.bep_session.specs.Ids.{can_book, IsLeastFree, bit, is_one, is_open, is_positive, max_asks}
 
 abbrev same : ℤ → ℤ → Bool
 same = eq_by_cmp int_cmp
 
-off_zero : (b : Bool) (v : ℕ) → v ≡ (if b then 1 else 0) → v ≡ 0 → b ≡ false
-off_zero true v is e = absurd (omega (arith, is, e))
-off_zero false v is e = refl
+abbrev pub Shows : List ℤ → List ℕ → Type 0
+Shows ids words = (k : ℕ) → k < 1024 → is_open ids (pos (k + 1)) ≡ is_one (bit words k)
 
-on_one : (b : Bool) (v : ℕ) → v ≡ (if b then 1 else 0) → v ≡ 1 → b ≡ true
-on_one true v is e = refl
-on_one false v is e = absurd (omega (arith, is, e))
+open_at : (ids : List ℤ) (words : List ℕ) (k : ℕ) → Shows ids words → k < 1024 → bit words k ≡ 1 → is_open ids (pos (k + 1)) ≡ true
+open_at ids words k shows lt e = shows k lt ∙ ap is_one e
 
-open_at : (ids : List ℤ) (words : List ℕ) (k : ℕ) → IsIndexed ids words → k < 1024 → bit words k ≡ 1 → is_open ids (pos (k + 1)) ≡ true
-open_at ids words k indexed lt e = on_one (is_open ids (pos (k + 1))) (bit words k) (indexed k lt) e
-
-pub least : (ids : List ℤ) (words : List ℕ) (k : ℕ) → IsIndexed ids words → k < 1024 → bit words k ≡ 0 → ((j : ℕ) → j < k → bit words j ≡ 1) → IsLeastFree ids (pos (k + 1))
-least ids words k indexed lt e before = (
+pub least : (ids : List ℤ) (words : List ℕ) (k : ℕ) → Shows ids words → k < 1024 → bit words k ≡ 0 → ((j : ℕ) → j < k → bit words j ≡ 1) → IsLeastFree ids (pos (k + 1))
+least ids words k shows lt e before = (
   omega arith,
-  off_zero (is_open ids (pos (k + 1))) (bit words k) (indexed k lt) e,
+  shows k lt ∙ ap is_one e,
   λ n positive under. below n positive under,
 )
   where
     below : (n : ℕ) → 0 < n → n < k + 1 → is_open ids (pos n) ≡ true
     below zero positive under = absurd (omega arith)
-    below (suc n) positive under = ap (λ (i : ℕ). is_open ids (pos i)) (sym (add-one n)) ∙ open_at ids words n indexed (omega arith) (before n (omega arith))
+    below (suc n) positive under = ap (λ (i : ℕ). is_open ids (pos i)) (sym (add-one n)) ∙ open_at ids words n shows (omega arith) (before n (omega arith))
 
 -- ---- n ids are open where the first n are
 
@@ -80,8 +75,8 @@ pub many_open : (ids : List ℤ) (n : ℕ) → ((k : ℕ) → k < n → is_open 
 many_open ids n known =
     subst (λ (m : ℕ). m ≤ length ids) (length-first_ids n) (length-le_from_is_member (eq_by_cmp_equiv int_cmp_total) (first_ids n) ids (distinct n) (among ids n known))
 
-pub all_open : (ids : List ℤ) (words : List ℕ) → IsIndexed ids words → ((k : ℕ) → k < 1024 → bit words k ≡ 1) → max_asks ≤ length ids
-all_open ids words indexed ones = many_open ids 1024 (λ k lt. open_at ids words k indexed lt (ones k lt))
+pub all_open : (ids : List ℤ) (words : List ℕ) → Shows ids words → ((k : ℕ) → k < 1024 → bit words k ≡ 1) → max_asks ≤ length ids
+all_open ids words shows ones = many_open ids 1024 (λ k lt. open_at ids words k shows lt (ones k lt))
 
 pub least_is_free : (ids : List ℤ) (id : ℤ) → IsLeastFree ids id → is_open ids id ≡ false
 least_is_free ids (pos n) h = h.1
@@ -94,3 +89,8 @@ bookable ids (pos (suc n)) low room free = ap (λ (b : Bool). (true && not b) &&
   where
     below : (a b : ℕ) → a < b → nat_lt a b ≡ true
     below a b lt = grind (arith, nat_tests)
+
+pub positive : (id : ℤ) → lt_z id (pos 1) ≡ false → is_positive id ≡ true
+positive (pos zero) low = absurd (false≢true (sym low))
+positive (pos (suc n)) low = refl
+positive (negsuc n) low = absurd (false≢true (sym low))

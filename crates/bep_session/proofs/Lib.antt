@@ -1,4 +1,5 @@
 pub mod Words
+pub mod LowIds
 pub mod Asks
 pub mod Meets
 pub mod Outcomes

@@ -5,7 +5,7 @@ use Rattle.bep_frames.specs.declared.fault.FrameFault.TheVariants.{BadMagic as B
 use Rattle.bep_session.specs.declared.fault.SessionFault.{SessionFault}
 use Rattle.bep_session.specs.declared.fault.SessionFault.TheVariants.{BadMagic, TooLong, Compressed, BadHeader, BadBody, NotClusterConfigFirst}
 use Rattle.bep_session.specs.declared.fault.AskRefusal.{AskRefusal}
-use Rattle.bep_session.specs.declared.fault.AskRefusal.TheVariants.{TooManyAsks, OutOfMemory}
+use Rattle.bep_session.specs.declared.fault.AskRefusal.TheVariants.{TooManyAsks}
 
 -- The fault of a connection whose stream shows this one. No stream shows that memory is out.
 abbrev pub session_fault : FrameFault → Option SessionFault
@@ -34,8 +34,6 @@ session_fault_name NotClusterConfigFirst = codes "NotClusterConfigFirst"
 
 abbrev pub ask_refusal_number : AskRefusal → ℕ
 ask_refusal_number TooManyAsks = 53
-ask_refusal_number OutOfMemory = 33
 
 abbrev pub ask_refusal_name : AskRefusal → List ℕ
 ask_refusal_name TooManyAsks = codes "TooManyAsks"
-ask_refusal_name OutOfMemory = codes "OutOfMemory"

@@ -1,6 +1,7 @@
 -- The ids of the Requests that wait for their Response (own rule).
-use Rattle.std.specs.Prelude.{◌≡◌, ℕ, zero, suc, ◌+◌, ◌/◌, ◌%◌, ◌<◌, ℤ, pos, negsuc, Bool, true, false, not, ◌&&◌, List, length, nat_lt, slice_index, if◌then◌else◌}
-use Rattle.std.specs.List.{list_any}
+use Rattle.std.specs.Prelude.{◌≡◌, ℕ, zero, suc, ◌/◌, ◌%◌, ◌<◌, ℤ, pos, negsuc, Bool, true, false, not, ◌&&◌, List, ◌∷◌, length, nat_lt, slice_index}
+use Rattle.std.specs.declared.cmp.Ordering.TheVariants.{Less}
+use Rattle.std.specs.List.{AllByRecursion, list_any}
 use Rattle.std.specs.Int.{bit_at}
 use Rattle.std.specs.Ordering.{int_cmp}
 use Rattle.std.specs.BTreeMap.{is_at}
@@ -36,12 +37,30 @@ IsLeastFree ids (negsuc n) = ⊥
 abbrev pub can_book : List ℤ → ℤ → Bool
 can_book ids id = (is_positive id && not (is_open ids id)) && nat_lt (length ids) max_asks
 
--- ---- the bits of the first ids
+-- ---- the first ids by bits
 
 -- a bit of some words of 64
 abbrev pub bit : List ℕ → ℕ → ℕ
 bit words k = bit_at (slice_index words (k / 64)) (k % 64)
 
--- the bits say which of the first ids are open
-abbrev pub IsIndexed : List ℤ → List ℕ → Type 0
-IsIndexed ids words = (k : ℕ) → k < 1024 → bit words k ≡ (if is_open ids (pos (k + 1)) then 1 else 0)
+abbrev pub is_one : ℕ → Bool
+is_one zero = false
+is_one (suc n) = true
+
+-- an id before others, where its bit is 1
+abbrev pub with_id : ℕ → ℤ → List ℤ → List ℤ
+with_id zero id ids = ids
+with_id (suc n) id ids = id ∷ ids
+
+-- those of the next n ids after k whose bits are 1, before others
+unfoldable pub ids_from : List ℕ → ℕ → ℕ → List ℤ → List ℤ
+ids_from words k zero ids = ids
+ids_from words k (suc n) ids = with_id (bit words k) (pos (suc k)) (ids_from words (suc k) n ids)
+
+-- those of the first ids whose bits are 1, and then those above
+unfoldable pub ids_of : List ℕ → List ℤ → List ℤ
+ids_of words above = ids_from words 0 1024 above
+
+-- the other ids are above the first, and this is how many there are of both
+abbrev pub IsCounted : List ℕ → List ℤ → ℕ → Type 0
+IsCounted words above len = (AllByRecursion (λ id. int_cmp (pos 1024) id ≡ Less) above) × (len ≡ length (ids_of words above))

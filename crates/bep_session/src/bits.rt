@@ -1,6 +1,6 @@
 //! 1,024 bits, of which the first that is 0 is found in a few steps.
 ghost use Rattle.std.specs.Prelude.{◌≡◌, ◌≢◌, ℕ, ◌<◌, IfSome, IfNone};
-ghost use Rattle.bep_session.specs.Ids.{bit};
+ghost use Rattle.bep_session.specs.Ids.{bit, is_one};
 
 /// How many bits there are.
 pub(crate) const BITS: usize = 1_024;
@@ -20,6 +20,14 @@ pub(crate) fn first_zero(words: &Bits) -> Option<usize>
         }
     }
     None
+}
+
+/// Whether a bit is 1.
+pub(crate) fn is_set(words: &Bits, k: usize) -> bool
+    requires { k < BITS }
+    ensures { result ≡ is_one (bit words.now k) }
+{
+    (words[k / 64] >> (k % 64)) % 2 == 1
 }
 
 /// Makes a bit 1.

@@ -1,9 +1,7 @@
 ghost use Rattle.std.specs.Prelude.{◌≡◌, Some};
 ghost use Rattle.bep_session.specs.Faults.{ask_refusal_name, ask_refusal_number, session_fault, session_fault_name, session_fault_number};
-ghost use Rattle.bep_session.specs.declared.fault.AskRefusal.TheVariants.{OutOfMemory};
 
 use bep_frames::FrameFault;
-use std::alloc::AllocError;
 use std::fmt::{self, Display, Formatter};
 use thiserror::Error;
 
@@ -74,18 +72,15 @@ impl Display for SessionFault {
 pub enum AskRefusal {
     /// [`MAX_ASKS`](crate::MAX_ASKS) ids are open.
     TooManyAsks,
-    /// Allocation failed.
-    OutOfMemory,
 }
 
 impl AskRefusal {
-    /// The number under which programs report the refusal: 53, or 33 for out of memory.
+    /// The number under which programs report the refusal: 53.
     pub fn number(self) -> u8
         ensures { result ≡ ask_refusal_number self }
     {
         match self {
             AskRefusal::TooManyAsks => 53,
-            AskRefusal::OutOfMemory => 33,
         }
     }
 }
@@ -96,15 +91,6 @@ impl Display for AskRefusal {
     fn fmt<W: fmt::Write>(&self, f: &mut Formatter<W>) -> fmt::Result {
         f.write_str(match self {
             AskRefusal::TooManyAsks => "TooManyAsks",
-            AskRefusal::OutOfMemory => "OutOfMemory",
         })
-    }
-}
-
-impl From<AllocError> for AskRefusal {
-    ghost from_gives = { λ _ e. e ≡ OutOfMemory };
-
-    fn from(_error: AllocError) -> AskRefusal {
-        AskRefusal::OutOfMemory
     }
 }

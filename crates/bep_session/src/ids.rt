@@ -1,8 +1,8 @@
-ghost use Rattle.std.specs.Prelude.{◌≡◌, ◌≢◌, ℕ, pos, ◌+◌, ◌<◌, ◌≤◌, ◌↔◌, [], false, length, IfSome, IfNone, IsNone, OnOk, OnErr};
+ghost use Rattle.std.specs.Prelude.{◌≡◌, ◌≢◌, ℕ, pos, ◌+◌, ◌<◌, ◌≤◌, ◌↔◌, [], true, false, length, IfSome, IfNone, IsNone, OnOk, OnErr};
 ghost use Rattle.std.specs.Bool.{OnFalse};
-ghost use Rattle.bep_session.specs.Ids.{IsLeastFree, closed, is_open, max_asks, opened};
+ghost use Rattle.bep_session.specs.Ids.{IsLeastFree, closed, is_open, is_positive, max_asks, opened};
 
-use crate::bits::{BITS, Bits, clear, first_zero, set};
+use crate::bits::{BITS, Bits, clear, first_zero, is_set, set};
 use std::alloc::{AllocError, Global};
 use std::collections::BTreeSet;
 use std::marker::Model;
@@ -12,12 +12,14 @@ pub const MAX_ASKS: usize = 1_024;
 
 /// The ids of the Requests that wait for their Response. Contracts see them in rising order.
 ///
-/// The least positive id that isn't open is never above 1,024 while fewer than that are open, so that a bit for each of the first
-/// 1,024 ids finds it.
+/// The least positive id that isn't open is never above 1,024 while fewer than that are open. So a bit for each of the first
+/// 1,024 ids finds it, and opens it without memory; only the ids above, which are booked, stand in a set.
 #[derive(Debug, Drop)]
 pub(crate) struct OpenIds {
-    ids: BTreeSet<i32>,
     low: Bits,
+    above: BTreeSet<i32>,
+    /// How many ids are open.
+    len: usize,
 }
 
 impl Model for OpenIds {
@@ -25,11 +27,11 @@ impl Model for OpenIds {
 
     ghost Value = { List ℤ };
 
-    ghost use Rattle.bep_session.specs.Ids.{IsIndexed};
+    ghost use Rattle.bep_session.specs.Ids.{IsCounted, ids_of};
 
-    ghost view = { λ o. o.ids.keys };
+    ghost view = { λ o. ids_of o.low o.above.keys };
 
-    ghost invariant = { λ o. IsIndexed o.ids.keys o.low };
+    ghost invariant = { λ o. IsCounted o.low o.above.keys o.len };
 }
 
 impl OpenIds {
@@ -38,8 +40,9 @@ impl OpenIds {
         ensures { result ≡ [] }
     {
         OpenIds {
-            ids: BTreeSet::new(alloc),
             low: [0; 16],
+            above: BTreeSet::new(alloc),
+            len: 0,
         }
     }
 
@@ -47,52 +50,74 @@ impl OpenIds {
     pub(crate) fn len(&self) -> usize
         ensures { result ≡ length self.now }
     {
-        self.ids.len()
+        self.len
     }
 
-    /// O(log n).
+    /// O(1), or O(log n) for an id above 1,024.
     pub(crate) fn contains(&self, id: i32) -> bool
         ensures { result ≡ is_open self.now id }
     {
-        self.ids.contains(&id)
+        match low_place(id) {
+            Some(k) => is_set(&self.low, k),
+            None => self.above.contains(&id),
+        }
     }
 
-    /// The least positive id that isn't open; `None` where [`MAX_ASKS`] are. O(1).
-    pub(crate) fn least_free(&self) -> Option<i32>
-        ensures least { IfSome result (IsLeastFree self.now) }
-        ensures none { IsNone result ↔ (max_asks ≤ length self.now) }
+    /// Opens the least positive id that isn't open; `None` where [`MAX_ASKS`] are, and then nothing has changed. Does not allocate.
+    /// O(1).
+    pub(crate) fn open_least(&mut self) -> Option<i32>
+        ensures least { IfSome result (IsLeastFree self.old) }
+        ensures opened { IfSome result (λ id. self.new ≡ opened self.old id) }
+        ensures none { IsNone result ↔ (max_asks ≤ length self.old) }
+        ensures unchanged { IfNone result (self.new ≡ self.old) }
     {
-        if self.ids.len() >= MAX_ASKS {
+        if self.len >= MAX_ASKS {
             return None;
         }
         let k = first_zero(&self.low)?;
+        set(&mut self.low, k);
+        self.len += 1;
         Some(k as i32 + 1)
     }
 
-    /// Opens an id. Returns `Err` if allocation fails, and then nothing has changed. O(log n).
+    /// Opens an id. Returns `Err` if allocation fails, which it may only for an id above 1,024; then nothing has changed. O(1), or
+    /// O(log n) for an id above 1,024.
     pub(crate) fn insert(&mut self, id: i32) -> Result<(), AllocError>
+        requires positive { is_positive id ≡ true }
         requires free { is_open self.old id ≡ false }
+        requires room { length self.old < max_asks }
         ensures ok { OnOk result (self.new ≡ opened self.old id) }
+        ensures above { OnErr result ((k : ℕ) → k ≤ max_asks → id ≢ pos k) }
         ensures err { OnErr result (self.new ≡ self.old) }
     {
-        if self.ids.insert(id).is_err() {
-            return Err(AllocError);
+        match low_place(id) {
+            Some(k) => set(&mut self.low, k),
+            None => {
+                if self.above.insert(id).is_err() {
+                    return Err(AllocError);
+                }
+            }
         }
-        if let Some(k) = low_place(id) {
-            set(&mut self.low, k);
-        }
+        self.len += 1;
         Ok(())
     }
 
-    /// Frees an id, and returns whether it was open. Does not allocate. O(log n).
+    /// Frees an id, and returns whether it was open. Does not allocate. O(1), or O(log n) for an id above 1,024.
     pub(crate) fn remove(&mut self, id: i32) -> bool
         ensures was { result ≡ is_open self.old id }
         ensures ids { self.new ≡ closed self.old id }
         ensures absent { OnFalse result (self.new ≡ self.old) }
     {
-        let was = self.ids.remove(&id);
-        if let Some(k) = low_place(id) {
-            clear(&mut self.low, k);
+        let was = match low_place(id) {
+            Some(k) => {
+                let was = is_set(&self.low, k);
+                clear(&mut self.low, k);
+                was
+            }
+            None => self.above.remove(&id),
+        };
+        if was {
+            self.len -= 1;
         }
         was
     }

@@ -1,4 +1,4 @@
-ghost use Rattle.std.specs.Prelude.{◌≡◌, ◌≢◌, ◌≤◌, ◌<◌, ◌+◌, ◌++◌, ◌↔◌, [], None, true, length, vec_len, vec_capacity, if◌then◌else◌, IsErrOf, IsOk, IfOk, OnOk, OnErr};
+ghost use Rattle.std.specs.Prelude.{◌≡◌, ◌≢◌, ℕ, pos, ◌≤◌, ◌<◌, ◌+◌, ◌++◌, ◌↔◌, [], None, true, length, vec_len, vec_capacity, if◌then◌else◌, IsErrOf, IsOk, IfOk, OnOk, OnErr};
 ghost use Rattle.bep_frames.specs.Grammar.{max_message_bytes};
 ghost use Rattle.bep_frames.specs.Written.{body_of, message_frame};
 ghost use Rattle.bep_session.specs.declared.conversation.Stage.TheVariants.{Over};
@@ -21,7 +21,7 @@ use sync_version::Moment;
 /// the last whole frame, which ids are open, the moments of the last message said and the last frame received, and whether the
 /// peer's ClusterConfig is due or the session has ended.
 ///
-/// Memory: that of a [`FrameReader`], and a few bytes for each open id.
+/// Memory: that of a [`FrameReader`], and a few bytes for each open id above [`MAX_ASKS`], which only [`book`](Session::book) opens.
 #[derive(Debug, Drop)]
 pub struct Session {
     alloc: Global,
@@ -114,31 +114,29 @@ impl Session {
 
     /// Opens the least positive id that isn't open, for a Request that the caller then says.
     ///
-    /// Fails with `TooManyAsks` exactly where [`MAX_ASKS`] ids are open, or with `OutOfMemory`; then nothing has changed. O(log n)
-    /// for n open ids.
+    /// Fails with `TooManyAsks` exactly where [`MAX_ASKS`] ids are open, and then nothing has changed. Does not allocate. O(1).
     pub fn ask(&mut self) -> Result<i32, AskRefusal>
         ensures least { IfOk result (IsLeastFree self.old.conversation.asks) }
         ensures opened { IfOk result (λ id. self.new ≡ with_open self.old id) }
-        ensures room { IsOk result → length self.old.conversation.asks < max_asks }
-        ensures many { IsErrOf result AskRefusal.TooManyAsks ↔ (max_asks ≤ length self.old.conversation.asks) }
-        ensures memory { IsErrOf result AskRefusal.OutOfMemory → length self.old.conversation.asks < max_asks }
+        ensures room { IsOk result ↔ (length self.old.conversation.asks < max_asks) }
         ensures err { OnErr result (self.new ≡ self.old) }
     {
-        let Some(id) = self.conversation.asks.least_free() else {
-            return Err(AskRefusal::TooManyAsks);
-        };
-        self.conversation.asks.insert(id)?;
-        Ok(id)
+        match self.conversation.asks.open_least() {
+            Some(id) => Ok(id),
+            None => Err(AskRefusal::TooManyAsks),
+        }
     }
 
     /// Opens an id that was chosen elsewhere, and returns whether it could: it is positive, wasn't open, and fewer than
     /// [`MAX_ASKS`] ids were.
     ///
-    /// Returns `Err` if allocation fails, never where it couldn't; then nothing has changed. O(log n) for n open ids.
+    /// Returns `Err` if allocation fails, which it may only for an id above [`MAX_ASKS`] that can be opened; then nothing has changed. O(1), or
+    /// O(log n) for such an id, where n of them are open.
     pub fn book(&mut self, id: i32) -> Result<bool, AllocError>
         ensures booked { IfOk result (λ booked. booked ≡ can_book self.old.conversation.asks id) }
         ensures opened { IfOk result (λ booked. self.new ≡ (if booked then with_open self.old id else self.old)) }
         ensures only { OnErr result (can_book self.old.conversation.asks id ≡ true) }
+        ensures above { OnErr result ((k : ℕ) → k ≤ max_asks → id ≢ pos k) }
         ensures err { OnErr result (self.new ≡ self.old) }
     {
         if id < 1

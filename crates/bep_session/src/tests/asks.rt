@@ -3,17 +3,9 @@ use crate::{AskRefusal, MAX_ASKS, Session, SessionFault};
 use std::process::Abort;
 use std::test::Fail;
 
-/// Asks, by a second call where the first is out of memory.
-fn ask(session: &mut Session) -> Result<i32, AskRefusal> {
-    match session.ask() {
-        Err(AskRefusal::OutOfMemory) => session.ask(),
-        answer => answer,
-    }
-}
-
 fn expect_asks(rt: &impl Abort, session: &mut Session, expected: &[i32]) {
     for id in expected {
-        assert_eq!(rt; ask(session), Ok(*id));
+        assert_eq!(rt; session.ask(), Ok(*id));
     }
 }
 
@@ -53,7 +45,7 @@ fn a_response_that_was_never_asked(rt: HostRuntime) -> Result<(), Fail> {
 fn at_most_1_024_are_open(rt: HostRuntime) -> Result<(), Fail> {
     let mut session = session(&rt);
     for id in 1..1_025i32 {
-        assert_eq!(rt; ask(&mut session), Ok(id));
+        assert_eq!(rt; session.ask(), Ok(id));
     }
     assert_eq!(rt; MAX_ASKS, 1_024);
     assert_eq!(rt; session.ask(), Err(AskRefusal::TooManyAsks));
@@ -70,7 +62,13 @@ fn an_id_is_booked(rt: HostRuntime) -> Result<(), Fail> {
     expect_booked(&rt, &mut session, 1, false);
     expect_booked(&rt, &mut session, 3, true);
     expect_booked(&rt, &mut session, i32::MAX, true);
+    expect_booked(&rt, &mut session, 1_024, true);
+    expect_booked(&rt, &mut session, 1_025, true);
+    expect_booked(&rt, &mut session, 1_025, false);
     expect_asks(&rt, &mut session, &[2, 4]);
+    let response = [0, 2, 8, 4, 0, 0, 0, 3, 8, 0x81, 8];
+    expect_events(&rt, &mut session, &response, &[('a', 1_025)]);
+    expect_events(&rt, &mut session, &response, &[('u', 1_025)]);
     let response = [0, 2, 8, 4, 0, 0, 0, 6, 8, 0xFF, 0xFF, 0xFF, 0xFF, 7];
     expect_events(&rt, &mut session, &response, &[('a', 2_147_483_647)]);
     expect_events(&rt, &mut session, &response, &[('u', 2_147_483_647)]);
@@ -80,7 +78,6 @@ fn an_id_is_booked(rt: HostRuntime) -> Result<(), Fail> {
 #[test]
 fn refusals_have_names_and_numbers(rt: HostRuntime) -> Result<(), Fail> {
     assert_eq!(rt; AskRefusal::TooManyAsks.number(), 53);
-    assert_eq!(rt; AskRefusal::OutOfMemory.number(), 33);
     assert_eq!(rt; SessionFault::NotClusterConfigFirst.number(), 50);
     assert_eq!(rt; SessionFault::BadMagic.number(), 10);
     assert_eq!(rt; SessionFault::TooLong.number(), 11);
@@ -90,10 +87,6 @@ fn refusals_have_names_and_numbers(rt: HostRuntime) -> Result<(), Fail> {
     assert_eq!(rt;
         AskRefusal::TooManyAsks.to_string(rt.alloc())?.as_str(),
         "TooManyAsks"
-    );
-    assert_eq!(rt;
-        AskRefusal::OutOfMemory.to_string(rt.alloc())?.as_str(),
-        "OutOfMemory"
     );
     let first = SessionFault::NotClusterConfigFirst.to_string(rt.alloc())?;
     assert_eq!(rt; first.as_str(), "NotClusterConfigFirst");

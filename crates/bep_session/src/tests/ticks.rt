@@ -2,6 +2,7 @@ use crate::tests::{PING, at, expect_events, running, session};
 use crate::{Session, Tick, ping_due, timed_out};
 use bep_frames::Message;
 use bep_messages::Ping;
+use std::alloc::AllocError;
 use std::process::Abort;
 use std::test::Fail;
 
@@ -51,6 +52,22 @@ fn counts_from_the_last_message_said(rt: HostRuntime) -> Result<(), Fail> {
             (300, Tick::TimedOut),
         ],
     );
+    Ok(())
+}
+
+/// With memory it is said into a vector without capacity, and one with room for the frame needs no memory.
+#[test]
+fn says_where_there_is_memory(rt: HostRuntime) -> Result<(), Fail> {
+    let mut session = session(&rt);
+    let ping = Message::Ping(Ping {});
+    let mut roomy = Vec::with_capacity(rt.alloc(), PING.len())?;
+    assert_eq!(rt; session.say(&ping, &mut roomy, at(&rt, 0)), Ok(()));
+    assert_eq!(rt; roomy.as_slice(), PING.as_slice());
+    let mut out = Vec::new(rt.alloc());
+    session
+        .say(&ping, &mut out, at(&rt, 0))
+        .map_err(|_| AllocError)?;
+    assert_eq!(rt; out.as_slice(), PING.as_slice());
     Ok(())
 }
 

@@ -28,3 +28,8 @@ returns-clause-opened c =
     let back : to_z w32 (of_z w32 c.args.id) ≡ c.args.id = search rules in
     ap (λ (ids : List ℤ). view_of c.self.inside.reader (record c.self.inside.conversation { asks = ids })) (c.in_ok-insert.ensures.ok ∙ ap (opened c.self.inside.conversation.asks) back)
     ∙ ap (λ (v : View). with_open v c.args.id) c.self.view_is
+
+pub returns-in_err-insert-clause-above : goal.returns-in_err-insert-clause-above
+returns-in_err-insert-clause-above c =
+    let back : to_z w32 (of_z w32 c.args.id) ≡ c.args.id = search rules in
+    on_err c.from_residual.result _ (λ k le e. c.in_err-insert.ensures.above k le (back ∙ e))
