@@ -50,7 +50,7 @@ pub struct Listed {
 pub struct Listing {
     /// The names of files and directories with their kinds, in the order of their bytes, each once.
     pub entries: Vec<Listed>,
-    /// The directories whose entries could not be read, in the order of their bytes, each once. What is below them is not
-    /// in `entries`, and may be there all the same; they themselves are in `entries`.
+    /// The directories whose entries could not all be read, in the order of their bytes, each once. What is below them may be
+    /// there though it is not in `entries`; they themselves are in `entries`.
     pub unread: Vec<SafeName>,
 }
