@@ -1,5 +1,6 @@
 //! How long reads and scans of a folder take: of the folder alone, of one with a history, and of one that 1, 2 and 4 threads
-//! share: `bench_shared NAMES`. How many calls each piece of work came to goes to standard output, the times to standard error.
+//! share; and the check of a shared folder's history: `bench_shared NAMES`. How many calls each piece of work came to goes to standard
+//! output, the times to standard error.
 #![tactic(auto)]
 
 mod shared;
@@ -100,5 +101,6 @@ fn main(rt: HostRuntime) -> io::Result<()> {
     let count = count_of_names(&rt)?;
     let names = names(rt.alloc(), count)?;
     measure(&rt, Work::Reads, &names)?;
-    measure(&rt, Work::Scans, &names)
+    measure(&rt, Work::Scans, &names)?;
+    shared::measure_verify(&rt, &names)
 }

@@ -44,6 +44,22 @@ pub fn measure<R: AllocGlobal + Print + Eprint + Clock + Threads + Wait + Sync>(
     tell(rt, "shared-by-4", work, start, calls)
 }
 
+/// The check of a history in which each name was scanned as often as in the work. Prints how many entries it has.
+pub fn measure_verify<R: AllocGlobal + Print + Eprint + Clock + Wait>(
+    rt: &R,
+    names: &[SafeName],
+) -> io::Result<()> {
+    let folder = scanned(rt, names)?;
+    let mut pass = given(rt, &folder)?;
+    scan(rt, &folder, &mut pass, names, MEASURED)?;
+    let start = Instant::now(rt)?;
+    let is_history = folder.verify(rt, &mut pass)?;
+    let took = start.elapsed(rt)?;
+    let entries = pass.seen();
+    println!(rt; "shared verify {entries} {is_history}")?;
+    eprintln!(rt; "shared verify {} ns", took.as_nanos())
+}
+
 /// A shared folder in which each name was scanned once.
 fn scanned<R: AllocGlobal + Wait>(
     rt: &R,

@@ -12,6 +12,8 @@ pub use pulling::{Pulled, pull_bytes};
 pub use workers::{begin_and_give_up, record_over};
 
 #[cfg(test)]
+mod copied_once;
+#[cfg(test)]
 mod entries;
 #[cfg(test)]
 mod every;

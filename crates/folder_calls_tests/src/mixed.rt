@@ -50,7 +50,7 @@ fn four_workers_make_one_history(rt: HostRuntime) {
     assert_eq!(rt; folder.verify(&rt, &mut last), Ok(true));
     let passes = listed(&rt, &folder, (a.pass, b.pass), (c.pass, last));
     let (core, given) = folder.close(&rt, passes);
-    assert_eq!(rt; given, 4);
+    assert_eq!(rt; given.get(), 4);
     assert_eq!(rt; core.counts().last, 100);
     assert!(rt; core.same_state(&replayed(&rt, &made)));
 }

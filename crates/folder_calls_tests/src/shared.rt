@@ -5,6 +5,7 @@ ghost use lib.ListN.{get_elem?};
 ghost use Rattle.folder_shared.specs.declared.shared.Pass.{Pass as PassOf};
 ghost use Rattle.folder_shared.specs.Passes.{IsPassOf};
 
+use crate::copied_once::CopiedOnce;
 use crate::limits::{begins, enter_commit, finishes_when_full, takes_two};
 use crate::paging::{are, gives};
 use crate::pulls::{offers, pulls};
@@ -13,6 +14,7 @@ use crate::{Pulled, begin_and_give_up, record_over};
 use folder_calls::{At, EnterRefusal, FolderCalls};
 use folder_core::{FolderCore, PlainFolder, ScanAnswer};
 use folder_shared::{Member, Pass, SharedFolder};
+use std::alloc::AllocError;
 use std::process::Abort;
 use std::sync::Wait;
 
@@ -70,6 +72,24 @@ fn verify_replays(rt: HostRuntime) {
         Err(_) => assert_eq!(rt; folder.verify(&rt, &mut pass), Ok(true)),
     }
     assert_eq!(rt; pass.seen(), 1);
+}
+
+/// `verify` compares the history with a copy of the folder, and here the one of the opening is the last that can be made: so a
+/// `verify` that says yes without looking fails this test.
+#[test]
+fn verify_looks_at_the_folder(rt: HostRuntime) {
+    let folder = CopiedOnce::new(PlainFolder::new(rt.alloc(), device(9)));
+    assert!(rt; folder.counts().pulls == 0);
+    match SharedFolder::open(&rt, rt.alloc(), folder, 9) {
+        Ok(folder) => is_not_verified(&rt, &folder),
+        Err(_) => panic!(&rt; "OutOfMemory"),
+    }
+}
+
+fn is_not_verified<C: FolderCore + Drop, R: Abort + Wait>(rt: &R, folder: &SharedFolder<C>) {
+    let mut pass = given(rt, folder);
+    assert_eq!(rt; folder.verify(rt, &mut pass), Err(AllocError));
+    assert_eq!(rt; pass.seen(), 0);
 }
 
 #[test]
@@ -196,14 +216,15 @@ fn closed(
 {
     let mut passes = Vec::new(rt.alloc());
     passes.push(pass).expect(rt, "a list");
-    folder.close(rt, passes)
+    let (core, given) = folder.close(rt, passes);
+    (core, given.get())
 }
 
 /// One more pass.
-pub(crate) fn given(
+pub(crate) fn given<C: FolderCore + Drop>(
     rt: &(impl Abort + Wait),
-    folder: &SharedFolder<PlainFolder>,
-) -> Pass<PlainFolder>
+    folder: &SharedFolder<C>,
+) -> Pass<C>
     ensures { IsPassOf folder.now.locked result }
 {
     match folder.pass(rt) {

@@ -36,7 +36,7 @@ fn four_scanners(rt: HostRuntime) {
     assert!(rt; sequences.iter().copied().eq(1..401));
     let passes = listed(&rt, &folder, (a.pass, b.pass), (c.pass, d.pass));
     let (core, given) = folder.close(&rt, passes);
-    assert_eq!(rt; (core.counts().last, given), (400, 4));
+    assert_eq!(rt; (core.counts().last, given.get()), (400, 4));
 }
 
 fn four_scan<C: FolderCore + Drop + Send, R: AllocGlobal + Abort + Threads + Wait + Sync>(

@@ -9,8 +9,9 @@ use Rattle.folder_calls.specs.declared.history.History.{History}
 use Rattle.folder_calls.specs.Histories.{own_entries}
 use Rattle.folder_calls.specs.Shared.{IsLegalView, Sees, View, seeing}
 use Rattle.folder_shared.specs.declared.known.Known.{Known}
-use Rattle.folder_shared.specs.declared.known.Stage.TheVariants.{Idle}
+use Rattle.folder_shared.specs.declared.known.Stage.TheVariants.{Idle, Holding}
 use Rattle.folder_shared.specs.declared.shared.Pass.{Pass}
+use Rattle.folder_shared.specs.declared.shared.PassCount.{PassCount}
 use Rattle.folder_shared.specs.declared.shared.PassesFull.{PassesFull}
 use Rattle.folder_shared.specs.declared.shared.LockedFolder.{LockedFolder}
 use Rattle.folder_shared.specs.Rule.{claim, claimed, IsSame, Taken}
@@ -66,6 +67,14 @@ module _ {C : Type 0} where
     pub idle : (view e.token).stage ≡ Idle
     pub same : IsSame (view e.token).memo (opened_of s)
     pub full : (view e.token).memo.passes ≡ 2 ^ 32
+
+  -- The folder that the call took, and keeps, has so many passes. By the rule its history is the one that there is: so many were
+  -- given out, no fewer and no more.
+  pub record IsCountOf (s : LockedFolder C) (n : PassCount C) : Type 0 where
+    pub seat : IsSeatAt (sends_on s.sender) n.token
+    pub holds : (view n.token).stage ≡ Holding
+    pub same : IsSame (view n.token).memo (opened_of s)
+    pub count : (view n.token).memo.passes ≡ n.count
 
   -- a call has taken the folder, with this history, by the pass
   pub record IsHeld (s : LockedFolder C) (before now : Pass C) (x : History) : Type 0 where

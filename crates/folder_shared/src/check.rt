@@ -11,7 +11,9 @@ use std::sync::Wait;
 impl<C: FolderCore + Drop> LockedFolder<C> {
     /// Whether the history leads from the folder that was opened to the one that is kept, by [`folder_calls::replays`]. It does, so this
     /// is for whoever doubts it. The pass has then seen the history. Returns `Err` only if out of memory; then it has seen no
-    /// more. The folder is out of other calls' reach while its changes are made once more, at their cost on a plain folder.
+    /// more.
+    ///
+    /// Other calls wait meanwhile, since the journal cannot be copied: its changes are made once more, at their cost on a plain folder.
     pub fn verify<R: Wait>(&self, rt: &R, pass: &mut Pass<C>) -> Result<bool, AllocError>
         requires { IsPassOf self.now pass.old }
         ensures pass { IsPassOf self.now pass.new × (pass.new.number ≡ pass.old.number) }

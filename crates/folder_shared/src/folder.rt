@@ -6,14 +6,14 @@ ghost use lib.ListN.{get_elem?};
 ghost use Rattle.folder_calls.specs.Journals.{new_history};
 ghost use Rattle.folder_calls.specs.Shared.{Closes, Meets};
 ghost use Rattle.folder_shared.specs.declared.shared.LockedFolder.{LockedFolder as Folder};
-ghost use Rattle.folder_shared.specs.Passes.{IsPassOf, IsFullOf, knows, limit_of, opened_of, opening_of, seen_of, view_of};
+ghost use Rattle.folder_shared.specs.Passes.{IsPassOf, IsCountOf, IsFullOf, knows, limit_of, opened_of, opening_of, seen_of, view_of};
 
 use crate::known::Known;
 use crate::lock::{put, take};
 use crate::mark::marked;
 use crate::root::Origin;
 use crate::rule::{Apart, Blank, Both, Compares, Numbers, OneHistory, Opens, Puts};
-use crate::shared::{LockedFolder, Pass, PassesFull, Root, SharedFolder};
+use crate::shared::{LockedFolder, Pass, PassCount, PassesFull, Root, SharedFolder};
 use crossbeam_channel::bounded_with;
 use folder_calls::Journal;
 use folder_core::FolderCore;
@@ -30,6 +30,15 @@ impl<C: FolderCore + Drop> PassesFull<C> {
         ensures { result ≡ 35 }
     {
         35
+    }
+}
+
+impl<C: FolderCore + Drop> PassCount<C> {
+    /// The number of passes. O(1).
+    pub fn get(&self) -> u64
+        ensures { result ≡ self.now.count }
+    {
+        self.count
     }
 }
 
@@ -97,6 +106,7 @@ impl<C: FolderCore + Drop> SharedFolder<C> {
         let mut token = self.locked.sender.another::<Blank>(&mut root);
         self.root.lay(root, loan);
         let mut journal = take::<C, R>(rt, &self.locked.receiver, &mut token);
+        // A call of the journal, after which it is known that what it holds is a history.
         let _ = journal.len();
         match journal.add_pass() {
             Some(number) => {
@@ -114,13 +124,14 @@ impl<C: FolderCore + Drop> SharedFolder<C> {
         }
     }
 
-    /// The folder, and how many passes were given out. It is in the state after a history that goes on from what each of these
+    /// The folder, and how many passes were given out: no fewer and no more. It is in the state after a history that goes on from what each of these
     /// passes has seen, without further entries of theirs. Of passes that are not among them it may lack what only they had seen.
-    pub fn close<R: Wait>(self, rt: &R, mut passes: Vec<Pass<C>>) -> (C, u64)
+    pub fn close<R: Wait>(self, rt: &R, mut passes: Vec<Pass<C>>) -> (C, PassCount<C>)
         requires some { 0 < length passes.items }
         requires passes { (i : ℕ) (p : _) → get_elem? passes.items i ≡ some p → IsPassOf self.locked p }
-        ensures closes { Closes (opening_of self.locked) (limit_of self.locked) result.1 (map (view_of self.locked) passes.items) (C.state result.0) }
-        ensures given { (i : ℕ) (p : _) → get_elem? passes.items i ≡ some p → p.number ≤ result.1 }
+        ensures closes { Closes (opening_of self.locked) (limit_of self.locked) result.1.count (map (view_of self.locked) passes.items) (C.state result.0) }
+        ensures given { (i : ℕ) (p : _) → get_elem? passes.items i ≡ some p → p.number ≤ result.1.count }
+        ensures count { IsCountOf self.locked result.1 }
     {
         let SharedFolder { locked, root: _ } = self;
         let LockedFolder {
@@ -146,8 +157,10 @@ impl<C: FolderCore + Drop> SharedFolder<C> {
             sender.absorb::<Both>(&mut keeper, token);
         }
         let journal = take::<C, R>(rt, &receiver, &mut keeper);
-        let given = journal.passes();
-        (journal.into_core(), given)
+        let count = journal.passes();
+        let core = journal.into_core();
+        let token = keeper;
+        (core, PassCount { count, token })
     }
 }
 

@@ -21,4 +21,4 @@ pub use known::{Claim, Known, Stage};
 pub use member::Member;
 pub use root::{Lying, Origin};
 pub use rule::OneHistory;
-pub use shared::{LockedFolder, Pass, PassesFull, Root, SharedFolder};
+pub use shared::{LockedFolder, Pass, PassCount, PassesFull, Root, SharedFolder};

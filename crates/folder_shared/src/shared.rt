@@ -61,3 +61,10 @@ pub struct Pass<C: FolderCore + Drop> {
 pub struct PassesFull<C: FolderCore + Drop> {
     pub(crate) token: Token<C>,
 }
+
+/// How many passes of a folder were given out when it was closed. Its token says so of the folder that the call took.
+#[derive(Drop)]
+pub struct PassCount<C: FolderCore + Drop> {
+    pub(crate) count: u64,
+    pub(crate) token: Token<C>,
+}
