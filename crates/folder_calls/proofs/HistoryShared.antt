@@ -79,7 +79,7 @@ module _ (old new : View) (c : Change) (a : Answer) where
   answered-kept answer_is tested = let d = declines answer_is tested in (d.sees.own, d.answer_is)
 
 -- an accepted shared answer is the step's
-accepted-answer : (limit : ℕ) (s : FolderState) (es : List Entry) (c : Change) → is_accepted (shared_answer limit s es c) ≡ true → shared_answer limit s es c ≡ (step (state_after s es) c).0
+pub accepted-answer : (limit : ℕ) (s : FolderState) (es : List Entry) (c : Change) → is_accepted (shared_answer limit s es c) ≡ true → shared_answer limit s es c ≡ (step (state_after s es) c).0
 accepted-answer limit s es c accepted = by (is_over limit (length es) (step (state_after s es) c)) accepted
   where
     answer : Bool → Answer

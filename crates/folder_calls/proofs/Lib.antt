@@ -3,6 +3,7 @@ pub mod HistoryFronts
 pub mod HistoryReplays
 pub mod HistoryCommits
 pub mod HistoryShared
+pub mod HistoryAnswers
 pub mod HistoryMeetings
 pub mod HistoryHeadline
 pub mod JournalPulls

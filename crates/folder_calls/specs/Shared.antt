@@ -1,5 +1,5 @@
 -- What a caller of a shared folder knows, and what each of its calls tells it.
-use Rattle.std.specs.Prelude.{◌≡◌, ℕ, ◌+◌, ◌≤◌, ◌⊎◌, List, [], ◌∷◌, ◌++◌, length, Contains, Option, Some, None, MatchBool}
+use Rattle.std.specs.Prelude.{◌≡◌, ℕ, ◌+◌, ◌≤◌, ◌⊎◌, List, [], ◌∷◌, ◌++◌, length, map, Contains, Option, Some, None, MatchBool}
 use Rattle.std.specs.FinMap.{len}
 use mathlib.Core.List.{IsPrefix}
 use Rattle.folder_core.specs.States.{FolderState, IsFolder}
@@ -34,6 +34,10 @@ pub record IsLegalView (v : View) : Type 0 where
 abbrev pub seeing : View → List Entry → View
 seeing v seen = record v { seen = seen }
 
+-- the folder where what the caller has seen ends
+abbrev pub now : View → FolderState
+now v = state_after v.opening v.seen
+
 -- the caller saw the history go on, without an entry of its own
 pub record Sees (old new : View) : Type 0 where
   pub longer : IsPrefix old.seen new.seen
@@ -61,10 +65,24 @@ pub record IsAnswered (old : View) (change : Change) (told : At Answer) (new : V
   pub legal : IsLegalView new
   pub answered : MatchBool (is_accepted told.value) (Makes old new change told.value) (Declines old new change told.value)
 
+-- a change that was made, with its answer
+abbrev pub Made : Type 0
+Made = Change × Answer
+
+-- The caller saw the history go on. Of its own there are just the entries of these changes more, in their order.
+pub record Adds (old : View) (made : List Made) (new : View) : Type 0 where
+  pub longer : IsPrefix old.seen new.seen
+  pub own : own_entries old.pass new.seen ≡ own_entries old.pass old.seen ++ map (λ m. own_entry old m.0 m.1) made
+  pub same : new ≡ seeing old new.seen
+
 -- Without an answer the call is out of memory: nothing was changed and nothing seen.
 abbrev pub Tells : View → Change → Option (At Answer) → View → Type 0
 Tells old change None new = new ≡ old
 Tells old change (Some told) new = IsAnswered old change told new
+
+-- the change got this answer
+abbrev pub Gets : View → Change → Answer → View → Type 0
+Gets old change answer new = IsAnswered old change (record { at = length new.seen; value = answer }) new
 
 -- a read answers of the point that the caller then knows
 pub record IsRead (old : View) (q : Query) (told : At (Reply q)) (new : View) : Type 0 where

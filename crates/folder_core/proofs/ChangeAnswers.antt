@@ -192,6 +192,10 @@ module _ (s : FolderState) (n : Name) (moment : ℕ) where
 
 -- ---- open pulls
 
+abbrev pub is_stray : Answer → Bool
+is_stray Stray = true
+is_stray _ = false
+
 abbrev fits_ticket : Token → Stage → Pull → Bool
 fits_ticket t stage p = (p.number == t.number) && same_record p.target t.target && same_stage p.stage stage
 
@@ -263,6 +267,15 @@ module _ (s : FolderState) (t : Token) where
 
     past-stray : step s (EnterCommit t) ≡ first_answer s (base_test ∷ best_test ∷ room_test ∷ []) entered
     past-stray = ap (enter_commit s t) (ticket-found s t Pulling p st)
+
+    pub enter-known : (step s (EnterCommit t)).0 ≢ Stray
+    enter-known e = by base_test.0 best_test.0 room_test.0 (ap answer (sym past-stray) ∙ e)
+      where
+        by : (x y z : Bool) → answer (first_answer s ((x, LocalMoved) ∷ (y, Superseded) ∷ (z, SequenceFull) ∷ []) entered) ≡ Stray → ⊥
+        by true y z e = true≢false (sym (ap is_stray e))
+        by false true z e = true≢false (sym (ap is_stray e))
+        by false false true e = true≢false (sym (ap is_stray e))
+        by false false false e = true≢false (sym (ap is_stray e))
 
     pub enter-moved : local_version s t.name ≢ p.base → (step s (EnterCommit t)).0 ≡ LocalMoved
     enter-moved other =

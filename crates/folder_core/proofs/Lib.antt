@@ -23,6 +23,7 @@ pub mod PullBegins
 pub mod PullOpen
 pub mod PullStages
 pub mod PullNumbers
+pub mod AnswersSay
 pub mod PullCommits
 pub mod PullCopies
 pub mod ReadAnswers

@@ -62,6 +62,10 @@ is_committing p = same_stage p.stage Committing
 abbrev pub NoCommit : FolderState → Name → Type 0
 NoCommit s n = (p : Pull) → get s.pulls n ≡ Some p → p.stage ≡ Pulling
 
+-- no two open pulls have the same number
+abbrev pub HaveOwnNumbers : FolderState → Type 0
+HaveOwnNumbers s = (m n : Name) (p q : Pull) → get s.pulls m ≡ Some p → get s.pulls n ≡ Some q → p.number ≡ q.number → m ≡ n
+
 -- how many commits are open
 abbrev pub open_commits : FolderState → ℕ
 open_commits s = count_by (λ e. is_committing e.1) (entries s.pulls)
