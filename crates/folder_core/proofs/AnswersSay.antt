@@ -1,27 +1,27 @@
 -- What an answer says of the state in which the change was made.
-use Rattle.std.proofs.Common.{◌≡◌, ◌≢◌, ℕ, ◌+◌, ◌-◌, ◌<◌, ◌≤◌, Bool, true, false, [], ◌∷◌, refl, sym, ap, subst, ◌∙◌, arith, ◌⊎◌, inl, inr}
-use Rattle.std.specs.Prelude.{not, ◌&&◌, ◌||◌, ⊤, nat_le, Option, Some, None, is_some, unwrap_or, Contains, IsTrue}
+use Rattle.std.proofs.Common.{◌≡◌, ◌≢◌, ℕ, ◌+◌, ◌-◌, ◌<◌, ◌≤◌, Bool, true, false, refl, sym, ap, subst, ◌∙◌, arith, ◌⊎◌, inl, inr}
+use Rattle.std.specs.Prelude.{not, ◌&&◌, ◌||◌, ⊤, Option, Some, None, Contains, IsTrue}
 use Rattle.std.specs.Option.{option_map_or}
 use Rattle.std.specs.FinMap.{get, entries}
-use Rattle.std.proofs.lemmas.Bool.{true≢false, and_parts, not-true, not-false, leb-false}
+use Rattle.std.proofs.lemmas.Bool.{true≢false, and_parts, not-false, leb-false}
 use Rattle.std.proofs.lemmas.Option.{none-some}
 use Rattle.sync_version.proofs.Lemmas.{same_version_tells}
 use Rattle.sync_version.specs.Computed.{same_version}
 use Rattle.sync_version.specs.Versions.{Vector}
 use Rattle.sync_record.specs.Contents.{same_content}
-use Rattle.sync_record.specs.Records.{Name, FileRecord, is_live, is_file, is_directory}
+use Rattle.sync_record.specs.Records.{Name, FileRecord, is_file, is_directory}
 use Rattle.sync_record.specs.Validity.{is_valid}
 use Rattle.folder_core.specs.declared.stage.Stage.{Stage}
 use Rattle.folder_core.specs.declared.stage.Stage.TheVariants.{Pulling, Committing}
 use Rattle.folder_core.specs.Announced.{Announcement, best}
 use Rattle.folder_core.specs.States.{FolderState, HaveOwnNumbers, NoCommit, Pull, is_committing, local, local_version, max_sequence, need, open_commits, same_stage}
 use Rattle.folder_core.specs.declared.answer.Answer.{Answer}
-use Rattle.folder_core.specs.declared.answer.Answer.TheVariants.{Begun, Closed, Done, Entered, LocalMoved, Recorded, SequenceFull, Stray, Superseded}
+use Rattle.folder_core.specs.declared.answer.Answer.TheVariants.{Begun, Closed, Done, Entered, Recorded, Stray}
 use Rattle.folder_core.specs.declared.change.Change.{Change}
-use Rattle.folder_core.specs.declared.change.Change.TheVariants.{ScanFound, ScanGone, IndexFull, IndexMore, Forget, BeginPull, EnterCommit, Finish, GiveUp, Abort}
+use Rattle.folder_core.specs.declared.change.Change.TheVariants.{ScanFound, ScanGone, BeginPull, EnterCommit, Finish, GiveUp, Abort}
 use Rattle.folder_core.specs.declared.finding.Finding.{Finding}
 use Rattle.folder_core.specs.declared.token.Token.{Token}
-use Rattle.folder_core.specs.Steps.{IsFor, first_answer, is_accepted, next_ticket, step}
+use Rattle.folder_core.specs.Steps.{IsFor, is_accepted, next_ticket, step}
 use Rattle.folder_core.proofs.AnnouncedMaps.{insert_apart, insert_here, insert_other, remove_here, remove_other, remove_split}
 use Rattle.folder_core.proofs.BestRule.{best-found}
 use Rattle.folder_core.proofs.ChangeAnswers.{abort-closed, enter-known, finish-done, found-ticket, give_up-closed, is_stray}
@@ -31,7 +31,7 @@ use Rattle.folder_core.proofs.ChangeRest.{same_or_not}
 use Rattle.folder_core.proofs.ListTests.{inside, none_of}
 use Rattle.folder_core.proofs.Orders.{bytes_total, exact_names}
 use Rattle.folder_core.proofs.PullNeed.{needed-listed}
-use Rattle.folder_core.proofs.PullNumbers.{IsLeastNew, number-least}
+use Rattle.folder_core.proofs.PullNumbers.{number-least}
 use Rattle.folder_core.proofs.PullOpen.{pull_of-is}
 use Rattle.folder_core.proofs.PullStages.{begun_pull}
 
@@ -235,12 +235,19 @@ pulls-stay s = step-cases s (Stays s) (record {
   full = λ d rs n p g. inl (p, g, inl refl);
   more = λ d rs n p g. inl (p, g, inl refl);
   forgotten = λ d n p g. inl (p, g, inl refl);
-  begun = λ m b _ fails n p g. inl (p, insert_other bytes_total exact_names s.pulls m n _ (λ same.
-      none-some p (sym (none_of (get s.pulls m) fails.0) ∙ ap (get s.pulls) (sym same) ∙ g)) ∙ g, inl refl);
+  begun = λ m b _ fails n p g. inl (
+    p,
+    insert_other bytes_total exact_names s.pulls m n _ (λ same.
+        none-some p (sym (none_of (get s.pulls m) fails.0) ∙ ap (get s.pulls) (sym same) ∙ g)) ∙ g,
+    inl refl,
+  );
   entered = λ t q found _ n p g. same_or_not n t.name (λ same.
       let here : q ≡ p = inside q p (sym (pull_of-is s t Pulling q found).0 ∙ ap (get s.pulls) (sym same) ∙ g) in
-      inl (record q { stage = Committing }, ap (get _) same ∙ insert_here bytes_total exact_names s.pulls t.name (record q { stage = Committing }),
-      inr (ap (λ (x : Pull). record x { stage = Committing }) here)))
+      inl (
+        record q { stage = Committing },
+        ap (get _) same ∙ insert_here bytes_total exact_names s.pulls t.name (record q { stage = Committing }),
+        inr (ap (λ (x : Pull). record x { stage = Committing }) here),
+      ))
       (λ other. inl (p, insert_other bytes_total exact_names s.pulls t.name n _ other ∙ g, inl refl));
   finished = λ t assembled q found n p g. same_or_not n t.name
       (λ same. inr (ap (get _) same ∙ remove_here bytes_total exact_names s.pulls t.name, refl, (t, sym same, inr (inr (assembled, refl)))))

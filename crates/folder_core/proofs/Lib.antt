@@ -57,6 +57,7 @@ pub mod PlainRestoreLists
 pub mod PlainRestore
 pub mod PlainRestoreSame
 pub mod ChangeRuns
+pub mod RunsSay
 pub mod PlainOpen
 pub mod PlainOpened
 pub mod PlainNumber

@@ -38,7 +38,9 @@ pub trait FolderCore {
         moment: Moment,
     ) -> Result<ScanAnswer, ScanFault>
         requires { IsTrue (is_found found.now.content) }
-        ensures { Changes (state self.old) (ScanFound name.now (option_copied expected.entry) found.now moment) (scan_answer result) (state self.new) };
+        ensures { Changes (state self.old)
+            (ScanFound name.now (option_copied expected.entry) found.now moment)
+            (scan_answer result) (state self.new) };
 
     /// Records that nothing is at a name, if its local version is still the expected one. The version is raised by this
     /// device at the moment. Returns `Moved` with the local version if it is another, and `Busy` while a commit of the name is
@@ -49,19 +51,22 @@ pub trait FolderCore {
         expected: Option<&Version>,
         moment: Moment,
     ) -> Result<ScanAnswer, ScanFault>
-        ensures { Changes (state self.old) (ScanGone name.now (option_copied expected.entry) moment) (scan_answer result) (state self.new) };
+        ensures { Changes (state self.old) (ScanGone name.now (option_copied expected.entry) moment)
+            (scan_answer result) (state self.new) };
 
     /// The device announces these records and no others; of several under one name the last counts. Returns `Err` only
     /// if out of memory.
     fn index_full(&mut self, device: DeviceId, records: Items<Record>) -> Result<(), AllocError>
         requires { device ≢ (state self.old).me }
-        ensures { Changes (state self.old) (IndexFull device records) (index_answer result) (state self.new) };
+        ensures { Changes (state self.old) (IndexFull device records) (index_answer result)
+            (state self.new) };
 
     /// The device announces these records too; of several under one name the last counts. Returns `Err` only if out of
     /// memory.
     fn index_more(&mut self, device: DeviceId, records: Items<Record>) -> Result<(), AllocError>
         requires { device ≢ (state self.old).me }
-        ensures { Changes (state self.old) (IndexMore device records) (index_answer result) (state self.new) };
+        ensures { Changes (state self.old) (IndexMore device records) (index_answer result)
+            (state self.new) };
 
     /// The device announces nothing. Returns `Err` only if out of memory.
     fn forget(&mut self, device: DeviceId) -> Result<(), AllocError>
@@ -73,12 +78,14 @@ pub trait FolderCore {
     /// neither a file nor a directory. Otherwise the pull is open, under the least positive number that no open pull has.
     /// Returns `Err` only if out of memory.
     fn begin_pull(&mut self, name: &SafeName) -> Result<BeginAnswer, AllocError>
-        ensures { Changes (state self.old) (BeginPull name.now) (begin_answer result) (state self.new) };
+        ensures { Changes (state self.old) (BeginPull name.now) (begin_answer result)
+            (state self.new) };
 
     /// Enters the commit of a pull, and fails with the first of these that applies: `Stray`, `LocalMoved`, `Superseded`,
     /// `SequenceFull` and `OutOfMemory`. Every ticket but a stray one comes back.
     fn enter_commit(&mut self, ticket: Ticket) -> Result<Commit, NotEntered>
-        ensures change { Changes (state self.old) (EnterCommit ticket) (enter_answer result) (state self.new) }
+        ensures change { Changes (state self.old) (EnterCommit ticket) (enter_answer result)
+            (state self.new) }
         ensures given_back { IfErr result (GivesBack ticket) };
 
     /// Announces the target of a commit, whose file is in place, as the local record, with what the base had seen added
@@ -86,17 +93,20 @@ pub trait FolderCore {
     /// allocate.
     fn finish(&mut self, commit: Commit, assembled: &Assembled) -> Result<u64, Stray>
         requires { assembled.now ≡ commit.target }
-        ensures { Changes (state self.old) (Finish commit assembled.now) (Some (finish_answer result)) (state self.new) };
+        ensures { Changes (state self.old) (Finish commit assembled.now)
+            (Some (finish_answer result)) (state self.new) };
 
     /// Closes a pull whose commit was not entered. Returns `false` if the ticket is stray; then nothing changes. Does not
     /// allocate.
     fn give_up(&mut self, ticket: Ticket) -> bool
-        ensures { Changes (state self.old) (GiveUp ticket) (Some (close_answer result)) (state self.new) };
+        ensures { Changes (state self.old) (GiveUp ticket) (Some (close_answer result))
+            (state self.new) };
 
     /// Closes a pull whose commit was entered; the local record stays. Returns `false` if the commit is stray; then
     /// nothing changes. Does not allocate.
     fn abort(&mut self, commit: Commit) -> bool
-        ensures { Changes (state self.old) (Abort commit) (Some (close_answer result)) (state self.new) };
+        ensures { Changes (state self.old) (Abort commit) (Some (close_answer result))
+            (state self.new) };
 
     /// Whether the change would be made if it were asked for now: whether its call, unless out of memory, would answer
     /// `Recorded`, `Begun` or `Entered`, return `Ok` for an index, `forget` and `finish`, or `true` for `give_up` and `abort`.
@@ -108,12 +118,14 @@ pub trait FolderCore {
     /// A copy of the best record of a name, and the devices whose valid record of the name has its version and its
     /// content; `None` where no valid record of the name is announced. Returns `Err` only if out of memory.
     fn best(&self, name: &SafeName) -> Result<Option<Best>, AllocError>
-        ensures { IfOk result (λ b. option_map (λ b. (b.record, b.devices)) b ≡ best_found (state self.now) name.now) };
+        ensures { IfOk result (λ b. option_map (λ b. (b.record, b.devices)) b
+            ≡ best_found (state self.now) name.now) };
 
     /// The bests of the names greater than `after`, or of all names where it is `None`, in byte order of the names: the
     /// first `limit` of them, or all where there are fewer. Returns `Err` only if out of memory.
     fn bests(&self, after: Option<&SafeName>, limit: usize) -> Result<Items<Best>, AllocError>
-        ensures { IfOk result (λ page. map (λ b. (b.record, b.devices)) page ≡ bests_page (state self.now) (option_copied after.entry) limit) };
+        ensures { IfOk result (λ page. map (λ b. (b.record, b.devices)) page
+            ≡ bests_page (state self.now) (option_copied after.entry) limit) };
 
     /// The record that this device announces of a name, if there is one. Returns `Err` only if out of memory.
     fn local(&self, name: &SafeName) -> Result<Option<Record>, AllocError>
@@ -123,7 +135,8 @@ pub trait FolderCore {
     /// best is of another version than the local record, and those without a local record unless the best is deleted. The
     /// first `limit` of them, or all where there are fewer. Returns `Err` only if out of memory.
     fn need(&self, after: Option<&SafeName>, limit: usize) -> Result<Items<SafeName>, AllocError>
-        ensures { IfOk result (λ names. names ≡ need_page (state self.now) (option_copied after.entry) limit) };
+        ensures { IfOk result (λ names. names
+            ≡ need_page (state self.now) (option_copied after.entry) limit) };
 
     /// The local records of greater sequence, in rising sequence: the first `limit` of them, but no more than have
     /// 1,000,000 blocks together, except that one record may have any number; or all where there are fewer. Returns `Err`

@@ -9,6 +9,7 @@ mod pulls;
 mod reads;
 mod restores;
 mod rows;
+mod runs;
 mod scans;
 mod values;
 
@@ -34,6 +35,7 @@ pub use reads::{
 };
 pub use restores::{restored_folders_are_folders, restores_in_rows};
 pub use rows::{best_in_rows, changes_in_rows, reads_in_rows};
+pub use runs::{changes_are_made_in_order, few_answers_allocate, pulls_end_by_three_changes};
 pub use scans::{
     findings_are_tested_in_order, losses_are_tested_in_order, scans_record_what_is_found,
     scans_record_what_is_gone, unchanged_is_what_was_there,

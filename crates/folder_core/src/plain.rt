@@ -85,7 +85,8 @@ impl Model for PlainFolder {
 
     ghost view = { λ f. folder_of f.me f.entries.items f.last (pulls_of f.pulls.items) };
 
-    ghost invariant = { λ f. IsPlain f.me f.entries.items (vec_capacity f.entries) f.last f.pulls.items };
+    ghost invariant = { λ f. IsPlain f.me f.entries.items
+        (vec_capacity f.entries) f.last f.pulls.items };
 }
 
 impl PlainFolder {
@@ -121,8 +122,12 @@ impl FolderCore for PlainFolder {
         moment: Moment,
     ) -> Result<ScanAnswer, ScanFault>
         requires { IsTrue (is_found found.now.content) }
-        ensures changes { Changes self.old (ScanFound name.now (option_copied expected.entry) found.now moment) (scan_answer result) self.new }
-        ensures memory { scan_answer result ≡ None → IsTrue (may_allocate (step self.old (ScanFound name.now (option_copied expected.entry) found.now moment)).0) }
+        ensures changes { Changes self.old
+            (ScanFound name.now (option_copied expected.entry) found.now moment)
+            (scan_answer result) self.new }
+        ensures memory { scan_answer result ≡ None →
+            IsTrue (may_allocate (step self.old
+            (ScanFound name.now (option_copied expected.entry) found.now moment)).0) }
     {
         let alloc = *self.entries.allocator();
         let group = entries_of(self.entries.as_slice(), name);
@@ -158,8 +163,11 @@ impl FolderCore for PlainFolder {
         expected: Option<&Version>,
         moment: Moment,
     ) -> Result<ScanAnswer, ScanFault>
-        ensures changes { Changes self.old (ScanGone name.now (option_copied expected.entry) moment) (scan_answer result) self.new }
-        ensures memory { scan_answer result ≡ None → IsTrue (may_allocate (step self.old (ScanGone name.now (option_copied expected.entry) moment)).0) }
+        ensures changes { Changes self.old (ScanGone name.now (option_copied expected.entry) moment)
+            (scan_answer result) self.new }
+        ensures memory { scan_answer result ≡ None →
+            IsTrue (may_allocate (step self.old
+            (ScanGone name.now (option_copied expected.entry) moment)).0) }
     {
         let alloc = *self.entries.allocator();
         let group = entries_of(self.entries.as_slice(), name);
@@ -191,7 +199,8 @@ impl FolderCore for PlainFolder {
     /// it allocates for n + m of them. A message without records does not allocate.
     fn index_full(&mut self, device: DeviceId, records: Items<Record>) -> Result<(), AllocError>
         requires { device ≢ self.old.me }
-        ensures changes { Changes self.old (IndexFull device records) (index_answer result) self.new }
+        ensures changes { Changes self.old (IndexFull device records)
+            (index_answer result) self.new }
         ensures nothing { records ≡ [] → IsOk result }
     {
         let records = last_of_each_name(records.into_vec())?;
@@ -206,7 +215,8 @@ impl FolderCore for PlainFolder {
     /// does not allocate.
     fn index_more(&mut self, device: DeviceId, records: Items<Record>) -> Result<(), AllocError>
         requires { device ≢ self.old.me }
-        ensures changes { Changes self.old (IndexMore device records) (index_answer result) self.new }
+        ensures changes { Changes self.old (IndexMore device records)
+            (index_answer result) self.new }
         ensures nothing { records ≡ [] → IsOk result }
     {
         let latest = last_of_each_name(records.into_vec())?;
@@ -270,7 +280,8 @@ impl FolderCore for PlainFolder {
     fn enter_commit(&mut self, ticket: Ticket) -> Result<Commit, NotEntered>
         ensures change { Changes self.old (EnterCommit ticket) (enter_answer result) self.new }
         ensures given_back { IfErr result (GivesBack ticket) }
-        ensures refused { is_accepted (step self.old (EnterCommit ticket)).0 ≡ false → IsSome (enter_answer result) }
+        ensures refused { is_accepted (step self.old (EnterCommit ticket)).0 ≡ false →
+            IsSome (enter_answer result) }
     {
         let Some(place) = place_for(&self.pulls, &ticket.token, Stage::Pulling) else {
             let Ticket { token } = ticket;
@@ -295,7 +306,8 @@ impl FolderCore for PlainFolder {
     /// O(log n + k^2) for n records kept and k devices that announce the name, and the copy. A name without a best does
     /// not allocate.
     fn best(&self, name: &SafeName) -> Result<Option<Best>, AllocError>
-        ensures found { IfOk result (λ b. option_map (λ b. (b.record, b.devices)) b ≡ best_found self.now name.now) }
+        ensures found { IfOk result (λ b. option_map (λ b. (b.record, b.devices)) b
+            ≡ best_found self.now name.now) }
         ensures none { best_found self.now name.now ≡ None → IsOk result }
     {
         let group = entries_of(self.entries.as_slice(), name);
@@ -305,7 +317,8 @@ impl FolderCore for PlainFolder {
     /// O(log n) for n records kept, and O(k^2) for each name up to the last one of the page, with k devices that announce
     /// it, and the copies. An empty page does not allocate.
     fn bests(&self, after: Option<&SafeName>, limit: usize) -> Result<Items<Best>, AllocError>
-        ensures page { IfOk result (λ page. map (λ b. (b.record, b.devices)) page ≡ bests_page self.now (option_copied after.entry) limit) }
+        ensures page { IfOk result (λ page. map (λ b. (b.record, b.devices)) page
+            ≡ bests_page self.now (option_copied after.entry) limit) }
         ensures none { bests_page self.now (option_copied after.entry) limit ≡ [] → IsOk result }
     {
         let rest = entries_after(self.entries.as_slice(), after);
@@ -325,7 +338,8 @@ impl FolderCore for PlainFolder {
     /// O(log n) for n records kept, and O(k^2) for each name up to the last one of the page, with k devices that announce
     /// it, and the copies of the names. An empty page does not allocate.
     fn need(&self, after: Option<&SafeName>, limit: usize) -> Result<Items<SafeName>, AllocError>
-        ensures page { IfOk result (λ names. names ≡ need_page self.now (option_copied after.entry) limit) }
+        ensures page { IfOk result (λ names. names
+            ≡ need_page self.now (option_copied after.entry) limit) }
         ensures none { need_page self.now (option_copied after.entry) limit ≡ [] → IsOk result }
     {
         let rest = entries_after(self.entries.as_slice(), after);
@@ -434,11 +448,14 @@ impl PlainFolder {
         last: i64,
     ) -> Result<PlainFolder, RestoreFault>
         ensures allowed { IsOk result → MayRestore me (map given records) last }
-        ensures restored { IfOk result (λ folder. folder ≡ restored_folder me (map given records) last) }
-        ensures refused { IfErr result (λ fault. fault ≡ BadRecords → ¬ (MayRestore me (map given records) last)) }
+        ensures restored { IfOk result
+            (λ folder. folder ≡ restored_folder me (map given records) last) }
+        ensures refused { IfErr result
+            (λ fault. fault ≡ BadRecords → ¬ (MayRestore me (map given records) last)) }
         ensures none { records ≡ [] → IfErr result (λ fault. fault ≡ BadRecords) }
         ensures negative { is_natural last ≡ false → IfErr result (λ fault. fault ≡ BadRecords) }
-        ensures in_order { Rises records → filter (is_from me) records ≡ [] → IfErr result (λ fault. fault ≡ BadRecords) }
+        ensures in_order { Rises records → filter (is_from me) records ≡ [] →
+            IfErr result (λ fault. fault ≡ BadRecords) }
     {
         let Ok(last) = u64::try_from(last) else {
             return Err(RestoreFault::BadRecords);
@@ -486,9 +503,11 @@ fn room_for(
     ensures entries_stay { entries.new.items ≡ entries.old.items }
     ensures len { vec_len entries.new ≡ vec_len entries.old }
     ensures grown { vec_len entries.new + promised ≤ vec_capacity entries.new }
-    ensures entries_fit { IfOk result (λ _. vec_len entries.new + new + promised ≤ vec_capacity entries.new) }
+    ensures entries_fit { IfOk result
+        (λ _. vec_len entries.new + new + promised ≤ vec_capacity entries.new) }
     ensures is_empty { IfOk result (λ room. room.items ≡ []) }
-    ensures room_fits { IfOk result (λ room. 0 < new → vec_capacity room ≡ vec_len entries.new + new) }
+    ensures room_fits { IfOk result
+        (λ room. 0 < new → vec_capacity room ≡ vec_len entries.new + new) }
     ensures nothing { new ≡ 0 → IsOk result }
 {
     if new == 0 {

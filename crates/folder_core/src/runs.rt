@@ -61,8 +61,10 @@ pub fn make_all<C: FolderCore>(
     changes: Items<Change>,
 ) -> Result<Items<Answer>, Partway>
     requires { All (MayChange (C.state core.old).me) changes }
-    ensures ok { IfOk result (λ answers. (answers, C.state core.new) ≡ run (C.state core.old) changes) }
-    ensures err { IfErr result (λ partway. IsPartway (C.state core.old) changes partway.answers (C.state core.new)) }
+    ensures ok { IfOk result (λ answers. (answers, C.state core.new)
+        ≡ run (C.state core.old) changes) }
+    ensures err { IfErr result (λ partway.
+        IsPartway (C.state core.old) changes partway.answers (C.state core.new)) }
     ensures nothing { changes ≡ [] → IsOk result }
 {
     let mut answers = Vec::new(alloc);

@@ -39,29 +39,37 @@ pub fn entered_commits_are_their_tickets()
 /// A scan is recorded only if the local version was the expected one and no commit of the name was open, and only if it found
 /// another content, or that a file or directory is gone.
 pub fn recorded_scans_were_expected()
-    ensures found { (s : FolderState) (n : Name) (expected : Option Vector) (f : Finding) (moment k : ℕ) →
+    ensures found { (s : FolderState) (n : Name) (expected : Option Vector) (f : Finding)
+        (moment k : ℕ) →
         (step s (ScanFound n expected f moment)).0 ≡ Recorded k →
         NoCommit s n × (expected ≡ local_version s n)
-        × ((r : FileRecord) → local s n ≡ Some r → same_content (found_record s n (next_version s n moment) f) r ≡ false) }
+        × ((r : FileRecord) → local s n ≡ Some r →
+        same_content (found_record s n (next_version s n moment) f) r ≡ false) }
     ensures gone { (s : FolderState) (n : Name) (expected : Option Vector) (moment k : ℕ) →
         (step s (ScanGone n expected moment)).0 ≡ Recorded k →
-        NoCommit s n × (expected ≡ local_version s n) × (r : FileRecord) × (local s n ≡ Some r) × (r.deleted ≡ false) }
+        NoCommit s n × (expected ≡ local_version s n) × (r : FileRecord) × (local s n ≡ Some r)
+        × (r.deleted ≡ false) }
 {}
 
 /// For a ticket or a commit that is stray no such pull is open.
 pub fn stray_pulls_are_not_open()
     ensures ticket { (s : FolderState) (t : Token) →
-        ((step s (EnterCommit t)).0 ≡ Stray) ⊎ ((step s (GiveUp t)).0 ≡ Stray) → (p : Pull) → ¬ (IsFor s t Pulling p) }
+        ((step s (EnterCommit t)).0 ≡ Stray) ⊎ ((step s (GiveUp t)).0 ≡ Stray) → (p : Pull) →
+        ¬ (IsFor s t Pulling p) }
     ensures commit { (s : FolderState) (c : Token) (assembled : FileRecord) →
-        ((step s (Finish c assembled)).0 ≡ Stray) ⊎ ((step s (Abort c)).0 ≡ Stray) → (p : Pull) → ¬ (IsFor s c Committing p) }
+        ((step s (Finish c assembled)).0 ≡ Stray) ⊎ ((step s (Abort c)).0 ≡ Stray) → (p : Pull) →
+        ¬ (IsFor s c Committing p) }
 {}
 
 /// An open pull stays as it is, but that its commit may be entered, until an accepted change of its name ends it. No two open pulls
 /// have the same number.
 pub fn open_pulls_stay()
     ensures kept { (s : FolderState) (c : Change) (n : Name) (p : Pull) → get s.pulls n ≡ Some p →
-        ((q : Pull) × (get (step s c).1.pulls n ≡ Some q) × ((q ≡ p) ⊎ (q ≡ record p { stage = Committing })))
+        ((q : Pull) × (get (step s c).1.pulls n ≡ Some q)
+        × ((q ≡ p) ⊎ (q ≡ record p { stage = Committing })))
         ⊎ ((get (step s c).1.pulls n ≡ None) × (is_accepted (step s c).0 ≡ true)
-        × ((t : Token) × (t.name ≡ n) × ((c ≡ GiveUp t) ⊎ ((c ≡ Abort t) ⊎ ((r : FileRecord) × (c ≡ Finish t r)))))) }
-    ensures numbers { (s : FolderState) (c : Change) → HaveOwnNumbers s → HaveOwnNumbers (step s c).1 }
+        × ((t : Token) × (t.name ≡ n) × ((c ≡ GiveUp t)
+        ⊎ ((c ≡ Abort t) ⊎ ((r : FileRecord) × (c ≡ Finish t r)))))) }
+    ensures numbers { (s : FolderState) (c : Change) → HaveOwnNumbers s →
+        HaveOwnNumbers (step s c).1 }
 {}

@@ -19,10 +19,13 @@ pub fn best_is_preferred()
     ensures one { (a : Announced) (n : Name) (d e : Identity) (q r : FileRecord) →
         IsBest a n d q → IsBest a n e r → (d ≡ e) × (q ≡ r) }
     ensures some { (a : Announced) (n : Name) (d : Identity) (r : FileRecord) →
-        get a (key n d) ≡ Some r → IsTrue (is_valid r) → (e : Announcement) × (best (entries a) n ≡ Some e) }
+        get a (key n d) ≡ Some r → IsTrue (is_valid r) → (e : Announcement)
+        × (best (entries a) n ≡ Some e) }
     ensures none { (a : Announced) (n : Name) →
-        (best (entries a) n ≡ None) ↔ ((d : Identity) (r : FileRecord) → get a (key n d) ≡ Some r → is_valid r ≡ false) }
-    ensures undominated { (a : Announced) (n : Name) (e : Announcement) (d : Identity) (r : FileRecord) →
+        (best (entries a) n ≡ None) ↔ ((d : Identity) (r : FileRecord) → get a (key n d) ≡ Some r →
+        is_valid r ≡ false) }
+    ensures undominated { (a : Announced) (n : Name) (e : Announcement) (d : Identity)
+        (r : FileRecord) →
         best (entries a) n ≡ Some e → get a (key n d) ≡ Some r → IsTrue (is_valid r) →
         ¬ (Dominates r.version e.1.version) }
 {}
@@ -30,7 +33,8 @@ pub fn best_is_preferred()
 /// The list of all bests has the best of each name that has one, once, in byte order of the names; and looked up
 /// name by name, over any rising names among which all of them are, it is the same list.
 pub fn bests_are_listed_once_in_order()
-    ensures rise { (a : Announced) → IsStrictlySortedBy bytes_cmp (map (λ e. e.0.name) (bests (entries a))) }
+    ensures rise { (a : Announced) →
+        IsStrictlySortedBy bytes_cmp (map (λ e. e.0.name) (bests (entries a))) }
     ensures listed { (a : Announced) (n : Name) (e : Announcement) →
         (Contains (bests (entries a)) e × (e.0.name ≡ n)) ↔ (best (entries a) n ≡ Some e) }
     ensures by_name { (a : Announced) (names : List Name) → IsStrictlySortedBy bytes_cmp names →
@@ -43,15 +47,20 @@ pub fn bests_are_listed_once_in_order()
 pub fn best_in_any_order()
     ensures listed { (a : Announced) (es : List Announcement) (n : Name) →
         ((k : Key) (r : FileRecord) → get a k ≡ Some r → Contains es (k, r)) →
-        ((e : Announcement) → Contains es e → get a e.0 ≡ Some e.1) → best es n ≡ best (entries a) n }
-    ensures announced { (a : Announced) (d e : Identity) (xs ys : List FileRecord) (n : Name) → d ≢ e →
-        best (entries (announce d xs (announce e ys a))) n ≡ best (entries (announce e ys (announce d xs a))) n }
+        ((e : Announcement) → Contains es e → get a e.0 ≡ Some e.1) →
+        best es n ≡ best (entries a) n }
+    ensures announced { (a : Announced) (d e : Identity) (xs ys : List FileRecord) (n : Name) →
+        d ≢ e →
+        best (entries (announce d xs (announce e ys a))) n
+        ≡ best (entries (announce e ys (announce d xs a))) n }
 {}
 
 /// The devices of a best rise, and are those whose valid record of the name has its version and its content.
 pub fn devices_have_the_best()
-    ensures rise { (a : Announced) (e : Announcement) → IsStrictlySortedBy bytes_cmp (devices_of (entries a) e) }
-    ensures listed { (a : Announced) (n : Name) (e : Announcement) (d : Identity) → best (entries a) n ≡ Some e →
+    ensures rise { (a : Announced) (e : Announcement) →
+        IsStrictlySortedBy bytes_cmp (devices_of (entries a) e) }
+    ensures listed { (a : Announced) (n : Name) (e : Announcement) (d : Identity) →
+        best (entries a) n ≡ Some e →
         Contains (devices_of (entries a) e) d ↔ ((r : FileRecord) × (get a (key n d) ≡ Some r)
         × IsTrue (is_valid r) × (r.version ≡ e.1.version) × IsTrue (same_content r e.1)) }
 {}

@@ -24,7 +24,8 @@ ghost use Rattle.std.specs.declared.alloc.AllocError.{AllocError};
 /// An answer that isn't accepted leaves the state; accepted are Applied, Closed, Recorded, Done, Begun and Entered, and no
 /// others.
 pub fn other_answers_keep_the_state()
-    ensures kept { (s : FolderState) (c : Change) → is_accepted (step s c).0 ≡ false → (step s c).1 ≡ s }
+    ensures kept { (s : FolderState) (c : Change) → is_accepted (step s c).0 ≡ false →
+        (step s c).1 ≡ s }
     ensures accepted { (a : Answer) → IsTrue (is_accepted a) ↔
         ((a ≡ Applied) ⊎ ((a ≡ Closed) ⊎ (((k : ℕ) × (a ≡ Recorded k)) ⊎ (((k : ℕ) × (a ≡ Done k))
         ⊎ (((t : Token) × (a ≡ Begun t)) ⊎ ((t : Token) × (a ≡ Entered t))))))) }
@@ -34,7 +35,8 @@ pub fn other_answers_keep_the_state()
 pub fn changes_keep_folders()
     ensures empty { (me : Identity) →
         IsFolder (record { me = me; announced = empty; last = 0; pulls = empty }) }
-    ensures change { (s : FolderState) (c : Change) → IsFolder s → MayChange s.me c → IsFolder (step s c).1 }
+    ensures change { (s : FolderState) (c : Change) → IsFolder s → MayChange s.me c →
+        IsFolder (step s c).1 }
 {}
 
 /// What a caller of a change need not ensure: any index of another device may come, whatever it says; a directory may be found,
@@ -42,16 +44,24 @@ pub fn changes_keep_folders()
 /// of its blocks has bytes; and all else may be asked at any state.
 pub fn callers_ensure_no_more()
     ensures indexes { (s : FolderState) (d : Identity) (records : List FileRecord) → d ≢ s.me →
-        MayChange s.me (IndexFull d records) × MayChange s.me (IndexMore d records) × MayChange s.me (Forget d) }
-    ensures directory { (s : FolderState) (n : Name) (expected : Option Vector) (f : Finding) (moment : ℕ) →
+        MayChange s.me (IndexFull d records) × MayChange s.me (IndexMore d records)
+        × MayChange s.me (Forget d) }
+    ensures directory { (s : FolderState) (n : Name) (expected : Option Vector) (f : Finding)
+        (moment : ℕ) →
         f.content ≡ FoundDirectory → MayChange s.me (ScanFound n expected f moment) }
-    ensures file { (s : FolderState) (n : Name) (expected : Option Vector) (f : Finding) (moment size block_size : ℕ)
-        (r : FileRecord) → IsTrue (is_valid r) → IsTrue (is_live_file r) → r.size ≡ pos size → size < 2 ^ 63 → r.block_size ≡ pos block_size →
-        f.content ≡ FoundFile size block_size r.blocks → MayChange s.me (ScanFound n expected f moment) }
-    ensures rest { (s : FolderState) (n : Name) (expected : Option Vector) (moment : ℕ) (t : Token) →
-        MayChange s.me (ScanGone n expected moment) × MayChange s.me (BeginPull n) × MayChange s.me (EnterCommit t)
+    ensures file { (s : FolderState) (n : Name) (expected : Option Vector) (f : Finding)
+        (moment size block_size : ℕ)
+        (r : FileRecord) → IsTrue (is_valid r) → IsTrue (is_live_file r) → r.size ≡ pos size →
+        size < 2 ^ 63 → r.block_size ≡ pos block_size →
+        f.content ≡ FoundFile size block_size r.blocks →
+        MayChange s.me (ScanFound n expected f moment) }
+    ensures rest { (s : FolderState) (n : Name) (expected : Option Vector) (moment : ℕ)
+        (t : Token) →
+        MayChange s.me (ScanGone n expected moment) × MayChange s.me (BeginPull n)
+        × MayChange s.me (EnterCommit t)
         × MayChange s.me (GiveUp t) × MayChange s.me (Abort t) }
-    ensures finish { (s : FolderState) (t : Token) → IsAssembled t.target → MayChange s.me (Finish t t.target) }
+    ensures finish { (s : FolderState) (t : Token) → IsAssembled t.target →
+        MayChange s.me (Finish t t.target) }
 {}
 
 /// A folder keeps its device. A record of another device changes only by an index of that device or when it is
@@ -65,23 +75,28 @@ pub fn changes_leave_the_rest()
         ⊎ (((records : List FileRecord) × (c ≡ IndexMore d records)) ⊎ (c ≡ Forget d))) }
     ensures locals { (s : FolderState) (c : Change) (n : Name) → IsFolder s → MayChange s.me c →
         (local (step s c).1 n ≡ local s n)
-        ⊎ (((expected : Option Vector) × (f : Finding) × (moment : ℕ) × (c ≡ ScanFound n expected f moment))
+        ⊎ (((expected : Option Vector) × (f : Finding) × (moment : ℕ)
+        × (c ≡ ScanFound n expected f moment))
         ⊎ (((expected : Option Vector) × (moment : ℕ) × (c ≡ ScanGone n expected moment))
         ⊎ ((t : Token) × (assembled : FileRecord) × (t.name ≡ n) × (c ≡ Finish t assembled)))) }
     ensures pulls { (s : FolderState) (c : Change) (n : Name) →
         (get (step s c).1.pulls n ≡ get s.pulls n)
         ⊎ ((c ≡ BeginPull n) ⊎ ((t : Token) × (t.name ≡ n) × ((c ≡ EnterCommit t)
-        ⊎ (((assembled : FileRecord) × (c ≡ Finish t assembled)) ⊎ ((c ≡ GiveUp t) ⊎ (c ≡ Abort t)))))) }
+        ⊎ (((assembled : FileRecord) × (c ≡ Finish t assembled))
+        ⊎ ((c ≡ GiveUp t) ⊎ (c ≡ Abort t)))))) }
 {}
 
 /// Local sequences stay distinct and at most the last one given; a local record that is new has a greater sequence than
 /// all before. Each recorded scan and each finish takes the next sequence, which fits, and nothing else takes one.
 pub fn sequences_stay_distinct()
-    ensures numbered { (s : FolderState) (c : Change) → IsNumbered s → MayChange s.me c → IsNumbered (step s c).1 }
-    ensures taken { (s : FolderState) (c : Change) (k : ℕ) → ((step s c).0 ≡ Recorded k) ⊎ ((step s c).0 ≡ Done k) →
+    ensures numbered { (s : FolderState) (c : Change) → IsNumbered s → MayChange s.me c →
+        IsNumbered (step s c).1 }
+    ensures taken { (s : FolderState) (c : Change) (k : ℕ) → ((step s c).0 ≡ Recorded k)
+        ⊎ ((step s c).0 ≡ Done k) →
         (k ≡ s.last + 1) × ((step s c).1.last ≡ k) }
     ensures kept { (s : FolderState) (c : Change) →
-        ((step s c).1.last ≡ s.last) ⊎ ((k : ℕ) × (((step s c).0 ≡ Recorded k) ⊎ ((step s c).0 ≡ Done k))) }
+        ((step s c).1.last ≡ s.last) ⊎ ((k : ℕ)
+        × (((step s c).0 ≡ Recorded k) ⊎ ((step s c).0 ≡ Done k))) }
     ensures fits { (s : FolderState) (c : Change) (k : ℕ) → IsFolder s → MayChange s.me c →
         ((step s c).0 ≡ Recorded k) ⊎ ((step s c).0 ≡ Done k) → k ≤ 2 ^ 63 - 1 }
     ensures new { (s : FolderState) (c : Change) (n : Name) (r : FileRecord) → MayChange s.me c →

@@ -31,18 +31,22 @@ pub fn need_is_the_rule()
 /// with Unsupported where the best is live and neither a file nor a directory. Else it is begun: over the local record,
 /// for the best, under the least positive number that no open pull has; and it is open then, as its ticket says.
 pub fn begin_pull_takes_the_needed()
-    ensures busy { (s : FolderState) (n : Name) (p : Pull) → get s.pulls n ≡ Some p → (step s (BeginPull n)).0 ≡ Busy }
+    ensures busy { (s : FolderState) (n : Name) (p : Pull) → get s.pulls n ≡ Some p →
+        (step s (BeginPull n)).0 ≡ Busy }
     ensures not_needed { (s : FolderState) (n : Name) →
         get s.pulls n ≡ None → ¬ (Contains (need s) n) → (step s (BeginPull n)).0 ≡ NotNeeded }
     ensures unsupported { (s : FolderState) (n : Name) (e : Announcement) →
         get s.pulls n ≡ None → best (entries s.announced) n ≡ Some e → Contains (need s) n →
-        e.1.deleted ≡ false → is_file e.1 ≡ false → is_directory e.1 ≡ false → (step s (BeginPull n)).0 ≡ Unsupported }
+        e.1.deleted ≡ false → is_file e.1 ≡ false → is_directory e.1 ≡ false →
+        (step s (BeginPull n)).0 ≡ Unsupported }
     ensures begun { (s : FolderState) (n : Name) (e : Announcement) →
         get s.pulls n ≡ None → best (entries s.announced) n ≡ Some e → Contains (need s) n →
         (e.1.deleted ≡ true) ⊎ ((is_file e.1 ≡ true) ⊎ (is_directory e.1 ≡ true)) →
-        (t : Token) × ((step s (BeginPull n)).0 ≡ Begun t) × (t.name ≡ n) × (t.base ≡ local s n) × (t.target ≡ e.1)
+        (t : Token) × ((step s (BeginPull n)).0 ≡ Begun t) × (t.name ≡ n) × (t.base ≡ local s n)
+        × (t.target ≡ e.1)
         × (1 ≤ t.number) × ((m : Name) (p : Pull) → get s.pulls m ≡ Some p → p.number ≢ t.number)
-        × ((k : ℕ) → 1 ≤ k → k < t.number → (m : Name) × (p : Pull) × (get s.pulls m ≡ Some p) × (p.number ≡ k)) }
+        × ((k : ℕ) → 1 ≤ k → k < t.number → (m : Name) × (p : Pull) × (get s.pulls m ≡ Some p)
+        × (p.number ≡ k)) }
     ensures opened { (s : FolderState) (n : Name) (t : Token) → (step s (BeginPull n)).0 ≡ Begun t →
         get (step s (BeginPull n)).1.pulls n ≡ Some (record {
           number = t.number;
@@ -132,7 +136,9 @@ pub fn finish_records_the_target()
 pub fn copies_are_due_in_conflict()
     ensures { (most_copies : ℤ) (base : Option FileRecord) (target : FileRecord) →
         IsTrue (is_copy_due most_copies base target) ↔
-        ((b : FileRecord) × (base ≡ Some b) × (most_copies ≢ pos 0) × (b.deleted ≡ false) × IsTrue (is_file b)
-        × (target.deleted ≡ false) × ¬ (Covers b.version target.version) × ¬ (Covers target.version b.version)
+        ((b : FileRecord) × (base ≡ Some b) × (most_copies ≢ pos 0) × (b.deleted ≡ false)
+        × IsTrue (is_file b)
+        × (target.deleted ≡ false) × ¬ (Covers b.version target.version)
+        × ¬ (Covers target.version b.version)
         × (same_content b target ≡ false)) }
 {}

@@ -33,17 +33,21 @@ pub fn reads_follow_the_state()
     ensures best { (s : FolderState) (n : Name) (r : FileRecord) (devices : List Identity) →
         Reads s (Best n) (Some (r, devices)) ↔
         ((d : Identity) × IsBest s.announced n d r × IsStrictlySortedBy bytes_cmp devices
-        × ((e : Identity) → Contains devices e ↔ ((q : FileRecord) × (get s.announced (key n e) ≡ Some q)
+        × ((e : Identity) → Contains devices e
+        ↔ ((q : FileRecord) × (get s.announced (key n e) ≡ Some q)
         × IsTrue (is_valid q) × (q.version ≡ r.version) × IsTrue (same_content q r)))) }
     ensures no_best { (s : FolderState) (n : Name) → Reads s (Best n) None ↔
-        ((d : Identity) (r : FileRecord) → get s.announced (key n d) ≡ Some r → is_valid r ≡ false) }
+        ((d : Identity) (r : FileRecord) → get s.announced (key n d) ≡ Some r →
+        is_valid r ≡ false) }
     ensures known { (s : FolderState) (k : ℕ) → Reads s (Known s.me) k ↔ (k ≡ s.last) }
     ensures sound { (s : FolderState) (n : Name) (r : FileRecord) (k : ℕ) → IsFolder s →
         Reads s (Local n) (Some r) → Reads s (Known s.me) k →
         (r.name ≡ n) × IsTrue (is_valid r) × (1 ≤ r.sequence) × (r.sequence ≤ k) }
     ensures known_of_others { (s : FolderState) (d : Identity) (k : ℕ) → d ≢ s.me →
-        Reads s (Known d) k ↔ (((n : Name) (r : FileRecord) → get s.announced (key n d) ≡ Some r → r.sequence ≤ k)
-        × ((k ≡ 0) ⊎ ((n : Name) × (r : FileRecord) × (get s.announced (key n d) ≡ Some r) × (r.sequence ≡ k)))) }
+        Reads s (Known d) k ↔ (((n : Name) (r : FileRecord) → get s.announced (key n d) ≡ Some r →
+        r.sequence ≤ k)
+        × ((k ≡ 0) ⊎ ((n : Name) × (r : FileRecord) × (get s.announced (key n d) ≡ Some r)
+        × (r.sequence ≡ k)))) }
     ensures counts { (s : FolderState) (c : Counts) → Reads s CountAll c →
         (c.needed ≡ length (need s)) × (c.pulls ≡ len s.pulls) × (c.last ≡ s.last) }
     ensures counted { (s : FolderState) (c : Counts) → Reads s CountAll c ↔ IsCounted s c }
@@ -53,19 +57,24 @@ pub fn reads_follow_the_state()
 /// needed and after that name is in the page, or after a full page. A list of which all this holds is the page.
 pub fn needed_names_come_in_pages()
     ensures rise { (s : FolderState) (after : Option Name) (limit : ℕ) (names : List Name) →
-        Reads s (Need after limit) names → IsStrictlySortedBy bytes_cmp names × (length names ≤ limit) }
-    ensures only { (s : FolderState) (after : Option Name) (limit : ℕ) (names : List Name) (n : Name) →
+        Reads s (Need after limit) names → IsStrictlySortedBy bytes_cmp names
+        × (length names ≤ limit) }
+    ensures only { (s : FolderState) (after : Option Name) (limit : ℕ) (names : List Name)
+        (n : Name) →
         Reads s (Need after limit) names → Contains names n →
         Contains (need s) n × ((a : Name) → after ≡ Some a → bytes_cmp n a ≡ Greater) }
-    ensures all { (s : FolderState) (after : Option Name) (limit : ℕ) (names : List Name) (n : Name) →
+    ensures all { (s : FolderState) (after : Option Name) (limit : ℕ) (names : List Name)
+        (n : Name) →
         Reads s (Need after limit) names → Contains (need s) n →
         ((a : Name) → after ≡ Some a → bytes_cmp n a ≡ Greater) →
         Contains names n
         ⊎ ((length names ≡ limit) × ((m : Name) → Contains names m → bytes_cmp m n ≡ Less)) }
     ensures whole { (s : FolderState) (after : Option Name) (limit : ℕ) (names : List Name) →
         IsStrictlySortedBy bytes_cmp names → length names ≤ limit →
-        ((n : Name) → Contains names n → Contains (need s) n × ((a : Name) → after ≡ Some a → bytes_cmp n a ≡ Greater)) →
-        ((n : Name) → Contains (need s) n → ((a : Name) → after ≡ Some a → bytes_cmp n a ≡ Greater) →
+        ((n : Name) → Contains names n → Contains (need s) n
+        × ((a : Name) → after ≡ Some a → bytes_cmp n a ≡ Greater)) →
+        ((n : Name) → Contains (need s) n →
+        ((a : Name) → after ≡ Some a → bytes_cmp n a ≡ Greater) →
         Contains names n
         ⊎ ((length names ≡ limit) × ((m : Name) → Contains names m → bytes_cmp m n ≡ Less))) →
         Reads s (Need after limit) names }
@@ -77,13 +86,17 @@ pub fn needed_names_come_in_pages()
 /// a page, there are pages one after the other, each read after the last name of the one before, up to one that isn't full;
 /// and together such pages have the best of each name once, in byte order, with its devices.
 pub fn bests_come_in_pages()
-    ensures rise { (s : FolderState) (after : Option Name) (limit : ℕ) (page : List Found) → IsFolder s →
+    ensures rise { (s : FolderState) (after : Option Name) (limit : ℕ) (page : List Found) →
+        IsFolder s →
         Reads s (Bests after limit) page →
         IsStrictlySortedBy bytes_cmp (map (λ b. b.0.name) page) × (length page ≤ limit) }
-    ensures only { (s : FolderState) (after : Option Name) (limit : ℕ) (page : List Found) (b : Found) → IsFolder s →
+    ensures only { (s : FolderState) (after : Option Name) (limit : ℕ) (page : List Found)
+        (b : Found) → IsFolder s →
         Reads s (Bests after limit) page → Contains page b →
-        Reads s (Best b.0.name) (Some b) × ((a : Name) → after ≡ Some a → bytes_cmp b.0.name a ≡ Greater) }
-    ensures all { (s : FolderState) (after : Option Name) (limit : ℕ) (page : List Found) (n : Name) (b : Found) → IsFolder s →
+        Reads s (Best b.0.name) (Some b)
+        × ((a : Name) → after ≡ Some a → bytes_cmp b.0.name a ≡ Greater) }
+    ensures all { (s : FolderState) (after : Option Name) (limit : ℕ) (page : List Found) (n : Name)
+        (b : Found) → IsFolder s →
         Reads s (Bests after limit) page → Reads s (Best n) (Some b) →
         ((a : Name) → after ≡ Some a → bytes_cmp n a ≡ Greater) →
         Contains page b
@@ -91,10 +104,12 @@ pub fn bests_come_in_pages()
     ensures end { (s : FolderState) (after : Option Name) (limit : ℕ) (n : Name) → 1 ≤ limit →
         Reads s (Bests after limit) [] → ((a : Name) → after ≡ Some a → bytes_cmp n a ≡ Greater) →
         Reads s (Best n) None }
-    ensures whole { (s : FolderState) (after : Option Name) (limit : ℕ) (page : List Found) → IsFolder s →
+    ensures whole { (s : FolderState) (after : Option Name) (limit : ℕ) (page : List Found) →
+        IsFolder s →
         IsStrictlySortedBy bytes_cmp (map (λ b. b.0.name) page) → length page ≤ limit →
         ((b : Found) → Contains page b →
-        Reads s (Best b.0.name) (Some b) × ((a : Name) → after ≡ Some a → bytes_cmp b.0.name a ≡ Greater)) →
+        Reads s (Best b.0.name) (Some b)
+        × ((a : Name) → after ≡ Some a → bytes_cmp b.0.name a ≡ Greater)) →
         ((n : Name) (b : Found) → Reads s (Best n) (Some b) →
         ((a : Name) → after ≡ Some a → bytes_cmp n a ≡ Greater) →
         Contains page b
@@ -104,7 +119,8 @@ pub fn bests_come_in_pages()
         (pages : List (List Found)) × ArePages s limit None pages }
     ensures together { (s : FolderState) (limit : ℕ) (pages : List (List Found)) → IsFolder s →
         ArePages s limit None pages →
-        flat_map (λ page. page) pages ≡ map (with_devices (entries s.announced)) (bests (entries s.announced)) }
+        flat_map (λ page. page) pages ≡ map (with_devices (entries s.announced))
+        (bests (entries s.announced)) }
 {}
 
 /// A page of local records rises by sequence, has no more records than asked for, and no more than the most blocks or
@@ -116,34 +132,41 @@ pub fn local_records_come_in_pages()
         Reads s (LocalSince after limit) page →
         IsStrictlySortedBy nat_cmp (map (λ r. r.sequence) page) × (length page ≤ limit)
         × ((sum_by (λ r. length r.blocks) page ≤ max_page_blocks) ⊎ (length page ≤ 1)) }
-    ensures only { (s : FolderState) (after limit : ℕ) (page : List FileRecord) (r : FileRecord) → IsFolder s →
+    ensures only { (s : FolderState) (after limit : ℕ) (page : List FileRecord) (r : FileRecord) →
+        IsFolder s →
         Reads s (LocalSince after limit) page → Contains page r →
         (n : Name) × (local s n ≡ Some r) × (after < r.sequence) }
-    ensures all { (s : FolderState) (after limit : ℕ) (page : List FileRecord) (n : Name) (r : FileRecord) → IsFolder s →
+    ensures all { (s : FolderState) (after limit : ℕ) (page : List FileRecord) (n : Name)
+        (r : FileRecord) → IsFolder s →
         Reads s (LocalSince after limit) page → local s n ≡ Some r → after < r.sequence →
         Contains page r
         ⊎ ((m : Name) × (q : FileRecord) × (local s m ≡ Some q) × (q.sequence ≤ r.sequence)
         × ((p : FileRecord) → Contains page p → p.sequence < q.sequence)
         × ((length page ≡ limit)
-        ⊎ ((1 ≤ length page) × (max_page_blocks < sum_by (λ r. length r.blocks) page + length q.blocks)))) }
+        ⊎ ((1 ≤ length page) × (max_page_blocks < sum_by
+        (λ r. length r.blocks) page + length q.blocks)))) }
     ensures whole { (s : FolderState) (after limit : ℕ) (page : List FileRecord) → IsFolder s →
         IsStrictlySortedBy nat_cmp (map (λ r. r.sequence) page) → length page ≤ limit →
         (sum_by (λ r. length r.blocks) page ≤ max_page_blocks) ⊎ (length page ≤ 1) →
-        ((r : FileRecord) → Contains page r → (n : Name) × (local s n ≡ Some r) × (after < r.sequence)) →
+        ((r : FileRecord) → Contains page r → (n : Name) × (local s n ≡ Some r)
+        × (after < r.sequence)) →
         ((n : Name) (r : FileRecord) → local s n ≡ Some r → after < r.sequence →
         Contains page r
         ⊎ ((m : Name) × (q : FileRecord) × (local s m ≡ Some q) × (q.sequence ≤ r.sequence)
         × ((p : FileRecord) → Contains page p → p.sequence < q.sequence)
         × ((length page ≡ limit)
-        ⊎ ((1 ≤ length page) × (max_page_blocks < sum_by (λ r. length r.blocks) page + length q.blocks))))) →
+        ⊎ ((1 ≤ length page) × (max_page_blocks < sum_by
+        (λ r. length r.blocks) page + length q.blocks))))) →
         Reads s (LocalSince after limit) page }
 {}
 
 /// A place that is found is one of a block with the digest in a live local file, and none is found only where no live local
 /// file has such a block.
 pub fn blocks_are_found_where_they_are()
-    ensures place { (s : FolderState) (hash : List ℕ) (p : Place) → Reads s (FindBlock hash) (Some p) ↔
-        ((n : Name) × (r : FileRecord) × (b : Block) × (local s n ≡ Some r) × IsTrue (is_live_file r)
+    ensures place { (s : FolderState) (hash : List ℕ) (p : Place) →
+        Reads s (FindBlock hash) (Some p) ↔
+        ((n : Name) × (r : FileRecord) × (b : Block) × (local s n ≡ Some r)
+        × IsTrue (is_live_file r)
         × Contains r.blocks b × (b.hash ≡ hash)
         × (p ≡ record { name = r.name; offset = b.offset; size = b.size })) }
     ensures no_place { (s : FolderState) (hash : List ℕ) → Reads s (FindBlock hash) None ↔

@@ -14,13 +14,18 @@ ghost use Rattle.folder_core.specs.Samples.{me, p1, p2, x, y, file, recorded};
 /// Every folder may be restored from its own records, and is then as it was, but without its open pulls.
 pub fn restored_folders_are_folders()
     ensures folder { (me : Identity) (records : List (Identity × FileRecord)) (last : ℤ) →
-        MayRestore me records last ↔ (IsTrue (is_natural last) × AllPairs (λ p q. key_of p ≢ key_of q) records
+        MayRestore me records last ↔ (IsTrue (is_natural last)
+        × AllPairs (λ p q. key_of p ≢ key_of q) records
         × IsFolder (restored_folder me records last)) }
-    ensures records { (me : Identity) (records : List (Identity × FileRecord)) (last : ℤ) (d : Identity) (n : Name) (r : FileRecord) →
+    ensures records { (me : Identity) (records : List (Identity × FileRecord)) (last : ℤ)
+        (d : Identity) (n : Name) (r : FileRecord) →
         MayRestore me records last →
-        (get (restored_folder me records last).announced (key n d) ≡ Some r) ↔ (Contains records (d, r) × (r.name ≡ n)) }
-    ensures rest { (me : Identity) (records : List (Identity × FileRecord)) (last : ℤ) → MayRestore me records last →
-        ((restored_folder me records last).me ≡ me) × (pos (restored_folder me records last).last ≡ last)
+        (get (restored_folder me records last).announced (key n d) ≡ Some r)
+        ↔ (Contains records (d, r) × (r.name ≡ n)) }
+    ensures rest { (me : Identity) (records : List (Identity × FileRecord)) (last : ℤ) →
+        MayRestore me records last →
+        ((restored_folder me records last).me ≡ me)
+        × (pos (restored_folder me records last).last ≡ last)
         × ((restored_folder me records last).pulls ≡ empty) }
     ensures again { (s : FolderState) → IsFolder s → MayRestore s.me (records_of s) (pos s.last)
         × (restored_folder s.me (records_of s) (pos s.last) ≡ record s { pulls = empty }) }
@@ -30,13 +35,20 @@ pub fn restored_folders_are_folders()
 pub fn restores_in_rows()
     ensures two { MayRestore me ((me, recorded x 2) ∷ (me, recorded y 1) ∷ []) (pos 2) }
     ensures of_others { MayRestore me
-        ((p1, record (recorded x 0) { invalid = true }) ∷ (p1, recorded y 9) ∷ (p2, recorded x 9) ∷ []) (pos 0) }
+        ((p1, record (recorded x 0) { invalid = true }) ∷ (p1, recorded y 9) ∷ (
+          p2,
+          recorded x
+              9,
+        ) ∷ []) (pos 0) }
     ensures negative { ¬ (MayRestore me [] (negsuc 0)) }
     ensures too_great { ¬ (MayRestore me [] (pos 9223372036854775808)) }
     ensures repeated_name { ¬ (MayRestore me
-        ((p1, file ((1, 1) ∷ []) 1) ∷ (p2, file ((1, 1) ∷ []) 1) ∷ (p1, file ((1, 2) ∷ []) 2) ∷ []) (pos 0)) }
-    ensures invalid { ¬ (MayRestore me ((me, record (recorded x 1) { invalid = true }) ∷ []) (pos 1)) }
-    ensures repeated_sequence { ¬ (MayRestore me ((me, recorded x 1) ∷ (me, recorded y 1) ∷ []) (pos 2)) }
+        ((p1, file ((1, 1) ∷ []) 1) ∷ (p2, file ((1, 1) ∷ []) 1) ∷ (p1, file ((1, 2) ∷ []) 2) ∷ [])
+        (pos 0)) }
+    ensures invalid { ¬ (MayRestore me ((me, record (recorded x 1) { invalid = true }) ∷ [])
+        (pos 1)) }
+    ensures repeated_sequence { ¬ (MayRestore me ((me, recorded x 1) ∷ (me, recorded y 1) ∷ [])
+        (pos 2)) }
     ensures zero { ¬ (MayRestore me ((me, recorded x 0) ∷ []) (pos 2)) }
     ensures above_last { ¬ (MayRestore me ((me, recorded x 3) ∷ []) (pos 2)) }
 {}

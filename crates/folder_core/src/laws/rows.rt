@@ -25,7 +25,8 @@ pub fn best_in_rows()
         ≡ Some (by p1 (file ((1, 2) ∷ []) 1)) }
     ensures live { best deleted_and_live x ≡ Some (by p2 (file ((2, 1) ∷ []) 1)) }
     ensures deletion { best deleted_alone x ≡ Some (by p1 (deletion ((1, 1) ∷ []) 1)) }
-    ensures modified_by { best modified_by_5_and_7 x ≡ Some (by p1 (modified 5 (file ((1, 1) ∷ []) 1))) }
+    ensures modified_by { best modified_by_5_and_7 x
+        ≡ Some (by p1 (modified 5 (file ((1, 1) ∷ []) 1))) }
     ensures cut { is_candidate (cut_short ∷ []) cut_short ≡ false }
     ensures cut_alone { best (cut_short ∷ []) x ≡ None }
     ensures contents { best_found (folder one_version 0 []) x
@@ -33,7 +34,8 @@ pub fn best_in_rows()
     ensures versions { best_found (folder one_content 0 []) x
         ≡ Some (content 3 abc (file ((2, 1) ∷ []) 2), p2 ∷ []) }
     ensures invalid { best invalid_above x ≡ Some (by p2 (file ((1, 1) ∷ []) 1)) }
-    ensures nanoseconds { best nanoseconds_apart x ≡ Some (by p2 (record (file ((2, 1) ∷ []) 1) { modified_ns = pos 4 })) }
+    ensures nanoseconds { best nanoseconds_apart x
+        ≡ Some (by p2 (record (file ((2, 1) ∷ []) 1) { modified_ns = pos 4 })) }
     ensures counters { best counters_apart x ≡ Some (by p2 (file ((1, 2) ∷ []) 1)) }
     ensures shared { best_found (folder shared_by_two 1 []) x
         ≡ Some (content 3 abc (file ((1, 1) ∷ []) 2), me ∷ p1 ∷ []) }
@@ -41,12 +43,15 @@ pub fn best_in_rows()
 
 /// Changes in worked rows, each with its answer and its state.
 pub fn changes_in_rows()
-    ensures last_of_a_name { step (folder [] 0 []) (IndexMore p1 (file ((1, 1) ∷ []) 1 ∷ file ((1, 2) ∷ []) 1 ∷ []))
+    ensures last_of_a_name { step (folder [] 0 [])
+        (IndexMore p1 (file ((1, 1) ∷ []) 1 ∷ file ((1, 2) ∷ []) 1 ∷ []))
         ≡ (Applied, folder (by p1 (file ((1, 2) ∷ []) 1) ∷ []) 0 []) }
     ensures deletion_need { need (folder deleted_alone 0 []) ≡ [] }
-    ensures deletion_pull { step (folder deleted_alone 0 []) (BeginPull x) ≡ (NotNeeded, folder deleted_alone 0 []) }
+    ensures deletion_pull { step (folder deleted_alone 0 []) (BeginPull x)
+        ≡ (NotNeeded, folder deleted_alone 0 []) }
     ensures seen_deletion_need { need deleted_there ≡ x ∷ [] }
-    ensures seen_deletion_pull { step deleted_there (BeginPull x) ≡ (Begun deletion_ticket, deletion_pulled) }
+    ensures seen_deletion_pull { step deleted_there (BeginPull x)
+        ≡ (Begun deletion_ticket, deletion_pulled) }
     ensures link_pull { step link_offered (BeginPull x) ≡ (Unsupported, link_offered) }
     ensures scanned { Leads (folder [] 0 []) scans }
     ensures moved { Leads offered local_moves }
@@ -57,8 +62,10 @@ pub fn changes_in_rows()
     ensures other { Leads offered other_tickets }
     ensures counter { Leads (folder (by p1 full_target ∷ []) 0 []) counter_is_full }
     ensures last { Leads (folder [] 9223372036854775806 []) sequences_end }
-    ensures last_but_one { Leads (folder (by p1 target ∷ []) 9223372036854775806 []) commit_keeps_sequence }
-    ensures no_sequence { Leads (folder (by p1 target ∷ []) 9223372036854775807 []) no_sequence_to_enter }
+    ensures last_but_one { Leads (folder
+        (by p1 target ∷ []) 9223372036854775806 []) commit_keeps_sequence }
+    ensures no_sequence { Leads (folder
+        (by p1 target ∷ []) 9223372036854775807 []) no_sequence_to_enter }
 {}
 
 /// Reads in worked rows.
@@ -70,6 +77,7 @@ pub fn reads_in_rows()
     ensures counted { counts two_files ≡ counts_of_two }
     ensures counted_by_kind { counts of_each_kind ≡ counts_of_each_kind }
     ensures known { known offered p1 ∷ known offered p2 ∷ known two_files me ∷ [] ≡ 1 ∷ 0 ∷ 2 ∷ [] }
-    ensures need { need_page offered None 5 ∷ need_page offered None 0 ∷ need_page offered (Some x) 5 ∷ []
+    ensures need { need_page offered None 5 ∷ need_page offered None 0 ∷ need_page offered
+        (Some x) 5 ∷ []
         ≡ (x ∷ []) ∷ [] ∷ [] ∷ [] }
 {}

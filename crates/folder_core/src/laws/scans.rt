@@ -18,9 +18,12 @@ ghost use Rattle.folder_core.specs.Steps.{step, found_record, next_version};
 /// A scan of a finding records nothing, in this order: while a commit of the name is open; where the local version isn't the
 /// expected one; where the local record has the content; where the counter, and where the sequence can't rise.
 pub fn findings_are_tested_in_order()
-    ensures busy { (s : FolderState) (n : Name) (expected : Option Vector) (f : Finding) (moment : ℕ) (p : Pull) →
-        get s.pulls n ≡ Some p → p.stage ≡ Committing → (step s (ScanFound n expected f moment)).0 ≡ Busy }
-    ensures moved { (s : FolderState) (n : Name) (expected : Option Vector) (f : Finding) (moment : ℕ) →
+    ensures busy { (s : FolderState) (n : Name) (expected : Option Vector) (f : Finding)
+        (moment : ℕ) (p : Pull) →
+        get s.pulls n ≡ Some p → p.stage ≡ Committing →
+        (step s (ScanFound n expected f moment)).0 ≡ Busy }
+    ensures moved { (s : FolderState) (n : Name) (expected : Option Vector) (f : Finding)
+        (moment : ℕ) →
         NoCommit s n → expected ≢ local_version s n →
         (step s (ScanFound n expected f moment)).0 ≡ Moved (local_version s n) }
     ensures unchanged { (s : FolderState) (n : Name) (f : Finding) (moment : ℕ) (r : FileRecord) →
@@ -29,18 +32,21 @@ pub fn findings_are_tested_in_order()
         (step s (ScanFound n (local_version s n) f moment)).0 ≡ Unchanged }
     ensures counter { (s : FolderState) (n : Name) (f : Finding) (moment : ℕ) →
         NoCommit s n →
-        ((r : FileRecord) → local s n ≡ Some r → same_content (found_record s n (next_version s n moment) f) r ≡ false) →
+        ((r : FileRecord) → local s n ≡ Some r →
+        same_content (found_record s n (next_version s n moment) f) r ≡ false) →
         counter (unwrap_or (local_version s n) []) (short_id s.me) ≡ 2 ^ 64 - 1 →
         (step s (ScanFound n (local_version s n) f moment)).0 ≡ CounterFull }
     ensures sequence { (s : FolderState) (n : Name) (f : Finding) (moment : ℕ) →
         NoCommit s n →
-        ((r : FileRecord) → local s n ≡ Some r → same_content (found_record s n (next_version s n moment) f) r ≡ false) →
+        ((r : FileRecord) → local s n ≡ Some r →
+        same_content (found_record s n (next_version s n moment) f) r ≡ false) →
         counter (unwrap_or (local_version s n) []) (short_id s.me) ≢ 2 ^ 64 - 1 →
         max_sequence - s.last ≤ open_commits s →
         (step s (ScanFound n (local_version s n) f moment)).0 ≡ SequenceFull }
     ensures recorded { (s : FolderState) (n : Name) (f : Finding) (moment : ℕ) →
         NoCommit s n →
-        ((r : FileRecord) → local s n ≡ Some r → same_content (found_record s n (next_version s n moment) f) r ≡ false) →
+        ((r : FileRecord) → local s n ≡ Some r →
+        same_content (found_record s n (next_version s n moment) f) r ≡ false) →
         counter (unwrap_or (local_version s n) []) (short_id s.me) ≢ 2 ^ 64 - 1 →
         open_commits s < max_sequence - s.last →
         (step s (ScanFound n (local_version s n) f moment)).0 ≡ Recorded (s.last + 1) }
@@ -50,15 +56,19 @@ pub fn findings_are_tested_in_order()
 /// file of that size and, where it isn't empty, of that block size and those blocks. So no edit is taken for what was
 /// there. And where the record says so, no commit is open and the local version is the expected one, that is the answer.
 pub fn unchanged_is_what_was_there()
-    ensures directory { (s : FolderState) (n : Name) (expected : Option Vector) (f : Finding) (moment : ℕ) →
+    ensures directory { (s : FolderState) (n : Name) (expected : Option Vector) (f : Finding)
+        (moment : ℕ) →
         f.content ≡ FoundDirectory → (step s (ScanFound n expected f moment)).0 ≡ Unchanged →
         (r : FileRecord) × (local s n ≡ Some r) × (r.deleted ≡ false) × IsTrue (is_directory r) }
     ensures file { (s : FolderState) (n : Name) (expected : Option Vector) (f : Finding)
         (size block_size : ℕ) (blocks : List Block) (moment : ℕ) →
-        f.content ≡ FoundFile size block_size blocks → (step s (ScanFound n expected f moment)).0 ≡ Unchanged →
-        (r : FileRecord) × (local s n ≡ Some r) × (r.deleted ≡ false) × IsTrue (is_file r) × (r.size ≡ pos size)
+        f.content ≡ FoundFile size block_size blocks →
+        (step s (ScanFound n expected f moment)).0 ≡ Unchanged →
+        (r : FileRecord) × (local s n ≡ Some r) × (r.deleted ≡ false) × IsTrue (is_file r)
+        × (r.size ≡ pos size)
         × ((size ≡ 0) ⊎ ((r.block_size ≡ pos block_size) × (r.blocks ≡ blocks))) }
-    ensures same_directory { (s : FolderState) (n : Name) (f : Finding) (moment : ℕ) (r : FileRecord) →
+    ensures same_directory { (s : FolderState) (n : Name) (f : Finding) (moment : ℕ)
+        (r : FileRecord) →
         NoCommit s n → f.content ≡ FoundDirectory →
         local s n ≡ Some r → r.deleted ≡ false → IsTrue (is_directory r) →
         (step s (ScanFound n (local_version s n) f moment)).0 ≡ Unchanged }
@@ -74,7 +84,8 @@ pub fn unchanged_is_what_was_there()
 /// record.
 pub fn losses_are_tested_in_order()
     ensures busy { (s : FolderState) (n : Name) (expected : Option Vector) (moment : ℕ) (p : Pull) →
-        get s.pulls n ≡ Some p → p.stage ≡ Committing → (step s (ScanGone n expected moment)).0 ≡ Busy }
+        get s.pulls n ≡ Some p → p.stage ≡ Committing →
+        (step s (ScanGone n expected moment)).0 ≡ Busy }
     ensures moved { (s : FolderState) (n : Name) (expected : Option Vector) (moment : ℕ) →
         NoCommit s n → expected ≢ local_version s n →
         (step s (ScanGone n expected moment)).0 ≡ Moved (local_version s n) }
@@ -99,11 +110,13 @@ pub fn losses_are_tested_in_order()
 /// What is recorded of a finding: its content and time, by this device, under the local version raised at the moment
 /// and under the next sequence.
 pub fn scans_record_what_is_found()
-    ensures number { (s : FolderState) (n : Name) (expected : Option Vector) (f : Finding) (moment k : ℕ) →
+    ensures number { (s : FolderState) (n : Name) (expected : Option Vector) (f : Finding)
+        (moment k : ℕ) →
         (step s (ScanFound n expected f moment)).0 ≡ Recorded k → k ≡ s.last + 1 }
     ensures file { (s : FolderState) (n : Name) (expected : Option Vector) (f : Finding)
         (size block_size : ℕ) (blocks : List Block) (moment k : ℕ) →
-        f.content ≡ FoundFile size block_size blocks → (step s (ScanFound n expected f moment)).0 ≡ Recorded k →
+        f.content ≡ FoundFile size block_size blocks →
+        (step s (ScanFound n expected f moment)).0 ≡ Recorded k →
         local (step s (ScanFound n expected f moment)).1 n ≡ Some (record {
           name = n;
           type_number = pos 0;
@@ -121,7 +134,8 @@ pub fn scans_record_what_is_found()
           blocks = blocks;
           symlink_target = [];
         }) }
-    ensures directory { (s : FolderState) (n : Name) (expected : Option Vector) (f : Finding) (moment k : ℕ) →
+    ensures directory { (s : FolderState) (n : Name) (expected : Option Vector) (f : Finding)
+        (moment k : ℕ) →
         f.content ≡ FoundDirectory → (step s (ScanFound n expected f moment)).0 ≡ Recorded k →
         local (step s (ScanFound n expected f moment)).1 n ≡ Some (record {
           name = n;
@@ -140,7 +154,8 @@ pub fn scans_record_what_is_found()
           blocks = [];
           symlink_target = [];
         }) }
-    ensures others { (s : FolderState) (n m : Name) (expected : Option Vector) (f : Finding) (moment k : ℕ) →
+    ensures others { (s : FolderState) (n m : Name) (expected : Option Vector) (f : Finding)
+        (moment k : ℕ) →
         (step s (ScanFound n expected f moment)).0 ≡ Recorded k → m ≢ n →
         local (step s (ScanFound n expected f moment)).1 m ≡ local s m }
 {}
@@ -148,9 +163,11 @@ pub fn scans_record_what_is_found()
 /// What is recorded of a name that is gone: the local record as a deletion without content at the moment, by this
 /// device, under its version raised at the moment and under the next sequence.
 pub fn scans_record_what_is_gone()
-    ensures number { (s : FolderState) (n : Name) (expected : Option Vector) (moment k : ℕ) (r : FileRecord) →
+    ensures number { (s : FolderState) (n : Name) (expected : Option Vector) (moment k : ℕ)
+        (r : FileRecord) →
         local s n ≡ Some r → (step s (ScanGone n expected moment)).0 ≡ Recorded k → k ≡ s.last + 1 }
-    ensures deletion { (s : FolderState) (n : Name) (expected : Option Vector) (moment k : ℕ) (r : FileRecord) →
+    ensures deletion { (s : FolderState) (n : Name) (expected : Option Vector) (moment k : ℕ)
+        (r : FileRecord) →
         IsFolder s → local s n ≡ Some r → (step s (ScanGone n expected moment)).0 ≡ Recorded k →
         local (step s (ScanGone n expected moment)).1 n ≡ Some (record r {
           deleted = true;
@@ -165,7 +182,9 @@ pub fn scans_record_what_is_gone()
           version = raised r.version (short_id s.me) moment;
           sequence = s.last + 1;
         }) }
-    ensures others { (s : FolderState) (n m : Name) (expected : Option Vector) (moment k : ℕ) (r : FileRecord) →
-        IsFolder s → local s n ≡ Some r → (step s (ScanGone n expected moment)).0 ≡ Recorded k → m ≢ n →
+    ensures others { (s : FolderState) (n m : Name) (expected : Option Vector) (moment k : ℕ)
+        (r : FileRecord) →
+        IsFolder s → local s n ≡ Some r → (step s (ScanGone n expected moment)).0 ≡ Recorded k →
+        m ≢ n →
         local (step s (ScanGone n expected moment)).1 m ≡ local s m }
 {}

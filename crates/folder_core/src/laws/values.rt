@@ -18,6 +18,7 @@ pub fn comparison_is_equality()
     ensures findings { (a b : Finding) → IsTrue (⟦<crate::Finding as PartialEq>⟧.eq a b) ↔ (a ≡ b) }
     ensures places { (a b : Place) → IsTrue (⟦<crate::Place as PartialEq>⟧.eq a b) ↔ (a ≡ b) }
     ensures bests { (a b : Best) → IsTrue (⟦<crate::Best as PartialEq>⟧.eq a b) ↔ (a ≡ b) }
-    ensures announcements { (a b : Announcement) → IsTrue (⟦<crate::Announcement as PartialEq>⟧.eq a b) ↔ (a ≡ b) }
+    ensures announcements { (a b : Announcement) →
+        IsTrue (⟦<crate::Announcement as PartialEq>⟧.eq a b) ↔ (a ≡ b) }
     ensures counts { (a b : Counts) → IsTrue (⟦<crate::Counts as PartialEq>⟧.eq a b) ↔ (a ≡ b) }
 {}

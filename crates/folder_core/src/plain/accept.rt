@@ -21,7 +21,9 @@ impl PlainFolder {
         expected: Option<&Version>,
         found: &Finding,
     ) -> bool
-        ensures { (moment : ℕ) → result ≡ is_accepted (step self.now (ScanFound name.now (option_copied expected.entry) found.now moment)).0 }
+        ensures { (moment : ℕ) → result
+            ≡ is_accepted (step self.now (ScanFound name.now
+            (option_copied expected.entry) found.now moment)).0 }
     {
         let local = record_from(entries_of(self.entries.as_slice(), name), self.me);
         let is_unchanged = is_same(local, &found.content);
@@ -40,7 +42,9 @@ impl PlainFolder {
     /// Whether it would be recorded that the name is gone. Does not allocate. O(log n + d + k + v) for n records kept, d
     /// devices that announce the name, k open pulls and v counters.
     pub(super) fn accepts_gone(&self, name: &SafeName, expected: Option<&Version>) -> bool
-        ensures { (moment : ℕ) → result ≡ is_accepted (step self.now (ScanGone name.now (option_copied expected.entry) moment)).0 }
+        ensures { (moment : ℕ) → result
+            ≡ is_accepted (step self.now (ScanGone name.now
+            (option_copied expected.entry) moment)).0 }
     {
         let local = record_from(entries_of(self.entries.as_slice(), name), self.me);
         let is_unchanged = is_gone(local);

@@ -9,7 +9,8 @@ use sync_record::{DeviceId, Kind};
 
 /// How many live files the device has. O(n) for n entries.
 pub(super) fn live_files(entries: &[Announcement], device: DeviceId) -> usize
-    ensures { result ≡ length (filter (λ e. is_from device e && is_live_file e.record) entries.now) }
+    ensures { result ≡ length (filter
+        (λ e. is_from device e && is_live_file e.record) entries.now) }
 {
     entries
         .iter()
@@ -19,7 +20,8 @@ pub(super) fn live_files(entries: &[Announcement], device: DeviceId) -> usize
 
 /// How many live directories the device has. O(n) for n entries.
 pub(super) fn live_directories(entries: &[Announcement], device: DeviceId) -> usize
-    ensures { result ≡ length (filter (λ e. is_from device e && (is_live e.record && is_directory e.record)) entries.now) }
+    ensures { result ≡ length (filter
+        (λ e. is_from device e && (is_live e.record && is_directory e.record)) entries.now) }
 {
     entries
         .iter()

@@ -15,7 +15,9 @@ pub(super) fn place_of(
     device: DeviceId,
     hash: &[u8; 32],
 ) -> Result<Option<Place>, AllocError>
-    ensures found { IfOk result (λ place. MatchOption place (places_from device hash.now entries.now ≡ []) (λ p. Contains (places_from device hash.now entries.now) p)) }
+    ensures found { IfOk result (λ place.
+        MatchOption place (places_from device hash.now entries.now ≡ [])
+        (λ p. Contains (places_from device hash.now entries.now) p)) }
     ensures none { places_from device hash.now entries.now ≡ [] → IsOk result }
 {
     for entry in entries {

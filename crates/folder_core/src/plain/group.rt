@@ -41,7 +41,8 @@ pub(super) fn entries_after<'a>(
     after: Option<&SafeName>,
 ) -> &'a [Announcement]
     requires { Rises entries.now }
-    ensures { result.now ≡ filter (λ e. is_after (option_copied after.entry) e.record.name) entries.now }
+    ensures { result.now ≡ filter (λ e.
+        is_after (option_copied after.entry) e.record.name) entries.now }
 {
     let Some(after) = after else {
         return entries;
@@ -58,7 +59,8 @@ pub(super) fn bests_of(
     limit: usize,
 ) -> Result<Vec<Best>, AllocError>
     requires { Rises entries.now }
-    ensures page { IfOk result (λ page. map (λ b. (b.record, b.devices)) page.items ≡ take limit (listed_bests entries.now)) }
+    ensures page { IfOk result (λ page. map (λ b. (b.record, b.devices)) page.items
+        ≡ take limit (listed_bests entries.now)) }
     ensures none { take limit (listed_bests entries.now) ≡ [] → IsOk result }
 {
     let mut page = Vec::new(alloc);
@@ -82,7 +84,8 @@ pub(super) fn best_with_devices(
     alloc: Global,
     group: &[Announcement],
 ) -> Result<Option<Best>, AllocError>
-    ensures found { IfOk result (λ b. option_map (λ b. (b.record, b.devices)) b ≡ group_best group.now) }
+    ensures found { IfOk result (λ b. option_map (λ b. (b.record, b.devices)) b
+        ≡ group_best group.now) }
     ensures none { group_best group.now ≡ None → IsOk result }
 {
     if let [only] = group {
@@ -100,7 +103,8 @@ pub(super) fn best_with_devices(
 
 /// The same of the only entry of a name: it is the best where it is valid.
 fn best_alone(alloc: Global, entry: &Announcement) -> Result<Option<Best>, AllocError>
-    ensures found { IfOk result (λ b. option_map (λ b. (b.record, b.devices)) b ≡ group_best (entry.now ∷ [])) }
+    ensures found { IfOk result (λ b. option_map (λ b. (b.record, b.devices)) b
+        ≡ group_best (entry.now ∷ [])) }
     ensures none { group_best (entry.now ∷ []) ≡ None → IsOk result }
 {
     if !entry.record.is_valid() {
@@ -145,13 +149,16 @@ fn is_better(a: &Announcement, b: &Announcement) -> bool
 }
 
 fn is_undominated(group: &[Announcement], candidate: &Record) -> bool
-    ensures { result ≡ (is_valid candidate.now && not (list_any (λ f. is_valid f.record && dominates f.record.version candidate.now.version) group.now)) }
+    ensures { result ≡ (is_valid candidate.now && not
+        (list_any (λ f. is_valid f.record && dominates f.record.version candidate.now.version)
+        group.now)) }
 {
     candidate.is_valid() && !is_dominated(group, candidate)
 }
 
 fn is_dominated(group: &[Announcement], candidate: &Record) -> bool
-    ensures { result ≡ list_any (λ f. is_valid f.record && dominates f.record.version candidate.now.version) group.now }
+    ensures { result ≡ list_any (λ f.
+        is_valid f.record && dominates f.record.version candidate.now.version) group.now }
 {
     group
         .iter()
@@ -183,7 +190,8 @@ fn devices_with(
 
 /// Whether the first record is valid and has the version and the content of the other.
 fn has(a: &Record, b: &Record) -> bool
-    ensures { result ≡ (is_valid a.now && same_version a.now.version b.now.version && same_content a.now b.now) }
+    ensures { result ≡ (is_valid a.now && same_version a.now.version b.now.version && same_content
+        a.now b.now) }
 {
     a.version() == b.version() && a.is_valid() && same_content(a, b)
 }

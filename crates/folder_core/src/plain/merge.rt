@@ -24,8 +24,10 @@ pub(super) fn merge(
     requires names_rise { NamesRise records.items }
     requires is_empty { room.items ≡ [] }
     requires entries_fit { vec_len entries.old + vec_len records ≤ vec_capacity entries.old }
-    requires room_fits { 0 < vec_len records → vec_len entries.old + vec_len records ≤ vec_capacity room }
-    ensures merged { map filed entries.new.items ≡ put_all (map filed entries.old.items) (map (filed_by device) records.items) }
+    requires room_fits { 0 < vec_len records →
+        vec_len entries.old + vec_len records ≤ vec_capacity room }
+    ensures merged { map filed entries.new.items
+        ≡ put_all (map filed entries.old.items) (map (filed_by device) records.items) }
     ensures len { vec_len entries.new ≤ vec_len entries.old + vec_len records }
     ensures capacity { vec_capacity entries.new ≡ vec_capacity entries.old }
 {
@@ -48,8 +50,12 @@ fn move_greater(
 )
     requires rises { Rises entries.old.items }
     requires names_rise { NamesRise records.now }
-    requires fits { 0 < length records.now → vec_len entries.old + vec_len room.old ≤ vec_capacity room.old }
-    ensures all { put_all (map filed entries.new.items) (map (filed_by device) records.now) ++ map filed (reverse room.new.items) ≡ put_all (map filed entries.old.items) (map (filed_by device) records.now) ++ map filed (reverse room.old.items) }
+    requires fits { 0 < length records.now →
+        vec_len entries.old + vec_len room.old ≤ vec_capacity room.old }
+    ensures all { put_all (map filed entries.new.items)
+        (map (filed_by device) records.now) ++ map filed (reverse room.new.items)
+        ≡ put_all (map filed entries.old.items) (map (filed_by device) records.now) ++ map filed
+        (reverse room.old.items) }
     ensures rises { Rises entries.new.items }
     ensures len { vec_len entries.new + vec_len room.new ≡ vec_len entries.old + vec_len room.old }
     ensures no_more { vec_len entries.new ≤ vec_len entries.old }
@@ -78,7 +84,8 @@ fn move_greater(
 pub(super) fn put(entries: &mut Vec<Announcement>, device: DeviceId, announced: Record)
     requires rises { Rises entries.old.items }
     requires fits { vec_len entries.old < vec_capacity entries.old }
-    ensures placed { map filed entries.new.items ≡ put key_cmp (key announced.name device) announced (map filed entries.old.items) }
+    ensures placed { map filed entries.new.items
+        ≡ put key_cmp (key announced.name device) announced (map filed entries.old.items) }
     ensures len { vec_len entries.new ≤ vec_len entries.old + 1 }
     ensures capacity { vec_capacity entries.new ≡ vec_capacity entries.old }
 {
@@ -130,10 +137,15 @@ fn last_entry(
 ) -> Option<Announcement>
     requires rises { Rises entries.old.items }
     requires names_rise { NamesRise records.old.items }
-    ensures last { MatchOption result ((records.old.items ≡ []) × (entries.new.items ≡ entries.old.items)) (λ e. put_all (map filed entries.old.items) (map (filed_by device) records.old.items) ≡ put_all (map filed entries.new.items) (map (filed_by device) records.new.items) ++ filed e ∷ []) }
+    ensures last { MatchOption result
+        ((records.old.items ≡ []) × (entries.new.items ≡ entries.old.items))
+        (λ e. put_all (map filed entries.old.items) (map (filed_by device) records.old.items)
+        ≡ put_all (map filed entries.new.items)
+        (map (filed_by device) records.new.items) ++ filed e ∷ []) }
     ensures rises { Rises entries.new.items }
     ensures names_rise { NamesRise records.new.items }
-    ensures fewer { IfSome result (λ _. vec_len entries.new + vec_len records.new < vec_len entries.old + vec_len records.old) }
+    ensures fewer { IfSome result (λ _.
+        vec_len entries.new + vec_len records.new < vec_len entries.old + vec_len records.old) }
     ensures some { IfSome result (λ _. 0 < vec_len records.old) }
     ensures capacity { vec_capacity entries.new ≡ vec_capacity entries.old }
 {
@@ -148,7 +160,8 @@ fn last_entry(
 
 /// Compares an entry with what the device announces, by name and then by device. `Less` where there is no entry.
 fn order(entry: Option<&Announcement>, device: DeviceId, announced: &Record) -> Ordering
-    ensures { MatchOption (option_copied entry.entry) (result ≡ Less) (λ e. result ≡ key_cmp (filed e).0 (key announced.now.name device)) }
+    ensures { MatchOption (option_copied entry.entry) (result ≡ Less)
+        (λ e. result ≡ key_cmp (filed e).0 (key announced.now.name device)) }
 {
     let Some(entry) = entry else {
         return Ordering::Less;

@@ -19,7 +19,8 @@ pub(super) fn needed_names(
     limit: usize,
 ) -> Result<Vec<SafeName>, AllocError>
     requires { Rises entries.now }
-    ensures page { IfOk result (λ names. names.items ≡ take limit (needed_names device entries.now)) }
+    ensures page { IfOk result (λ names. names.items
+        ≡ take limit (needed_names device entries.now)) }
     ensures none { take limit (needed_names device entries.now) ≡ [] → IsOk result }
 {
     let mut names = Vec::new(alloc);
@@ -55,7 +56,8 @@ fn next_needed(
     device: DeviceId,
 ) -> Option<(&Announcement, &[Announcement])>
     requires { Rises entries.now }
-    ensures next { MatchOption result (needed_names device entries.now ≡ []) (λ r. needed_names device entries.now ≡ r.0.now.record.name ∷ needed_names device r.1.now) }
+    ensures next { MatchOption result (needed_names device entries.now ≡ [])
+        (λ r. needed_names device entries.now ≡ r.0.now.record.name ∷ needed_names device r.1.now) }
     ensures rises { IfSome result (λ r. Rises r.1.now) }
     ensures fewer { IfSome result (λ r. length r.1.now < length entries.now) }
 {

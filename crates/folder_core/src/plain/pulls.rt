@@ -42,7 +42,8 @@ fn place_of(pulls: &[OpenPull], name: &SafeName) -> usize
 pub(super) fn place_for(pulls: &[OpenPull], token: &Token, stage: Stage) -> Option<usize>
     ensures place { IfSome result (λ i. i ≡ place_of token.now.name pulls.now) }
     ensures within { IfSome result (λ i. i < length pulls.now) }
-    ensures found { option_and_then (slice_get pulls.now) result ≡ pull_for token.now stage pulls.now }
+    ensures found { option_and_then (slice_get pulls.now) result
+        ≡ pull_for token.now stage pulls.now }
 {
     let place = place_of(pulls, &token.name);
     let pull = pulls.get(place)?;
@@ -70,7 +71,10 @@ fn is_at(pull: &OpenPull, stage: Stage) -> bool
 
 /// Takes out the pull that the token is for, if it is at this stage. Does not allocate. O(k) for k open pulls.
 pub(super) fn take(pulls: &mut Vec<OpenPull>, token: &Token, stage: Stage) -> Option<OpenPull>
-    ensures { MatchOption result ((pull_for token.now stage pulls.old.items ≡ None) × (pulls.new.items ≡ pulls.old.items)) (λ p. (pull_for token.now stage pulls.old.items ≡ Some p) × (pulls.new.items ≡ remove pulls.old.items (place_of token.now.name pulls.old.items))) }
+    ensures { MatchOption result ((pull_for token.now stage pulls.old.items ≡ None)
+        × (pulls.new.items ≡ pulls.old.items))
+        (λ p. (pull_for token.now stage pulls.old.items ≡ Some p)
+        × (pulls.new.items ≡ remove pulls.old.items (place_of token.now.name pulls.old.items))) }
 {
     let place = place_for(pulls, token, stage)?;
     Some(pulls.remove(place))
@@ -78,7 +82,11 @@ pub(super) fn take(pulls: &mut Vec<OpenPull>, token: &Token, stage: Stage) -> Op
 
 /// Takes out the pull that the commit is for, and returns what it announces. Does not allocate. O(k) for k open pulls.
 pub(super) fn take_ready(pulls: &mut Vec<OpenPull>, token: &Token) -> Option<Record>
-    ensures { MatchOption result ((pull_for token.now Committing pulls.old.items ≡ None) × (pulls.new.items ≡ pulls.old.items)) (λ r. (option_and_then (λ p. p.ready) (pull_for token.now Committing pulls.old.items) ≡ Some r) × (pulls.new.items ≡ remove pulls.old.items (place_of token.now.name pulls.old.items))) }
+    ensures { MatchOption result ((pull_for token.now Committing pulls.old.items ≡ None)
+        × (pulls.new.items ≡ pulls.old.items))
+        (λ r. (option_and_then (λ p. p.ready) (pull_for token.now Committing pulls.old.items)
+        ≡ Some r) × (pulls.new.items ≡ remove pulls.old.items
+        (place_of token.now.name pulls.old.items))) }
 {
     let OpenPull { ready, .. } = take(pulls, token, Stage::Committing)?;
     ready
@@ -91,8 +99,21 @@ pub(super) fn open(
     base: Option<&Record>,
     target: &Record,
 ) -> Result<Token, AllocError>
-    ensures token { IfOk result (λ t. t ≡ record { number = least_free (map (λ p. p.number) pulls.old.items); name = name.now; base = option_copied base.entry; target = target.now }) }
-    ensures opened { OnOk result (pulls.new.items ≡ insert pulls.old.items (place_of target.now.name pulls.old.items) (record { number = least_free (map (λ p. p.number) pulls.old.items); base = option_copied base.entry; target = target.now; ready = None })) }
+    ensures token { IfOk result (λ t. t
+        ≡ record {
+          number = least_free (map (λ p. p.number) pulls.old.items);
+          name = name.now;
+          base = option_copied base.entry;
+          target = target.now;
+        }) }
+    ensures opened { OnOk result (pulls.new.items
+        ≡ insert pulls.old.items (place_of target.now.name pulls.old.items)
+        (record {
+          number = least_free (map (λ p. p.number) pulls.old.items);
+          base = option_copied base.entry;
+          target = target.now;
+          ready = None;
+        })) }
     ensures stay { OnErr result (pulls.new.items ≡ pulls.old.items) }
 {
     let number = least_free(pulls);
@@ -157,7 +178,8 @@ pub(super) fn best_to_pull<'a>(
     local: Option<&Record>,
 ) -> Result<&'a Announcement, BeginObstacle>
     ensures best { IfOk result (λ b. best_in announced.now ≡ Some b.now) }
-    ensures refused { option_map begin_refusal (result_err result) ≡ first_of (begin_tests_of is_open (option_copied local.entry) (best_in announced.now)) }
+    ensures refused { option_map begin_refusal (result_err result)
+        ≡ first_of (begin_tests_of is_open (option_copied local.entry) (best_in announced.now)) }
 {
     if is_open {
         return Err(BeginObstacle::Busy);
@@ -194,7 +216,8 @@ fn is_unsupported(record: &Record) -> bool
 
 /// Whether the local record is of another version than the base.
 fn has_moved(local: Option<&Record>, base: Option<&Record>) -> bool
-    ensures { result ≡ not (same_local_version (version_of (option_copied local.entry)) (version_of (option_copied base.entry))) }
+    ensures { result ≡ not (same_local_version (version_of (option_copied local.entry))
+        (version_of (option_copied base.entry))) }
 {
     version_of(local) != version_of(base)
 }
@@ -224,7 +247,9 @@ pub(super) fn entry_obstacle(
     local: Option<&Record>,
     is_full: bool,
 ) -> Option<EntryObstacle>
-    ensures { option_map entry_refusal result ≡ first_of (entry_tests_of pull.now (option_copied local.entry) (is_best_in group.now pull.now.target) is_full) }
+    ensures { option_map entry_refusal result
+        ≡ first_of (entry_tests_of pull.now (option_copied local.entry)
+        (is_best_in group.now pull.now.target) is_full) }
 {
     if has_moved(local, pull.base.as_ref()) {
         return Some(EntryObstacle::LocalMoved);
@@ -262,8 +287,11 @@ pub(super) fn make_ready(
     ensures entries_stay { entries.new.items ≡ entries.old.items }
     ensures len { vec_len entries.new ≡ vec_len entries.old }
     ensures grown { vec_capacity entries.old ≤ vec_capacity entries.new }
-    ensures entries_fit { OnOk result (vec_len entries.new + (promised + 1) ≤ vec_capacity entries.new) }
-    ensures ready { OnOk result (IfSome (slice_get pulls.old place) (λ p. pulls.new ≡ slice_set pulls.old place (record p { ready = Some (committed_record (version_of p.base) p.target) }))) }
+    ensures entries_fit { OnOk result
+        (vec_len entries.new + (promised + 1) ≤ vec_capacity entries.new) }
+    ensures ready { OnOk result (IfSome (slice_get pulls.old place)
+        (λ p. pulls.new ≡ slice_set pulls.old place
+        (record p { ready = Some (committed_record (version_of p.base) p.target) }))) }
     ensures stay { OnErr result (pulls.new ≡ pulls.old) }
 {
     let ready = announcement(*entries.allocator(), &pulls[place])?;

@@ -59,7 +59,8 @@ pub(super) fn are_numbered(
     device: DeviceId,
     last: u64,
 ) -> Result<bool, AllocError>
-    ensures numbered { IfOk result (λ b. IsTrue b ↔ AreNumbered last (filter (is_from device) entries.now)) }
+    ensures numbered { IfOk result
+        (λ b. IsTrue b ↔ AreNumbered last (filter (is_from device) entries.now)) }
     ensures none { filter (is_from device) entries.now ≡ [] → IsOk result }
 {
     if entry_from(entries, device).is_none() {
@@ -74,7 +75,8 @@ pub(super) fn are_numbered(
 
 /// Whether the device's records are valid, with sequences from 1 to the last. O(n) for n entries.
 fn each_is_numbered(entries: &[Announcement], device: DeviceId, last: u64) -> bool
-    ensures { result ≡ list_all (λ e. is_numbered last e.record) (filter (is_from device) entries.now) }
+    ensures { result ≡ list_all (λ e. is_numbered last e.record)
+        (filter (is_from device) entries.now) }
 {
     entries
         .iter()
@@ -94,7 +96,8 @@ fn sequences_of(
     entries: &[Announcement],
     device: DeviceId,
 ) -> Result<Vec<u64>, AllocError>
-    ensures { IfOk result (λ sequences. sequences.items ≡ map (λ e. e.record.sequence) (filter (is_from device) entries.now)) }
+    ensures { IfOk result (λ sequences. sequences.items
+        ≡ map (λ e. e.record.sequence) (filter (is_from device) entries.now)) }
 {
     entries
         .iter()

@@ -52,7 +52,9 @@ pub(super) fn first_obstacle(
     id: u64,
     is_full: bool,
 ) -> Option<Obstacle>
-    ensures { option_map (obstacle_answer (option_copied version.entry)) result ≡ first_of (tests_of is_committing (option_copied version.entry) (option_copied expected.entry) is_unchanged id is_full) }
+    ensures { option_map (obstacle_answer (option_copied version.entry)) result
+        ≡ first_of (tests_of is_committing (option_copied version.entry)
+        (option_copied expected.entry) is_unchanged id is_full) }
 {
     if is_committing {
         return Some(Obstacle::Busy);
@@ -84,8 +86,10 @@ pub(super) fn scan_answer(
     obstacle: Obstacle,
     version: Option<&Version>,
 ) -> Result<ScanAnswer, ScanFault>
-    ensures told { IfSome (scan_answer result) (λ answer. answer ≡ obstacle_answer (option_copied version.entry) obstacle) }
-    ensures memory { scan_answer result ≡ None → IsTrue (may_allocate (obstacle_answer (option_copied version.entry) obstacle)) }
+    ensures told { IfSome (scan_answer result)
+        (λ answer. answer ≡ obstacle_answer (option_copied version.entry) obstacle) }
+    ensures memory { scan_answer result ≡ None →
+        IsTrue (may_allocate (obstacle_answer (option_copied version.entry) obstacle)) }
 {
     match obstacle {
         Obstacle::Busy => Ok(ScanAnswer::Busy),
@@ -98,7 +102,9 @@ pub(super) fn scan_answer(
 
 /// Whether there is a record, and it is of the content that was found. Does not allocate. O(n) for n blocks.
 pub(super) fn is_same(local: Option<&Record>, content: &FoundContent) -> bool
-    ensures { (name : Name) (edit : Edit) → result ≡ option_map_or (same_content (content_record name edit content.now)) (option_copied local.entry) false }
+    ensures { (name : Name) (edit : Edit) →
+        result ≡ option_map_or (same_content (content_record name edit content.now))
+        (option_copied local.entry) false }
 {
     match local {
         Some(record) => has_content(record, content),
@@ -108,7 +114,8 @@ pub(super) fn is_same(local: Option<&Record>, content: &FoundContent) -> bool
 
 /// Whether the record is of the content that was found. Does not allocate. O(n) for n blocks.
 fn has_content(record: &Record, content: &FoundContent) -> bool
-    ensures { (name : Name) (edit : Edit) → result ≡ same_content (content_record name edit content.now) «record».now }
+    ensures { (name : Name) (edit : Edit) →
+        result ≡ same_content (content_record name edit content.now) «record».now }
 {
     if record.is_deleted() {
         return false;
@@ -125,7 +132,10 @@ fn has_content(record: &Record, content: &FoundContent) -> bool
 
 /// Whether the record is of a file of this size and, where it isn't empty, of these blocks.
 fn has_file(record: &Record, size: u64, block_size: u32, blocks: &[Block]) -> bool
-    ensures { result ≡ (int_eq (pos size) «record».now.size && (int_eq (pos size) (pos 0) || (int_eq (pos block_size) «record».now.block_size && pointwise same_block blocks.now «record».now.blocks))) }
+    ensures { result ≡ (int_eq (pos size) «record».now.size &&
+        (int_eq (pos size) (pos 0) || (int_eq
+        (pos block_size) «record».now.block_size && pointwise same_block blocks.now
+        «record».now.blocks))) }
 {
     u64::try_from(record.size()).is_ok_and(|kept| kept == size)
         && (size == 0
@@ -143,7 +153,8 @@ pub(super) fn found_record(
     id: u64,
 ) -> Result<Record, AllocError>
     requires { IsTrue (is_found found.now.content) }
-    ensures { IfOk result (λ r. r ≡ content_record name.now (edit_of version id found.now) found.now.content) }
+    ensures { IfOk result (λ r. r ≡ content_record name.now
+        (edit_of version id found.now) found.now.content) }
 {
     let name = name.copy()?;
     let edit = Edit {
@@ -238,7 +249,9 @@ pub(super) fn put_next(
     requires promised { vec_len entries.old + promised ≤ vec_capacity entries.old }
     requires fits { last + 1 < 2 ^ 63 }
     ensures sequence { IfOk result (λ sequence. sequence ≡ last + 1) }
-    ensures placed { IfOk result (λ sequence. map filed entries.new.items ≡ put key_cmp (key announced.name device) (record announced { sequence = sequence }) (map filed entries.old.items)) }
+    ensures placed { IfOk result (λ sequence. map filed entries.new.items
+        ≡ put key_cmp (key announced.name device) (record announced { sequence = sequence })
+        (map filed entries.old.items)) }
     ensures err { OnErr result (entries.new.items ≡ entries.old.items) }
     ensures promised { vec_len entries.new + promised ≤ vec_capacity entries.new }
 {
@@ -260,7 +273,11 @@ pub(super) fn scan_obstacle(
     expected: Option<&Version>,
     is_unchanged: bool,
 ) -> Option<Obstacle>
-    ensures { option_map (obstacle_answer (option_map (λ r. r.version) (option_copied local.entry))) result ≡ first_of (tests_of (has_commit name.now pulls.now) (option_map (λ r. r.version) (option_copied local.entry)) (option_copied expected.entry) is_unchanged (short_id me) (is_full last pulls.now)) }
+    ensures { option_map (obstacle_answer
+        (option_map (λ r. r.version) (option_copied local.entry))) result
+        ≡ first_of (tests_of (has_commit name.now pulls.now)
+        (option_map (λ r. r.version) (option_copied local.entry))
+        (option_copied expected.entry) is_unchanged (short_id me) (is_full last pulls.now)) }
 {
     first_obstacle(
         has_commit(pulls, name),

@@ -21,8 +21,10 @@ pub(super) fn records_since(
     sequence: u64,
     limit: usize,
 ) -> Result<Vec<Record>, AllocError>
-    ensures page { IfOk result (λ page. page.items ≡ page_of limit (by_sequence (later_from device sequence entries.now))) }
-    ensures none { page_of limit (by_sequence (later_from device sequence entries.now)) ≡ [] → IsOk result }
+    ensures page { IfOk result (λ page. page.items
+        ≡ page_of limit (by_sequence (later_from device sequence entries.now))) }
+    ensures none { page_of limit (by_sequence (later_from device sequence entries.now)) ≡ [] →
+        IsOk result }
 {
     let mut page = Vec::new(alloc);
     if limit == 0 {
@@ -42,7 +44,8 @@ pub(super) fn records_since(
 
 /// Whether a page may have this many records with this many blocks: one record may have any number.
 fn fits(records: usize, blocks: usize, limit: usize) -> bool
-    ensures { result ≡ (nat_le records limit && (nat_le blocks max_page_blocks || nat_le records 1)) }
+    ensures { result ≡ (nat_le records limit &&
+        (nat_le blocks max_page_blocks || nat_le records 1)) }
 {
     records <= limit && (blocks <= MAX_PAGE_BLOCKS || records <= 1)
 }
@@ -55,7 +58,8 @@ fn later_by_sequence(
     device: DeviceId,
     sequence: u64,
 ) -> Result<BTreeMap<u64, &Record>, AllocError>
-    ensures later { IfOk result (λ later. map (λ r. r.now) (values later) ≡ by_sequence (later_from device sequence entries.now)) }
+    ensures later { IfOk result (λ later. map (λ r. r.now) (values later)
+        ≡ by_sequence (later_from device sequence entries.now)) }
     ensures none { later_from device sequence entries.now ≡ [] → IsOk result }
 {
     let mut later = BTreeMap::new(alloc);
