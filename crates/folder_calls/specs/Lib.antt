@@ -1,6 +1,7 @@
 -- the rules
 pub mod Histories
 pub mod Shared
+pub mod Adds
 pub mod Journals
 pub mod Alone
 -- how calls say the rules

@@ -1,5 +1,5 @@
 -- What a caller of a shared folder knows, and what each of its calls tells it.
-use Rattle.std.specs.Prelude.{◌≡◌, ℕ, ◌+◌, ◌≤◌, ◌⊎◌, List, [], ◌∷◌, ◌++◌, length, map, Contains, Option, Some, None, MatchBool}
+use Rattle.std.specs.Prelude.{◌≡◌, ℕ, ◌+◌, ◌≤◌, ◌⊎◌, List, [], ◌∷◌, ◌++◌, length, Contains, Option, Some, None, MatchBool}
 use Rattle.std.specs.FinMap.{len}
 use mathlib.Core.List.{IsPrefix}
 use Rattle.folder_core.specs.States.{FolderState, IsFolder}
@@ -64,16 +64,6 @@ pub record IsAnswered (old : View) (change : Change) (told : At Answer) (new : V
   pub point : told.at ≡ length new.seen
   pub legal : IsLegalView new
   pub answered : MatchBool (is_accepted told.value) (Makes old new change told.value) (Declines old new change told.value)
-
--- a change that was made, with its answer
-abbrev pub Made : Type 0
-Made = Change × Answer
-
--- The caller saw the history go on. Of its own there are just the entries of these changes more, in their order.
-pub record Adds (old : View) (made : List Made) (new : View) : Type 0 where
-  pub longer : IsPrefix old.seen new.seen
-  pub own : own_entries old.pass new.seen ≡ own_entries old.pass old.seen ++ map (λ m. own_entry old m.0 m.1) made
-  pub same : new ≡ seeing old new.seen
 
 -- Without an answer the call is out of memory: nothing was changed and nothing seen.
 abbrev pub Tells : View → Change → Option (At Answer) → View → Type 0
