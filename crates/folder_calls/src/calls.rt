@@ -48,7 +48,9 @@ pub trait FolderCalls {
     ) -> Result<At<Result<ScanAnswer, ScanRefusal>>, AllocError>
         requires { IsTrue (is_found found.now.content) }
         ensures home { home self.new ≡ home self.old }
-        ensures tells { Tells (view self.old) (ScanFound name.now (option_copied expected.entry) found.now moment) (told scan_value result) (view self.new) };
+        ensures tells { Tells (view self.old)
+            (ScanFound name.now (option_copied expected.entry) found.now moment)
+            (told scan_value result) (view self.new) };
 
     /// Records that nothing is at a name, if its local version is still the expected one. The version is raised by this
     /// device at the moment. Returns `Moved` with the local version if it is another, and `Busy` while a commit of the name is
@@ -60,7 +62,9 @@ pub trait FolderCalls {
         moment: Moment,
     ) -> Result<At<Result<ScanAnswer, ScanRefusal>>, AllocError>
         ensures home { home self.new ≡ home self.old }
-        ensures tells { Tells (view self.old) (ScanGone name.now (option_copied expected.entry) moment) (told scan_value result) (view self.new) };
+        ensures tells { Tells (view self.old)
+            (ScanGone name.now (option_copied expected.entry) moment) (told scan_value result)
+            (view self.new) };
 
     /// The device announces these records and no others; of several under one name the last counts.
     fn index_full(
@@ -70,7 +74,8 @@ pub trait FolderCalls {
     ) -> Result<At<Result<(), HistoryFull>>, AllocError>
         requires { device ≢ (view self.old).opening.me }
         ensures home { home self.new ≡ home self.old }
-        ensures tells { Tells (view self.old) (IndexFull device records) (told index_value result) (view self.new) };
+        ensures tells { Tells (view self.old) (IndexFull device records) (told index_value result)
+            (view self.new) };
 
     /// The device announces these records too; of several under one name the last counts.
     fn index_more(
@@ -80,13 +85,15 @@ pub trait FolderCalls {
     ) -> Result<At<Result<(), HistoryFull>>, AllocError>
         requires { device ≢ (view self.old).opening.me }
         ensures home { home self.new ≡ home self.old }
-        ensures tells { Tells (view self.old) (IndexMore device records) (told index_value result) (view self.new) };
+        ensures tells { Tells (view self.old) (IndexMore device records) (told index_value result)
+            (view self.new) };
 
     /// The device announces nothing.
     fn forget(&mut self, device: DeviceId) -> Result<At<Result<(), HistoryFull>>, AllocError>
         requires { device ≢ (view self.old).opening.me }
         ensures home { home self.new ≡ home self.old }
-        ensures tells { Tells (view self.old) (Forget device) (told index_value result) (view self.new) };
+        ensures tells { Tells (view self.old) (Forget device) (told index_value result)
+            (view self.new) };
 
     /// Begins to pull the best of a name, and answers the first of these that applies: `Busy` if a pull of the name is
     /// open, `NotNeeded` if there is no best or the local record is as good, and `Unsupported` if the best is live and
@@ -97,7 +104,8 @@ pub trait FolderCalls {
         name: &SafeName,
     ) -> Result<At<Result<BeginAnswer, HistoryFull>>, AllocError>
         ensures home { home self.new ≡ home self.old }
-        ensures tells { Tells (view self.old) (BeginPull name.now) (told begin_value result) (view self.new) }
+        ensures tells { Tells (view self.old) (BeginPull name.now) (told begin_value result)
+            (view self.new) }
         ensures begun { IfOk result (λ told. IfOk told.value (IsOfName name.now)) };
 
     /// Enters the commit of a pull, and fails with the first of these that applies: `Stray`, `LocalMoved`, `Superseded`,
@@ -108,7 +116,8 @@ pub trait FolderCalls {
         ticket: Ticket,
     ) -> Result<At<Result<Commit, EnterRefusal>>, NotEntered>
         ensures home { home self.new ≡ home self.old }
-        ensures tells { Tells (view self.old) (EnterCommit ticket) (told enter_value result) (view self.new) }
+        ensures tells { Tells (view self.old) (EnterCommit ticket) (told enter_value result)
+            (view self.new) }
         ensures entered { IfOk result (λ told. IfOk told.value (λ commit. commit ≡ ticket)) }
         ensures given_back { IfOk result (λ told. IfErr told.value (GivesBack ticket)) }
         ensures out_of_memory { IfErr result (λ refused. refused.0 ≡ ticket) };
@@ -119,25 +128,29 @@ pub trait FolderCalls {
     fn finish(&mut self, commit: Commit, assembled: Assembled) -> At<Result<u64, Stray>>
         requires { assembled ≡ commit.target }
         ensures home { home self.new ≡ home self.old }
-        ensures tells { Tells (view self.old) (Finish commit assembled) (Some (told_at finish_answer result)) (view self.new) };
+        ensures tells { Tells (view self.old) (Finish commit assembled)
+            (Some (told_at finish_answer result)) (view self.new) };
 
     /// Closes a pull whose commit was not entered. Returns `false` if the ticket is stray; then nothing changes. Does not
     /// allocate.
     fn give_up(&mut self, ticket: Ticket) -> At<bool>
         ensures home { home self.new ≡ home self.old }
-        ensures tells { Tells (view self.old) (GiveUp ticket) (Some (told_at close_answer result)) (view self.new) };
+        ensures tells { Tells (view self.old) (GiveUp ticket) (Some (told_at close_answer result))
+            (view self.new) };
 
     /// Closes a pull whose commit was entered; the local record stays. Returns `false` if the commit is stray; then
     /// nothing changes. Does not allocate.
     fn abort(&mut self, commit: Commit) -> At<bool>
         ensures home { home self.new ≡ home self.old }
-        ensures tells { Tells (view self.old) (Abort commit) (Some (told_at close_answer result)) (view self.new) };
+        ensures tells { Tells (view self.old) (Abort commit) (Some (told_at close_answer result))
+            (view self.new) };
 
     /// A copy of the best record of a name, and the devices whose valid record of the name has its version and its
     /// content; `None` where no valid record of the name is announced.
     fn best(&mut self, name: &SafeName) -> Result<At<Option<Best>>, AllocError>
         ensures home { home self.new ≡ home self.old }
-        ensures reads { ReadsThere (view self.old) (BestOf name.now) (told (λ b. option_map found b) result) (view self.new) };
+        ensures reads { ReadsThere (view self.old) (BestOf name.now)
+            (told (λ b. option_map found b) result) (view self.new) };
 
     /// The bests of the names greater than `after`, or of all names where it is `None`, in byte order of the names: the
     /// first `limit` of them, or all where there are fewer.
@@ -147,12 +160,14 @@ pub trait FolderCalls {
         limit: usize,
     ) -> Result<At<Items<Best>>, AllocError>
         ensures home { home self.new ≡ home self.old }
-        ensures reads { ReadsThere (view self.old) (Bests (option_copied after.entry) limit) (told (λ page. map found page) result) (view self.new) };
+        ensures reads { ReadsThere (view self.old) (Bests (option_copied after.entry) limit)
+            (told (λ page. map found page) result) (view self.new) };
 
     /// The record that this device announces of a name, if there is one.
     fn local(&mut self, name: &SafeName) -> Result<At<Option<Record>>, AllocError>
         ensures home { home self.new ≡ home self.old }
-        ensures reads { ReadsThere (view self.old) (Local name.now) (told (λ r. r) result) (view self.new) };
+        ensures reads { ReadsThere (view self.old) (Local name.now) (told (λ r. r) result)
+            (view self.new) };
 
     /// The names greater than `after`, or all names where it is `None`, that this device needs, in byte order: those whose
     /// best is of another version than the local record, and those without a local record unless the best is deleted. The
@@ -163,27 +178,32 @@ pub trait FolderCalls {
         limit: usize,
     ) -> Result<At<Items<SafeName>>, AllocError>
         ensures home { home self.new ≡ home self.old }
-        ensures reads { ReadsThere (view self.old) (Need (option_copied after.entry) limit) (told (λ names. names) result) (view self.new) };
+        ensures reads { ReadsThere (view self.old) (Need (option_copied after.entry) limit)
+            (told (λ names. names) result) (view self.new) };
 
     /// The local records of greater sequence, in rising sequence: the first `limit` of them, but no more than have
     /// 1,000,000 blocks together, except that one record may have any number; or all where there are fewer.
     fn local_since(&mut self, sequence: u64, limit: usize) -> Result<At<Items<Record>>, AllocError>
         ensures home { home self.new ≡ home self.old }
-        ensures reads { ReadsThere (view self.old) (LocalSince sequence limit) (told (λ page. page) result) (view self.new) };
+        ensures reads { ReadsThere (view self.old) (LocalSince sequence limit)
+            (told (λ page. page) result) (view self.new) };
 
     /// A place of the block with this SHA-256 digest in a live local file, if there is one.
     fn find_block(&mut self, hash: &[u8; 32]) -> Result<At<Option<Place>>, AllocError>
         ensures home { home self.new ≡ home self.old }
-        ensures reads { ReadsThere (view self.old) (FindBlock hash.now) (told (λ place. place) result) (view self.new) };
+        ensures reads { ReadsThere (view self.old) (FindBlock hash.now)
+            (told (λ place. place) result) (view self.new) };
 
     /// The greatest sequence that the device announced, 0 without any; of this device the last one that it gave. Does not
     /// allocate.
     fn known(&mut self, device: DeviceId) -> At<u64>
         ensures home { home self.new ≡ home self.old }
-        ensures reads { ReadsThere (view self.old) (Known device) (Some (told_at (λ sequence. sequence) result)) (view self.new) };
+        ensures reads { ReadsThere (view self.old) (Known device)
+            (Some (told_at (λ sequence. sequence) result)) (view self.new) };
 
     /// How much the folder has. Does not allocate.
     fn counts(&mut self) -> At<Counts>
         ensures home { home self.new ≡ home self.old }
-        ensures reads { ReadsThere (view self.old) CountAll (Some (told_at (λ counts. counts) result)) (view self.new) };
+        ensures reads { ReadsThere (view self.old) CountAll
+            (Some (told_at (λ counts. counts) result)) (view self.new) };
 }

@@ -21,7 +21,8 @@ pub fn replays(
     passes: u64,
     end: &PlainFolder,
 ) -> Result<bool, AllocError>
-    ensures replays { IfOk result (λ yes. IsTrue yes ↔ IsReplay passes opening.now entries.now end.now) }
+    ensures replays { IfOk result (λ yes. IsTrue yes
+        ↔ IsReplay passes opening.now entries.now end.now) }
     ensures open { IfErr result (λ _. len opening.now.pulls ≡ 0) }
     ensures nothing { entries.now ≡ [] → IsOk result }
 {

@@ -49,9 +49,20 @@ impl<C: FolderCore> Model for Journal<C> {
 
     ghost coded = { coded_history };
 
-    ghost view = { λ j. record { opening = j.opening; entries = j.entries.items; limit = j.limit; passes = j.passes } };
+    ghost view = { λ j. record {
+      opening = j.opening;
+      entries = j.entries.items;
+      limit = j.limit;
+      passes = j.passes;
+    } };
 
-    ghost invariant = { λ j. IsJournal (C.state j.core) j.pulls (vec_capacity j.entries) (record { opening = j.opening; entries = j.entries.items; limit = j.limit; passes = j.passes }) };
+    ghost invariant = { λ j. IsJournal (C.state j.core) j.pulls (vec_capacity j.entries)
+        (record {
+          opening = j.opening;
+          entries = j.entries.items;
+          limit = j.limit;
+          passes = j.passes;
+        }) };
 }
 
 impl<C: FolderCore> Journal<C> {
@@ -118,7 +129,8 @@ impl<C: FolderCore> Journal<C> {
 
     /// Gives out one more pass, and returns its number; none if 2^32 were given out. O(1).
     pub fn add_pass(&mut self) -> Option<u64>
-        ensures given { IfSome result (λ number. (self.old.passes < 2 ^ 32) × (number ≡ self.old.passes + 1) × (self.new ≡ record self.old { passes = number })) }
+        ensures given { IfSome result (λ number. (self.old.passes < 2 ^ 32)
+            × (number ≡ self.old.passes + 1) × (self.new ≡ record self.old { passes = number })) }
         ensures full { result ≡ None → (self.old.passes ≡ 2 ^ 32) × (self.new ≡ self.old) }
         ensures history { IsHistory self.new }
     {
@@ -140,7 +152,9 @@ impl<C: FolderCore> Journal<C> {
     ) -> Result<Result<ScanAnswer, ScanRefusal>, AllocError>
         requires pass { (1 ≤ pass) × (pass ≤ self.old.passes) }
         requires found { IsTrue (is_found found.now.content) }
-        ensures enters { Enters self.old pass (ScanFound name.now (option_copied expected.entry) found.now moment) (answered scan_value result) self.new }
+        ensures enters { Enters self.old pass
+            (ScanFound name.now (option_copied expected.entry) found.now moment)
+            (answered scan_value result) self.new }
         ensures history { IsHistory self.new }
     {
         let has_room = self.has_room(1);
@@ -169,7 +183,9 @@ impl<C: FolderCore> Journal<C> {
         moment: Moment,
     ) -> Result<Result<ScanAnswer, ScanRefusal>, AllocError>
         requires pass { (1 ≤ pass) × (pass ≤ self.old.passes) }
-        ensures enters { Enters self.old pass (ScanGone name.now (option_copied expected.entry) moment) (answered scan_value result) self.new }
+        ensures enters { Enters self.old pass
+            (ScanGone name.now (option_copied expected.entry) moment)
+            (answered scan_value result) self.new }
         ensures history { IsHistory self.new }
     {
         let has_room = self.has_room(1);
@@ -198,7 +214,8 @@ impl<C: FolderCore> Journal<C> {
     ) -> Result<Result<(), HistoryFull>, AllocError>
         requires pass { (1 ≤ pass) × (pass ≤ self.old.passes) }
         requires device { device ≢ self.old.opening.me }
-        ensures enters { Enters self.old pass (IndexFull device records) (answered index_value result) self.new }
+        ensures enters { Enters self.old pass (IndexFull device records)
+            (answered index_value result) self.new }
         ensures history { IsHistory self.new }
     {
         if !self.has_room(1) {
@@ -223,7 +240,8 @@ impl<C: FolderCore> Journal<C> {
     ) -> Result<Result<(), HistoryFull>, AllocError>
         requires pass { (1 ≤ pass) × (pass ≤ self.old.passes) }
         requires device { device ≢ self.old.opening.me }
-        ensures enters { Enters self.old pass (IndexMore device records) (answered index_value result) self.new }
+        ensures enters { Enters self.old pass (IndexMore device records)
+            (answered index_value result) self.new }
         ensures history { IsHistory self.new }
     {
         if !self.has_room(1) {
@@ -247,7 +265,8 @@ impl<C: FolderCore> Journal<C> {
     ) -> Result<Result<(), HistoryFull>, AllocError>
         requires pass { (1 ≤ pass) × (pass ≤ self.old.passes) }
         requires device { device ≢ self.old.opening.me }
-        ensures enters { Enters self.old pass (Forget device) (answered index_value result) self.new }
+        ensures enters { Enters self.old pass (Forget device)
+            (answered index_value result) self.new }
         ensures history { IsHistory self.new }
     {
         if !self.has_room(1) {
@@ -273,7 +292,8 @@ impl<C: FolderCore> Journal<C> {
         name: &SafeName,
     ) -> Result<Result<BeginAnswer, HistoryFull>, AllocError>
         requires pass { (1 ≤ pass) × (pass ≤ self.old.passes) }
-        ensures enters { Enters self.old pass (BeginPull name.now) (answered begin_value result) self.new }
+        ensures enters { Enters self.old pass (BeginPull name.now)
+            (answered begin_value result) self.new }
         ensures history { IsHistory self.new }
     {
         let has_room = self.has_room(2);
@@ -294,7 +314,8 @@ impl<C: FolderCore> Journal<C> {
         ticket: Ticket,
     ) -> Result<Result<Commit, EnterRefusal>, NotEntered>
         requires pass { (1 ≤ pass) × (pass ≤ self.old.passes) }
-        ensures enters { Enters self.old pass (EnterCommit ticket) (answered enter_value result) self.new }
+        ensures enters { Enters self.old pass (EnterCommit ticket)
+            (answered enter_value result) self.new }
         ensures given_back { IfOk result (λ entered. IfErr entered (GivesBack ticket)) }
         ensures out_of_memory { IfErr result (λ refused. refused.0 ≡ ticket) }
         ensures history { IsHistory self.new }
@@ -325,7 +346,8 @@ impl<C: FolderCore> Journal<C> {
     pub fn finish(&mut self, pass: u64, commit: Commit, assembled: Assembled) -> Result<u64, Stray>
         requires pass { (1 ≤ pass) × (pass ≤ self.old.passes) }
         requires assembled { assembled ≡ commit.target }
-        ensures enters { Enters self.old pass (Finish commit assembled) (Some (finish_answer result)) self.new }
+        ensures enters { Enters self.old pass (Finish commit assembled)
+            (Some (finish_answer result)) self.new }
         ensures assembled { IsAssembled assembled }
         ensures history { IsHistory self.new }
     {
@@ -347,7 +369,8 @@ impl<C: FolderCore> Journal<C> {
     /// [`FolderCore::give_up`] for a pass. Does not allocate.
     pub fn give_up(&mut self, pass: u64, ticket: Ticket) -> bool
         requires pass { (1 ≤ pass) × (pass ≤ self.old.passes) }
-        ensures enters { Enters self.old pass (GiveUp ticket) (Some (close_answer result)) self.new }
+        ensures enters { Enters self.old pass (GiveUp ticket)
+            (Some (close_answer result)) self.new }
         ensures history { IsHistory self.new }
     {
         let Ticket { inner, token } = ticket;
@@ -396,7 +419,8 @@ impl<C: FolderCore> Journal<C> {
 
     // Whether so many entries more have room, beside those that end the open pulls. O(1).
     fn has_room(&self, more: u64) -> bool
-        ensures { result ≡ nat_le (length self.now.entries + len (end self.now).pulls + more) self.now.limit }
+        ensures { result ≡ nat_le (length self.now.entries + len
+            (end self.now).pulls + more) self.now.limit }
     {
         self.limit - self.pulls - self.entries.len() as u64 >= more
     }
@@ -407,7 +431,8 @@ fn make_room(entries: &mut Vec<Entry>, pulls: u64, more: u64) -> Result<(), Allo
     requires { pulls + more < 2 ^ 64 }
     ensures items { entries.new.items ≡ entries.old.items }
     ensures kept { vec_capacity entries.old ≤ vec_capacity entries.new }
-    ensures room { IsOk result → length entries.old.items + pulls + more ≤ vec_capacity entries.new }
+    ensures room { IsOk result → length entries.old.items + pulls + more
+        ≤ vec_capacity entries.new }
 {
     entries.reserve((pulls + more) as usize)
 }
@@ -426,8 +451,11 @@ fn admit<C: FolderCore>(
     ensures items { entries.new.items ≡ entries.old.items }
     ensures kept { vec_capacity entries.old ≤ vec_capacity entries.new }
     ensures same { IfOk result (λ admitted. IfSome admitted (λ same. same ≡ change)) }
-    ensures admitted { (c : _) → result ≡ Ok (Some c) → is_accepted (step (C.state core.now) change).0 ≡ true → (has_room ≡ true) × (length entries.old.items + pulls + more ≤ vec_capacity entries.new) }
-    ensures refused { result ≡ Ok None → (has_room ≡ false) × (is_accepted (step (C.state core.now) change).0 ≡ true) }
+    ensures admitted { (c : _) → result ≡ Ok (Some c) →
+        is_accepted (step (C.state core.now) change).0 ≡ true → (has_room ≡ true)
+        × (length entries.old.items + pulls + more ≤ vec_capacity entries.new) }
+    ensures refused { result ≡ Ok None → (has_room ≡ false)
+        × (is_accepted (step (C.state core.now) change).0 ≡ true) }
 {
     if has_room {
         make_room(entries, pulls, more)?;
@@ -450,9 +478,13 @@ fn admit_begin<C: FolderCore>(
     requires { pulls + 2 < 2 ^ 64 }
     ensures items { entries.new.items ≡ entries.old.items }
     ensures kept { vec_capacity entries.old ≤ vec_capacity entries.new }
-    ensures same { IfOk result (λ admitted. IfSome admitted (λ change. change ≡ BeginPull name.now)) }
-    ensures admitted { (c : _) → result ≡ Ok (Some c) → is_accepted (step (C.state core.now) (BeginPull name.now)).0 ≡ true → (has_room ≡ true) × (length entries.old.items + pulls + 2 ≤ vec_capacity entries.new) }
-    ensures refused { result ≡ Ok None → (has_room ≡ false) × (is_accepted (step (C.state core.now) (BeginPull name.now)).0 ≡ true) }
+    ensures same { IfOk result (λ admitted.
+        IfSome admitted (λ change. change ≡ BeginPull name.now)) }
+    ensures admitted { (c : _) → result ≡ Ok (Some c) →
+        is_accepted (step (C.state core.now) (BeginPull name.now)).0 ≡ true → (has_room ≡ true)
+        × (length entries.old.items + pulls + 2 ≤ vec_capacity entries.new) }
+    ensures refused { result ≡ Ok None → (has_room ≡ false)
+        × (is_accepted (step (C.state core.now) (BeginPull name.now)).0 ≡ true) }
 {
     let change = Change::BeginPull { name: name.copy()? };
     admit(core, change, has_room, entries, pulls, 2)
@@ -464,9 +496,12 @@ fn begin<C: FolderCore>(
     core: &mut C,
     name: &SafeName,
 ) -> Result<(BeginAnswer, Option<Token>), AllocError>
-    ensures change { Changes (C.state core.old) (BeginPull name.now) (answered (λ begun. begin_value (Ok begun.0)) result) (C.state core.new) }
-    ensures begun { IfOk result (λ begun. IfSome begun.1 (λ ticket. begin_value (Ok begun.0) ≡ Begun ticket)) }
-    ensures other { IfOk result (λ begun. begun.1 ≡ None → is_accepted (begin_value (Ok begun.0)) ≡ false) }
+    ensures change { Changes (C.state core.old) (BeginPull name.now)
+        (answered (λ begun. begin_value (Ok begun.0)) result) (C.state core.new) }
+    ensures begun { IfOk result (λ begun.
+        IfSome begun.1 (λ ticket. begin_value (Ok begun.0) ≡ Begun ticket)) }
+    ensures other { IfOk result (λ begun. begun.1 ≡ None →
+        is_accepted (begin_value (Ok begun.0)) ≡ false) }
 {
     match core.begin_pull(name)? {
         folder_core::BeginAnswer::Begun(inner) => {
@@ -485,7 +520,8 @@ fn begin<C: FolderCore>(
 // Enters an accepted change, for whose entry there is room. Does not allocate.
 fn enter(entries: &mut Vec<Entry>, pass: u64, change: Change, answer: Answer)
     requires room { length entries.old.items < vec_capacity entries.old }
-    ensures items { entries.new.items ≡ entries.old.items ++ (record { pass = pass; change = change; answer = answer }) ∷ [] }
+    ensures items { entries.new.items
+        ≡ entries.old.items ++ (record { pass = pass; change = change; answer = answer }) ∷ [] }
     ensures capacity { vec_capacity entries.new ≡ vec_capacity entries.old }
 {
     entries.push_reserved(Entry {
@@ -499,7 +535,8 @@ fn enter(entries: &mut Vec<Entry>, pass: u64, change: Change, answer: Answer)
 fn enter_begin(entries: &mut Vec<Entry>, pass: u64, change: Change, ticket: Option<Token>) -> u64
     requires { IfSome ticket (λ _. length entries.old.items < vec_capacity entries.old) }
     ensures opened { result ≡ if is_some ticket then 1 else 0 }
-    ensures entered { entries.new.items ≡ entered_items entries.old.items pass change (option_map Begun ticket) }
+    ensures entered { entries.new.items
+        ≡ entered_items entries.old.items pass change (option_map Begun ticket) }
     ensures capacity { vec_capacity entries.new ≡ vec_capacity entries.old }
 {
     let Some(ticket) = ticket else {
@@ -516,9 +553,11 @@ fn enter_scan(
     change: Change,
     answer: Result<ScanAnswer, ScanFault>,
 ) -> Result<Result<ScanAnswer, ScanRefusal>, AllocError>
-    requires { IfSome (scan_answer answer) (λ a. is_accepted a ≡ true → length entries.old.items < vec_capacity entries.old) }
+    requires { IfSome (scan_answer answer)
+        (λ a. is_accepted a ≡ true → length entries.old.items < vec_capacity entries.old) }
     ensures answer { answered scan_value result ≡ scan_answer answer }
-    ensures entered { entries.new.items ≡ entered_items entries.old.items pass change (scan_answer answer) }
+    ensures entered { entries.new.items
+        ≡ entered_items entries.old.items pass change (scan_answer answer) }
     ensures capacity { vec_capacity entries.new ≡ vec_capacity entries.old }
 {
     match answer {
@@ -542,13 +581,15 @@ fn enter_entrance(
     token: Token,
     entered: Result<folder_core::Commit, folder_core::NotEntered>,
 ) -> Result<Result<Commit, EnterRefusal>, NotEntered>
-    requires room { IfSome (enter_answer entered) (λ a. is_accepted a ≡ true → length entries.old.items < vec_capacity entries.old) }
+    requires room { IfSome (enter_answer entered)
+        (λ a. is_accepted a ≡ true → length entries.old.items < vec_capacity entries.old) }
     requires same { IfOk entered (λ commit. (commit ≡ copy) × (commit ≡ token)) }
     requires given_back { IfErr entered (GivesBackOpen token) }
     ensures answer { answered enter_value result ≡ enter_answer entered }
     ensures given_back { IfOk result (λ entered. IfErr entered (GivesBack token)) }
     ensures out_of_memory { IfErr result (λ refused. refused.0 ≡ token) }
-    ensures entered { entries.new.items ≡ entered_items entries.old.items pass change (enter_answer entered) }
+    ensures entered { entries.new.items
+        ≡ entered_items entries.old.items pass change (enter_answer entered) }
     ensures capacity { vec_capacity entries.new ≡ vec_capacity entries.old }
 {
     Ok(Err(match entered {
@@ -606,7 +647,8 @@ fn found_change(
     found: &Finding,
     moment: Moment,
 ) -> Result<Change, AllocError>
-    ensures { IfOk result (λ change. change ≡ ScanFound name.now (option_copied expected.entry) found.now moment) }
+    ensures { IfOk result (λ change. change
+        ≡ ScanFound name.now (option_copied expected.entry) found.now moment) }
 {
     Ok(Change::ScanFound {
         name: name.copy()?,
@@ -621,7 +663,8 @@ fn gone_change(
     expected: Option<&Version>,
     moment: Moment,
 ) -> Result<Change, AllocError>
-    ensures { IfOk result (λ change. change ≡ ScanGone name.now (option_copied expected.entry) moment) }
+    ensures { IfOk result (λ change. change
+        ≡ ScanGone name.now (option_copied expected.entry) moment) }
 {
     Ok(Change::ScanGone {
         name: name.copy()?,

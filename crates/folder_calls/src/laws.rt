@@ -7,6 +7,7 @@ mod histories;
 mod meetings;
 mod rows;
 mod values;
+mod workers;
 
 pub use calls::{
     calls_may_be_answered_at_any_point, calls_share_one_history, views_are_of_folders,
@@ -22,3 +23,4 @@ pub use histories::{
 pub use meetings::{callers_who_meet_know_the_longer_history, closing_keeps_what_callers_saw};
 pub use rows::histories_in_rows;
 pub use values::comparison_is_equality;
+pub use workers::{answers_are_those_of_the_folder, changes_are_asked_in_order, entries_add_up};

@@ -45,9 +45,15 @@ impl<C: FolderCore> Model for Lone<C> {
 
     ghost coded = { coded_alone };
 
-    ghost view = { λ l. record { history = l.journal; seen = l.seen; plan = l.plan; planned = l.planned } };
+    ghost view = { λ l. record {
+      history = l.journal;
+      seen = l.seen;
+      plan = l.plan;
+      planned = l.planned;
+    } };
 
-    ghost invariant = { λ l. IsAlone (record { history = l.journal; seen = l.seen; plan = l.plan; planned = l.planned }) };
+    ghost invariant = { λ l. IsAlone
+        (record { history = l.journal; seen = l.seen; plan = l.plan; planned = l.planned }) };
 }
 
 impl<C: FolderCore> Lone<C> {
@@ -71,7 +77,8 @@ impl<C: FolderCore> Lone<C> {
     pub fn close(self) -> C
         ensures core { C.state result ≡ end self.history }
         ensures history { IsHistory self.history }
-        ensures closes { Closes self.history.opening self.history.limit 2 (seen_by self ∷ []) (C.state result) }
+        ensures closes { Closes self.history.opening self.history.limit 2 (seen_by self ∷ [])
+            (C.state result) }
         ensures whole { self.planned ≡ false → self.seen ≡ length self.history.entries }
     {
         let Lone {
@@ -88,7 +95,10 @@ impl<C: FolderCore> Lone<C> {
     pub fn plan(&mut self, call: u64, change: Outside)
         requires call { 1 ≤ call }
         requires may { MayChange self.old.history.opening.me (change_of change) }
-        ensures { self.new ≡ record self.old { plan = Some (record { call = call; change = change }); planned = true } }
+        ensures { self.new ≡ record self.old {
+          plan = Some (record { call = call; change = change });
+          planned = true;
+        } }
     {
         self.plan = Some(Plan { call, change });
         self.planned = true;
@@ -133,8 +143,12 @@ impl<C: FolderCore> FolderCalls for Lone<C> {
     ) -> Result<At<Result<ScanAnswer, ScanRefusal>>, AllocError>
         requires { IsTrue (is_found found.now.content) }
         ensures home { self.new.planned ≡ self.old.planned }
-        ensures tells { Tells (seen_by self.old) (ScanFound name.now (option_copied expected.entry) found.now moment) (told scan_value result) (seen_by self.new) }
-        ensures alone { ChangesAlone self.old (ScanFound name.now (option_copied expected.entry) found.now moment) (told scan_value result) self.new }
+        ensures tells { Tells (seen_by self.old)
+            (ScanFound name.now (option_copied expected.entry) found.now moment)
+            (told scan_value result) (seen_by self.new) }
+        ensures alone { ChangesAlone self.old
+            (ScanFound name.now (option_copied expected.entry) found.now moment)
+            (told scan_value result) self.new }
     {
         self.go_on();
         let answer = self.journal.scan_found(1, name, expected, found, moment);
@@ -148,8 +162,12 @@ impl<C: FolderCore> FolderCalls for Lone<C> {
         moment: Moment,
     ) -> Result<At<Result<ScanAnswer, ScanRefusal>>, AllocError>
         ensures home { self.new.planned ≡ self.old.planned }
-        ensures tells { Tells (seen_by self.old) (ScanGone name.now (option_copied expected.entry) moment) (told scan_value result) (seen_by self.new) }
-        ensures alone { ChangesAlone self.old (ScanGone name.now (option_copied expected.entry) moment) (told scan_value result) self.new }
+        ensures tells { Tells (seen_by self.old)
+            (ScanGone name.now (option_copied expected.entry) moment) (told scan_value result)
+            (seen_by self.new) }
+        ensures alone { ChangesAlone self.old
+            (ScanGone name.now (option_copied expected.entry) moment)
+            (told scan_value result) self.new }
     {
         self.go_on();
         let answer = self.journal.scan_gone(1, name, expected, moment);
@@ -163,8 +181,10 @@ impl<C: FolderCore> FolderCalls for Lone<C> {
     ) -> Result<At<Result<(), HistoryFull>>, AllocError>
         requires { device ≢ (seen_by self.old).opening.me }
         ensures home { self.new.planned ≡ self.old.planned }
-        ensures tells { Tells (seen_by self.old) (IndexFull device records) (told index_value result) (seen_by self.new) }
-        ensures alone { ChangesAlone self.old (IndexFull device records) (told index_value result) self.new }
+        ensures tells { Tells (seen_by self.old) (IndexFull device records)
+            (told index_value result) (seen_by self.new) }
+        ensures alone { ChangesAlone self.old (IndexFull device records)
+            (told index_value result) self.new }
     {
         self.go_on();
         let answer = self.journal.index_full(1, device, records);
@@ -178,8 +198,10 @@ impl<C: FolderCore> FolderCalls for Lone<C> {
     ) -> Result<At<Result<(), HistoryFull>>, AllocError>
         requires { device ≢ (seen_by self.old).opening.me }
         ensures home { self.new.planned ≡ self.old.planned }
-        ensures tells { Tells (seen_by self.old) (IndexMore device records) (told index_value result) (seen_by self.new) }
-        ensures alone { ChangesAlone self.old (IndexMore device records) (told index_value result) self.new }
+        ensures tells { Tells (seen_by self.old) (IndexMore device records)
+            (told index_value result) (seen_by self.new) }
+        ensures alone { ChangesAlone self.old (IndexMore device records)
+            (told index_value result) self.new }
     {
         self.go_on();
         let answer = self.journal.index_more(1, device, records);
@@ -189,7 +211,8 @@ impl<C: FolderCore> FolderCalls for Lone<C> {
     fn forget(&mut self, device: DeviceId) -> Result<At<Result<(), HistoryFull>>, AllocError>
         requires { device ≢ (seen_by self.old).opening.me }
         ensures home { self.new.planned ≡ self.old.planned }
-        ensures tells { Tells (seen_by self.old) (Forget device) (told index_value result) (seen_by self.new) }
+        ensures tells { Tells (seen_by self.old) (Forget device) (told index_value result)
+            (seen_by self.new) }
         ensures alone { ChangesAlone self.old (Forget device) (told index_value result) self.new }
     {
         self.go_on();
@@ -202,8 +225,10 @@ impl<C: FolderCore> FolderCalls for Lone<C> {
         name: &SafeName,
     ) -> Result<At<Result<BeginAnswer, HistoryFull>>, AllocError>
         ensures home { self.new.planned ≡ self.old.planned }
-        ensures tells { Tells (seen_by self.old) (BeginPull name.now) (told begin_value result) (seen_by self.new) }
-        ensures alone { ChangesAlone self.old (BeginPull name.now) (told begin_value result) self.new }
+        ensures tells { Tells (seen_by self.old) (BeginPull name.now) (told begin_value result)
+            (seen_by self.new) }
+        ensures alone { ChangesAlone self.old (BeginPull name.now)
+            (told begin_value result) self.new }
         ensures begun { IfOk result (λ told. IfOk told.value (IsOfName name.now)) }
     {
         self.go_on();
@@ -216,8 +241,10 @@ impl<C: FolderCore> FolderCalls for Lone<C> {
         ticket: Ticket,
     ) -> Result<At<Result<Commit, EnterRefusal>>, NotEntered>
         ensures home { self.new.planned ≡ self.old.planned }
-        ensures tells { Tells (seen_by self.old) (EnterCommit ticket) (told enter_value result) (seen_by self.new) }
-        ensures alone { ChangesAlone self.old (EnterCommit ticket) (told enter_value result) self.new }
+        ensures tells { Tells (seen_by self.old) (EnterCommit ticket) (told enter_value result)
+            (seen_by self.new) }
+        ensures alone { ChangesAlone self.old (EnterCommit ticket)
+            (told enter_value result) self.new }
         ensures entered { IfOk result (λ told. IfOk told.value (λ commit. commit ≡ ticket)) }
         ensures given_back { IfOk result (λ told. IfErr told.value (GivesBack ticket)) }
         ensures out_of_memory { IfErr result (λ refused. refused.0 ≡ ticket) }
@@ -230,8 +257,10 @@ impl<C: FolderCore> FolderCalls for Lone<C> {
     fn finish(&mut self, commit: Commit, assembled: Assembled) -> At<Result<u64, Stray>>
         requires { assembled ≡ commit.target }
         ensures home { self.new.planned ≡ self.old.planned }
-        ensures tells { Tells (seen_by self.old) (Finish commit assembled) (Some (told_at finish_answer result)) (seen_by self.new) }
-        ensures alone { ChangesAlone self.old (Finish commit assembled) (Some (told_at finish_answer result)) self.new }
+        ensures tells { Tells (seen_by self.old) (Finish commit assembled)
+            (Some (told_at finish_answer result)) (seen_by self.new) }
+        ensures alone { ChangesAlone self.old (Finish commit assembled)
+            (Some (told_at finish_answer result)) self.new }
     {
         self.go_on();
         let value = self.journal.finish(1, commit, assembled);
@@ -244,8 +273,10 @@ impl<C: FolderCore> FolderCalls for Lone<C> {
 
     fn give_up(&mut self, ticket: Ticket) -> At<bool>
         ensures home { self.new.planned ≡ self.old.planned }
-        ensures tells { Tells (seen_by self.old) (GiveUp ticket) (Some (told_at close_answer result)) (seen_by self.new) }
-        ensures alone { ChangesAlone self.old (GiveUp ticket) (Some (told_at close_answer result)) self.new }
+        ensures tells { Tells (seen_by self.old) (GiveUp ticket)
+            (Some (told_at close_answer result)) (seen_by self.new) }
+        ensures alone { ChangesAlone self.old (GiveUp ticket)
+            (Some (told_at close_answer result)) self.new }
     {
         self.go_on();
         let value = self.journal.give_up(1, ticket);
@@ -258,8 +289,10 @@ impl<C: FolderCore> FolderCalls for Lone<C> {
 
     fn abort(&mut self, commit: Commit) -> At<bool>
         ensures home { self.new.planned ≡ self.old.planned }
-        ensures tells { Tells (seen_by self.old) (Abort commit) (Some (told_at close_answer result)) (seen_by self.new) }
-        ensures alone { ChangesAlone self.old (Abort commit) (Some (told_at close_answer result)) self.new }
+        ensures tells { Tells (seen_by self.old) (Abort commit) (Some (told_at close_answer result))
+            (seen_by self.new) }
+        ensures alone { ChangesAlone self.old (Abort commit)
+            (Some (told_at close_answer result)) self.new }
     {
         self.go_on();
         let value = self.journal.abort(1, commit);
@@ -272,8 +305,10 @@ impl<C: FolderCore> FolderCalls for Lone<C> {
 
     fn best(&mut self, name: &SafeName) -> Result<At<Option<Best>>, AllocError>
         ensures home { self.new.planned ≡ self.old.planned }
-        ensures reads { ReadsThere (seen_by self.old) (BestOf name.now) (told (λ b. option_map found b) result) (seen_by self.new) }
-        ensures alone { ReadsAlone self.old (BestOf name.now) (told (λ b. option_map found b) result) self.new }
+        ensures reads { ReadsThere (seen_by self.old) (BestOf name.now)
+            (told (λ b. option_map found b) result) (seen_by self.new) }
+        ensures alone { ReadsAlone self.old (BestOf name.now)
+            (told (λ b. option_map found b) result) self.new }
     {
         self.go_on();
         let answer = self.journal.core().best(name);
@@ -286,8 +321,10 @@ impl<C: FolderCore> FolderCalls for Lone<C> {
         limit: usize,
     ) -> Result<At<Items<Best>>, AllocError>
         ensures home { self.new.planned ≡ self.old.planned }
-        ensures reads { ReadsThere (seen_by self.old) (Bests (option_copied after.entry) limit) (told (λ page. map found page) result) (seen_by self.new) }
-        ensures alone { ReadsAlone self.old (Bests (option_copied after.entry) limit) (told (λ page. map found page) result) self.new }
+        ensures reads { ReadsThere (seen_by self.old) (Bests (option_copied after.entry) limit)
+            (told (λ page. map found page) result) (seen_by self.new) }
+        ensures alone { ReadsAlone self.old (Bests (option_copied after.entry) limit)
+            (told (λ page. map found page) result) self.new }
     {
         self.go_on();
         let answer = self.journal.core().bests(after, limit);
@@ -296,7 +333,8 @@ impl<C: FolderCore> FolderCalls for Lone<C> {
 
     fn local(&mut self, name: &SafeName) -> Result<At<Option<Record>>, AllocError>
         ensures home { self.new.planned ≡ self.old.planned }
-        ensures reads { ReadsThere (seen_by self.old) (Local name.now) (told (λ r. r) result) (seen_by self.new) }
+        ensures reads { ReadsThere (seen_by self.old) (Local name.now) (told (λ r. r) result)
+            (seen_by self.new) }
         ensures alone { ReadsAlone self.old (Local name.now) (told (λ r. r) result) self.new }
     {
         self.go_on();
@@ -310,8 +348,10 @@ impl<C: FolderCore> FolderCalls for Lone<C> {
         limit: usize,
     ) -> Result<At<Items<SafeName>>, AllocError>
         ensures home { self.new.planned ≡ self.old.planned }
-        ensures reads { ReadsThere (seen_by self.old) (Need (option_copied after.entry) limit) (told (λ names. names) result) (seen_by self.new) }
-        ensures alone { ReadsAlone self.old (Need (option_copied after.entry) limit) (told (λ names. names) result) self.new }
+        ensures reads { ReadsThere (seen_by self.old) (Need (option_copied after.entry) limit)
+            (told (λ names. names) result) (seen_by self.new) }
+        ensures alone { ReadsAlone self.old (Need (option_copied after.entry) limit)
+            (told (λ names. names) result) self.new }
     {
         self.go_on();
         let answer = self.journal.core().need(after, limit);
@@ -320,8 +360,10 @@ impl<C: FolderCore> FolderCalls for Lone<C> {
 
     fn local_since(&mut self, sequence: u64, limit: usize) -> Result<At<Items<Record>>, AllocError>
         ensures home { self.new.planned ≡ self.old.planned }
-        ensures reads { ReadsThere (seen_by self.old) (LocalSince sequence limit) (told (λ page. page) result) (seen_by self.new) }
-        ensures alone { ReadsAlone self.old (LocalSince sequence limit) (told (λ page. page) result) self.new }
+        ensures reads { ReadsThere (seen_by self.old) (LocalSince sequence limit)
+            (told (λ page. page) result) (seen_by self.new) }
+        ensures alone { ReadsAlone self.old (LocalSince sequence limit)
+            (told (λ page. page) result) self.new }
     {
         self.go_on();
         let answer = self.journal.core().local_since(sequence, limit);
@@ -330,8 +372,10 @@ impl<C: FolderCore> FolderCalls for Lone<C> {
 
     fn find_block(&mut self, hash: &[u8; 32]) -> Result<At<Option<Place>>, AllocError>
         ensures home { self.new.planned ≡ self.old.planned }
-        ensures reads { ReadsThere (seen_by self.old) (FindBlock hash.now) (told (λ place. place) result) (seen_by self.new) }
-        ensures alone { ReadsAlone self.old (FindBlock hash.now) (told (λ place. place) result) self.new }
+        ensures reads { ReadsThere (seen_by self.old) (FindBlock hash.now)
+            (told (λ place. place) result) (seen_by self.new) }
+        ensures alone { ReadsAlone self.old (FindBlock hash.now)
+            (told (λ place. place) result) self.new }
     {
         self.go_on();
         let answer = self.journal.core().find_block(hash);
@@ -340,8 +384,10 @@ impl<C: FolderCore> FolderCalls for Lone<C> {
 
     fn known(&mut self, device: DeviceId) -> At<u64>
         ensures home { self.new.planned ≡ self.old.planned }
-        ensures reads { ReadsThere (seen_by self.old) (Known device) (Some (told_at (λ sequence. sequence) result)) (seen_by self.new) }
-        ensures alone { ReadsAlone self.old (Known device) (Some (told_at (λ sequence. sequence) result)) self.new }
+        ensures reads { ReadsThere (seen_by self.old) (Known device)
+            (Some (told_at (λ sequence. sequence) result)) (seen_by self.new) }
+        ensures alone { ReadsAlone self.old (Known device)
+            (Some (told_at (λ sequence. sequence) result)) self.new }
     {
         self.go_on();
         let value = self.journal.core().known(device);
@@ -354,8 +400,10 @@ impl<C: FolderCore> FolderCalls for Lone<C> {
 
     fn counts(&mut self) -> At<Counts>
         ensures home { self.new.planned ≡ self.old.planned }
-        ensures reads { ReadsThere (seen_by self.old) CountAll (Some (told_at (λ counts. counts) result)) (seen_by self.new) }
-        ensures alone { ReadsAlone self.old CountAll (Some (told_at (λ counts. counts) result)) self.new }
+        ensures reads { ReadsThere (seen_by self.old) CountAll
+            (Some (told_at (λ counts. counts) result)) (seen_by self.new) }
+        ensures alone { ReadsAlone self.old CountAll
+            (Some (told_at (λ counts. counts) result)) self.new }
     {
         self.go_on();
         let value = self.journal.core().counts();
@@ -384,7 +432,8 @@ fn told_here<C: FolderCore, T, E>(
 fn make_outside<C: FolderCore>(journal: &mut Journal<C>, change: Outside)
     requires passes { journal.old.passes ≡ 2 }
     requires may { MayChange journal.old.opening.me (change_of change) }
-    ensures made { (answer : Option AnswerOf) × Enters journal.old 2 (change_of change) answer journal.new }
+    ensures made { (answer : Option AnswerOf)
+        × Enters journal.old 2 (change_of change) answer journal.new }
     ensures history { IsHistory journal.new }
 {
     match change {

@@ -119,19 +119,24 @@ fn four_work<C: FolderCore + Drop + Send, R: AllocGlobal + Abort + Threads + Wai
     folder: &SharedFolder<C>,
     passes: (Pair<C>, Pair<C>),
 ) -> ((Worked<C>, Worked<C>), (Worked<C>, Worked<C>))
-    requires { IsPassOf folder.now.locked passes.0.0 × IsPassOf folder.now.locked passes.0.1 × IsPassOf folder.now.locked passes.1.0 × IsPassOf folder.now.locked passes.1.1 }
-    ensures { IsPassOf folder.now.locked result.0.0.pass × IsPassOf folder.now.locked result.0.1.pass × IsPassOf folder.now.locked result.1.0.pass × IsPassOf folder.now.locked result.1.1.pass }
+    requires { IsPassOf folder.now.locked passes.0.0 × IsPassOf folder.now.locked passes.0.1
+        × IsPassOf folder.now.locked passes.1.0 × IsPassOf folder.now.locked passes.1.1 }
+    ensures { IsPassOf folder.now.locked result.0.0.pass
+        × IsPassOf folder.now.locked result.0.1.pass × IsPassOf folder.now.locked result.1.0.pass
+        × IsPassOf folder.now.locked result.1.1.pass }
 {
     let (one, other) = passes;
     join(
         rt,
         || -> (Worked<C>, Worked<C>)
             requires { IsPassOf folder.now.locked one.0 × IsPassOf folder.now.locked one.1 }
-            ensures { IsPassOf folder.entry.now.locked result.0.pass × IsPassOf folder.entry.now.locked result.1.pass }
+            ensures { IsPassOf folder.entry.now.locked result.0.pass
+                × IsPassOf folder.entry.now.locked result.1.pass }
         { two_work(rt, folder, one, "a", "b") },
         || -> (Worked<C>, Worked<C>)
             requires { IsPassOf folder.now.locked other.0 × IsPassOf folder.now.locked other.1 }
-            ensures { IsPassOf folder.entry.now.locked result.0.pass × IsPassOf folder.entry.now.locked result.1.pass }
+            ensures { IsPassOf folder.entry.now.locked result.0.pass
+                × IsPassOf folder.entry.now.locked result.1.pass }
         { two_work(rt, folder, other, "c", "d") },
     )
 }

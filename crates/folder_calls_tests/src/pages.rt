@@ -21,8 +21,10 @@ pub fn give_pages<W: FolderCalls>(
     requires { 1 ≤ limit }
     ensures home { W.home calls.new ≡ W.home calls.old }
     ensures sees { Sees (W.view calls.old) (W.view calls.new) }
-    ensures gives { Gives (state_after (W.view calls.new).opening (W.view calls.new).seen) cursor.old cursor.new given.old.items given.new.items }
-    ensures all { IsOk result → IsUpTo (state_after (W.view calls.new).opening (W.view calls.new).seen) cursor.new }
+    ensures gives { Gives (state_after (W.view calls.new).opening
+        (W.view calls.new).seen) cursor.old cursor.new given.old.items given.new.items }
+    ensures all { IsOk result → IsUpTo
+        (state_after (W.view calls.new).opening (W.view calls.new).seen) cursor.new }
 {
     loop {
         let At { at: _, value: page } = calls.local_since(*cursor, limit)?;

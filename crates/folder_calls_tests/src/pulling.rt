@@ -30,8 +30,10 @@ pub fn pull_bytes<W: FolderCalls>(
     bytes: &[u8],
 ) -> Result<Pulled, AllocError>
     ensures home { W.home calls.new ≡ W.home calls.old }
-    ensures comes { IfOk result (λ pulled. Comes (W.view calls.old) name.now pulled (W.view calls.new)) }
-    ensures out_of_memory { IfErr result (λ _. Breaks (W.view calls.old) name.now (W.view calls.new)) }
+    ensures comes { IfOk result (λ pulled.
+        Comes (W.view calls.old) name.now pulled (W.view calls.new)) }
+    ensures out_of_memory { IfErr result
+        (λ _. Breaks (W.view calls.old) name.now (W.view calls.new)) }
 {
     let At { at: _, value } = calls.begin_pull(name)?;
     match value {
@@ -51,8 +53,11 @@ fn pull<W: FolderCalls>(
     bytes: &[u8],
 ) -> Result<Pulled, AllocError>
     ensures home { W.home calls.new ≡ W.home calls.old }
-    ensures commits { IfOk result (λ pulled. Commits (W.view calls.old) ticket pulled (W.view calls.new)) }
-    ensures out_of_memory { IfErr result (λ _. GivesUp (W.view calls.old) ticket GivenUp (W.view calls.new) ⊎ GivesUp (W.view calls.old) ticket Stray (W.view calls.new)) }
+    ensures commits { IfOk result (λ pulled.
+        Commits (W.view calls.old) ticket pulled (W.view calls.new)) }
+    ensures out_of_memory { IfErr result
+        (λ _. GivesUp (W.view calls.old) ticket GivenUp (W.view calls.new)
+        ⊎ GivesUp (W.view calls.old) ticket Stray (W.view calls.new)) }
 {
     match assemble(alloc, ticket.target(), bytes) {
         Ok(Some(assembled)) => commit(calls, ticket, assembled),
@@ -72,8 +77,11 @@ fn commit<W: FolderCalls>(
 ) -> Result<Pulled, AllocError>
     requires { assembled ≡ ticket.target }
     ensures home { W.home calls.new ≡ W.home calls.old }
-    ensures commits { IfOk result (λ pulled. Commits (W.view calls.old) ticket pulled (W.view calls.new)) }
-    ensures out_of_memory { IfErr result (λ _. GivesUp (W.view calls.old) ticket GivenUp (W.view calls.new) ⊎ GivesUp (W.view calls.old) ticket Stray (W.view calls.new)) }
+    ensures commits { IfOk result (λ pulled.
+        Commits (W.view calls.old) ticket pulled (W.view calls.new)) }
+    ensures out_of_memory { IfErr result
+        (λ _. GivesUp (W.view calls.old) ticket GivenUp (W.view calls.new)
+        ⊎ GivesUp (W.view calls.old) ticket Stray (W.view calls.new)) }
 {
     let entered = match calls.enter_commit(ticket) {
         Ok(At { at: _, value }) => value,

@@ -240,9 +240,11 @@ pub(crate) fn listed<C: FolderCore + Drop>(
     one: (Pass<C>, Pass<C>),
     other: (Pass<C>, Pass<C>),
 ) -> Vec<Pass<C>>
-    requires { IsPassOf folder.now.locked one.0 × IsPassOf folder.now.locked one.1 × IsPassOf folder.now.locked other.0 × IsPassOf folder.now.locked other.1 }
+    requires { IsPassOf folder.now.locked one.0 × IsPassOf folder.now.locked one.1
+        × IsPassOf folder.now.locked other.0 × IsPassOf folder.now.locked other.1 }
     ensures some { 0 < length result.items }
-    ensures passes { (i : ℕ) (p : PassOf C) → get_elem? result.items i ≡ some p → IsPassOf folder.now.locked p }
+    ensures passes { (i : ℕ) (p : PassOf C) → get_elem? result.items i ≡ some p →
+        IsPassOf folder.now.locked p }
 {
     let mut passes = Vec::new(rt.alloc());
     passes.push(one.0).expect(rt, "a list");

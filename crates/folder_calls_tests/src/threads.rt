@@ -44,19 +44,24 @@ fn four_scan<C: FolderCore + Drop + Send, R: AllocGlobal + Abort + Threads + Wai
     folder: &SharedFolder<C>,
     passes: ((Pass<C>, Pass<C>), (Pass<C>, Pass<C>)),
 ) -> ((Scanned<C>, Scanned<C>), (Scanned<C>, Scanned<C>))
-    requires { IsPassOf folder.now.locked passes.0.0 × IsPassOf folder.now.locked passes.0.1 × IsPassOf folder.now.locked passes.1.0 × IsPassOf folder.now.locked passes.1.1 }
-    ensures { IsPassOf folder.now.locked result.0.0.pass × IsPassOf folder.now.locked result.0.1.pass × IsPassOf folder.now.locked result.1.0.pass × IsPassOf folder.now.locked result.1.1.pass }
+    requires { IsPassOf folder.now.locked passes.0.0 × IsPassOf folder.now.locked passes.0.1
+        × IsPassOf folder.now.locked passes.1.0 × IsPassOf folder.now.locked passes.1.1 }
+    ensures { IsPassOf folder.now.locked result.0.0.pass
+        × IsPassOf folder.now.locked result.0.1.pass × IsPassOf folder.now.locked result.1.0.pass
+        × IsPassOf folder.now.locked result.1.1.pass }
 {
     let (one, other) = passes;
     join(
         rt,
         || -> (Scanned<C>, Scanned<C>)
             requires { IsPassOf folder.now.locked one.0 × IsPassOf folder.now.locked one.1 }
-            ensures { IsPassOf folder.entry.now.locked result.0.pass × IsPassOf folder.entry.now.locked result.1.pass }
+            ensures { IsPassOf folder.entry.now.locked result.0.pass
+                × IsPassOf folder.entry.now.locked result.1.pass }
         { two_scan(rt, folder, one, "a", "b") },
         || -> (Scanned<C>, Scanned<C>)
             requires { IsPassOf folder.now.locked other.0 × IsPassOf folder.now.locked other.1 }
-            ensures { IsPassOf folder.entry.now.locked result.0.pass × IsPassOf folder.entry.now.locked result.1.pass }
+            ensures { IsPassOf folder.entry.now.locked result.0.pass
+                × IsPassOf folder.entry.now.locked result.1.pass }
         { two_scan(rt, folder, other, "c", "d") },
     )
 }

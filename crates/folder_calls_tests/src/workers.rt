@@ -30,8 +30,11 @@ pub fn record_over<W: FolderCalls>(
     ensures home { W.home calls.new ≡ W.home calls.old }
     ensures grows { IsPrefix (W.view calls.old).seen (W.view calls.new).seen }
     ensures recorded { IfOk result (λ scanned. is_accepted (scan_value scanned) ≡ true →
-        RecordsOver (W.view calls.old) name.now found.now moment (scan_value scanned) (W.view calls.new)) }
-    ensures not_recorded { IfOk result (λ scanned. is_accepted (scan_value scanned) ≡ false → Adds (W.view calls.old) [] (W.view calls.new)) }
+        RecordsOver (W.view calls.old) name.now found.now moment (scan_value scanned)
+        (W.view calls.new)) }
+    ensures not_recorded { IfOk result
+        (λ scanned. is_accepted (scan_value scanned) ≡ false →
+        Adds (W.view calls.old) [] (W.view calls.new)) }
 {
     let read = calls.local(name)?;
     let version = version_of(&read.value);
@@ -48,14 +51,17 @@ pub fn begin_and_give_up<W: FolderCalls>(
     ensures home { W.home calls.new ≡ W.home calls.old }
     ensures grows { IsPrefix (W.view calls.old).seen (W.view calls.new).seen }
     ensures not_begun { IfOk result (λ begun. begun ≡ None →
-        own_entries (W.view calls.old).pass (W.view calls.new).seen ≡ own_entries (W.view calls.old).pass (W.view calls.old).seen) }
+        own_entries (W.view calls.old).pass (W.view calls.new).seen
+        ≡ own_entries (W.view calls.old).pass (W.view calls.old).seen) }
     ensures stray { IfOk result (λ begun. begun ≡ Some false → (t : Token) ×
         (own_entries (W.view calls.old).pass (W.view calls.new).seen
-        ≡ own_entries (W.view calls.old).pass (W.view calls.old).seen ++ own_entry (W.view calls.old) (BeginPull name.now) (Begun t) ∷ [])) }
+        ≡ own_entries (W.view calls.old).pass (W.view calls.old).seen ++ own_entry
+        (W.view calls.old) (BeginPull name.now) (Begun t) ∷ [])) }
     ensures given_up { IfOk result (λ begun. begun ≡ Some true → (t : Token) ×
         (own_entries (W.view calls.old).pass (W.view calls.new).seen
         ≡ own_entries (W.view calls.old).pass (W.view calls.old).seen
-        ++ own_entry (W.view calls.old) (BeginPull name.now) (Begun t) ∷ own_entry (W.view calls.old) (GiveUp t) Closed ∷ [])) }
+        ++ own_entry (W.view calls.old) (BeginPull name.now) (Begun t) ∷ own_entry
+        (W.view calls.old) (GiveUp t) Closed ∷ [])) }
 {
     let At { at: _, value } = calls.begin_pull(name)?;
     match value {

@@ -37,7 +37,9 @@ impl<C: FolderCore + Drop> LockedFolder<C> {
         requires pass { IsPassOf self.now pass.old }
         requires found { IsTrue (is_found found.now.content) }
         ensures pass { IsPassOf self.now pass.new × (pass.new.number ≡ pass.old.number) }
-        ensures tells { Tells (view_of self.now pass.old) (ScanFound name.now (option_copied expected.entry) found.now moment) (told scan_value result) (view_of self.now pass.new) }
+        ensures tells { Tells (view_of self.now pass.old)
+            (ScanFound name.now (option_copied expected.entry) found.now moment)
+            (told scan_value result) (view_of self.now pass.new) }
     {
         let mut journal = self.lend(rt, pass);
         let answer = journal.scan_found(pass.number, name, expected, found, moment);
@@ -57,7 +59,9 @@ impl<C: FolderCore + Drop> LockedFolder<C> {
     ) -> Result<At<Result<ScanAnswer, ScanRefusal>>, AllocError>
         requires pass { IsPassOf self.now pass.old }
         ensures pass { IsPassOf self.now pass.new × (pass.new.number ≡ pass.old.number) }
-        ensures tells { Tells (view_of self.now pass.old) (ScanGone name.now (option_copied expected.entry) moment) (told scan_value result) (view_of self.now pass.new) }
+        ensures tells { Tells (view_of self.now pass.old)
+            (ScanGone name.now (option_copied expected.entry) moment) (told scan_value result)
+            (view_of self.now pass.new) }
     {
         let mut journal = self.lend(rt, pass);
         let answer = journal.scan_gone(pass.number, name, expected, moment);
@@ -75,7 +79,8 @@ impl<C: FolderCore + Drop> LockedFolder<C> {
         requires pass { IsPassOf self.now pass.old }
         requires device { device ≢ (opening_of self.now).me }
         ensures pass { IsPassOf self.now pass.new × (pass.new.number ≡ pass.old.number) }
-        ensures tells { Tells (view_of self.now pass.old) (IndexFull device records) (told index_value result) (view_of self.now pass.new) }
+        ensures tells { Tells (view_of self.now pass.old) (IndexFull device records)
+            (told index_value result) (view_of self.now pass.new) }
     {
         let mut journal = self.lend(rt, pass);
         let answer = journal.index_full(pass.number, device, records);
@@ -93,7 +98,8 @@ impl<C: FolderCore + Drop> LockedFolder<C> {
         requires pass { IsPassOf self.now pass.old }
         requires device { device ≢ (opening_of self.now).me }
         ensures pass { IsPassOf self.now pass.new × (pass.new.number ≡ pass.old.number) }
-        ensures tells { Tells (view_of self.now pass.old) (IndexMore device records) (told index_value result) (view_of self.now pass.new) }
+        ensures tells { Tells (view_of self.now pass.old) (IndexMore device records)
+            (told index_value result) (view_of self.now pass.new) }
     {
         let mut journal = self.lend(rt, pass);
         let answer = journal.index_more(pass.number, device, records);
@@ -110,7 +116,8 @@ impl<C: FolderCore + Drop> LockedFolder<C> {
         requires pass { IsPassOf self.now pass.old }
         requires device { device ≢ (opening_of self.now).me }
         ensures pass { IsPassOf self.now pass.new × (pass.new.number ≡ pass.old.number) }
-        ensures tells { Tells (view_of self.now pass.old) (Forget device) (told index_value result) (view_of self.now pass.new) }
+        ensures tells { Tells (view_of self.now pass.old) (Forget device) (told index_value result)
+            (view_of self.now pass.new) }
     {
         let mut journal = self.lend(rt, pass);
         let answer = journal.forget(pass.number, device);
@@ -128,7 +135,8 @@ impl<C: FolderCore + Drop> LockedFolder<C> {
     ) -> Result<At<Result<BeginAnswer, HistoryFull>>, AllocError>
         requires pass { IsPassOf self.now pass.old }
         ensures pass { IsPassOf self.now pass.new × (pass.new.number ≡ pass.old.number) }
-        ensures tells { Tells (view_of self.now pass.old) (BeginPull name.now) (told begin_value result) (view_of self.now pass.new) }
+        ensures tells { Tells (view_of self.now pass.old) (BeginPull name.now)
+            (told begin_value result) (view_of self.now pass.new) }
     {
         let mut journal = self.lend(rt, pass);
         let answer = journal.begin_pull(pass.number, name);
@@ -145,7 +153,8 @@ impl<C: FolderCore + Drop> LockedFolder<C> {
     ) -> Result<At<Result<Commit, EnterRefusal>>, NotEntered>
         requires pass { IsPassOf self.now pass.old }
         ensures pass { IsPassOf self.now pass.new × (pass.new.number ≡ pass.old.number) }
-        ensures tells { Tells (view_of self.now pass.old) (EnterCommit ticket) (told enter_value result) (view_of self.now pass.new) }
+        ensures tells { Tells (view_of self.now pass.old) (EnterCommit ticket)
+            (told enter_value result) (view_of self.now pass.new) }
         ensures given_back { IfOk result (λ told. IfErr told.value (GivesBack ticket)) }
         ensures out_of_memory { IfErr result (λ refused. refused.0 ≡ ticket) }
     {
@@ -167,7 +176,8 @@ impl<C: FolderCore + Drop> LockedFolder<C> {
         requires pass { IsPassOf self.now pass.old }
         requires assembled { assembled ≡ commit.target }
         ensures pass { IsPassOf self.now pass.new × (pass.new.number ≡ pass.old.number) }
-        ensures tells { Tells (view_of self.now pass.old) (Finish commit assembled) (Some (told_at finish_answer result)) (view_of self.now pass.new) }
+        ensures tells { Tells (view_of self.now pass.old) (Finish commit assembled)
+            (Some (told_at finish_answer result)) (view_of self.now pass.new) }
     {
         let mut journal = self.lend(rt, pass);
         let value = journal.finish(pass.number, commit, assembled);
@@ -183,7 +193,8 @@ impl<C: FolderCore + Drop> LockedFolder<C> {
     pub fn give_up<R: Wait>(&self, rt: &R, pass: &mut Pass<C>, ticket: Ticket) -> At<bool>
         requires pass { IsPassOf self.now pass.old }
         ensures pass { IsPassOf self.now pass.new × (pass.new.number ≡ pass.old.number) }
-        ensures tells { Tells (view_of self.now pass.old) (GiveUp ticket) (Some (told_at close_answer result)) (view_of self.now pass.new) }
+        ensures tells { Tells (view_of self.now pass.old) (GiveUp ticket)
+            (Some (told_at close_answer result)) (view_of self.now pass.new) }
     {
         let mut journal = self.lend(rt, pass);
         let value = journal.give_up(pass.number, ticket);
@@ -199,7 +210,8 @@ impl<C: FolderCore + Drop> LockedFolder<C> {
     pub fn abort<R: Wait>(&self, rt: &R, pass: &mut Pass<C>, commit: Commit) -> At<bool>
         requires pass { IsPassOf self.now pass.old }
         ensures pass { IsPassOf self.now pass.new × (pass.new.number ≡ pass.old.number) }
-        ensures tells { Tells (view_of self.now pass.old) (Abort commit) (Some (told_at close_answer result)) (view_of self.now pass.new) }
+        ensures tells { Tells (view_of self.now pass.old) (Abort commit)
+            (Some (told_at close_answer result)) (view_of self.now pass.new) }
     {
         let mut journal = self.lend(rt, pass);
         let value = journal.abort(pass.number, commit);

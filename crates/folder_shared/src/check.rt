@@ -18,8 +18,10 @@ impl<C: FolderCore + Drop> LockedFolder<C> {
         requires { IsPassOf self.now pass.old }
         ensures pass { IsPassOf self.now pass.new × (pass.new.number ≡ pass.old.number) }
         ensures yes { IfOk result (λ yes. yes ≡ true) }
-        ensures sees { IfOk result (λ _. Sees (view_of self.now pass.old) (view_of self.now pass.new)) }
-        ensures out_of_memory { IfErr result (λ _. view_of self.now pass.new ≡ view_of self.now pass.old) }
+        ensures sees { IfOk result (λ _.
+            Sees (view_of self.now pass.old) (view_of self.now pass.new)) }
+        ensures out_of_memory { IfErr result
+            (λ _. view_of self.now pass.new ≡ view_of self.now pass.old) }
     {
         let journal = self.lend(rt, pass);
         let answer = journal.verify();

@@ -45,7 +45,8 @@ impl<C: FolderCore + Drop> PassCount<C> {
 impl<C: FolderCore + Drop> Pass<C> {
     /// The number of entries that it has seen. O(1).
     pub fn seen(&self) -> u64
-        ensures { (folder : Folder C) → IsPassOf folder self.now → result ≡ length (seen_of self.now) }
+        ensures { (folder : Folder C) → IsPassOf folder self.now →
+            result ≡ length (seen_of self.now) }
     {
         self.seen
     }
@@ -61,7 +62,8 @@ impl<C: FolderCore + Drop> SharedFolder<C> {
         history_limit: u64,
     ) -> Result<SharedFolder<C>, C>
         requires { len (C.state core).pulls ≡ 0 }
-        ensures ok { IfOk result (λ folder. opened_of folder.locked ≡ new_history (C.state core) history_limit 0) }
+        ensures ok { IfOk result (λ folder. opened_of folder.locked
+            ≡ new_history (C.state core) history_limit 0) }
         ensures err { IfErr result (λ back. C.state back ≡ C.state core) }
     {
         let me = core.me();
@@ -99,7 +101,8 @@ impl<C: FolderCore + Drop> SharedFolder<C> {
     /// them.
     pub fn pass<R: Wait>(&self, rt: &R) -> Result<Pass<C>, PassesFull<C>>
         ensures pass { IfOk result (λ pass. IsPassOf self.now.locked pass × (seen_of pass ≡ [])) }
-        ensures number { IfOk result (λ pass. (0 < pass.number) × (pass.number ≤ 2 ^ 32) × ((knows pass).memo.passes ≡ pass.number)) }
+        ensures number { IfOk result (λ pass. (0 < pass.number) × (pass.number ≤ 2 ^ 32)
+            × ((knows pass).memo.passes ≡ pass.number)) }
         ensures full { IfErr result (IsFullOf self.now.locked) }
     {
         let (mut root, loan) = self.root.lift(rt);
@@ -128,9 +131,12 @@ impl<C: FolderCore + Drop> SharedFolder<C> {
     /// passes has seen, without further entries of theirs. Of passes that are not among them it may lack what only they had seen.
     pub fn close<R: Wait>(self, rt: &R, mut passes: Vec<Pass<C>>) -> (C, PassCount<C>)
         requires some { 0 < length passes.items }
-        requires passes { (i : ℕ) (p : _) → get_elem? passes.items i ≡ some p → IsPassOf self.locked p }
-        ensures closes { Closes (opening_of self.locked) (limit_of self.locked) result.1.count (map (view_of self.locked) passes.items) (C.state result.0) }
-        ensures given { (i : ℕ) (p : _) → get_elem? passes.items i ≡ some p → p.number ≤ result.1.count }
+        requires passes { (i : ℕ) (p : _) → get_elem? passes.items i ≡ some p →
+            IsPassOf self.locked p }
+        ensures closes { Closes (opening_of self.locked) (limit_of self.locked) result.1.count
+            (map (view_of self.locked) passes.items) (C.state result.0) }
+        ensures given { (i : ℕ) (p : _) → get_elem? passes.items i ≡ some p →
+            p.number ≤ result.1.count }
         ensures count { IsCountOf self.locked result.1 }
     {
         let SharedFolder { locked, root: _ } = self;
@@ -189,7 +195,8 @@ impl<C: FolderCore + Drop> LockedFolder<C> {
         requires other { IsPassOf self.now other.old }
         ensures one { IsPassOf self.now one.new × (one.new.number ≡ one.old.number) }
         ensures other { IsPassOf self.now other.new × (other.new.number ≡ other.old.number) }
-        ensures meets { Meets (view_of self.now one.old) (view_of self.now other.old) (view_of self.now one.new) (view_of self.now other.new) }
+        ensures meets { Meets (view_of self.now one.old) (view_of self.now other.old)
+            (view_of self.now one.new) (view_of self.now other.new) }
     {
         let blank = self.sender.another::<Blank>(&mut one.token);
         let token = replace(&mut other.token, blank);

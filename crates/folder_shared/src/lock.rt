@@ -44,7 +44,9 @@ pub(crate) fn put<
     mut journal: Journal<C>,
 )
     requires seat { IsSeatAt (sends_on sender.now) token.old }
-    requires rule { Pushes Kept (ruled_capacity (sends_on sender.now)) token.old.id (view token.old) journal (M.then (view token.old) journal) × Learns Kept token.old.id (view token.old) (M.fact (view token.old)) }
+    requires rule { Pushes Kept (ruled_capacity (sends_on sender.now)) token.old.id
+        (view token.old) journal (M.then (view token.old) journal)
+        × Learns Kept token.old.id (view token.old) (M.fact (view token.old)) }
     ensures seat { IsSeatAt (sends_on sender.now) token.new }
     ensures rule { M.then (view token.old) journal (view token.new) }
 {

@@ -25,7 +25,8 @@ pub struct Member<'a, C: FolderCore + Drop, R: Wait> {
     folder: &'a LockedFolder<C>,
     rt: &'a R,
     pass: Pass<C>,
-    ghost of: { IsPassOf folder.now pass } by { Prim.hlevel (props, codes, coded_history, coded_folder) },
+    ghost of: { IsPassOf folder.now pass } by { Prim.hlevel
+        (props, codes, coded_history, coded_folder) },
 }
 
 impl<'a, C: FolderCore + Drop, R: Wait> Member<'a, C, R> {

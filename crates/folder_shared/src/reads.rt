@@ -26,7 +26,8 @@ impl<C: FolderCore + Drop> LockedFolder<C> {
     ) -> Result<At<Option<Best>>, AllocError>
         requires { IsPassOf self.now pass.old }
         ensures pass { IsPassOf self.now pass.new × (pass.new.number ≡ pass.old.number) }
-        ensures reads { ReadsThere (view_of self.now pass.old) (BestOf name.now) (told (λ b. option_map found b) result) (view_of self.now pass.new) }
+        ensures reads { ReadsThere (view_of self.now pass.old) (BestOf name.now)
+            (told (λ b. option_map found b) result) (view_of self.now pass.new) }
     {
         let journal = self.lend(rt, pass);
         let answer = journal.core().best(name);
@@ -44,7 +45,9 @@ impl<C: FolderCore + Drop> LockedFolder<C> {
     ) -> Result<At<Items<Best>>, AllocError>
         requires { IsPassOf self.now pass.old }
         ensures pass { IsPassOf self.now pass.new × (pass.new.number ≡ pass.old.number) }
-        ensures reads { ReadsThere (view_of self.now pass.old) (Bests (option_copied after.entry) limit) (told (λ page. map found page) result) (view_of self.now pass.new) }
+        ensures reads { ReadsThere (view_of self.now pass.old)
+            (Bests (option_copied after.entry) limit) (told (λ page. map found page) result)
+            (view_of self.now pass.new) }
     {
         let journal = self.lend(rt, pass);
         let answer = journal.core().bests(after, limit);
@@ -60,7 +63,8 @@ impl<C: FolderCore + Drop> LockedFolder<C> {
     ) -> Result<At<Option<Record>>, AllocError>
         requires { IsPassOf self.now pass.old }
         ensures pass { IsPassOf self.now pass.new × (pass.new.number ≡ pass.old.number) }
-        ensures reads { ReadsThere (view_of self.now pass.old) (Local name.now) (told (λ r. r) result) (view_of self.now pass.new) }
+        ensures reads { ReadsThere (view_of self.now pass.old) (Local name.now)
+            (told (λ r. r) result) (view_of self.now pass.new) }
     {
         let journal = self.lend(rt, pass);
         let answer = journal.core().local(name);
@@ -79,7 +83,9 @@ impl<C: FolderCore + Drop> LockedFolder<C> {
     ) -> Result<At<Items<SafeName>>, AllocError>
         requires { IsPassOf self.now pass.old }
         ensures pass { IsPassOf self.now pass.new × (pass.new.number ≡ pass.old.number) }
-        ensures reads { ReadsThere (view_of self.now pass.old) (Need (option_copied after.entry) limit) (told (λ names. names) result) (view_of self.now pass.new) }
+        ensures reads { ReadsThere (view_of self.now pass.old)
+            (Need (option_copied after.entry) limit) (told (λ names. names) result)
+            (view_of self.now pass.new) }
     {
         let journal = self.lend(rt, pass);
         let answer = journal.core().need(after, limit);
@@ -97,7 +103,8 @@ impl<C: FolderCore + Drop> LockedFolder<C> {
     ) -> Result<At<Items<Record>>, AllocError>
         requires { IsPassOf self.now pass.old }
         ensures pass { IsPassOf self.now pass.new × (pass.new.number ≡ pass.old.number) }
-        ensures reads { ReadsThere (view_of self.now pass.old) (LocalSince sequence limit) (told (λ page. page) result) (view_of self.now pass.new) }
+        ensures reads { ReadsThere (view_of self.now pass.old) (LocalSince sequence limit)
+            (told (λ page. page) result) (view_of self.now pass.new) }
     {
         let journal = self.lend(rt, pass);
         let answer = journal.core().local_since(sequence, limit);
@@ -113,7 +120,8 @@ impl<C: FolderCore + Drop> LockedFolder<C> {
     ) -> Result<At<Option<Place>>, AllocError>
         requires { IsPassOf self.now pass.old }
         ensures pass { IsPassOf self.now pass.new × (pass.new.number ≡ pass.old.number) }
-        ensures reads { ReadsThere (view_of self.now pass.old) (FindBlock hash.now) (told (λ place. place) result) (view_of self.now pass.new) }
+        ensures reads { ReadsThere (view_of self.now pass.old) (FindBlock hash.now)
+            (told (λ place. place) result) (view_of self.now pass.new) }
     {
         let journal = self.lend(rt, pass);
         let answer = journal.core().find_block(hash);
@@ -125,7 +133,8 @@ impl<C: FolderCore + Drop> LockedFolder<C> {
     pub fn known<R: Wait>(&self, rt: &R, pass: &mut Pass<C>, device: DeviceId) -> At<u64>
         requires { IsPassOf self.now pass.old }
         ensures pass { IsPassOf self.now pass.new × (pass.new.number ≡ pass.old.number) }
-        ensures reads { ReadsThere (view_of self.now pass.old) (KnownOf device) (Some (told_at (λ sequence. sequence) result)) (view_of self.now pass.new) }
+        ensures reads { ReadsThere (view_of self.now pass.old) (KnownOf device)
+            (Some (told_at (λ sequence. sequence) result)) (view_of self.now pass.new) }
     {
         let journal = self.lend(rt, pass);
         let value = journal.core().known(device);
@@ -140,7 +149,8 @@ impl<C: FolderCore + Drop> LockedFolder<C> {
     pub fn counts<R: Wait>(&self, rt: &R, pass: &mut Pass<C>) -> At<Counts>
         requires { IsPassOf self.now pass.old }
         ensures pass { IsPassOf self.now pass.new × (pass.new.number ≡ pass.old.number) }
-        ensures reads { ReadsThere (view_of self.now pass.old) CountAll (Some (told_at (λ counts. counts) result)) (view_of self.now pass.new) }
+        ensures reads { ReadsThere (view_of self.now pass.old) CountAll
+            (Some (told_at (λ counts. counts) result)) (view_of self.now pass.new) }
     {
         let journal = self.lend(rt, pass);
         let value = journal.core().counts();

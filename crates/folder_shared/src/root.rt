@@ -30,7 +30,8 @@ impl<C: FolderCore + Drop> TableRule<Option<Token<C>>, Origin<C>, Origin<C>> for
 pub struct Lifts;
 
 impl<C: FolderCore + Drop> Play<Option<Token<C>>, Origin<C>> for Lifts {
-    ghost then = { λ st m found n. (found ≡ 0 → Seized (IsRootOf m.0) n) × (found ≡ 2 → n.1 ≡ (0, None) ∷ []) };
+    ghost then = { λ st m found n. (found ≡ 0 → Seized (IsRootOf m.0) n)
+        × (found ≡ 2 → n.1 ≡ (0, None) ∷ []) };
 }
 
 /// A store of 0, which leaves the root there.

@@ -45,7 +45,8 @@ pub struct SharedFolder<C: FolderCore + Drop> {
     pub(crate) locked: LockedFolder<C>,
     pub(crate) root: Root<C>,
     ghost of: { IsSeatAt (sends_on locked.sender) root.table.shared.key.seat.value } by { Prim.hlevel (props, codes, coded_history, coded_folder) },
-    ghost same: { root.table.shared.key.first.value ≡ locked.mark.view } by { Prim.hlevel (props, codes, coded_history, coded_folder) },
+    ghost same: { root.table.shared.key.first.value
+        ≡ locked.mark.view } by { Prim.hlevel (props, codes, coded_history, coded_folder) },
 }
 
 /// One caller of a shared folder: its number, and how much of the history it has seen.

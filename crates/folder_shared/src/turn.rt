@@ -36,9 +36,12 @@ impl<C: FolderCore + Drop> LockedFolder<C> {
         journal: Journal<C>,
         answer: Result<T, E>,
     ) -> Result<At<T>, E>
-        requires { (before : PassOf C) × IsPassOf self.now before × IsHeld self.now before pass.old journal }
+        requires { (before : PassOf C) × IsPassOf self.now before
+            × IsHeld self.now before pass.old journal }
         ensures pass { IsPassOf self.now pass.new × (pass.new.number ≡ pass.old.number) }
-        ensures given_back { (before : PassOf C) → IsPassOf self.now before → IsHeld self.now before pass.old journal → IsGivenBack self.now before journal answer result pass.new }
+        ensures given_back { (before : PassOf C) → IsPassOf self.now before →
+            IsHeld self.now before pass.old journal →
+            IsGivenBack self.now before journal answer result pass.new }
     {
         self.put_back(rt, pass, journal, answer)
     }
@@ -52,9 +55,14 @@ impl<C: FolderCore + Drop> LockedFolder<C> {
         journal: Journal<C>,
         answer: Result<T, E>,
     ) -> Result<At<T>, E>
-        requires { (before : PassOf C) × (x : History) × (f : T → AnswerOf) × (change : ChangeOf) × IsPassOf self.now before × IsHeld self.now before pass.old x × Enters x pass.old.number change (answered f answer) journal }
+        requires { (before : PassOf C) × (x : History) × (f : T → AnswerOf) × (change : ChangeOf)
+            × IsPassOf self.now before × IsHeld self.now before pass.old x
+            × Enters x pass.old.number change (answered f answer) journal }
         ensures pass { IsPassOf self.now pass.new × (pass.new.number ≡ pass.old.number) }
-        ensures tells { (before : PassOf C) (x : History) (f : T → AnswerOf) (change : ChangeOf) → IsPassOf self.now before → IsHeld self.now before pass.old x → Enters x pass.old.number change (answered f answer) journal → Tells (view_of self.now before) change (told f result) (view_of self.now pass.new) }
+        ensures tells { (before : PassOf C) (x : History) (f : T → AnswerOf) (change : ChangeOf) →
+            IsPassOf self.now before → IsHeld self.now before pass.old x →
+            Enters x pass.old.number change (answered f answer) journal →
+            Tells (view_of self.now before) change (told f result) (view_of self.now pass.new) }
         ensures answer { IfOk result (λ told. answer ≡ Ok told.value) }
         ensures fault { IfErr result (λ fault. answer ≡ Err fault) }
     {
@@ -69,9 +77,12 @@ impl<C: FolderCore + Drop> LockedFolder<C> {
         journal: Journal<C>,
         answer: Result<T, E>,
     ) -> Result<At<T>, E>
-        requires { (before : PassOf C) × (x : History) × IsPassOf self.now before × IsHeld self.now before pass.old x × MayPutBack x before.number answer journal }
+        requires { (before : PassOf C) × (x : History) × IsPassOf self.now before
+            × IsHeld self.now before pass.old x × MayPutBack x before.number answer journal }
         ensures pass { IsPassOf self.now pass.new × (pass.new.number ≡ pass.old.number) }
-        ensures put_back { (before : PassOf C) (x : History) → IsPassOf self.now before → IsHeld self.now before pass.old x → MayPutBack x before.number answer journal → IsPutBack self.now before journal answer result pass.new }
+        ensures put_back { (before : PassOf C) (x : History) → IsPassOf self.now before →
+            IsHeld self.now before pass.old x → MayPutBack x before.number answer journal →
+            IsPutBack self.now before journal answer result pass.new }
     {
         let at = journal.len();
         put::<C, Puts, R>(rt, &self.sender, &mut pass.token, journal);

@@ -25,18 +25,23 @@ pub fn calls_share_one_history()
         IsPrefix old.seen new.seen
         × (new.opening ≡ old.opening) × (new.limit ≡ old.limit) × (new.pass ≡ old.pass)
         × (told.at ≡ length new.seen) × IsLegalView new }
-    ensures entered { (old new : View) (c : Change) (told : At Answer) → Tells old c (Some told) new → is_accepted told.value ≡ true →
-        (own_entries old.pass new.seen ≡ own_entries old.pass old.seen ++ own_entry old c told.value ∷ [])
+    ensures entered { (old new : View) (c : Change) (told : At Answer) →
+        Tells old c (Some told) new → is_accepted told.value ≡ true →
+        (own_entries old.pass new.seen
+        ≡ own_entries old.pass old.seen ++ own_entry old c told.value ∷ [])
         × (front : List Entry) × (new.seen ≡ front ++ own_entry old c told.value ∷ [])
         × IsPrefix old.seen front × (told.value ≡ shared_answer old.limit old.opening front c) }
-    ensures legal { (passes limit : ℕ) (s : FolderState) (es : List Entry) (e : Entry) → IsLegal passes s es →
+    ensures legal { (passes limit : ℕ) (s : FolderState) (es : List Entry) (e : Entry) →
+        IsLegal passes s es →
         1 ≤ e.pass → e.pass ≤ passes → MayChange s.me e.change → is_accepted e.answer ≡ true →
         e.answer ≡ shared_answer limit s es e.change → IsLegal passes s (es ++ e ∷ []) }
-    ensures not_accepted { (old new : View) (c : Change) (told : At Answer) → Tells old c (Some told) new → is_accepted told.value ≡ false →
+    ensures not_accepted { (old new : View) (c : Change) (told : At Answer) →
+        Tells old c (Some told) new → is_accepted told.value ≡ false →
         (own_entries old.pass new.seen ≡ own_entries old.pass old.seen)
         × (told.value ≡ shared_answer old.limit old.opening new.seen c) }
     ensures out_of_memory { (old new : View) (c : Change) → Tells old c None new → new ≡ old }
-    ensures read { (old new : View) (q : Query) (told : At (Reply q)) → ReadsThere old q (Some told) new →
+    ensures read { (old new : View) (q : Query) (told : At (Reply q)) →
+        ReadsThere old q (Some told) new →
         IsPrefix old.seen new.seen
         × (new.opening ≡ old.opening) × (new.limit ≡ old.limit) × (new.pass ≡ old.pass)
         × (told.at ≡ length new.seen) × IsLegalView new
@@ -54,19 +59,25 @@ pub fn views_are_of_folders()
         × (passes : ℕ) × (1 ≤ v.pass) × (v.pass ≤ passes) × IsLegal passes v.opening v.seen }
     ensures folder { (v : View) → IsLegalView v → IsFolder (state_after v.opening v.seen) }
     ensures ends { (v : View) (t : Token) (assembled : FileRecord) → IsLegalView v →
-        (shared_answer v.limit v.opening v.seen (Finish t assembled) ≡ (step (state_after v.opening v.seen) (Finish t assembled)).0)
-        × (shared_answer v.limit v.opening v.seen (GiveUp t) ≡ (step (state_after v.opening v.seen) (GiveUp t)).0)
-        × (shared_answer v.limit v.opening v.seen (Abort t) ≡ (step (state_after v.opening v.seen) (Abort t)).0) }
+        (shared_answer v.limit v.opening v.seen (Finish t assembled)
+        ≡ (step (state_after v.opening v.seen) (Finish t assembled)).0)
+        × (shared_answer v.limit v.opening v.seen (GiveUp t)
+        ≡ (step (state_after v.opening v.seen) (GiveUp t)).0)
+        × (shared_answer v.limit v.opening v.seen (Abort t)
+        ≡ (step (state_after v.opening v.seen) (Abort t)).0) }
 {}
 
 /// Wherever the history went on without the caller, to one that a folder had, the caller's change may be made there, or be
 /// answered there without being made, and its reads may be answered there.
 pub fn calls_may_be_answered_at_any_point()
     ensures made { (old : View) (es : List Entry) (c : Change) (a : Answer) → IsPrefix old.seen es →
-        own_entries old.pass es ≡ own_entries old.pass old.seen → IsLegalView (seeing old es) → MayChange old.opening.me c →
+        own_entries old.pass es ≡ own_entries old.pass old.seen → IsLegalView (seeing old es) →
+        MayChange old.opening.me c →
         a ≡ shared_answer old.limit old.opening es c → is_accepted a ≡ true →
-        Tells old c (Some (record { at = length es + 1; value = a })) (seeing old (es ++ own_entry old c a ∷ [])) }
-    ensures declined { (old : View) (es : List Entry) (c : Change) (a : Answer) → IsPrefix old.seen es →
+        Tells old c (Some (record { at = length es + 1; value = a }))
+        (seeing old (es ++ own_entry old c a ∷ [])) }
+    ensures declined { (old : View) (es : List Entry) (c : Change) (a : Answer) →
+        IsPrefix old.seen es →
         own_entries old.pass es ≡ own_entries old.pass old.seen → IsLegalView (seeing old es) →
         a ≡ shared_answer old.limit old.opening es c → is_accepted a ≡ false →
         Tells old c (Some (record { at = length es; value = a })) (seeing old es) }

@@ -21,7 +21,8 @@ ghost use Rattle.folder_calls.specs.Shared.{Meets, ReadsThere, Tells, View, own_
 /// No valid version that a device announces dominates the best that a read returns, at the point of the history that the caller then
 /// knows.
 pub fn no_announced_version_dominates_the_best()
-    ensures { (old new : View) (n : Name) (told : At (Option Found)) (found : Found) (d : Identity) (r : FileRecord) →
+    ensures { (old new : View) (n : Name) (told : At (Option Found)) (found : Found) (d : Identity)
+        (r : FileRecord) →
         ReadsThere old (Best n) (Some told) new → told.value ≡ Some found →
         get (state_after old.opening new.seen).announced (key n d) ≡ Some r → IsTrue (is_valid r) →
         ¬ (Dominates r.version found.0.version) }
@@ -29,18 +30,23 @@ pub fn no_announced_version_dominates_the_best()
 
 /// A scan that is recorded and a pull that is finished take the sequence after the last one before them, and it is the last one then.
 pub fn each_sequence_is_the_next()
-    ensures { (old new : View) (c : Change) (told : At Answer) (k : ℕ) → Tells old c (Some told) new →
+    ensures { (old new : View) (c : Change) (told : At Answer) (k : ℕ) →
+        Tells old c (Some told) new →
         (told.value ≡ Recorded k) ⊎ (told.value ≡ Done k) →
-        (front : List Entry) × IsPrefix old.seen front × (new.seen ≡ front ++ own_entry old c told.value ∷ [])
-        × (k ≡ (state_after old.opening front).last + 1) × ((state_after old.opening new.seen).last ≡ k) }
+        (front : List Entry) × IsPrefix old.seen front
+        × (new.seen ≡ front ++ own_entry old c told.value ∷ [])
+        × (k ≡ (state_after old.opening front).last + 1)
+        × ((state_after old.opening new.seen).last ≡ k) }
 {}
 
 /// A finish ends a pull over the local version on which it began, which is the local one still, with its target, of each of whose
 /// blocks some bytes have the size and the digest.
 pub fn finishes_end_pulls()
-    ensures { (old new : View) (commit : Token) (assembled : FileRecord) (told : At Answer) (k : ℕ) →
+    ensures { (old new : View) (commit : Token) (assembled : FileRecord) (told : At Answer)
+        (k : ℕ) →
         Tells old (Finish commit assembled) (Some told) new → told.value ≡ Done k →
-        (front : List Entry) × IsPrefix old.seen front × (new.seen ≡ front ++ own_entry old (Finish commit assembled) told.value ∷ [])
+        (front : List Entry) × IsPrefix old.seen front
+        × (new.seen ≡ front ++ own_entry old (Finish commit assembled) told.value ∷ [])
         × EndsPull old.opening front commit assembled }
 {}
 

@@ -20,28 +20,33 @@ ghost use Rattle.folder_core.specs.Steps.{MayChange, step, is_accepted};
 /// digest; and each pull is begun over the local record, for the best.
 pub fn commits_are_legal()
     ensures finish { CommitsAreLegal }
-    ensures begin { (passes : ℕ) (opening : FolderState) (front rest : List Entry) (e : Entry) (t : Token) →
+    ensures begin { (passes : ℕ) (opening : FolderState) (front rest : List Entry) (e : Entry)
+        (t : Token) →
         IsLegal passes opening (front ++ e ∷ rest) → e.answer ≡ Begun t →
         (t.base ≡ local (state_after opening front) t.name)
-        × (b : Announcement) × (best (entries (state_after opening front).announced) t.name ≡ Some b) × (t.target ≡ b.1) }
+        × (b : Announcement) × (best (entries (state_after opening front).announced) t.name
+        ≡ Some b) × (t.target ≡ b.1) }
 {}
 
 /// The empty history is legal, and one more entry keeps a history legal exactly where its pass was given out, its caller
 /// kept the change's conditions, and its answer is accepted and is the step's after the entries before it.
 pub fn legal_histories_grow()
     ensures none { (passes : ℕ) (s : FolderState) → IsLegal passes s [] × (state_after s [] ≡ s) }
-    ensures one_more { (passes : ℕ) (s : FolderState) (es : List Entry) (e : Entry) → IsLegal passes s (es ++ e ∷ []) ↔
+    ensures one_more { (passes : ℕ) (s : FolderState) (es : List Entry) (e : Entry) →
+        IsLegal passes s (es ++ e ∷ []) ↔
         (IsLegal passes s es × (1 ≤ e.pass) × (e.pass ≤ passes) × MayChange s.me e.change
         × ((step (state_after s es) e.change).0 ≡ e.answer) × IsTrue (is_accepted e.answer)) }
     ensures leads { (s : FolderState) (es : List Entry) (e : Entry) →
         state_after s (es ++ e ∷ []) ≡ (step (state_after s es) e.change).1 }
     ensures replays { (passes : ℕ) (s t : FolderState) (es : List Entry) →
-        IsReplay passes s es t ↔ ((len s.pulls ≡ 0) × IsLegal passes s es × (state_after s es ≡ t)) }
+        IsReplay passes s es t ↔ ((len s.pulls ≡ 0) × IsLegal passes s es
+        × (state_after s es ≡ t)) }
 {}
 
 /// A legal history of a folder leads to a folder.
 pub fn histories_keep_folders()
-    ensures { (passes : ℕ) (s : FolderState) (es : List Entry) → IsFolder s → IsLegal passes s es → IsFolder (state_after s es) }
+    ensures { (passes : ℕ) (s : FolderState) (es : List Entry) → IsFolder s → IsLegal passes s es →
+        IsFolder (state_after s es) }
 {}
 
 /// After a history a change is answered as the step answers, except with HistoryFull where it would be accepted and its
@@ -50,7 +55,8 @@ pub fn histories_keep_folders()
 pub fn histories_keep_room()
     ensures full { (limit : ℕ) (s : FolderState) (es : List Entry) (c : Change) →
         is_accepted (step (state_after s es) c).0 ≡ true →
-        limit < length es + 1 + len (step (state_after s es) c).1.pulls → shared_answer limit s es c ≡ HistoryFull }
+        limit < length es + 1 + len (step (state_after s es) c).1.pulls →
+        shared_answer limit s es c ≡ HistoryFull }
     ensures answered { (limit : ℕ) (s : FolderState) (es : List Entry) (c : Change) →
         (is_accepted (step (state_after s es) c).0 ≡ false)
         ⊎ (length es + 1 + len (step (state_after s es) c).1.pulls ≤ limit) →
@@ -58,9 +64,11 @@ pub fn histories_keep_room()
     ensures left { (limit : ℕ) (s : FolderState) (es : List Entry) (c : Change) →
         is_accepted (shared_answer limit s es c) ≡ true →
         length es + 1 + len (step (state_after s es) c).1.pulls ≤ limit }
-    ensures ends { (limit : ℕ) (s : FolderState) (es : List Entry) (t : Token) (assembled : FileRecord) →
+    ensures ends { (limit : ℕ) (s : FolderState) (es : List Entry) (t : Token)
+        (assembled : FileRecord) →
         length es + len (state_after s es).pulls ≤ limit →
-        (shared_answer limit s es (Finish t assembled) ≡ (step (state_after s es) (Finish t assembled)).0)
+        (shared_answer limit s es (Finish t assembled)
+        ≡ (step (state_after s es) (Finish t assembled)).0)
         × (shared_answer limit s es (GiveUp t) ≡ (step (state_after s es) (GiveUp t)).0)
         × (shared_answer limit s es (Abort t) ≡ (step (state_after s es) (Abort t)).0) }
 {}
@@ -78,19 +86,25 @@ pub fn own_entries_are_those_of_the_pass()
 /// are those in the one and then those in the other. Entries and open pulls together never become fewer, so a beginning has
 /// room if the whole has.
 pub fn histories_may_be_divided()
-    ensures legal { (passes : ℕ) (s : FolderState) (es fs : List Entry) → IsLegal passes s (es ++ fs) ↔
+    ensures legal { (passes : ℕ) (s : FolderState) (es fs : List Entry) →
+        IsLegal passes s (es ++ fs) ↔
         (IsLegal passes s es × IsLegal passes (state_after s es) fs) }
-    ensures leads { (s : FolderState) (es fs : List Entry) → state_after s (es ++ fs) ≡ state_after (state_after s es) fs }
-    ensures own { (pass : ℕ) (es fs : List Entry) → own_entries pass (es ++ fs) ≡ own_entries pass es ++ own_entries pass fs }
+    ensures leads { (s : FolderState) (es fs : List Entry) →
+        state_after s (es ++ fs) ≡ state_after (state_after s es) fs }
+    ensures own { (pass : ℕ) (es fs : List Entry) →
+        own_entries pass (es ++ fs) ≡ own_entries pass es ++ own_entries pass fs }
     ensures room { (s : FolderState) (es fs : List Entry) →
-        length es + len (state_after s es).pulls ≤ length (es ++ fs) + len (state_after s (es ++ fs)).pulls }
-    ensures view { (v : View) (es fs : List Entry) → IsLegalView (seeing v (es ++ fs)) → IsLegalView (seeing v es) }
+        length es + len (state_after s es).pulls
+        ≤ length (es ++ fs) + len (state_after s (es ++ fs)).pulls }
+    ensures view { (v : View) (es fs : List Entry) → IsLegalView (seeing v (es ++ fs)) →
+        IsLegalView (seeing v es) }
 {}
 
 /// Along a legal history a local record stays, or another comes in its place whose sequence is greater than every sequence before;
 /// none disappears. The last sequence never falls.
 pub fn local_records_go_on()
-    ensures records { (passes : ℕ) (s : FolderState) (es : List Entry) (n : Name) → IsLegal passes s es →
+    ensures records { (passes : ℕ) (s : FolderState) (es : List Entry) (n : Name) →
+        IsLegal passes s es →
         (local (state_after s es) n ≡ local s n)
         ⊎ ((r : FileRecord) × (local (state_after s es) n ≡ Some r) × (s.last < r.sequence)) }
     ensures last { (s : FolderState) (es : List Entry) → s.last ≤ (state_after s es).last }

@@ -18,25 +18,33 @@ pub fn callers_who_meet_know_the_longer_history()
         (own_entries one.pass one2.seen ≡ own_entries one.pass one.seen)
         × (own_entries other.pass other2.seen ≡ own_entries other.pass other.seen) }
     ensures legal { (one other one2 other2 : View) → Meets one other one2 other2 →
-        one.opening ≡ other.opening → one.limit ≡ other.limit → IsLegalView one → IsLegalView other →
+        one.opening ≡ other.opening → one.limit ≡ other.limit → IsLegalView one →
+        IsLegalView other →
         IsLegalView one2 × IsLegalView other2 }
     ensures may { (one other : View) → IsPrefix one.seen other.seen →
         own_entries one.pass other.seen ≡ own_entries one.pass one.seen →
-        Meets one other (seeing one other.seen) other × Meets other one other (seeing one other.seen) }
+        Meets one other (seeing one other.seen) other
+        × Meets other one other (seeing one other.seen) }
 {}
 
 /// A folder is closed in a state that follows from what each of the callers had seen, by entries that are not its own, and is a
 /// folder with room for what ends its open pulls. A caller that has the only pass had seen all. A folder may be closed after
 /// any legal history that goes on from what its callers had seen.
 pub fn closing_keeps_what_callers_saw()
-    ensures follows { (opening : FolderState) (limit passes : ℕ) (callers : List View) (end : FolderState) (v : View) →
+    ensures follows { (opening : FolderState) (limit passes : ℕ) (callers : List View)
+        (end : FolderState) (v : View) →
         Closes opening limit passes callers end → Contains callers v →
-        (rest : List Entry) × (end ≡ state_after v.opening (v.seen ++ rest)) × (own_entries v.pass rest ≡ []) }
-    ensures folder { (opening : FolderState) (limit passes : ℕ) (callers : List View) (end : FolderState) →
-        Closes opening limit passes callers end → IsFolder opening → IsFolder end × (len end.pulls ≤ limit) }
+        (rest : List Entry) × (end ≡ state_after v.opening (v.seen ++ rest))
+        × (own_entries v.pass rest ≡ []) }
+    ensures folder { (opening : FolderState) (limit passes : ℕ) (callers : List View)
+        (end : FolderState) →
+        Closes opening limit passes callers end → IsFolder opening → IsFolder end
+        × (len end.pulls ≤ limit) }
     ensures only { (opening : FolderState) (limit : ℕ) (v : View) (end : FolderState) →
         Closes opening limit 1 (v ∷ []) end → end ≡ state_after v.opening v.seen }
-    ensures may { (passes : ℕ) (v : View) (es : List Entry) → IsPrefix v.seen es → own_entries v.pass es ≡ own_entries v.pass v.seen →
+    ensures may { (passes : ℕ) (v : View) (es : List Entry) → IsPrefix v.seen es →
+        own_entries v.pass es ≡ own_entries v.pass v.seen →
         IsLegal passes v.opening es → length es + len (state_after v.opening es).pulls ≤ v.limit →
-        (1 < passes) ⊎ (es ≡ v.seen) → Closes v.opening v.limit passes (v ∷ []) (state_after v.opening es) }
+        (1 < passes) ⊎ (es ≡ v.seen) →
+        Closes v.opening v.limit passes (v ∷ []) (state_after v.opening es) }
 {}

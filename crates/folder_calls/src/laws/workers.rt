@@ -1,0 +1,46 @@
+//! What a caller of a folder with a history may say of several of its calls.
+ghost use Rattle.std.specs.Prelude.{[], ◌∷◌, ◌++◌, ◌≡◌, ◌⊎◌, ◌↔◌, List, Some, false, filter, true};
+ghost use mathlib.Core.List.{IsPrefix};
+ghost use Rattle.folder_core.specs.States.{HaveOwnNumbers};
+ghost use Rattle.folder_core.specs.Steps.{is_accepted, step};
+ghost use Rattle.folder_core.specs.declared.answer.Answer.{Answer};
+ghost use Rattle.folder_core.specs.declared.answer.Answer.TheVariants.{HistoryFull};
+ghost use Rattle.folder_core.specs.declared.change.Change.{Change};
+ghost use Rattle.folder_calls.specs.Adds.{Adds, Asked, Asks};
+ghost use Rattle.folder_calls.specs.Histories.{state_after};
+ghost use Rattle.folder_calls.specs.Shared.{Gets, IsLegalView, Sees, Tells, View, now, own_entry};
+ghost use Rattle.folder_calls.specs.declared.at.At.{At};
+ghost use Rattle.folder_calls.specs.declared.entry.Entry.{Entry};
+
+/// Changes that a caller asks for one after another are one list of changes with their answers, and add the entries of the accepted
+/// ones to the caller's, in their order.
+pub fn changes_are_asked_in_order()
+    ensures one { (old new : View) (c : Change) (told : At Answer) → Tells old c (Some told) new →
+        Asks old ((c, told.value) ∷ []) new }
+    ensures together { (xs ys : List Asked) (one two three : View) → Asks one xs two →
+        Asks two ys three → Asks one (xs ++ ys) three }
+    ensures adds { (asked : List Asked) (old new : View) → Asks old asked new →
+        Adds old (filter (λ m. is_accepted m.1) asked) new }
+{}
+
+/// What a caller's calls add to its entries goes together, and what it only sees adds none.
+pub fn entries_add_up()
+    ensures seen { (old new : View) → Sees old new ↔ Adds old [] new }
+    ensures together { (one two three : View) (xs ys : List Asked) → Adds one xs two →
+        Adds two ys three → Adds one (xs ++ ys) three }
+{}
+
+/// An accepted change gets the answer of the folder after what the caller saw just before its entry, and leaves it as the change leaves
+/// it. Any other answer is `HistoryFull`, or that of the folder where what the caller has seen ends. No two pulls that are open
+/// there have the same number.
+pub fn answers_are_those_of_the_folder()
+    ensures accepted { (old new : View) (c : Change) (a : Answer) → Gets old c a new →
+        is_accepted a ≡ true →
+        (front : List Entry) × IsPrefix old.seen front
+        × (new.seen ≡ front ++ own_entry old c a ∷ [])
+        × ((step (state_after old.opening front) c).0 ≡ a)
+        × ((step (state_after old.opening front) c).1 ≡ now new) }
+    ensures other { (old new : View) (c : Change) (a : Answer) → Gets old c a new →
+        is_accepted a ≡ false → (a ≡ HistoryFull) ⊎ ((step (now new) c).0 ≡ a) }
+    ensures numbers { (v : View) → IsLegalView v → HaveOwnNumbers (now v) }
+{}
