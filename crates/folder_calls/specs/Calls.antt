@@ -6,7 +6,6 @@ use Rattle.folder_core.specs.declared.best.Best.{Best}
 use Rattle.folder_core.specs.declared.scan.ScanAnswer.{ScanAnswer}
 use Rattle.folder_core.specs.declared.scan.ScanAnswer.TheVariants as scan
 use Rattle.folder_core.specs.declared.token.Token.{Token}
-use Rattle.sync_record.specs.Records.{Name}
 use Rattle.folder_core.specs.Reads.{Found}
 use Rattle.folder_calls.specs.declared.at.At.{At}
 use Rattle.folder_calls.specs.declared.pull.BeginAnswer.{BeginAnswer}
@@ -45,11 +44,6 @@ begin_value (Ok begin.NotNeeded) = NotNeeded
 begin_value (Ok begin.Busy) = Busy
 begin_value (Ok begin.Unsupported) = Unsupported
 begin_value (Err full) = HistoryFull
-
--- a ticket that is begun has the name that was asked for
-abbrev pub IsOfName : Name → BeginAnswer → Type 0
-IsOfName n (begin.Begun ticket) = ticket.name ≡ n
-IsOfName n _ = ⊤
 
 abbrev pub enter_value : Result Token EnterRefusal → Answer
 enter_value (Ok commit) = Entered commit

@@ -3,7 +3,7 @@ ghost use Rattle.folder_core.specs.Calls.{close_answer, finish_answer};
 ghost use Rattle.folder_core.specs.Reads.{Bests, Best as BestOf, CountAll, FindBlock, Known, Local, LocalSince, Need};
 ghost use Rattle.folder_core.specs.Steps.{is_found};
 ghost use Rattle.folder_core.specs.declared.change.Change.TheVariants.{Forget, IndexFull, IndexMore, ScanFound, ScanGone, BeginPull, EnterCommit, Finish, GiveUp, Abort};
-ghost use Rattle.folder_calls.specs.Calls.{GivesBack, IsOfName, begin_value, enter_value, found, index_value, scan_value, told, told_at};
+ghost use Rattle.folder_calls.specs.Calls.{GivesBack, begin_value, enter_value, found, index_value, scan_value, told, told_at};
 ghost use Rattle.folder_calls.specs.Shared.{IsLegalView, ReadsThere, Tells, View};
 
 use crate::{At, BeginAnswer, Commit, EnterRefusal, HistoryFull, NotEntered, ScanRefusal, Ticket};
@@ -105,8 +105,7 @@ pub trait FolderCalls {
     ) -> Result<At<Result<BeginAnswer, HistoryFull>>, AllocError>
         ensures home { home self.new ≡ home self.old }
         ensures tells { Tells (view self.old) (BeginPull name.now) (told begin_value result)
-            (view self.new) }
-        ensures begun { IfOk result (λ told. IfOk told.value (IsOfName name.now)) };
+            (view self.new) };
 
     /// Enters the commit of a pull, and fails with the first of these that applies: `Stray`, `LocalMoved`, `Superseded`,
     /// `SequenceFull` and `HistoryFull`. Every ticket but a stray one comes back. The commit has the number, name, base and target
@@ -118,7 +117,6 @@ pub trait FolderCalls {
         ensures home { home self.new ≡ home self.old }
         ensures tells { Tells (view self.old) (EnterCommit ticket) (told enter_value result)
             (view self.new) }
-        ensures entered { IfOk result (λ told. IfOk told.value (λ commit. commit ≡ ticket)) }
         ensures given_back { IfOk result (λ told. IfErr told.value (GivesBack ticket)) }
         ensures out_of_memory { IfErr result (λ refused. refused.0 ≡ ticket) };
 

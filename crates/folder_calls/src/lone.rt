@@ -7,7 +7,7 @@ ghost use Rattle.folder_core.specs.Steps.{MayChange, is_found};
 ghost use Rattle.folder_core.specs.declared.answer.Answer.{Answer as AnswerOf};
 ghost use Rattle.folder_core.specs.declared.change.Change.TheVariants.{Forget, IndexFull, IndexMore, ScanFound, ScanGone, BeginPull, EnterCommit, Finish, GiveUp, Abort};
 ghost use Rattle.folder_calls.specs.Alone.{ChangesAlone, GoesOn, IsToldAt, ReadsAlone, change_of, new_alone, seen_by};
-ghost use Rattle.folder_calls.specs.Calls.{GivesBack, IsOfName, begin_value, enter_value, found, index_value, scan_value, told, told_at};
+ghost use Rattle.folder_calls.specs.Calls.{GivesBack, begin_value, enter_value, found, index_value, scan_value, told, told_at};
 ghost use Rattle.folder_calls.specs.Journals.{Enters, IsHistory, end};
 ghost use Rattle.folder_calls.specs.Shared.{Closes, ReadsThere, Tells};
 
@@ -229,7 +229,6 @@ impl<C: FolderCore> FolderCalls for Lone<C> {
             (seen_by self.new) }
         ensures alone { ChangesAlone self.old (BeginPull name.now)
             (told begin_value result) self.new }
-        ensures begun { IfOk result (λ told. IfOk told.value (IsOfName name.now)) }
     {
         self.go_on();
         let answer = self.journal.begin_pull(1, name);
@@ -245,7 +244,6 @@ impl<C: FolderCore> FolderCalls for Lone<C> {
             (seen_by self.new) }
         ensures alone { ChangesAlone self.old (EnterCommit ticket)
             (told enter_value result) self.new }
-        ensures entered { IfOk result (λ told. IfOk told.value (λ commit. commit ≡ ticket)) }
         ensures given_back { IfOk result (λ told. IfErr told.value (GivesBack ticket)) }
         ensures out_of_memory { IfErr result (λ refused. refused.0 ≡ ticket) }
     {

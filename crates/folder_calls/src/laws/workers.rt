@@ -4,8 +4,11 @@ ghost use mathlib.Core.List.{IsPrefix};
 ghost use Rattle.folder_core.specs.States.{HaveOwnNumbers};
 ghost use Rattle.folder_core.specs.Steps.{is_accepted, step};
 ghost use Rattle.folder_core.specs.declared.answer.Answer.{Answer};
-ghost use Rattle.folder_core.specs.declared.answer.Answer.TheVariants.{HistoryFull};
+ghost use Rattle.folder_core.specs.declared.answer.Answer.TheVariants.{Begun, Entered, HistoryFull};
 ghost use Rattle.folder_core.specs.declared.change.Change.{Change};
+ghost use Rattle.folder_core.specs.declared.change.Change.TheVariants.{BeginPull, EnterCommit};
+ghost use Rattle.folder_core.specs.declared.token.Token.{Token};
+ghost use Rattle.sync_record.specs.Records.{Name};
 ghost use Rattle.folder_calls.specs.Adds.{Adds, Asked, Asks};
 ghost use Rattle.folder_calls.specs.Histories.{state_after};
 ghost use Rattle.folder_calls.specs.Shared.{Gets, IsLegalView, Sees, Tells, View, now, own_entry};
@@ -43,4 +46,12 @@ pub fn answers_are_those_of_the_folder()
     ensures other { (old new : View) (c : Change) (a : Answer) → Gets old c a new →
         is_accepted a ≡ false → (a ≡ HistoryFull) ⊎ ((step (now new) c).0 ≡ a) }
     ensures numbers { (v : View) → IsLegalView v → HaveOwnNumbers (now v) }
+{}
+
+/// The ticket of a pull that is begun has the name that was asked for, and a commit that is entered is its ticket.
+pub fn tickets_are_those_that_were_asked_for()
+    ensures begun { (old new : View) (n : Name) (t : Token) →
+        Gets old (BeginPull n) (Begun t) new → t.name ≡ n }
+    ensures entered { (old new : View) (t c : Token) → Gets old (EnterCommit t) (Entered c) new →
+        c ≡ t }
 {}

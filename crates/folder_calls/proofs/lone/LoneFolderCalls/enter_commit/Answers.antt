@@ -1,7 +1,6 @@
 use Rattle.folder_core.specs.declared.change.Change.TheVariants.{EnterCommit}
 use Rattle.folder_calls.specs.Calls.{enter_value}
 use Rattle.folder_calls.proofs.AloneCalls.{change-alone, change-done, change-tells}
-use Rattle.folder_calls.proofs.HistoryAnswers.{entered-ticket}
 use Rattle.folder_calls.proofs.lone.LoneFolderCalls.enter_commit.Goals as goal
 
 pub returns-clause-tells : goal.returns-clause-tells
@@ -18,6 +17,3 @@ pub invariant_of-self : goal.invariant_of-self
 invariant_of-self g c =
     change-alone c.args.self.now _ _ c.self.view_is c.self.invariant c.go_on.ensures.goes_on c.go_on.ensures.seen enter_value (EnterCommit c.args.ticket)
     _ _ c.enter_commit-answer.ensures.enters _ _ c.told_here.ensures c.enter_commit-answer.ensures.history
-
-pub returns-clause-entered : goal.returns-clause-entered
-returns-clause-entered g c = entered-ticket _ _ c.args.ticket _ (returns-clause-tells g c)
