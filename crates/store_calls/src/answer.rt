@@ -31,7 +31,10 @@ fn answer_at<S: FileStore>(
     call: Call,
 ) -> io::Result<()> {
     match call {
-        Call::Stat => print_stat(rt, store.stat(name)),
+        Call::Stat => match store.stat(name) {
+            Ok(stat) => print_stat(rt, &stat),
+            Err(refusal) => print_refusal(rt, refusal),
+        },
         Call::Read(offset, size) => {
             let mut buffer = vec![in rt.alloc(); 0u8; size]?;
             let read = store.read_at(name, offset, &mut buffer);
@@ -74,13 +77,12 @@ pub(crate) fn print_done(rt: &impl Print, done: Result<(), StoreRefusal>) -> io:
     }
 }
 
-fn print_stat(rt: &impl Print, stat: Result<Stat, StoreRefusal>) -> io::Result<()> {
+fn print_stat(rt: &impl Print, stat: &Stat) -> io::Result<()> {
     match stat {
-        Ok(Stat::Missing) => println!(rt; "missing"),
-        Ok(Stat::File(size, time)) => println!(rt; "file {size} {}", time.seconds()),
-        Ok(Stat::Directory) => println!(rt; "directory"),
-        Ok(Stat::Other) => println!(rt; "other"),
-        Err(refusal) => print_refusal(rt, refusal),
+        Stat::Missing => println!(rt; "missing"),
+        Stat::File(size, time) => println!(rt; "file {} {}", *size, time.seconds()),
+        Stat::Directory => println!(rt; "directory"),
+        Stat::Other => println!(rt; "other"),
     }
 }
 

@@ -9,8 +9,9 @@
 //! |---|---|
 //! | `stat NAME` | `missing`, `file SIZE SECONDS`, `directory` or `other` |
 //! | `list` | `file NAME` or `directory NAME` for each entry, `unread NAME` for each directory that was not read, and `listed N` |
-//! | `read NAME OFFSET SIZE` | `read N "BYTES"`, into a buffer of SIZE bytes; those that don't print are written as `\x00` or `\n` |
-//! | `write_at NAME OFFSET TEXT`, `rename NAME TO`, and `make_temp`, `commit_temp`, `drop_temp`, `remove`, `make_dir` and `remove_dir` with `NAME` | `ok` |
+//! | `read NAME OFFSET SIZE` | `read N "BYTES"`, of a buffer of SIZE bytes; those that don't print are written as `\x00` or `\n` |
+//! | `write_at NAME OFFSET TEXT`, `rename NAME TO` | `ok` |
+//! | `make_temp NAME`, `commit_temp`, `drop_temp`, `remove`, `make_dir` and `remove_dir` too | `ok` |
 //! | `faults` | `faults N` |
 //!
 //! `dir FOLDER` alone takes `make_marker`, answered by `ok`, `has_marker`, answered by `true` or `false`, and `remove_temps`, answered by
