@@ -1,26 +1,33 @@
-//! The suite over a store in memory, and over stores that fail. The expected answers are those of the rules of stores.
+//! Stores that run out of memory, as `tools/refusals` lets them. Only these tests and `failures` call again then; where no allocation
+//! is to fail, out of memory ends them too.
 use crate::calls::{
-    commit_temp, faults, is_file, is_missing, make_dir, make_temp, name, put, read_at, remove,
-    rename, write_at,
+    commit_temp, faults, is_missing, make_dir, make_temp, name, read_at, rename, write_at,
 };
-use crate::suite;
-use file_store::{FailingStore, FailureTime, FileStore, MemStore, StoreRefusal};
+use crate::changes::changes_in_spite_of_a_fault;
+use crate::folder::{folder, remove_folder, store};
+use file_store::{FileStore, MemStore, StoreRefusal};
+use std::env::{self, VarError};
 use std::process::Abort;
+use std::rt::Env;
 
-#[test]
-fn the_suite(rt: HostRuntime) {
-    suite::nothing_is_there(&rt, &mut MemStore::new(rt.alloc()));
-    suite::reads_a_file(&rt, &mut MemStore::new(rt.alloc()));
-    suite::a_file_is_there(&rt, &mut MemStore::new(rt.alloc()));
-    suite::a_parent_is_a_file(&rt, &mut MemStore::new(rt.alloc()));
-    suite::a_directory_is_there(&rt, &mut MemStore::new(rt.alloc()));
-    suite::removes_directories(&rt, &mut MemStore::new(rt.alloc()));
-    suite::makes_missing_parents(&rt, &mut MemStore::new(rt.alloc()));
-    suite::a_temporary_file_is_there(&rt, &mut MemStore::new(rt.alloc()));
-    suite::writes_at_offsets(&rt, &mut MemStore::new(rt.alloc()));
-    suite::renames_files(&rt, &mut MemStore::new(rt.alloc()));
-    suite::lists_safe_names(&rt, &mut MemStore::new(rt.alloc()));
-    suite::lists_what_is_below_a_temporary_name(&rt, &mut MemStore::new(rt.alloc()));
+/// Whether `tools/refusals` lets an allocation fail.
+pub(crate) fn is_refused<R: Env + AllocGlobal>(rt: &R) -> bool {
+    match env::var(rt, "REFUSE") {
+        Ok(which) => which.as_str() != "0",
+        Err(VarError::NotPresent) => false,
+        Err(_) => true,
+    }
+}
+
+/// Whether a call is out of memory, which is right only if an allocation was to fail.
+fn is_out(rt: &(impl Env + AllocGlobal + Abort), answer: Result<(), StoreRefusal>) -> bool {
+    if answer != Err(StoreRefusal::OutOfMemory) {
+        return false;
+    }
+    if !is_refused(rt) {
+        answer.expect(rt, "memory");
+    }
+    true
 }
 
 /// Out of memory, a call makes no parent and loses no file.
@@ -28,22 +35,22 @@ fn the_suite(rt: HostRuntime) {
 fn out_of_memory_changes_nothing(rt: HostRuntime) {
     let mut store = MemStore::new(rt.alloc());
     let (a, b, c) = (name(&rt, "d/e/a"), name(&rt, "d/b"), name(&rt, "x/y/c"));
-    if store.make_temp(&a) == Err(StoreRefusal::OutOfMemory) {
+    if is_out(&rt, store.make_temp(&a)) {
         is_missing(&rt, &mut store, "d/e");
         is_missing(&rt, &mut store, "d");
         make_temp(&rt, &mut store, "d/e/a", 0);
     }
     write_at(&rt, &mut store, "d/e/a", 0, "xyz", 0);
-    if store.commit_temp(&a) == Err(StoreRefusal::OutOfMemory) {
+    if is_out(&rt, store.commit_temp(&a)) {
         is_missing(&rt, &mut store, "d/e/a");
         commit_temp(&rt, &mut store, "d/e/a", 0);
     }
-    if store.rename(&a, &b) == Err(StoreRefusal::OutOfMemory) {
+    if is_out(&rt, store.rename(&a, &b)) {
         is_missing(&rt, &mut store, "d/b");
         rename(&rt, &mut store, "d/e/a", "d/b", 0);
     }
     read_at(&rt, &mut store, "d/b", 0, 8, "xyz");
-    if store.make_dir(&c) == Err(StoreRefusal::OutOfMemory) {
+    if is_out(&rt, store.make_dir(&c)) {
         is_missing(&rt, &mut store, "x");
         is_missing(&rt, &mut store, "x/y");
         make_dir(&rt, &mut store, "x/y/c", 0);
@@ -51,33 +58,22 @@ fn out_of_memory_changes_nothing(rt: HostRuntime) {
     faults(&rt, &store, 0);
 }
 
-/// A store with the file a, that fails the call after the next.
-fn failing(rt: &(impl AllocGlobal + Abort), time: FailureTime) -> FailingStore<MemStore> {
+/// Changes of a store in memory.
+#[test]
+fn changes_in_memory(rt: HostRuntime) {
     let mut store = MemStore::new(rt.alloc());
-    put(rt, &mut store, "a", "xyz");
-    FailingStore::new(store, 1, time)
+    changes_in_spite_of_a_fault(&rt, &mut store);
+    faults(&rt, &store, 0);
 }
 
+/// Changes of a store on a disk. An error of the system, which may have run out of memory, is a fault.
 #[test]
-fn fails_before_a_call(rt: HostRuntime) {
-    let mut store = failing(&rt, FailureTime::Before);
-    is_file(&rt, &mut store, "a", 3);
-    remove(&rt, &mut store, "a", 40);
-    faults(&rt, &store, 1);
-    is_file(&rt, &mut store, "a", 3);
-    remove(&rt, &mut store, "a", 0);
-    is_missing(&rt, &mut store, "a");
-    faults(&rt, &store, 1);
-}
-
-#[test]
-fn fails_after_a_call(rt: HostRuntime) {
-    let mut store = failing(&rt, FailureTime::After);
-    is_file(&rt, &mut store, "a", 3);
-    remove(&rt, &mut store, "a", 40);
-    faults(&rt, &store, 1);
-    is_missing(&rt, &mut store, "a");
-    remove(&rt, &mut store, "a", 40);
-    faults(&rt, &store, 2);
-    faults(&rt, &store.into_inner(), 1);
+fn changes_on_a_disk(rt: HostRuntime) {
+    let path = folder(&rt, "changes_on_a_disk");
+    let mut store = store(&rt, path.as_str());
+    changes_in_spite_of_a_fault(&rt, &mut store);
+    if !is_refused(&rt) {
+        faults(&rt, &store, 0);
+    }
+    remove_folder(&rt, path.as_str());
 }

@@ -1,0 +1,131 @@
+//! Calls of a store of files, and what it answers: a line of standard input is a call, and its answer goes to standard output.
+//! `tools/store_runs` compares the answers with those that the rules of stores give.
+//!
+//! `store_calls mem` asks a new store in memory, and `store_calls dir FOLDER` one in a folder of a disk. `failing before N` or
+//! `failing after N` before these words has the call after N others fail, before the store is asked or after. NAME, TO and FOLDER
+//! stand for words without spaces, OFFSET and SIZE for numbers, and TEXT for the rest of the line, which may be missing:
+//!
+//! | Call | Answer |
+//! |---|---|
+//! | `stat NAME` | `missing`, `file SIZE SECONDS`, `directory` or `other` |
+//! | `list` | `file NAME` or `directory NAME` for each entry, `unread NAME` for each directory that was not read, and `listed N` |
+//! | `read NAME OFFSET SIZE` | `read N "BYTES"`, of a buffer of SIZE bytes; those that don't print are written as `\x00` or `\n` |
+//! | `write_at NAME OFFSET TEXT`, `rename NAME TO` | `ok` |
+//! | `make_temp NAME`, `commit_temp`, `drop_temp`, `remove`, `make_dir` and `remove_dir` too | `ok` |
+//! | `faults` | `faults N` |
+//!
+//! `dir FOLDER` alone takes `make_marker`, answered by `ok`, `has_marker`, answered by `true` or `false`, and `remove_temps`, answered by
+//! `removed N`, and has a second store on the folder, which a line asks that begins with `other `. What a store refuses is answered
+//! by `fault NUMBER NAME`, and a line that is no call by `error` and why; then the store is not asked.
+#![tactic(auto)]
+
+mod answer;
+mod command;
+
+use answer::{answer, print_done, print_refusal};
+use file_dir::DirStore;
+use file_store::{FailingStore, FailureTime, FileStore, MemStore};
+use std::rt::Files;
+use std::{env, io};
+
+fn main(rt: HostRuntime) -> io::Result<()> {
+    let words = env::args(&rt)?.collect::<Vec<String>>(rt.alloc())?;
+    match word(&words, 1) {
+        "mem" => serve(&rt, &mut MemStore::new(rt.alloc())),
+        "dir" => serve_folder(&rt, word(&words, 2)),
+        "failing" => serve_failing(&rt, &words),
+        _ => usage(&rt),
+    }
+}
+
+/// A word of the command line; nothing if it has fewer.
+fn word(words: &[String], index: usize) -> &str {
+    match words.get(index) {
+        Some(word) => word.as_str(),
+        None => "",
+    }
+}
+
+fn usage(rt: &impl Print) -> io::Result<()> {
+    println!(rt; "error: store_calls [failing before|after N] mem|dir FOLDER")
+}
+
+/// Answers the calls by a store.
+fn serve<S: FileStore>(rt: &(impl Input + Print + AllocGlobal), store: &mut S) -> io::Result<()> {
+    for line in rt.lines(rt.alloc()) {
+        let line = line?;
+        answer(rt, store, line.as_str())?;
+    }
+    Ok(())
+}
+
+/// Answers the calls by a store that fails one of them.
+fn serve_failing(
+    rt: &(impl Files + Input + Print + AllocGlobal),
+    words: &[String],
+) -> io::Result<()> {
+    let time = match word(words, 2) {
+        "before" => FailureTime::Before,
+        "after" => FailureTime::After,
+        _ => return usage(rt),
+    };
+    let Ok(left) = word(words, 3).parse::<u64>() else {
+        return usage(rt);
+    };
+    match word(words, 4) {
+        "mem" => {
+            let store = MemStore::new(rt.alloc());
+            serve(rt, &mut FailingStore::new(store, left, time))
+        }
+        "dir" => match DirStore::open(rt, rt.alloc(), word(words, 5)) {
+            Ok(store) => serve(rt, &mut FailingStore::new(store, left, time)),
+            Err(refusal) => print_refusal(rt, refusal),
+        },
+        _ => usage(rt),
+    }
+}
+
+/// Answers the calls by one of two stores in a folder of a disk.
+fn serve_folder(rt: &(impl Files + Input + Print + AllocGlobal), folder: &str) -> io::Result<()> {
+    let one = DirStore::open(rt, rt.alloc(), folder);
+    let other = DirStore::open(rt, rt.alloc(), folder);
+    match (one, other) {
+        (Ok(mut one), Ok(mut other)) => serve_both(rt, &mut one, &mut other),
+        (Err(refusal), _) | (_, Err(refusal)) => print_refusal(rt, refusal),
+    }
+}
+
+fn serve_both<R: Files>(
+    rt: &(impl Input + Print + AllocGlobal),
+    one: &mut DirStore<R>,
+    other: &mut DirStore<R>,
+) -> io::Result<()> {
+    for line in rt.lines(rt.alloc()) {
+        let line = line?;
+        match line.as_str().strip_prefix("other ") {
+            Some(line) => answer_of_folder(rt, other, line)?,
+            None => answer_of_folder(rt, one, line.as_str())?,
+        }
+    }
+    Ok(())
+}
+
+/// Answers a call by a store in a folder of a disk, which may be one that no other store has.
+fn answer_of_folder<R: Files>(
+    rt: &(impl Print + AllocGlobal),
+    store: &mut DirStore<R>,
+    line: &str,
+) -> io::Result<()> {
+    match line {
+        "make_marker" => print_done(rt, store.make_marker()),
+        "has_marker" => match store.has_marker() {
+            Ok(found) => println!(rt; "{found}"),
+            Err(refusal) => print_refusal(rt, refusal),
+        },
+        "remove_temps" => match store.remove_temps() {
+            Ok(count) => println!(rt; "removed {count}"),
+            Err(refusal) => print_refusal(rt, refusal),
+        },
+        _ => answer(rt, store, line),
+    }
+}
