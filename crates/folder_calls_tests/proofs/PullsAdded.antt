@@ -18,31 +18,19 @@ use Rattle.folder_core.specs.Steps.{IsFor, enter_commit, first_answer, is_accept
 use Rattle.folder_core.proofs.ChangeAnswers.{finish-done, give_up-closed, ticket-found}
 use Rattle.folder_calls.specs.declared.at.At.{At}
 use Rattle.folder_calls.specs.declared.entry.Entry.{Entry}
+use Rattle.folder_calls.specs.Adds.{Adds}
 use Rattle.folder_calls.specs.Histories.{IsLegal, is_over, own_entries, shared_answer, state_after}
-use Rattle.folder_calls.specs.Shared.{IsLegalView, Tells, View, own_entry, seeing}
+use Rattle.folder_calls.specs.Shared.{IsLegalView, Tells, View, now, own_entry, seeing}
+use Rattle.folder_calls.proofs.HistoryAnswers.{adds-on}
 use Rattle.folder_calls.proofs.HistoryCommits.{commits-legal}
 use Rattle.folder_calls.proofs.HistoryEntries.{finish-fits, give_up-fits}
 use Rattle.folder_calls.proofs.HistoryShared.{answered-entered, answered-kept, answered-longer}
 use Rattle.folder_calls.proofs.JournalPulls.{commit-copies}
-use Rattle.folder_calls_tests.specs.Pulling.{Adds, Breaks, Comes, Commits, EndsWith, GivesUp, IsStray, Made, begins, enters, finishes, gives_up, now}
+use Rattle.folder_calls_tests.specs.Pulling.{Breaks, Comes, Commits, EndsWith, GivesUp, IsStray, begins, enters, finishes, gives_up}
 use Rattle.folder_calls_tests.specs.declared.pulling.Pulled.{Pulled}
 use Rattle.folder_calls_tests.specs.declared.pulling.Pulled.TheVariants as pulled
-use Rattle.folder_calls_tests.proofs.TwoCalls.{prefix-on}
 
 -- ---- entries one after the other
-
-abbrev entry_by : ℕ → Made → Entry
-entry_by p m = record { pass = p; change = m.0; answer = m.1 }
-
-pub adds-on : (a b c : View) (xs ys : List Made) → Adds a xs b → Adds b ys c → Adds a (xs ++ ys) c
-adds-on a b c xs ys first second = record {
-  longer = prefix-on a.seen b.seen c.seen first.longer second.longer;
-  own = subst (λ p. own_entries p c.seen ≡ own_entries p b.seen ++ map (entry_by p) ys) (ap (λ (v : View). v.pass) first.same) second.own
-      ∙ ap (λ es. es ++ map (entry_by a.pass) ys) first.own
-      ∙ append_assoc (own_entries a.pass a.seen) (map (entry_by a.pass) xs) (map (entry_by a.pass) ys)
-      ∙ ap (λ es. own_entries a.pass a.seen ++ es) (sym (map-append (entry_by a.pass) xs ys));
-  same = second.same ∙ ap (λ (v : View). seeing v c.seen) first.same;
-}
 
 module _ (old new : View) (c : Change) (t : At Answer) (tells : Tells old c (Some t) new) where
   one : (new.opening ≡ old.opening) × (new.limit ≡ old.limit) × (new.pass ≡ old.pass)

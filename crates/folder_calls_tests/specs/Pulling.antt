@@ -1,6 +1,5 @@
 -- What a pull of a file comes to, as its caller sees it. Own rule.
-use Rattle.std.specs.Prelude.{◌≡◌, ◌⊎◌, ℕ, List, [], ◌∷◌, ◌++◌, map}
-use mathlib.Core.List.{IsPrefix}
+use Rattle.std.specs.Prelude.{◌≡◌, ◌⊎◌, ℕ, List, [], ◌∷◌, ◌++◌}
 use Rattle.sync_record.specs.Records.{Name}
 use Rattle.folder_core.specs.declared.answer.Answer.{Answer}
 use Rattle.folder_core.specs.declared.answer.Answer.TheVariants.{Begun, Closed, Done, Entered}
@@ -12,39 +11,27 @@ use Rattle.folder_core.specs.declared.token.Token.{Token}
 use Rattle.folder_core.specs.States.{FolderState, Pull}
 use Rattle.folder_core.specs.Steps.{IsFor}
 use Rattle.folder_calls.specs.declared.entry.Entry.{Entry}
-use Rattle.folder_calls.specs.Histories.{EndsPull, own_entries, state_after}
-use Rattle.folder_calls.specs.Shared.{View, own_entry, seeing}
+use Rattle.folder_calls.specs.Histories.{EndsPull}
+use Rattle.folder_calls.specs.Adds.{Adds, Asked}
+use Rattle.folder_calls.specs.Shared.{View, now, own_entry}
 use Rattle.folder_calls_tests.specs.declared.pulling.Pulled.{Pulled}
 use Rattle.folder_calls_tests.specs.declared.pulling.Pulled.TheVariants as pulled
 
--- a change that was made, with its answer
-abbrev pub Made : Type 0
-Made = Change × Answer
-
--- The caller saw the history go on. Of its own there are just the entries of these changes more.
-pub record Adds (old : View) (made : List Made) (new : View) : Type 0 where
-  pub longer : IsPrefix old.seen new.seen
-  pub own : own_entries old.pass new.seen ≡ own_entries old.pass old.seen ++ map (λ m. own_entry old m.0 m.1) made
-  pub same : new ≡ seeing old new.seen
-
-abbrev pub begins : Name → Token → Made
+abbrev pub begins : Name → Token → Asked
 begins n t = (BeginPull n, Begun t)
 
-abbrev pub enters : Token → Made
+abbrev pub enters : Token → Asked
 enters t = (EnterCommit t, Entered t)
 
-abbrev pub finishes : Token → ℕ → Made
+abbrev pub finishes : Token → ℕ → Asked
 finishes t k = (Finish t t.target, Done k)
 
-abbrev pub gives_up : Token → Made
+abbrev pub gives_up : Token → Asked
 gives_up t = (GiveUp t, Closed)
 
 -- no pull is open that the token is for, at this stage
 abbrev pub IsStray : FolderState → Token → Stage → Type 0
 IsStray s t stage = (p : Pull) → ¬ (IsFor s t stage p)
-
-abbrev pub now : View → FolderState
-now v = state_after v.opening v.seen
 
 -- The last entry is the finish of the pull: it ends the pull over the local record on which that was begun, with its target, of
 -- each of whose blocks some bytes have the size and the digest.

@@ -9,10 +9,10 @@ use Rattle.folder_core.specs.States.{local_version}
 use Rattle.folder_calls.specs.declared.entry.Entry.{Entry}
 use Rattle.folder_calls.specs.Histories.{state_after}
 use Rattle.folder_calls.specs.Shared.{View, own_entry}
-use Rattle.folder_calls_tests.specs.Pulling.{Adds, Made}
+use Rattle.folder_calls.specs.Adds.{Adds, Asked}
 
 -- after these entries the version was read, and this is the scan over it with its answer
-abbrev pub scan_over : View → List Entry → Name → Finding → ℕ → Answer → Made
+abbrev pub scan_over : View → List Entry → Name → Finding → ℕ → Answer → Asked
 scan_over old read n found moment answer = (ScanFound n (local_version (state_after old.opening read) n) found moment, answer)
 
 -- The scan is the caller's one entry more, and the last one. It is over the version that was read, and that is the local one

@@ -14,8 +14,6 @@ pub use workers::{begin_and_give_up, record_over};
 #[cfg(test)]
 mod copied_once;
 #[cfg(test)]
-mod entries;
-#[cfg(test)]
 mod every;
 #[cfg(test)]
 mod limits;

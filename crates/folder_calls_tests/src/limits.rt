@@ -1,8 +1,6 @@
 //! How many entries a history takes, with those that end its open pulls; and what is left after a call that was out of memory.
 use crate::values::{announces, is_directory, lone, name, scans};
-use folder_calls::{
-    At, BeginAnswer, Commit, EnterRefusal, FolderCalls, HistoryFull, NotEntered, Ticket,
-};
+use folder_calls::{At, BeginAnswer, Commit, EnterRefusal, FolderCalls, HistoryFull, Ticket};
 use folder_core::FolderCore;
 use std::alloc::AllocError;
 use std::process::Abort;
@@ -40,45 +38,6 @@ pub(crate) fn finishes_when_full<W: FolderCalls>(rt: &(impl AllocGlobal + Abort)
     assert_eq!(rt; calls.counts().at, 4);
 }
 
-#[test]
-fn returns_the_ticket_when_full(rt: HostRuntime) {
-    let mut lone = lone(&rt, 3);
-    announces(&rt, &mut lone, "x");
-    let ticket = begins(&rt, &mut lone, "x");
-    match enter_commit(&rt, &mut lone, ticket) {
-        Err(EnterRefusal::HistoryFull(ticket)) => assert!(rt; lone.give_up(ticket).value),
-        answer => panic!(&rt; "{answer:?}"),
-    }
-    assert_eq!(rt; lone.counts().at, 3);
-}
-
-#[test]
-fn begins_no_pull_without_room_for_its_end(rt: HostRuntime) {
-    let mut lone = lone(&rt, 2);
-    announces(&rt, &mut lone, "x");
-    match begin_pull(&rt, &mut lone, "x") {
-        Err(HistoryFull) => {}
-        Ok(answer) => panic!(&rt; "{answer:?}"),
-    }
-    let counted = lone.counts();
-    assert_eq!(rt; counted.at, 1);
-    assert_eq!(rt; counted.value.pulls, 0);
-}
-
-#[test]
-fn begins_one_pull_of_a_name(rt: HostRuntime) {
-    let mut lone = lone(&rt, 3);
-    announces(&rt, &mut lone, "x");
-    let ticket = begins(&rt, &mut lone, "x");
-    assert_eq!(rt; ticket.number(), 1);
-    match begin_pull(&rt, &mut lone, "x") {
-        Ok(BeginAnswer::Busy) => {}
-        answer => panic!(&rt; "{answer:?}"),
-    }
-    assert!(rt; lone.give_up(ticket).value);
-    assert_eq!(rt; lone.counts().at, 3);
-}
-
 pub(crate) fn begins<W: FolderCalls>(
     rt: &(impl AllocGlobal + Abort),
     calls: &mut W,
@@ -90,7 +49,7 @@ pub(crate) fn begins<W: FolderCalls>(
     }
 }
 
-/// Begins to pull a name, once more where the first call was out of memory, which changed nothing.
+/// Begins to pull a name. A call that was out of memory changed nothing, and ends the test.
 fn begin_pull<W: FolderCalls>(
     rt: &(impl AllocGlobal + Abort),
     calls: &mut W,
@@ -102,8 +61,7 @@ fn begin_pull<W: FolderCalls>(
         Ok(At { at: _, value }) => value,
         Err(AllocError) => {
             assert!(rt; calls.counts() == before);
-            let At { at: _, value } = calls.begin_pull(&name).expect(rt, "an answer");
-            value
+            panic!(rt; "OutOfMemory")
         }
     }
 }
@@ -115,23 +73,19 @@ pub(crate) fn enters<W: FolderCalls>(rt: &impl Abort, calls: &mut W, ticket: Tic
     }
 }
 
-/// Enters the commit, once more where the first call was out of memory, which changed nothing.
+/// Enters the commit. A call that was out of memory changed nothing, and ends the test.
 pub(crate) fn enter_commit<W: FolderCalls>(
     rt: &impl Abort,
     calls: &mut W,
     ticket: Ticket,
 ) -> Result<Commit, EnterRefusal> {
     let before = calls.counts();
-    let told = match calls.enter_commit(ticket) {
-        Ok(told) => Ok(told),
-        Err(NotEntered(ticket)) => {
-            assert!(rt; calls.counts() == before);
-            calls.enter_commit(ticket)
-        }
-    };
-    match told {
+    match calls.enter_commit(ticket) {
         Ok(At { at: _, value }) => value,
-        Err(refused) => panic!(rt; "OutOfMemory: {refused:?}"),
+        Err(refused) => {
+            assert!(rt; calls.counts() == before);
+            panic!(rt; "OutOfMemory: {refused:?}")
+        }
     }
 }
 

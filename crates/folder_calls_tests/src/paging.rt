@@ -5,7 +5,6 @@ use crate::give_pages;
 use crate::values::{directory, lone, moment, name, scans};
 use folder_calls::{FolderCalls, Lone, Outside};
 use folder_core::PlainFolder;
-use std::alloc::AllocError;
 use std::process::Abort;
 use sync_record::Record;
 
@@ -20,14 +19,6 @@ fn gives_all_records_in_rising_sequence(rt: HostRuntime) {
 }
 
 #[test]
-fn goes_on_from_the_cursor(rt: HostRuntime) {
-    let mut lone = scanned(&rt);
-    let mut given = Vec::new(rt.alloc());
-    assert_eq!(rt; gives(&rt, &mut lone, 2, &mut given), 3);
-    are(&rt, &given, &[("x", 3)]);
-}
-
-#[test]
 fn gives_what_is_recorded_between_two_pages(rt: HostRuntime) {
     let mut lone = scanned(&rt);
     plan_scan(&rt, &mut lone, 2);
@@ -38,8 +29,7 @@ fn gives_what_is_recorded_between_two_pages(rt: HostRuntime) {
     are(&rt, &given, &[("z", 1), ("y", 2), ("x", 3), ("w", 4)]);
 }
 
-/// Gives out pages of at most two records after the cursor, and returns where the cursor is then. What is given out until
-/// memory is out isn't given again.
+/// Gives out pages of at most two records after the cursor, and returns where the cursor is then.
 pub(crate) fn gives<W: FolderCalls>(
     rt: &impl Abort,
     calls: &mut W,
@@ -49,9 +39,7 @@ pub(crate) fn gives<W: FolderCalls>(
     ensures { W.home calls.new ≡ W.home calls.old }
 {
     let mut cursor = after;
-    if give_pages(calls, &mut cursor, 2, given) == Err(AllocError) {
-        give_pages(calls, &mut cursor, 2, given).expect(rt, "pages");
-    }
+    give_pages(calls, &mut cursor, 2, given).expect(rt, "pages");
     cursor
 }
 

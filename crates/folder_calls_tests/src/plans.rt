@@ -10,13 +10,6 @@ use folder_core::{FolderCore, PlainFolder};
 use std::process::Abort;
 
 #[test]
-fn records_what_is_found(rt: HostRuntime) {
-    let mut lone = lone(&rt, 9);
-    assert_eq!(rt; records(&rt, &mut lone), ("Recorded", 1));
-    assert_eq!(rt; lone.counts().at, 1);
-}
-
-#[test]
 fn reads_what_was_planned_before_the_first_call(rt: HostRuntime) {
     let mut lone = lone(&rt, 9);
     plan_scan(&rt, &mut lone, 1);
@@ -33,27 +26,6 @@ fn does_not_record_over_what_was_planned_before_the_second_call(rt: HostRuntime)
 }
 
 #[test]
-fn uses_up_a_plan_that_is_not_accepted(rt: HostRuntime) {
-    let mut lone = lone(&rt, 9);
-    plan_scan(&rt, &mut lone, 3);
-    assert_eq!(rt; records(&rt, &mut lone), ("Recorded", 1));
-    assert_eq!(rt; lone.counts().at, 1);
-    assert_eq!(rt; scans(&rt, &mut lone, "y"), ("Recorded", 2));
-    assert_eq!(rt; lone.counts().at, 2);
-}
-
-#[test]
-fn makes_a_plan_once(rt: HostRuntime) {
-    let mut lone = lone(&rt, 9);
-    plan_announcement(&rt, &mut lone, 2);
-    assert_eq!(rt; lone.counts().at, 0);
-    if lone.counts().at == 0 {
-        panic!(rt; "OutOfMemory");
-    }
-    assert_eq!(rt; lone.counts().at, 1);
-}
-
-#[test]
 fn pulls_what_is_announced_between(rt: HostRuntime) {
     let mut lone = lone(&rt, 9);
     assert_eq!(rt; gives_up(&rt, &mut lone), None);
@@ -63,19 +35,6 @@ fn pulls_what_is_announced_between(rt: HostRuntime) {
         closed => assert_eq!(rt; closed, Some(true)),
     }
     assert_eq!(rt; lone.counts().at, 3);
-}
-
-#[test]
-fn pulls_nothing_that_is_forgotten_between(rt: HostRuntime) {
-    let mut lone = lone(&rt, 9);
-    announces(&rt, &mut lone, "x");
-    let peer = device(1);
-    assert!(rt; peer != lone.me());
-    lone.plan(1, Outside::Forget { device: peer });
-    if gives_up(&rt, &mut lone).is_some() {
-        panic!(rt; "OutOfMemory");
-    }
-    assert_eq!(rt; lone.counts().at, 2);
 }
 
 #[test]

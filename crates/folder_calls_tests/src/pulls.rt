@@ -39,27 +39,6 @@ fn gives_up_with_other_bytes(rt: HostRuntime) {
 }
 
 #[test]
-fn begins_nothing_that_is_not_needed(rt: HostRuntime) {
-    let mut lone = offered(&rt, 9);
-    assert_eq!(rt; pulls(&rt, &mut lone, "y", b"abc"), Pulled::NotBegun);
-    assert_eq!(rt; lone.counts().at, 1);
-}
-
-#[test]
-fn begins_nothing_in_a_full_history(rt: HostRuntime) {
-    let mut lone = offered(&rt, 2);
-    assert_eq!(rt; pulls(&rt, &mut lone, "x", b"abc"), Pulled::NotBegun);
-    assert_eq!(rt; lone.counts().at, 1);
-}
-
-#[test]
-fn gives_up_without_room_for_the_commit(rt: HostRuntime) {
-    let mut lone = offered(&rt, 3);
-    assert_eq!(rt; pulls(&rt, &mut lone, "x", b"abc"), Pulled::GivenUp);
-    assert_eq!(rt; lone.counts().at, 3);
-}
-
-#[test]
 fn does_not_commit_over_what_was_recorded_between(rt: HostRuntime) {
     let mut lone = offered(&rt, 9);
     lone.plan(

@@ -7,10 +7,9 @@ ghost use Rattle.folder_core.specs.Steps.{is_found};
 use bep_messages::Items;
 use folder_calls::{At, FolderCalls, HistoryFull, Lone, ScanRefusal};
 use folder_core::{Finding, FolderCore, FoundContent, PlainFolder, ScanAnswer};
-use std::alloc::AllocError;
 use std::process::Abort;
 use sync_names::SafeName;
-use sync_record::{Assembled, DeviceId, Edit, Kind, Record};
+use sync_record::{DeviceId, Edit, Kind, Record};
 use sync_version::{Moment, Version};
 
 /// The device of which each byte is this number. The folder's own is 9.
@@ -62,20 +61,13 @@ pub(crate) fn one_directory(rt: &(impl AllocGlobal + Abort), text: &str) -> Item
     records
 }
 
-/// The record of a directory, as one that may be committed.
-pub(crate) fn assembled(rt: &(impl AllocGlobal + Abort), text: &str) -> Assembled {
-    let target = directory_record(rt, text);
-    assert!(rt; target.is_deleted() || is_directory(&target));
-    Assembled::plain(target)
-}
-
 /// The empty folder of device 9, whose history takes so many entries.
 pub(crate) fn lone(rt: &(impl AllocGlobal + Abort), limit: u64) -> Lone<PlainFolder> {
     let folder = PlainFolder::new(rt.alloc(), device(9));
     assert!(rt; folder.counts().pulls == 0);
     match Lone::open(rt.alloc(), folder, limit) {
         Ok(lone) => lone,
-        Err(folder) => Lone::open(rt.alloc(), folder, limit).expect(rt, "a folder"),
+        Err(_) => panic!(rt; "OutOfMemory"),
     }
 }
 
@@ -88,15 +80,8 @@ pub(crate) fn scans<W: FolderCalls>(
     let name = name(rt, text);
     let found = directory();
     let moment = moment(rt);
-    match calls.scan_found(&name, None, &found, moment) {
-        Ok(scanned) => scanned_as(scanned.value),
-        Err(AllocError) => scanned_as(
-            calls
-                .scan_found(&name, None, &found, moment)
-                .expect(rt, "an answer")
-                .value,
-        ),
-    }
+    let scanned = calls.scan_found(&name, None, &found, moment);
+    scanned_as(scanned.expect(rt, "an answer").value)
 }
 
 /// The name of a scan's answer, and the sequence if it is recorded.
@@ -118,16 +103,8 @@ pub(crate) fn announces<W: FolderCalls>(rt: &(impl AllocGlobal + Abort), calls: 
 {
     let peer = device(1);
     assert!(rt; peer != calls.me());
-    let answer = match calls.index_more(peer, one_directory(rt, text)) {
-        Ok(applied) => applied.value,
-        Err(AllocError) => {
-            calls
-                .index_more(peer, one_directory(rt, text))
-                .expect(rt, "an answer")
-                .value
-        }
-    };
-    match answer {
+    let answer = calls.index_more(peer, one_directory(rt, text));
+    match answer.expect(rt, "an answer").value {
         Ok(()) => {}
         Err(HistoryFull) => panic!(rt; "HistoryFull"),
     }

@@ -8,7 +8,7 @@ ghost use Rattle.folder_core.specs.declared.change.Change.TheVariants.{BeginPull
 ghost use Rattle.folder_calls.specs.Calls.{scan_value};
 ghost use Rattle.folder_calls.specs.Histories.{own_entries};
 ghost use Rattle.folder_calls.specs.Shared.{own_entry};
-ghost use Rattle.folder_calls_tests.specs.Pulling.{Adds};
+ghost use Rattle.folder_calls.specs.Adds.{Adds};
 ghost use Rattle.folder_calls_tests.specs.Recording.{RecordsOver};
 
 use folder_calls::{At, BeginAnswer, FolderCalls, HistoryFull, ScanRefusal};
