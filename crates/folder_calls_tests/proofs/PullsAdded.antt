@@ -1,8 +1,7 @@
 -- Pulls: what the calls of a worker add, one after the other.
-use Rattle.std.proofs.Common.{◌≡◌, ℕ, Bool, true, false, List, [], ◌∷◌, ◌++◌, refl, sym, ap, subst, ◌∙◌, inl, inr, append_assoc, append-nil}
-use Rattle.std.specs.Prelude.{◌⊎◌, ◌≤◌, ◌+◌, cond, length, map, Some, Result, Ok, Err, IfErr, IfOk}
+use Rattle.std.proofs.Common.{◌≡◌, ℕ, Bool, true, false, List, [], ◌∷◌, ◌++◌, refl, sym, ap, subst, ◌∙◌, inl, inr, append-nil}
+use Rattle.std.specs.Prelude.{◌⊎◌, ◌+◌, cond, length, Some, Result, Ok, Err, IfErr, IfOk}
 use Rattle.std.specs.FinMap.{len}
-use Rattle.std.proofs.lemmas.List.{map-append}
 use Rattle.sync_record.specs.Assemblies.{Assembling, with_put}
 use Rattle.sync_record.specs.Records.{FileRecord, Name}
 use Rattle.sync_record.specs.declared.put.Put.{Put}
@@ -13,14 +12,14 @@ use Rattle.folder_core.specs.declared.change.Change.{Change}
 use Rattle.folder_core.specs.declared.change.Change.TheVariants.{BeginPull, EnterCommit, Finish, GiveUp}
 use Rattle.folder_core.specs.declared.stage.Stage.TheVariants.{Pulling, Committing}
 use Rattle.folder_core.specs.declared.token.Token.{Token}
-use Rattle.folder_core.specs.States.{FolderState, IsFolder, Pull}
-use Rattle.folder_core.specs.Steps.{IsFor, enter_commit, first_answer, is_accepted, pull_of, step}
+use Rattle.folder_core.specs.States.{FolderState, IsFolder}
+use Rattle.folder_core.specs.Steps.{enter_commit, first_answer, is_accepted, step}
 use Rattle.folder_core.proofs.ChangeAnswers.{finish-done, give_up-closed, ticket-found}
 use Rattle.folder_calls.specs.declared.at.At.{At}
 use Rattle.folder_calls.specs.declared.entry.Entry.{Entry}
 use Rattle.folder_calls.specs.Adds.{Adds}
 use Rattle.folder_calls.specs.Histories.{IsLegal, is_over, own_entries, shared_answer, state_after}
-use Rattle.folder_calls.specs.Shared.{IsLegalView, Tells, View, now, own_entry, seeing}
+use Rattle.folder_calls.specs.Shared.{Tells, View, now, own_entry, seeing}
 use Rattle.folder_calls.proofs.HistoryAnswers.{adds-on}
 use Rattle.folder_calls.proofs.HistoryCommits.{commits-legal}
 use Rattle.folder_calls.proofs.HistoryEntries.{finish-fits, give_up-fits}

@@ -18,13 +18,12 @@ use Rattle.folder_core.specs.States.{FolderState, is_sequence_full, local, local
 use Rattle.folder_core.specs.Steps.{first_answer, found_record, is_accepted, is_pull_committing, next_version, step, with_local}
 use Rattle.folder_core.proofs.ChangeFolders.{same_local}
 use Rattle.folder_calls.specs.declared.at.At.{At}
-use Rattle.folder_calls.specs.declared.entry.Entry.{Entry}
 use Rattle.folder_calls.specs.Adds.{Adds}
 use Rattle.folder_calls.specs.Histories.{own_entries, state_after}
-use Rattle.folder_calls.specs.Shared.{ReadsThere, Tells, View, own_entry}
+use Rattle.folder_calls.specs.Shared.{ReadsThere, Tells, View}
 use Rattle.folder_calls.proofs.HistoryAnswers.{adds-on}
 use Rattle.folder_calls.proofs.HistoryShared.{answered-entered}
-use Rattle.folder_calls_tests.specs.Recording.{RecordsOver, scan_over}
+use Rattle.folder_calls_tests.specs.Recording.{RecordsOver}
 use Rattle.folder_calls_tests.proofs.PullsAdded.{adds-made, adds-none, step-answer}
 
 adds-read : (old new : View) (n : Name) (r : At (Option FileRecord)) → ReadsThere old (Local n) (Some r) new → Adds old [] new

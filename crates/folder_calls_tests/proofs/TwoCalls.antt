@@ -1,5 +1,5 @@
 -- What workers may say of two calls, one after the other.
-use Rattle.std.proofs.Common.{◌≡◌, ℕ, true, List, [], ◌∷◌, ◌++◌, sym, ap, subst, ◌∙◌, append_assoc}
+use Rattle.std.proofs.Common.{◌≡◌, ℕ, List, [], ◌∷◌, ◌++◌, sym, ap, subst, ◌∙◌, append_assoc}
 use Rattle.std.specs.Prelude.{Option, Some, option_map}
 use mathlib.Core.List.{IsPrefix}
 use Rattle.sync_version.specs.Versions.{Vector}
@@ -7,15 +7,13 @@ use Rattle.sync_record.specs.Records.{FileRecord, Name}
 use Rattle.folder_core.specs.declared.answer.Answer.{Answer}
 use Rattle.folder_core.specs.declared.answer.Answer.TheVariants.{Begun, Closed}
 use Rattle.folder_core.specs.declared.token.Token.{Token}
-use Rattle.folder_core.specs.declared.change.Change.{Change}
 use Rattle.folder_core.specs.declared.change.Change.TheVariants.{BeginPull, GiveUp, ScanFound}
 use Rattle.folder_core.specs.declared.finding.Finding.{Finding}
 use Rattle.folder_core.specs.Reads.{Local}
-use Rattle.folder_core.specs.States.{local_version}
 use Rattle.folder_core.specs.Steps.{is_accepted}
 use Rattle.folder_calls.specs.declared.at.At.{At}
 use Rattle.folder_calls.specs.declared.entry.Entry.{Entry}
-use Rattle.folder_calls.specs.Histories.{own_entries, state_after}
+use Rattle.folder_calls.specs.Histories.{own_entries}
 use Rattle.folder_calls.specs.Shared.{ReadsThere, Tells, View, own_entry}
 use Rattle.folder_calls.proofs.HistoryShared.{answered-entered, answered-longer}
 

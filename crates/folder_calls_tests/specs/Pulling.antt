@@ -1,9 +1,7 @@
 -- What a pull of a file comes to, as its caller sees it. Own rule.
 use Rattle.std.specs.Prelude.{◌≡◌, ◌⊎◌, ℕ, List, [], ◌∷◌, ◌++◌}
 use Rattle.sync_record.specs.Records.{Name}
-use Rattle.folder_core.specs.declared.answer.Answer.{Answer}
 use Rattle.folder_core.specs.declared.answer.Answer.TheVariants.{Begun, Closed, Done, Entered}
-use Rattle.folder_core.specs.declared.change.Change.{Change}
 use Rattle.folder_core.specs.declared.change.Change.TheVariants.{BeginPull, EnterCommit, Finish, GiveUp}
 use Rattle.folder_core.specs.declared.stage.Stage.{Stage}
 use Rattle.folder_core.specs.declared.stage.Stage.TheVariants.{Pulling, Committing}

@@ -1,4 +1,4 @@
-use Rattle.std.proofs.Common.{◌≡◌, ℕ, ◌-◌, ◌≤◌, ◌⊎◌}
+use Rattle.std.proofs.Common.{◌≡◌, ◌-◌, ◌≤◌, ◌⊎◌}
 use Rattle.std.specs.Prelude.{◌^◌}
 use Rattle.folder_calls.specs.Shared.{Sees}
 use Rattle.folder_calls_tests.specs.Paging.{Gives}
