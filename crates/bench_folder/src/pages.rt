@@ -22,8 +22,8 @@ pub fn measure_local(rt: &(impl Print + Eprint + Clock), folder: &PlainFolder) -
     let local = count_local(folder)?;
     tell(rt, "local-since", start, local)?;
     let start = Instant::now(rt)?;
-    let is_found = folder.find_block(&[9; 32])?.is_some();
-    tell(rt, "find-block", start, usize::from(is_found))?;
+    let is_recordable = folder.find_block(&[9; 32])?.is_some();
+    tell(rt, "find-block", start, usize::from(is_recordable))?;
     let start = Instant::now(rt)?;
     let counts = folder.counts();
     tell(rt, "counts", start, counts.files as usize)

@@ -6,7 +6,7 @@ ghost use Rattle.sync_record.specs.Validity.{is_valid};
 use crate::pages::{measure_local, measure_need};
 use crate::{empty_folder, tell};
 use bep_messages::Items;
-use folder_core::{BeginAnswer, Commit, FolderCore, NotEntered, PlainFolder, Ticket};
+use folder_core::{BeginAnswer, Commit, FolderCore, EnterFault, PlainFolder, Ticket};
 use std::alloc::{AllocError, Global};
 use std::io;
 use std::rt::Clock;
@@ -113,12 +113,12 @@ fn enter(folder: &mut PlainFolder, name: &SafeName) -> Option<Commit> {
     let ticket = begin(folder, name)?;
     match folder.enter_commit(ticket) {
         Ok(commit) => Some(commit),
-        Err(NotEntered::Stray) => None,
+        Err(EnterFault::Stray) => None,
         Err(
-            NotEntered::LocalMoved(ticket)
-            | NotEntered::Superseded(ticket)
-            | NotEntered::SequenceFull(ticket)
-            | NotEntered::OutOfMemory(ticket),
+            EnterFault::LocalMoved(ticket)
+            | EnterFault::Superseded(ticket)
+            | EnterFault::SequenceFull(ticket)
+            | EnterFault::OutOfMemory(ticket),
         ) => {
             folder.give_up(ticket);
             None

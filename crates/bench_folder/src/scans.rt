@@ -1,6 +1,6 @@
 //! Local files that are found.
 ghost use Rattle.std.specs.Prelude.{IfOk, IsTrue};
-ghost use Rattle.folder_core.specs.Steps.{is_found};
+ghost use Rattle.folder_core.specs.Steps.{is_recordable};
 
 use crate::{empty_folder, tell};
 use bep_messages::Items;
@@ -28,7 +28,7 @@ pub fn measure(
 
 /// A file of one block.
 fn found_file(alloc: Global) -> Result<Finding, AllocError>
-    ensures { IfOk result (λ found. IsTrue (is_found found.content)) }
+    ensures { IfOk result (λ found. IsTrue (is_recordable found.content)) }
 {
     let mut blocks = Items::new(alloc);
     blocks.push(Block {
@@ -49,7 +49,7 @@ fn found_file(alloc: Global) -> Result<Finding, AllocError>
 
 /// Records the same under each name, and returns how many were recorded.
 fn scan_all(folder: &mut PlainFolder, names: &[SafeName], found: &Finding) -> usize
-    requires { IsTrue (is_found found.now.content) }
+    requires { IsTrue (is_recordable found.now.content) }
 {
     let Some(moment) = Moment::new(1_700_000_000) else {
         return 0;

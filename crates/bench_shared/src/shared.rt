@@ -1,6 +1,6 @@
 //! The same work on a folder that threads share: each thread does it for its part of the names.
 ghost use Rattle.std.specs.Prelude.{IfOk, IsTrue};
-ghost use Rattle.folder_core.specs.Steps.{is_found};
+ghost use Rattle.folder_core.specs.Steps.{is_recordable};
 ghost use Rattle.folder_shared.specs.Passes.{IsPassOf};
 
 use crate::work::{BEFORE, MEASURED, ROUNDS, Work, found_file, version_of};
@@ -166,7 +166,7 @@ fn scan_once<R: Wait>(
     moment: Moment,
 ) -> Result<usize, AllocError>
     requires pass { IsPassOf folder.now.locked pass.old }
-    requires found { IsTrue (is_found found.now.content) }
+    requires found { IsTrue (is_recordable found.now.content) }
     ensures { IsPassOf folder.now.locked pass.new }
 {
     let mut recorded = 0usize;

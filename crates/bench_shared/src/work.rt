@@ -1,6 +1,6 @@
 //! Reads and scans, each name in turn, several times.
 ghost use Rattle.std.specs.Prelude.{IfOk, IsTrue};
-ghost use Rattle.folder_core.specs.Steps.{is_found};
+ghost use Rattle.folder_core.specs.Steps.{is_recordable};
 
 use bep_messages::Items;
 use folder_calls::{At, FolderCalls};
@@ -41,7 +41,7 @@ impl Work {
 
 /// A file of one block with this digest.
 pub fn found_file(alloc: Global, digest: u8) -> Result<Finding, AllocError>
-    ensures { IfOk result (λ found. IsTrue (is_found found.content)) }
+    ensures { IfOk result (λ found. IsTrue (is_recordable found.content)) }
 {
     let mut blocks = Items::new(alloc);
     blocks.push(Block {

@@ -12,7 +12,7 @@ use Rattle.std.specs.Result.{IsErrAnd}
 use Rattle.bepd.specs.declared.ending.Failure.{Failure}
 use Rattle.bepd.specs.declared.ending.Failure.TheVariants.{OutOfMemory}
 use Rattle.folder_core.specs.Announced.{IsNamed}
-use Rattle.folder_core.specs.Reads.{Found, bests_after, bests_page}
+use Rattle.folder_core.specs.Reads.{BestEntry, bests_after, bests_page}
 use Rattle.folder_core.specs.States.{FolderState}
 use Rattle.folder_core.specs.declared.best.Best.{Best}
 use Rattle.folder_core.proofs.Lemmas.{bests_after-lines, bests_after-page}
@@ -21,14 +21,14 @@ use Rattle.bepd.specs.Lines.{best_line}
 use Rattle.bepd.specs.Listing.{best_lines}
 
 -- a page as the folder's definitions see it
-abbrev pub founds : List Best → List Found
+abbrev pub founds : List Best → List BestEntry
 founds page = map (λ b. (b.record, b.devices)) page
 
-abbrev found_lines : List Found → List ℕ
+abbrev found_lines : List BestEntry → List ℕ
 found_lines found = flat_map (λ b. best_line b.0) found
 
 -- the bests after the last one of a page
-abbrev pub left_after : FolderState → List Best → List Found
+abbrev pub left_after : FolderState → List Best → List BestEntry
 left_after s page = option_map_or (λ (b : Best). bests_after s (Some b.record.name)) (slice_get page (length page - 1)) []
 
 -- the lines of the bests up to a name were written
@@ -82,10 +82,10 @@ pub written_page : (s : FolderState) (page : List Best) (b : Best) (lines : List
 written_page s page b lines old mid new named last made put w =
     let rest = found_lines (bests_after s (Some b.record.name)) in
     let front = w.written.front in
-    let lines_are : lines ≡ found_lines (founds page) = made ∙ sym (flat_map-map (λ (f : Found). best_line f.0) (λ (b : Best). (b.record, b.devices)) page) in
+    let lines_are : lines ≡ found_lines (founds page) = made ∙ sym (flat_map-map (λ (f : BestEntry). best_line f.0) (λ (b : Best). (b.record, b.devices)) page) in
     let split : found_lines (bests_after s w.after) ≡ lines ++ rest =
     ap found_lines (split_page s named w.after page b w.read last)
-    ∙ flat_map-append (λ (f : Found). best_line f.0) (founds page) (bests_after s (Some b.record.name)) ∙ ap (λ l. l ++ rest) (sym lines_are) in
+    ∙ flat_map-append (λ (f : BestEntry). best_line f.0) (founds page) (bests_after s (Some b.record.name)) ∙ ap (λ l. l ++ rest) (sym lines_are) in
     record {
       front = front ++ lines;
       put = Appends-trans old mid new front lines w.written.put put;

@@ -12,17 +12,17 @@ use Rattle.folder_core.specs.Announced.{IsNamed}
 use Rattle.folder_core.specs.States.{FolderState}
 use Rattle.folder_core.specs.declared.change.Change.{Change}
 use Rattle.folder_core.specs.declared.change.Change.TheVariants.{IndexFull, IndexMore}
-use Rattle.bepd.specs.declared.received.Announcement.{Announcement}
-use Rattle.bepd.specs.declared.received.Announcement.TheVariants.{All, More}
+use Rattle.bepd.specs.declared.received.IndexMessage.{IndexMessage}
+use Rattle.bepd.specs.declared.received.IndexMessage.TheVariants.{All, More}
 use Rattle.bepd.specs.Received.{peer, kept_records, frame_changes, frame_files, folder_after, skipped_count}
 
 -- what a frame announces of the folder
-abbrev pub Announces : Option Announcement → List Change → List FileInfo → Type 0
+abbrev pub Announces : Option IndexMessage → List Change → List FileInfo → Type 0
 Announces None changes files = (changes ≡ []) × (files ≡ [])
 Announces (Some (All announced)) changes files = (changes ≡ IndexFull peer (kept_records announced) ∷ []) × (files ≡ announced)
 Announces (Some (More announced)) changes files = (changes ≡ IndexMore peer (kept_records announced) ∷ []) × (files ≡ announced)
 
-abbrev pub IsAnnounced : Option Announcement → List ℕ → Frame → Type 0
+abbrev pub IsAnnounced : Option IndexMessage → List ℕ → Frame → Type 0
 IsAnnounced announced folder f = Announces announced (frame_changes folder f) (frame_files folder f)
 
 -- what was kept of these frames: the folder after them, and how many records were skipped

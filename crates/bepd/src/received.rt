@@ -60,11 +60,11 @@ impl<F: FolderCore> Received<F> {
         ensures count { OnOk result (self.new.skipped ≤ self.old.skipped + length (frame_files folder.now frame)) }
     {
         match announced(frame, folder) {
-            Some(Announcement::All(files)) => {
+            Some(IndexMessage::All(files)) => {
                 let records = keep(alloc, files, &mut self.skipped)?;
                 self.folder.index_full(peer(), records)?;
             }
-            Some(Announcement::More(files)) => {
+            Some(IndexMessage::More(files)) => {
                 let records = keep(alloc, files, &mut self.skipped)?;
                 self.folder.index_more(peer(), records)?;
             }
@@ -76,7 +76,7 @@ impl<F: FolderCore> Received<F> {
 
 /// What a message announces of a folder.
 #[derive(Debug, Drop)]
-enum Announcement {
+enum IndexMessage {
     /// All that the device has.
     All(Items<FileInfo>),
     /// What it has besides.
@@ -84,18 +84,18 @@ enum Announcement {
 }
 
 /// What the frame announces of the folder, if anything.
-fn announced(frame: Frame, folder: &str) -> Option<Announcement>
+fn announced(frame: Frame, folder: &str) -> Option<IndexMessage>
     ensures { IsAnnounced result folder.now frame }
 {
     match frame {
         Frame::Message(message) => match message {
             Message::Index(index) => {
                 let files = files_of(index.folder, index.files, folder)?;
-                Some(Announcement::All(files))
+                Some(IndexMessage::All(files))
             }
             Message::IndexUpdate(update) => {
                 let files = files_of(update.folder, update.files, folder)?;
-                Some(Announcement::More(files))
+                Some(IndexMessage::More(files))
             }
             _other => None,
         },

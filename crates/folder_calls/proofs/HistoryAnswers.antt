@@ -12,32 +12,32 @@ use Rattle.folder_core.specs.declared.answer.Answer.{Answer}
 use Rattle.folder_core.specs.declared.answer.Answer.TheVariants.{Begun, Entered, HistoryFull}
 use Rattle.folder_core.specs.declared.change.Change.{Change}
 use Rattle.folder_core.specs.declared.change.Change.TheVariants.{BeginPull, EnterCommit}
-use Rattle.folder_core.specs.declared.token.Token.{Token}
+use Rattle.folder_core.specs.declared.pull_info.PullInfo.{PullInfo}
 use Rattle.folder_core.proofs.AnswersSay.{begun-says, entered-says, own-numbers}
 use Rattle.folder_calls.specs.declared.at.At.{At}
 use Rattle.folder_calls.specs.declared.entry.Entry.{Entry}
 use Rattle.folder_calls.specs.Histories.{after, is_over, own_entries, shared_answer, state_after}
 use Rattle.folder_calls.specs.Adds.{Adds, Asked, Asks}
-use Rattle.folder_calls.specs.Shared.{Declines, Gets, IsLegalView, Makes, Sees, Tells, View, now, own_entry, seeing}
+use Rattle.folder_calls.specs.Shared.{Declines, Gets, IsLegalView, Makes, Sees, ChangesAt, CallerView, now, own_entry, seeing}
 use Rattle.folder_calls.proofs.HistoryEntries.{state-push}
 use Rattle.folder_calls.proofs.HistoryShared.{accepted-answer, answered-entered, answered-kept, answered-longer}
 
 -- an accepted answer is the step's at a point that the caller then knows
-stepped : (old new : View) (c : Change) (a : Answer) → MatchBool (is_accepted a) (Makes old new c a) (Declines old new c a) → is_accepted a ≡ true
+stepped : (old new : CallerView) (c : Change) (a : Answer) → MatchBool (is_accepted a) (Makes old new c a) (Declines old new c a) → is_accepted a ≡ true
     → (front : List Entry) × ((step (state_after old.opening front) c).0 ≡ a)
 stepped old new c a answered accepted =
     let e = answered-entered old new c a answered accepted in
     (e.1, sym (e.4 ∙ accepted-answer old.limit old.opening e.1 c (ap is_accepted (sym e.4) ∙ accepted)))
 
-pub begun-name : (old new : View) (n : Name) (t : Token) → Gets old (BeginPull n) (Begun t) new → t.name ≡ n
+pub begun-name : (old new : CallerView) (n : Name) (t : PullInfo) → Gets old (BeginPull n) (Begun t) new → t.name ≡ n
 begun-name old new n t gets = let at = stepped old new (BeginPull n) (Begun t) gets.answered refl in (begun-says (state_after old.opening at.0) n t at.1).0
 
-pub entered-ticket : (old new : View) (t c : Token) → Gets old (EnterCommit t) (Entered c) new → c ≡ t
+pub entered-ticket : (old new : CallerView) (t c : PullInfo) → Gets old (EnterCommit t) (Entered c) new → c ≡ t
 entered-ticket old new t c gets = let at = stepped old new (EnterCommit t) (Entered c) gets.answered refl in (entered-says (state_after old.opening at.0) t c at.1).0
 
 -- ---- what one answer says
 
-module _ (old new : View) (c : Change) (a : Answer) (gets : Gets old c a new) where
+module _ (old new : CallerView) (c : Change) (a : Answer) (gets : Gets old c a new) where
   opened : new.opening ≡ old.opening
   opened = (answered-longer old new c a gets.answered).1.0
 
@@ -70,23 +70,23 @@ entry_by p m = record { pass = p; change = m.0; answer = m.1 }
 prefix-on : (xs ys zs : List Entry) → IsPrefix xs ys → IsPrefix ys zs → IsPrefix xs zs
 prefix-on xs ys zs l m = (l.0 ++ m.0, sym (append_assoc xs l.0 m.0) ∙ ap (λ es. es ++ m.0) l.1 ∙ m.1)
 
-pub adds-on : (a b c : View) (xs ys : List Asked) → Adds a xs b → Adds b ys c → Adds a (xs ++ ys) c
+pub adds-on : (a b c : CallerView) (xs ys : List Asked) → Adds a xs b → Adds b ys c → Adds a (xs ++ ys) c
 adds-on a b c xs ys first second = record {
   longer = prefix-on a.seen b.seen c.seen first.longer second.longer;
-  own = subst (λ p. own_entries p c.seen ≡ own_entries p b.seen ++ map (entry_by p) ys) (ap (λ (v : View). v.pass) first.same) second.own
+  own = subst (λ p. own_entries p c.seen ≡ own_entries p b.seen ++ map (entry_by p) ys) (ap (λ (v : CallerView). v.pass) first.same) second.own
       ∙ ap (λ es. es ++ map (entry_by a.pass) ys) first.own
       ∙ append_assoc (own_entries a.pass a.seen) (map (entry_by a.pass) xs) (map (entry_by a.pass) ys)
       ∙ ap (λ es. own_entries a.pass a.seen ++ es) (sym (map-append (entry_by a.pass) xs ys));
-  same = second.same ∙ ap (λ (v : View). seeing v c.seen) first.same;
+  same = second.same ∙ ap (λ (v : CallerView). seeing v c.seen) first.same;
 }
 
-pub sees-adds : (old new : View) → Sees old new → Adds old [] new
+pub sees-adds : (old new : CallerView) → Sees old new → Adds old [] new
 sees-adds old new s = record { longer = s.longer; own = s.own ∙ sym (append-nil (own_entries old.pass old.seen)); same = s.same }
 
-pub adds-sees : (old new : View) → Adds old [] new → Sees old new
+pub adds-sees : (old new : CallerView) → Adds old [] new → Sees old new
 adds-sees old new a = record { longer = a.longer; own = a.own ∙ append-nil (own_entries old.pass old.seen); same = a.same }
 
-module _ (old new : View) (c : Change) (a : Answer) (gets : Gets old c a new) where
+module _ (old new : CallerView) (c : Change) (a : Answer) (gets : Gets old c a new) where
   caller : (new.opening ≡ old.opening) × (new.limit ≡ old.limit) × (new.pass ≡ old.pass)
   caller = (answered-longer old new c a gets.answered).1
 
@@ -106,7 +106,7 @@ module _ (old new : View) (c : Change) (a : Answer) (gets : Gets old c a new) wh
 abbrev accepted_of : List Asked → List Asked
 accepted_of asked = filter (λ m. is_accepted m.1) asked
 
-pub asked-adds : (asked : List Asked) (old new : View) → Asks old asked new → Adds old (accepted_of asked) new
+pub asked-adds : (asked : List Asked) (old new : CallerView) → Asks old asked new → Adds old (accepted_of asked) new
 asked-adds [] old new e = subst (λ v. Adds old [] v) (sym e) (sees-adds old old (record { longer = ([], append-nil old.seen); own = refl; same = refl }))
 asked-adds (m ∷ ms) old new x =
     let rest = asked-adds ms x.0 new x.2 in
@@ -115,12 +115,12 @@ asked-adds (m ∷ ms) old new x =
       | false ↦ λ t. adds-on old x.0 new [] (accepted_of ms) (adds-none old x.0 m.0 m.1 x.1 t) rest
     ] refl
 
-pub asked-on : (xs ys : List Asked) (one two three : View) → Asks one xs two → Asks two ys three → Asks one (xs ++ ys) three
+pub asked-on : (xs ys : List Asked) (one two three : CallerView) → Asks one xs two → Asks two ys three → Asks one (xs ++ ys) three
 asked-on [] ys one two three e rest = subst (λ v. Asks v ys three) e rest
 asked-on (m ∷ ms) ys one two three x rest = (x.0, x.1, asked-on ms ys x.0 two three x.2 rest)
 
-pub tells-asks : (old new : View) (c : Change) (told : At Answer) → Tells old c (Some told) new → Asks old ((c, told.value) ∷ []) new
-tells-asks old new c told tells = (new, record { point = refl; legal = tells.legal; answered = tells.answered }, refl)
+pub change-gets : (old new : CallerView) (c : Change) (reply : At Answer) → ChangesAt old c (Some reply) new → Gets old c reply.value new
+change-gets old new c reply changes = record { point = refl; legal = changes.legal; answered = changes.answered }
 
 -- ---- numbers of pulls
 
@@ -128,7 +128,7 @@ numbers-on : (es : List Entry) (s : FolderState) → HaveOwnNumbers s → HaveOw
 numbers-on [] s own = own
 numbers-on (e ∷ es) s own = numbers-on es (after s e) (own-numbers s e.change own)
 
-pub legal-numbers : (v : View) → IsLegalView v → HaveOwnNumbers (now v)
+pub legal-numbers : (v : CallerView) → IsLegalView v → HaveOwnNumbers (now v)
 legal-numbers v legal = numbers-on v.seen v.opening (λ m n p q g h e. absurd (none m p g))
   where
     none : (m : Name) (p : Pull) → get v.opening.pulls m ≡ Some p → ⊥

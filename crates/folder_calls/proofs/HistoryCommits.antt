@@ -8,15 +8,15 @@ use Rattle.std.proofs.lemmas.Slice.Eq.{bytes_eq-Decides}
 use Rattle.sync_record.specs.Assemblies.{IsAssembled}
 use Rattle.sync_record.specs.Devices.{bytes_cmp}
 use Rattle.sync_record.specs.Records.{Name, FileRecord}
-use Rattle.folder_core.specs.declared.stage.Stage.{Stage}
-use Rattle.folder_core.specs.declared.stage.Stage.TheVariants.{Pulling, Committing}
+use Rattle.folder_core.specs.declared.pull_stage.PullStage.{PullStage}
+use Rattle.folder_core.specs.declared.pull_stage.PullStage.TheVariants.{Pulling, Committing}
 use Rattle.folder_core.specs.Announced.{Announcement, best}
 use Rattle.folder_core.specs.States.{FolderState, Pull, is_committing, local, same_stage, IsFolder}
 use Rattle.folder_core.specs.declared.answer.Answer.{Answer}
 use Rattle.folder_core.specs.declared.answer.Answer.TheVariants.{Begun, Entered, Recorded, Applied, Closed, Done}
 use Rattle.folder_core.specs.declared.change.Change.{Change}
 use Rattle.folder_core.specs.declared.change.Change.TheVariants.{BeginPull, EnterCommit}
-use Rattle.folder_core.specs.declared.token.Token.{Token}
+use Rattle.folder_core.specs.declared.pull_info.PullInfo.{PullInfo}
 use Rattle.folder_core.specs.Steps.{MayChange, is_accepted, step, finish, pull_of, with_pull, with_commit, without_pull, next_ticket}
 use Rattle.folder_calls.specs.declared.entry.Entry.{Entry}
 use Rattle.folder_calls.specs.Histories.{MayFollow, is_begin_of, is_end_of, is_enter_of, ends_pull_of, after, state_after, IsLegal, EndsPull, CommitsAreLegal}
@@ -33,19 +33,19 @@ use Rattle.sync_record.specs.Same.{same_record}
 -- an entry by which the pull entered its commit
 record Entrance (es : List Entry) (n : Name) (p : Pull) : Type 0 where
   entry : Entry
-  ticket : Token
+  ticket : PullInfo
   listed : In entry es
   answered : entry.answer ≡ Entered ticket
   number : ticket.number ≡ p.number
   name : ticket.name ≡ n
   target : ticket.target ≡ p.target
 
--- What is in the history of an open pull: its begin, and after it its entrance to the commit, if it entered.
+-- What is in the history of an open pull: its begin, and after it the entry of its commit, if that was entered.
 record Opened (front : List Entry) (n : Name) (p : Pull) : Type 0 where
   before : List Entry
   begun : Entry
   between : List Entry
-  ticket : Token
+  ticket : PullInfo
   divided : front ≡ before ++ begun ∷ between
   began : begun.answer ≡ Begun ticket
   number : ticket.number ≡ p.number
@@ -57,7 +57,7 @@ record Opened (front : List Entry) (n : Name) (p : Pull) : Type 0 where
   ends : count_by (is_end_of n) between ≡ 0
   entrance : is_committing p ≡ true → Entrance between n p
 
--- one more entry after those among which the entrance is
+-- one more entry after those among which that of the commit is
 further : (es : List Entry) (e : Entry) (n : Name) (p : Pull) → Entrance es n p → Entrance (es ++ e ∷ []) n p
 further es e n p x = record {
   entry = x.entry;
@@ -102,7 +102,7 @@ later front e n p o quiet idle endless = goes_on front e n p p o quiet endless r
     and_none : (k : ℕ) → k + 0 ≡ k
     and_none k = omega arith
 
-not_committing : (st : Stage) → same_stage st Pulling ≡ true → same_stage st Committing ≡ false
+not_committing : (st : PullStage) → same_stage st Pulling ≡ true → same_stage st Committing ≡ false
 not_committing Pulling e = refl
 not_committing Committing e = absurd (true≢false (sym e))
 
@@ -161,7 +161,7 @@ module _ (s : FolderState) (front : List Entry) (e : Entry) (accepted : is_accep
             (ap (is_begin_of n) (sym is) ∙ other_name m n (λ x. true≢false (sym (ap is_some (sym (ap (get s.pulls) x) ∙ f)) ∙ free)))
             (ap (is_enter_of n) (sym is)) (no_end n (BeginPull m) asked refl)
 
-    entered_by : (t : Token) (p : Pull) → e.change ≡ EnterCommit t → pull_of s t Pulling ≡ Some p → Entered t ≡ e.answer → Traced (with_commit s t.name p)
+    entered_by : (t : PullInfo) (p : Pull) → e.change ≡ EnterCommit t → pull_of s t Pulling ≡ Some p → Entered t ≡ e.answer → Traced (with_commit s t.name p)
     entered_by t p asked found is n q g = by (insert_apart bytes_total exact_names s.pulls t.name n p' q g)
       where
         p' : Pull
@@ -209,7 +209,7 @@ module _ (s : FolderState) (front : List Entry) (e : Entry) (accepted : is_accep
 -- ---- the begin of a pull in a legal history
 
 -- a pull is begun over the local record, for the best
-abbrev pub BeginsWell : FolderState → Token → Type 0
+abbrev pub BeginsWell : FolderState → PullInfo → Type 0
 BeginsWell s t =
     (t.base ≡ local s t.name) × (e : Announcement) × (best (entries s.announced) t.name ≡ Some e) × (t.target ≡ e.1)
 
@@ -217,15 +217,15 @@ abbrev begins : Answer → Bool
 begins (Begun t) = true
 begins _ = false
 
-abbrev ticket_of : Token → Answer → Token
+abbrev ticket_of : PullInfo → Answer → PullInfo
 ticket_of t (Begun u) = u
 ticket_of t _ = t
 
-other_answer : (a : Answer) (t : Token) → begins a ≡ false → a ≡ Begun t → ⊥
+other_answer : (a : Answer) (t : PullInfo) → begins a ≡ false → a ≡ Begun t → ⊥
 other_answer a t no_begin is = true≢false (ap begins (sym is) ∙ no_begin)
 
-begins-well : (s : FolderState) (c : Change) (t : Token) → (step s c).0 ≡ Begun t → BeginsWell s t
-begins-well s = step-cases s (λ _ d. (t : Token) → d.0 ≡ Begun t → BeginsWell s t) (record {
+begins-well : (s : FolderState) (c : Change) (t : PullInfo) → (step s c).0 ≡ Begun t → BeginsWell s t
+begins-well s = step-cases s (λ _ d. (t : PullInfo) → d.0 ≡ Begun t → BeginsWell s t) (record {
   tested = λ _ a no t is. absurd (true≢false (ap is_accepted (sym is) ∙ no));
   found = λ m x f moment _ t is. absurd (other_answer (Recorded (s.last + 1)) t refl is);
   gone = λ m x moment r _ _ t is. absurd (other_answer (Recorded (s.last + 1)) t refl is);
@@ -244,7 +244,7 @@ legal-at : (passes : ℕ) (front rest : List Entry) (e : Entry) (s : FolderState
 legal-at passes [] rest e s legal = legal.0
 legal-at passes (f ∷ front) rest e s legal = legal-at passes front rest e (after s f) legal.1
 
-pub legal-begin : (passes : ℕ) (opening : FolderState) (front rest : List Entry) (e : Entry) (t : Token) → IsLegal passes opening (front ++ e ∷ rest) → e.answer ≡ Begun t → BeginsWell (state_after opening front) t
+pub legal-begin : (passes : ℕ) (opening : FolderState) (front rest : List Entry) (e : Entry) (t : PullInfo) → IsLegal passes opening (front ++ e ∷ rest) → e.answer ≡ Begun t → BeginsWell (state_after opening front) t
 legal-begin passes opening front rest e t legal is =
     begins-well (state_after opening front) e.change t ((legal-at passes front rest e opening legal).answered ∙ is)
 
@@ -261,11 +261,11 @@ walk passes front (e ∷ es) rest s traced folder legal =
     let r = walk passes (front ++ e ∷ []) es rest (after s e) (traced_step s front e may.accepted traced e.change refl may.answered) (step-folder s e.change folder may.allowed) legal.1 in
     (λ n q g. subst (λ f. Opened f n q) (append_assoc front (e ∷ []) es) (r.0 n q g), r.1, r.2)
 
-is_committing_stage : (st : Stage) → same_stage st Committing ≡ true → st ≡ Committing
+is_committing_stage : (st : PullStage) → same_stage st Committing ≡ true → st ≡ Committing
 is_committing_stage Pulling e = absurd (true≢false (sym e))
 is_committing_stage Committing e = refl
 
-module _ (passes : ℕ) (opening : FolderState) (front rest : List Entry) (done : Entry) (commit : Token) (assembled : FileRecord) (legal : IsLegal passes opening (front ++ done ∷ rest)) where
+module _ (passes : ℕ) (opening : FolderState) (front rest : List Entry) (done : Entry) (commit : PullInfo) (assembled : FileRecord) (legal : IsLegal passes opening (front ++ done ∷ rest)) where
   abbrev end : FolderState
   end = state_after opening front
 
@@ -287,9 +287,9 @@ module _ (passes : ℕ) (opening : FolderState) (front rest : List Entry) (done 
             (subst (IsLegal passes opening) (ap (λ es. es ++ done ∷ rest) o.divided ∙ append_assoc o.before (o.begun ∷ o.between) (done ∷ rest)) legal) o.began).0;
         same = (o.number ∙ eqb-true p.number commit.number same.0, o.name, o.target ∙ same_record-is p.target commit.target same.1);
         entered = x.entry;
-        entrance = x.ticket;
+        entered_info = x.ticket;
         enters = (in_contains o.between x.entry x.listed, x.answered);
-        same_entrance = (x.number ∙ eqb-true p.number commit.number same.0, x.name, x.target ∙ same_record-is p.target commit.target same.1);
+        same_entered = (x.number ∙ eqb-true p.number commit.number same.0, x.name, x.target ∙ same_record-is p.target commit.target same.1);
         no_other_begin = o.begins;
         one_enter = o.enters ∙ ap (λ b. cond b 1 0) open_pull.1;
         no_end = o.ends;

@@ -16,7 +16,7 @@ use Rattle.folder_core.proofs.ChangeSequences.{Takes, step-kept, step-taken}
 use Rattle.folder_core.proofs.ScanRecords.{local-elsewhere, local-here}
 use Rattle.folder_calls.specs.declared.entry.Entry.{Entry}
 use Rattle.folder_calls.specs.Histories.{IsLegal, after, state_after, own_entries}
-use Rattle.folder_calls.specs.Shared.{View, IsLegalView, seeing}
+use Rattle.folder_calls.specs.Shared.{CallerView, IsLegalView, seeing}
 
 pub legal-divided : (passes : ℕ) (s : FolderState) (es fs : List Entry) → IsLegal passes s (es ++ fs) → IsLegal passes s es × IsLegal passes (state_after s es) fs
 legal-divided passes s [] fs legal = (tt, legal)
@@ -89,7 +89,7 @@ front-room s es fs =
     omega arith
 
 -- a beginning of what a folder had is one too
-pub view-front : (v : View) (es fs : List Entry) → IsLegalView (seeing v (es ++ fs)) → IsLegalView (seeing v es)
+pub view-front : (v : CallerView) (es fs : List Entry) → IsLegalView (seeing v (es ++ fs)) → IsLegalView (seeing v es)
 view-front v es fs view = record {
   opening = view.opening;
   no_pull = view.no_pull;
@@ -101,16 +101,16 @@ view-front v es fs view = record {
 
 -- ---- local records
 
-abbrev GoesOn : FolderState → FolderState → Type 0
-GoesOn s t = (n : Name) → (local t n ≡ local s n) ⊎ ((r : FileRecord) × (local t n ≡ Some r) × (s.last < r.sequence))
+abbrev PlanGoesOn : FolderState → FolderState → Type 0
+PlanGoesOn s t = (n : Name) → (local t n ≡ local s n) ⊎ ((r : FileRecord) × (local t n ≡ Some r) × (s.last < r.sequence))
 
-recorded-on : (s : FolderState) (r : FileRecord) → GoesOn s (with_local s r)
+recorded-on : (s : FolderState) (r : FileRecord) → PlanGoesOn s (with_local s r)
 recorded-on s r n = same_or_not r.name n
     (λ same. inr (record r { sequence = s.last + 1 }, local-here s r n same, omega arith))
     (λ apart. inl (local-elsewhere s r r.name n refl (λ e. apart (sym e))))
 
-step-on : (s : FolderState) (c : Change) → MayChange s.me c → GoesOn s (step s c).1
-step-on s = step-cases s (λ x d. MayChange s.me x → GoesOn s d.1) (record {
+step-on : (s : FolderState) (c : Change) → MayChange s.me c → PlanGoesOn s (step s c).1
+step-on s = step-cases s (λ x d. MayChange s.me x → PlanGoesOn s d.1) (record {
   tested = λ _ a _ _ n. inl refl;
   found = λ n expected f moment _ _. recorded-on s (found_now s n f moment);
   gone = λ n expected moment r _ _ _. recorded-on s (gone_now s n r moment);

@@ -7,12 +7,12 @@ use mathlib.Core.List.{IsPrefix}
 use Rattle.folder_core.specs.States.{FolderState, IsFolder}
 use Rattle.folder_calls.specs.declared.entry.Entry.{Entry}
 use Rattle.folder_calls.specs.Histories.{IsLegal, own_entries, state_after}
-use Rattle.folder_calls.specs.Shared.{Closes, IsLegalView, Meets, Sees, View, seeing}
+use Rattle.folder_calls.specs.Shared.{Closes, IsLegalView, Meets, Sees, CallerView, seeing}
 use Rattle.folder_calls.proofs.HistoryEntries.{legal-folder}
 use Rattle.folder_calls.proofs.HistoryFronts.{legal-more, own-divided}
 
 -- a view that sees what another had seen
-view-of : (one other : View) → one.opening ≡ other.opening → one.limit ≡ other.limit → IsLegalView one → IsLegalView other → IsLegalView (seeing one other.seen)
+view-of : (one other : CallerView) → one.opening ≡ other.opening → one.limit ≡ other.limit → IsLegalView one → IsLegalView other → IsLegalView (seeing one other.seen)
 view-of one other opening limit mine theirs = record {
   opening = mine.opening;
   no_pull = mine.no_pull;
@@ -22,7 +22,7 @@ view-of one other opening limit mine theirs = record {
   room = subst (λ s. length other.seen + len (state_after s other.seen).pulls ≤ one.limit) (sym opening) (subst (λ n. length other.seen + len (state_after other.opening other.seen).pulls ≤ n) (sym limit) theirs.room);
 }
 
-module _ (one other one' other' : View) (m : Meets one other one' other') where
+module _ (one other one' other' : CallerView) (m : Meets one other one' other') where
   abbrev Longer : Type 0
   Longer =
       (IsPrefix one.seen other.seen × (one' ≡ seeing one other.seen) × (other' ≡ other))
@@ -53,10 +53,10 @@ module _ (one other one' other' : View) (m : Meets one other one' other') where
       by (inl l) = (subst IsLegalView (sym l.1) (view-of one other opening limit mine theirs), subst IsLegalView (sym l.2) theirs)
       by (inr l) = (subst IsLegalView (sym l.1) mine, subst IsLegalView (sym l.2) (view-of other one (sym opening) (sym limit) theirs mine))
 
-stays : (v : View) → Sees v v
+stays : (v : CallerView) → Sees v v
 stays v = record { longer = ([], append-nil v.seen); own = refl; same = refl }
 
-pub may-meet : (one other : View) → IsPrefix one.seen other.seen → own_entries one.pass other.seen ≡ own_entries one.pass one.seen
+pub may-meet : (one other : CallerView) → IsPrefix one.seen other.seen → own_entries one.pass other.seen ≡ own_entries one.pass one.seen
     → Meets one other (seeing one other.seen) other × Meets other one other (seeing one other.seen)
 may-meet one other longer own =
     let saw : Sees one (seeing one other.seen) = record { longer = longer; own = own; same = refl } in (
@@ -66,8 +66,8 @@ may-meet one other longer own =
 
 -- ---- closing
 
-module _ (opening : FolderState) (limit passes : ℕ) (callers : List View) (end : FolderState) (c : Closes opening limit passes callers end) where
-  pub close-follows : (v : View) → Contains callers v → (rest : List Entry) × (end ≡ state_after v.opening (v.seen ++ rest)) × (own_entries v.pass rest ≡ [])
+module _ (opening : FolderState) (limit passes : ℕ) (callers : List CallerView) (end : FolderState) (c : Closes opening limit passes callers end) where
+  pub close-follows : (v : CallerView) → Contains callers v → (rest : List Entry) × (end ≡ state_after v.opening (v.seen ++ rest)) × (own_entries v.pass rest ≡ [])
   close-follows v one =
       let k = c.each v one in
       let p = k.2.longer in (
@@ -80,20 +80,20 @@ module _ (opening : FolderState) (limit passes : ℕ) (callers : List View) (end
   pub close-folder : IsFolder opening → IsFolder end × (len end.pulls ≤ limit)
   close-folder folder = (subst IsFolder (sym c.state_is) (legal-folder passes opening c.history folder c.legal), let r = c.room in omega arith)
 
-only-one : (v u : View) → Contains (v ∷ []) u → u ≡ v
+only-one : (v u : CallerView) → Contains (v ∷ []) u → u ≡ v
 only-one v u there = by there.0 there.1 there.2
   where
     by : (k : ℕ) → k < 1 → slice_index_or (v ∷ []) k u ≡ u → u ≡ v
     by zero first is = sym is
     by (suc k) first is = absurd (omega arith)
 
-pub close-only : (opening : FolderState) (limit : ℕ) (v : View) (end : FolderState) → Closes opening limit 1 (v ∷ []) end → end ≡ state_after v.opening v.seen
+pub close-only : (opening : FolderState) (limit : ℕ) (v : CallerView) (end : FolderState) → Closes opening limit 1 (v ∷ []) end → end ≡ state_after v.opening v.seen
 close-only opening limit v end c =
     let w = c.whole refl in
     let same = only-one v w.0 w.1 in
-    c.state_is ∙ ap (λ s. state_after s c.history) (sym (c.each w.0 w.1).0) ∙ ap (state_after w.0.opening) (sym w.2) ∙ ap (λ (u : View). state_after u.opening u.seen) same
+    c.state_is ∙ ap (λ s. state_after s c.history) (sym (c.each w.0 w.1).0) ∙ ap (state_after w.0.opening) (sym w.2) ∙ ap (λ (u : CallerView). state_after u.opening u.seen) same
 
-pub may-close : (passes : ℕ) (v : View) (es : List Entry) → IsPrefix v.seen es → own_entries v.pass es ≡ own_entries v.pass v.seen
+pub may-close : (passes : ℕ) (v : CallerView) (es : List Entry) → IsPrefix v.seen es → own_entries v.pass es ≡ own_entries v.pass v.seen
     → IsLegal passes v.opening es → length es + len (state_after v.opening es).pulls ≤ v.limit → (1 < passes) ⊎ (es ≡ v.seen)
     → Closes v.opening v.limit passes (v ∷ []) (state_after v.opening es)
 may-close passes v es longer own legal room enough = record {

@@ -13,17 +13,17 @@ use Rattle.folder_core.specs.Steps.{MayChange, is_accepted, step}
 use Rattle.folder_core.specs.Reads.{Query, Reply, Reads}
 use Rattle.folder_calls.specs.declared.entry.Entry.{Entry}
 use Rattle.folder_calls.specs.Histories.{IsLegal, state_after, is_over, shared_answer, own_entries}
-use Rattle.folder_calls.specs.Shared.{View, Sees, Makes, Declines, IsLegalView, ReadsThere, Tells, own_entry, seeing}
+use Rattle.folder_calls.specs.Shared.{CallerView, Sees, Makes, Declines, IsLegalView, ReadsAt, ChangesAt, own_entry, seeing}
 use Rattle.folder_calls.proofs.HistoryEntries.{allowed-after, own-push, legal-push, shared-room, state-push}
 
 -- the view is of the same caller and the same folder
-abbrev pub OfOneCaller : View → View → Type 0
+abbrev pub OfOneCaller : CallerView → CallerView → Type 0
 OfOneCaller old new = (new.opening ≡ old.opening) × (new.limit ≡ old.limit) × (new.pass ≡ old.pass)
 
-sees-one : (old new : View) → Sees old new → OfOneCaller old new
-sees-one old new s = (ap (λ (v : View). v.opening) s.same, ap (λ (v : View). v.limit) s.same, ap (λ (v : View). v.pass) s.same)
+sees-one : (old new : CallerView) → Sees old new → OfOneCaller old new
+sees-one old new s = (ap (λ (v : CallerView). v.opening) s.same, ap (λ (v : CallerView). v.limit) s.same, ap (λ (v : CallerView). v.pass) s.same)
 
-module _ (old new : View) (c : Change) (a : Answer) where
+module _ (old new : CallerView) (c : Change) (a : Answer) where
   abbrev e : Entry
   e = own_entry old c a
 
@@ -44,7 +44,7 @@ module _ (old new : View) (c : Change) (a : Answer) where
 
   module _ (m : Makes old new c a) where
     made-seen : new.seen ≡ m.point.seen ++ e ∷ []
-    made-seen = ap (λ (v : View). v.seen) m.entered
+    made-seen = ap (λ (v : CallerView). v.seen) m.entered
 
     made-longer : IsPrefix old.seen new.seen
     made-longer =
@@ -54,7 +54,7 @@ module _ (old new : View) (c : Change) (a : Answer) where
     made-one : OfOneCaller old new
     made-one =
         let s = sees-one old m.point m.sees in
-        (ap (λ (v : View). v.opening) m.entered ∙ s.0, ap (λ (v : View). v.limit) m.entered ∙ s.1, ap (λ (v : View). v.pass) m.entered ∙ s.2)
+        (ap (λ (v : CallerView). v.opening) m.entered ∙ s.0, ap (λ (v : CallerView). v.limit) m.entered ∙ s.1, ap (λ (v : CallerView). v.pass) m.entered ∙ s.2)
 
     made-once : own_entries old.pass new.seen ≡ own_entries old.pass old.seen ++ e ∷ []
     made-once = ap (own_entries old.pass) made-seen ∙ own-push old.pass m.point.seen e refl ∙ ap (λ xs. xs ++ e ∷ []) m.sees.own
@@ -100,13 +100,13 @@ shared-legal passes limit s es e legal given may accepted answer_is =
       accepted = accepted;
     })
 
--- ---- what may be told
+-- ---- what may be answered
 
 length-push : (es : List Entry) (e : Entry) → length (es ++ e ∷ []) ≡ length es + 1
 length-push es e = length-append es (e ∷ [])
 
 -- a caller's accepted change keeps what it has seen a history that a folder had
-pub view-push : (v : View) (c : Change) → IsLegalView v → MayChange v.opening.me c → is_accepted (shared_answer v.limit v.opening v.seen c) ≡ true
+pub view-push : (v : CallerView) (c : Change) → IsLegalView v → MayChange v.opening.me c → is_accepted (shared_answer v.limit v.opening v.seen c) ≡ true
     → IsLegalView (seeing v (v.seen ++ own_entry v c (shared_answer v.limit v.opening v.seen c) ∷ []))
 view-push v c view may accepted = record {
   opening = view.opening;
@@ -129,12 +129,12 @@ pub view-opened : (s : FolderState) (limit pass : ℕ) → IsFolder s → len s.
 view-opened s limit pass folder none given = record { opening = folder; no_pull = none; passes = pass; given = (given, omega arith); legal = tt; room = omega arith }
 
 -- wherever the history went on without the caller, its calls may be answered
-module _ (old : View) (es : List Entry) (longer : IsPrefix old.seen es) (own : own_entries old.pass es ≡ own_entries old.pass old.seen) (view : IsLegalView (seeing old es)) where
+module _ (old : CallerView) (es : List Entry) (longer : IsPrefix old.seen es) (own : own_entries old.pass es ≡ own_entries old.pass old.seen) (view : IsLegalView (seeing old es)) where
   saw : Sees old (seeing old es)
   saw = record { longer = longer; own = own; same = refl }
 
   pub made-there : (c : Change) (a : Answer) → MayChange old.opening.me c → a ≡ shared_answer old.limit old.opening es c → is_accepted a ≡ true
-      → Tells old c (Some (record { at = length es + 1; value = a })) (seeing old (es ++ own_entry old c a ∷ []))
+      → ChangesAt old c (Some (record { at = length es + 1; value = a })) (seeing old (es ++ own_entry old c a ∷ []))
   made-there c a may is accepted = record {
     point = sym (length-push es (own_entry old c a));
     legal = subst (λ b. IsLegalView (seeing old (es ++ own_entry old c b ∷ []))) (sym is) (view-push (seeing old es) c view may (ap is_accepted (sym is) ∙ accepted));
@@ -142,12 +142,12 @@ module _ (old : View) (es : List Entry) (longer : IsPrefix old.seen es) (own : o
   }
 
   pub declined-there : (c : Change) (a : Answer) → a ≡ shared_answer old.limit old.opening es c → is_accepted a ≡ false
-      → Tells old c (Some (record { at = length es; value = a })) (seeing old es)
+      → ChangesAt old c (Some (record { at = length es; value = a })) (seeing old es)
   declined-there c a is tested = record {
     point = refl;
     legal = view;
     answered = declined old (seeing old es) c a (record { sees = saw; answer_is = is }) tested;
   }
 
-  pub read-there : (q : Query) (r : Reply q) → Reads (state_after old.opening es) q r → ReadsThere old q (Some (record { at = length es; value = r })) (seeing old es)
+  pub read-there : (q : Query) (r : Reply q) → Reads (state_after old.opening es) q r → ReadsAt old q (Some (record { at = length es; value = r })) (seeing old es)
   read-there q r reads = record { point = refl; legal = view; sees = saw; answer_is = reads }

@@ -5,7 +5,7 @@ use Rattle.std.specs.FinMap.{get, insert, remove, len, len-insert}
 use Rattle.std.proofs.lemmas.Bool.{true≢false, leb-true, leb-false, cond-true, cond-false}
 use Rattle.std.proofs.lemmas.List.{length-append}
 use Rattle.sync_record.specs.Records.{Name}
-use Rattle.folder_core.specs.declared.stage.Stage.TheVariants.{Pulling, Committing}
+use Rattle.folder_core.specs.declared.pull_stage.PullStage.TheVariants.{Pulling, Committing}
 use Rattle.folder_core.specs.declared.answer.Answer.{Answer}
 use Rattle.folder_core.specs.declared.answer.Answer.TheVariants.{HistoryFull}
 use Rattle.folder_core.specs.declared.change.Change.{Change}
@@ -19,7 +19,7 @@ use Rattle.folder_core.proofs.ChangeCases.{step-cases}
 use Rattle.folder_core.proofs.ChangeKept.{step-keeps}
 use Rattle.folder_calls.specs.declared.entry.Entry.{Entry}
 use Rattle.folder_calls.specs.declared.history.History.{History}
-use Rattle.folder_calls.specs.Journals.{Enters, IsHistory, IsJournal, end, entered_items, with_entry}
+use Rattle.folder_calls.specs.Journals.{Appends, IsHistory, IsJournal, end, appended, with_entry}
 use Rattle.folder_calls.proofs.HistoryEntries.{allowed-after, legal-push, pulls-fewer, shared-full, shared-same, state-push}
 use Rattle.folder_calls.proofs.HistoryFronts.{legal-more, removed-less}
 
@@ -95,15 +95,15 @@ module _ (h : History) (pass : ℕ) (c : Change) (history : IsHistory h) (given 
     pub entered-end : end grown ≡ made.1
     entered-end = state-push h.opening h.entries (record { pass = pass; change = c; answer = made.0 })
 
-    pub entered-enters : Enters h pass c (Some made.0) grown
+    pub entered-enters : Appends h pass c (Some made.0) grown
     entered-enters = (sym (shared-same h.limit h.opening h.entries c (inr room)), sym (cond-true (is_accepted made.0) grown h accepted))
 
   -- any other answer leaves it
-  pub declined-enters : is_accepted made.0 ≡ false → Enters h pass c (Some made.0) h
+  pub declined-enters : is_accepted made.0 ≡ false → Appends h pass c (Some made.0) h
   declined-enters tested = (sym (shared-same h.limit h.opening h.entries c (inl tested)), sym (cond-false (is_accepted made.0) grown h tested))
 
   -- and where there is no room it is refused
-  pub full-enters : is_accepted made.0 ≡ true → h.limit < length h.entries + 1 + len made.1.pulls → Enters h pass c (Some HistoryFull) h
+  pub full-enters : is_accepted made.0 ≡ true → h.limit < length h.entries + 1 + len made.1.pulls → Appends h pass c (Some HistoryFull) h
   full-enters accepted over = (sym (shared-full h.limit h.opening h.entries c accepted over), refl)
 
 -- the same of a journal's own values: of what the core answered, of the entries with the new one, and of the room that was made
@@ -133,7 +133,7 @@ module _ (h : History) (pulls capacity : ℕ) (s : FolderState) (j : IsJournal s
         let p = pulls-there in
         omega arith
 
-    pub room-full : nat_le (length h.entries + len (end h).pulls + (1 + opens c)) h.limit ≡ false → closes c ≡ 0 → Enters h pass c (Some HistoryFull) h
+    pub room-full : nat_le (length h.entries + len (end h).pulls + (1 + opens c)) h.limit ≡ false → closes c ≡ 0 → Appends h pass c (Some HistoryFull) h
     room-full full none =
         let r = leb-false (length h.entries + len (end h).pulls + (1 + opens c)) h.limit full in
         let o = step-open (end h) c accepted-there in
@@ -160,8 +160,8 @@ module _ (h : History) (pulls capacity : ℕ) (s : FolderState) (j : IsJournal s
       pub answer-history : IsHistory with_answer
       answer-history = subst IsHistory grown-is (entered-history h pass c j.history given may accepted-there room-there)
 
-      pub answer-enters : Enters h pass c (Some a) with_answer
-      answer-enters = subst (λ b. Enters h pass c (Some b) (with_entry h pass c b)) answer-there (entered-enters h pass c j.history given may accepted-there room-there)
+      pub answer-enters : Appends h pass c (Some a) with_answer
+      answer-enters = subst (λ b. Appends h pass c (Some b) (with_entry h pass c b)) answer-there (entered-enters h pass c j.history given may accepted-there room-there)
 
       pub answer-journal : (pulls' capacity' : ℕ) → pulls' + closes c ≡ pulls + opens c → length h.entries + 1 + pulls' ≤ capacity' → IsJournal t pulls' capacity' with_answer
       answer-journal pulls' capacity' counted made_room = record {
@@ -180,8 +180,8 @@ module _ (h : History) (pulls capacity : ℕ) (s : FolderState) (j : IsJournal s
     tested-there : is_accepted (step (end h) c).0 ≡ false
     tested-there = ap is_accepted answer-there ∙ tested
 
-    pub tested-enters : Enters h pass c (Some a) h
-    tested-enters = subst (λ b. Enters h pass c (Some b) h) answer-there (declined-enters h pass c j.history given may tested-there)
+    pub tested-enters : Appends h pass c (Some a) h
+    tested-enters = subst (λ b. Appends h pass c (Some b) h) answer-there (declined-enters h pass c j.history given may tested-there)
 
     pub tested-state : t ≡ s
     tested-state = ap (λ (d : Answer × FolderState). d.1) (sym made) ∙ step-keeps s c (ap (λ (d : Answer × FolderState). is_accepted d.0) made ∙ tested)
@@ -207,13 +207,13 @@ module _ (h now : History) (view_is : h ≡ now) (pulls capacity : ℕ) (s : Fol
     pub history-after : IsHistory (record h { entries = es })
     history-after = subst IsHistory grown-by (answer-history h pulls capacity s j pass given-here c may-here a t made accepted room)
 
-    pub enters-after : Enters now pass c (Some a) (record h { entries = es })
+    pub enters-after : Appends now pass c (Some a) (record h { entries = es })
     enters-after =
-        subst (λ old. Enters old pass c (Some a) (record h { entries = es })) view_is
-        (subst (Enters h pass c (Some a)) grown-by (answer-enters h pulls capacity s j pass given-here c may-here a t made accepted room))
+        subst (λ old. Appends old pass c (Some a) (record h { entries = es })) view_is
+        (subst (Appends h pass c (Some a)) grown-by (answer-enters h pulls capacity s j pass given-here c may-here a t made accepted room))
 
-  pub declined-after : is_accepted a ≡ false → Enters now pass c (Some a) now
-  declined-after tested = subst (λ old. Enters old pass c (Some a) old) view_is (tested-enters h pulls capacity s j pass given-here c may-here a t made tested)
+  pub declined-after : is_accepted a ≡ false → Appends now pass c (Some a) now
+  declined-after tested = subst (λ old. Appends old pass c (Some a) old) view_is (tested-enters h pulls capacity s j pass given-here c may-here a t made tested)
 
   pub found-room : is_accepted a ≡ true → nat_le (length now.entries + len (end now).pulls + (1 + opens c)) now.limit ≡ true → closes c ≡ 0 → length h.entries + 1 + len t.pulls ≤ h.limit
   found-room accepted found none = room-found h pulls capacity s j pass given-here c may-here a t made accepted
@@ -223,8 +223,8 @@ module _ (h now : History) (view_is : h ≡ now) (pulls capacity : ℕ) (s : Fol
   kept-room accepted one none = room-kept h pulls capacity s j pass given-here c may-here a t made accepted one none
 
   -- where no room is left for it and for the entries that end the pulls, it is refused
-  pub full-after : is_accepted a ≡ true → nat_le (length now.entries + len (end now).pulls + (1 + opens c)) now.limit ≡ false → closes c ≡ 0 → Enters now pass c (Some HistoryFull) now
-  full-after accepted full none = subst (λ old. Enters old pass c (Some HistoryFull) old) view_is
+  pub full-after : is_accepted a ≡ true → nat_le (length now.entries + len (end now).pulls + (1 + opens c)) now.limit ≡ false → closes c ≡ 0 → Appends now pass c (Some HistoryFull) now
+  full-after accepted full none = subst (λ old. Appends old pass c (Some HistoryFull) old) view_is
       (room-full h pulls capacity s j pass given-here c may-here a t made accepted
       (subst (λ (h : History). nat_le (length h.entries + len (end h).pulls + (1 + opens c)) h.limit ≡ false) (sym view_is) full) none)
 
@@ -252,15 +252,15 @@ module _ (h now : History) (view_is : h ≡ now) (pulls capacity : ℕ) (s : Fol
     pub ended-history : (es : List Entry) → es ≡ h.entries ++ (record { pass = pass; change = c; answer = a }) ∷ [] → IsHistory (record h { entries = es })
     ended-history es pushed = history-after accepted (kept-room accepted one none) es pushed
 
-    pub ended-enters : (es : List Entry) → es ≡ h.entries ++ (record { pass = pass; change = c; answer = a }) ∷ [] → Enters now pass c (Some a) (record h { entries = es })
+    pub ended-enters : (es : List Entry) → es ≡ h.entries ++ (record { pass = pass; change = c; answer = a }) ∷ [] → Appends now pass c (Some a) (record h { entries = es })
     ended-enters es pushed = enters-after accepted (kept-room accepted one none) es pushed
 
 -- the same of a change that was admitted or refused, whether it is then accepted or not
 module _ (h now : History) (view_is : h ≡ now) (pulls capacity : ℕ) (s : FolderState) (j : IsJournal s pulls capacity h) (pass : ℕ) (given : (1 ≤ pass) × (pass ≤ now.passes))
     (c : Change) (may : MayChange now.opening.me c) (none : closes c ≡ 0) (same : opens c ≡ 0) where
-  pub refused-after : (es : List Entry) → es ≡ h.entries → is_accepted (step s c).0 ≡ true → nat_le (length now.entries + len (end now).pulls + 1) now.limit ≡ false → Enters now pass c (Some HistoryFull) (record h { entries = es })
+  pub refused-after : (es : List Entry) → es ≡ h.entries → is_accepted (step s c).0 ≡ true → nat_le (length now.entries + len (end now).pulls + 1) now.limit ≡ false → Appends now pass c (Some HistoryFull) (record h { entries = es })
   refused-after es kept accepted full =
-      subst (Enters now pass c (Some HistoryFull)) (sym (ap (λ es. record h { entries = es }) kept ∙ view_is))
+      subst (Appends now pass c (Some HistoryFull)) (sym (ap (λ es. record h { entries = es }) kept ∙ view_is))
       (full-after h now view_is pulls capacity s j pass given c may (step s c).0 (step s c).1 refl accepted
       (subst (λ n. nat_le (length now.entries + len (end now).pulls + (1 + n)) now.limit ≡ false) (sym same) full) none)
 
@@ -268,7 +268,7 @@ module _ (h now : History) (view_is : h ≡ now) (pulls capacity : ℕ) (s : Fol
       (admitted : is_accepted (step s c).0 ≡ true → (nat_le (length now.entries + len (end now).pulls + 1) now.limit ≡ true) × (length h.entries + pulls + 1 ≤ capacity'))
       (t : FolderState) (es : List Entry) where
     abbrev pub Entered : Option Answer → Type 0
-    Entered o = IsJournal t pulls capacity' (record h { entries = es }) × Enters now pass c o (record h { entries = es })
+    Entered o = IsJournal t pulls capacity' (record h { entries = es }) × Appends now pass c o (record h { entries = es })
 
     unchanged : t ≡ s → es ≡ h.entries → IsJournal t pulls capacity' (record h { entries = es })
     unchanged e f = subst (λ es. IsJournal t pulls capacity' (record h { entries = es })) (sym f)
@@ -285,11 +285,11 @@ module _ (h now : History) (view_is : h ≡ now) (pulls capacity : ℕ) (s : Fol
         )
     by a made false tested pushed = (
       unchanged (ap (λ (d : Answer × FolderState). d.1) (sym made) ∙ step-keeps s c (ap (λ (d : Answer × FolderState). is_accepted d.0) made ∙ tested)) pushed,
-      subst (Enters now pass c (Some a)) (sym (ap (λ es. record h { entries = es }) pushed ∙ view_is))
+      subst (Appends now pass c (Some a)) (sym (ap (λ es. record h { entries = es }) pushed ∙ view_is))
           (declined-after h now view_is pulls capacity s j pass given c may a t made tested),
     )
 
-    pub entered-after : (o : Option Answer) → Changes s c o t → es ≡ entered_items h.entries pass c o → Entered o
+    pub entered-after : (o : Option Answer) → Changes s c o t → es ≡ appended h.entries pass c o → Entered o
     entered-after None e f = (unchanged e f, ap (λ es. record h { entries = es }) f ∙ view_is)
     entered-after (Some a) made pushed = by a made (is_accepted a) refl pushed
 

@@ -8,6 +8,6 @@ pub mod HistoryMeetings
 pub mod HistoryHeadline
 pub mod JournalPulls
 pub mod JournalSteps
-pub mod AloneCalls
+pub mod LoneStatesCalls
 pub mod Rows
 pub mod Same

@@ -5,8 +5,8 @@ use Rattle.folder_core.specs.declared.answer.Answer.TheVariants.{Busy, Moved, Un
 use Rattle.folder_core.specs.declared.best.Best.{Best}
 use Rattle.folder_core.specs.declared.scan.ScanAnswer.{ScanAnswer}
 use Rattle.folder_core.specs.declared.scan.ScanAnswer.TheVariants as scan
-use Rattle.folder_core.specs.declared.token.Token.{Token}
-use Rattle.folder_core.specs.Reads.{Found}
+use Rattle.folder_core.specs.declared.pull_info.PullInfo.{PullInfo}
+use Rattle.folder_core.specs.Reads.{BestEntry}
 use Rattle.folder_calls.specs.declared.at.At.{At}
 use Rattle.folder_calls.specs.declared.pull.BeginAnswer.{BeginAnswer}
 use Rattle.folder_calls.specs.declared.pull.BeginAnswer.TheVariants as begin
@@ -16,14 +16,14 @@ use Rattle.folder_calls.specs.declared.refusal.HistoryFull.{HistoryFull as FullH
 use Rattle.folder_calls.specs.declared.refusal.ScanRefusal.{ScanRefusal}
 use Rattle.folder_calls.specs.declared.refusal.ScanRefusal.TheVariants as refusal
 
--- what is told at a point
-abbrev pub told_at : {X Y : Type 0} → (X → Y) → At X → At Y
-told_at f told = record { at = told.at; value = f told.value }
+-- the answer that was returned, at its point
+abbrev pub answer_at : {X Y : Type 0} → (X → Y) → At X → At Y
+answer_at f reply = record { at = reply.at; value = f reply.value }
 
--- what a call that may be out of memory tells, if it isn't
-abbrev pub told : {X Y E : Type 0} → (X → Y) → Result (At X) E → Option (At Y)
-told f (Ok answer) = Some (told_at f answer)
-told f (Err fault) = None
+-- the answer of a call that may be out of memory, if it isn't, at its point
+abbrev pub answered_at : {X Y E : Type 0} → (X → Y) → Result (At X) E → Option (At Y)
+answered_at f (Ok answer) = Some (answer_at f answer)
+answered_at f (Err fault) = None
 
 abbrev pub scan_value : Result ScanAnswer ScanRefusal → Answer
 scan_value (Ok (scan.Recorded sequence)) = Recorded sequence
@@ -45,7 +45,7 @@ begin_value (Ok begin.Busy) = Busy
 begin_value (Ok begin.Unsupported) = Unsupported
 begin_value (Err full) = HistoryFull
 
-abbrev pub enter_value : Result Token EnterRefusal → Answer
+abbrev pub enter_value : Result PullInfo EnterRefusal → Answer
 enter_value (Ok commit) = Entered commit
 enter_value (Err enter.Stray) = Stray
 enter_value (Err (enter.LocalMoved ticket)) = LocalMoved
@@ -54,7 +54,7 @@ enter_value (Err (enter.SequenceFull ticket)) = SequenceFull
 enter_value (Err (enter.HistoryFull ticket)) = HistoryFull
 
 -- a ticket that isn't stray comes back
-abbrev pub GivesBack : Token → EnterRefusal → Type 0
+abbrev pub GivesBack : PullInfo → EnterRefusal → Type 0
 GivesBack given enter.Stray = ⊤
 GivesBack given (enter.LocalMoved ticket) = ticket ≡ given
 GivesBack given (enter.Superseded ticket) = ticket ≡ given
@@ -62,5 +62,5 @@ GivesBack given (enter.SequenceFull ticket) = ticket ≡ given
 GivesBack given (enter.HistoryFull ticket) = ticket ≡ given
 
 -- the best with the devices that have it
-abbrev pub found : Best → Found
-found b = (b.record, b.devices)
+abbrev pub best_entry : Best → BestEntry
+best_entry b = (b.record, b.devices)

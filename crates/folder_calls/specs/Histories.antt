@@ -9,7 +9,7 @@ use Rattle.folder_core.specs.declared.answer.Answer.{Answer}
 use Rattle.folder_core.specs.declared.answer.Answer.TheVariants.{Begun, Entered, HistoryFull}
 use Rattle.folder_core.specs.declared.change.Change.{Change}
 use Rattle.folder_core.specs.declared.change.Change.TheVariants.{Finish, GiveUp, Abort}
-use Rattle.folder_core.specs.declared.token.Token.{Token}
+use Rattle.folder_core.specs.declared.pull_info.PullInfo.{PullInfo}
 use Rattle.folder_core.specs.Steps.{is_accepted, step, MayChange}
 
 abbrev pub after : FolderState → Entry → FolderState
@@ -74,19 +74,19 @@ is_end_of n e = is_accepted e.answer && ends_pull_of n e.change
 -- A finish after some entries ends the pull that was begun there over the local record, and entered: over
 -- the version of that record, which is the local one still, with its target, of each of whose blocks some bytes have the
 -- size and the digest. Nothing else ended it before.
-pub record EndsPull (opening : FolderState) (front : List Entry) (commit : Token) (assembled : FileRecord) : Type 0 where
+pub record EndsPull (opening : FolderState) (front : List Entry) (commit : PullInfo) (assembled : FileRecord) : Type 0 where
   pub before : List Entry
   pub begun : Entry
   pub between : List Entry
-  pub ticket : Token
+  pub ticket : PullInfo
   pub divided : front ≡ before ++ begun ∷ between
   pub began : begun.answer ≡ Begun ticket
   pub over : ticket.base ≡ local (state_after opening before) ticket.name
   pub same : (ticket.number ≡ commit.number) × (ticket.name ≡ commit.name) × (ticket.target ≡ commit.target)
   pub entered : Entry
-  pub entrance : Token
-  pub enters : Contains between entered × (entered.answer ≡ Entered entrance)
-  pub same_entrance : (entrance.number ≡ commit.number) × (entrance.name ≡ commit.name) × (entrance.target ≡ commit.target)
+  pub entered_info : PullInfo
+  pub enters : Contains between entered × (entered.answer ≡ Entered entered_info)
+  pub same_entered : (entered_info.number ≡ commit.number) × (entered_info.name ≡ commit.name) × (entered_info.target ≡ commit.target)
   pub no_other_begin : count_by (λ e. is_begin_of commit.name e.answer) between ≡ 0
   pub one_enter : count_by (λ e. is_enter_of commit.name e.answer) between ≡ 1
   pub no_end : count_by (is_end_of commit.name) between ≡ 0
@@ -97,6 +97,6 @@ pub record EndsPull (opening : FolderState) (front : List Entry) (commit : Token
 -- in a legal history each finish ends a pull
 abbrev pub CommitsAreLegal : Type 0
 CommitsAreLegal =
-    (passes : ℕ) (opening : FolderState) (front rest : List Entry) (done : Entry) (commit : Token) (assembled : FileRecord)
+    (passes : ℕ) (opening : FolderState) (front rest : List Entry) (done : Entry) (commit : PullInfo) (assembled : FileRecord)
     → IsFolder opening → len opening.pulls ≡ 0 → IsLegal passes opening (front ++ done ∷ rest) → done.change ≡ Finish commit assembled
     → EndsPull opening front commit assembled

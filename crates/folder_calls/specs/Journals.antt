@@ -31,9 +31,9 @@ with_entry h pass change answer = record h { entries = h.entries ++ (record { pa
 
 -- A change of a pass gets the shared answer, and is entered if it is accepted. Without an answer it is out of memory, and nothing
 -- changed.
-abbrev pub Enters : History → ℕ → Change → Option Answer → History → Type 0
-Enters old pass change None new = new ≡ old
-Enters old pass change (Some answer) new =
+abbrev pub Appends : History → ℕ → Change → Option Answer → History → Type 0
+Appends old pass change None new = new ≡ old
+Appends old pass change (Some answer) new =
     (answer ≡ shared_answer old.limit old.opening old.entries change)
     × (new ≡ if is_accepted answer then with_entry old pass change answer else old)
 
@@ -43,9 +43,9 @@ answered f (Ok x) = Some (f x)
 answered f (Err fault) = None
 
 -- the entries after a change of a pass, which is entered if it is accepted
-abbrev pub entered_items : List Entry → ℕ → Change → Option Answer → List Entry
-entered_items es pass change None = es
-entered_items es pass change (Some answer) =
+abbrev pub appended : List Entry → ℕ → Change → Option Answer → List Entry
+appended es pass change None = es
+appended es pass change (Some answer) =
     if is_accepted answer then es ++ (record { pass = pass; change = change; answer = answer }) ∷ [] else es
 
 -- the journal keeps this folder, in the state after the history, with so many open pulls, and has room for the entries that end them

@@ -3,7 +3,7 @@ pub mod Histories
 pub mod Shared
 pub mod Adds
 pub mod Journals
-pub mod Alone
+pub mod LoneStates
 -- how calls say the rules
 pub mod Calls
 pub mod Codes

@@ -1,6 +1,6 @@
 -- Worked rows of histories (own rules).
 use Rattle.std.specs.Prelude.{◌≡◌, ℕ, ◌+◌, if◌then◌else◌, [], ◌∷◌, None, ⊤}
-use Rattle.folder_core.specs.declared.stage.Stage.TheVariants.{Pulling, Committing}
+use Rattle.folder_core.specs.declared.pull_stage.PullStage.TheVariants.{Pulling, Committing}
 use Rattle.folder_core.specs.declared.answer.Answer.TheVariants.{HistoryFull, Applied, Closed, Recorded, Done, Begun, Entered}
 use Rattle.folder_core.specs.declared.change.Change.TheVariants.{ScanFound, IndexFull, BeginPull, EnterCommit, Finish, GiveUp}
 use Rattle.folder_core.specs.States.{FolderState}

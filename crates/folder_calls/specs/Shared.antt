@@ -1,4 +1,4 @@
--- What a caller of a shared folder knows, and what each of its calls tells it.
+-- What a caller of a shared folder knows, and what each of its calls returns.
 use Rattle.std.specs.Prelude.{◌≡◌, ℕ, ◌+◌, ◌≤◌, ◌⊎◌, List, [], ◌∷◌, ◌++◌, length, Contains, Option, Some, None, MatchBool}
 use Rattle.std.specs.FinMap.{len}
 use mathlib.Core.List.{IsPrefix}
@@ -13,7 +13,7 @@ use Rattle.folder_calls.specs.Histories.{IsLegal, state_after, shared_answer, ow
 
 -- what a caller knows: the state that the folder was opened with, the history's limit, the caller's pass,
 -- and the beginning of the history that it has seen
-pub record View : Type 0 where
+pub record CallerView : Type 0 where
   pub opening : FolderState
   pub limit : ℕ
   pub pass : ℕ
@@ -22,7 +22,7 @@ pub record View : Type 0 where
 -- What a caller has seen is a history that a folder had: it was opened without open pulls, each entry follows from those before
 -- it and is of one of the passes that were given out, the caller's among them; and there is room for the entries that end the
 -- pulls that are then open.
-pub record IsLegalView (v : View) : Type 0 where
+pub record IsLegalView (v : CallerView) : Type 0 where
   pub opening : IsFolder v.opening
   pub no_pull : len v.opening.pulls ≡ 0
   pub passes : ℕ
@@ -31,63 +31,63 @@ pub record IsLegalView (v : View) : Type 0 where
   pub room : length v.seen + len (state_after v.opening v.seen).pulls ≤ v.limit
 
 -- the view after this history
-abbrev pub seeing : View → List Entry → View
+abbrev pub seeing : CallerView → List Entry → CallerView
 seeing v seen = record v { seen = seen }
 
 -- the folder where what the caller has seen ends
-abbrev pub now : View → FolderState
+abbrev pub now : CallerView → FolderState
 now v = state_after v.opening v.seen
 
 -- the caller saw the history go on, without an entry of its own
-pub record Sees (old new : View) : Type 0 where
+pub record Sees (old new : CallerView) : Type 0 where
   pub longer : IsPrefix old.seen new.seen
   pub own : own_entries old.pass new.seen ≡ own_entries old.pass old.seen
   pub same : new ≡ seeing old new.seen
 
-abbrev pub own_entry : View → Change → Answer → Entry
+abbrev pub own_entry : CallerView → Change → Answer → Entry
 own_entry v change answer = record { pass = v.pass; change = change; answer = answer }
 
 -- the change was made after what the caller then saw, and its entry is the last
-pub record Makes (old new : View) (change : Change) (answer : Answer) : Type 0 where
-  pub point : View
+pub record Makes (old new : CallerView) (change : Change) (answer : Answer) : Type 0 where
+  pub point : CallerView
   pub sees : Sees old point
   pub answer_is : answer ≡ shared_answer old.limit old.opening point.seen change
   pub entered : new ≡ seeing point (point.seen ++ own_entry old change answer ∷ [])
 
 -- the change was not made, by the answer at the point that the caller then knows
-pub record Declines (old new : View) (change : Change) (answer : Answer) : Type 0 where
+pub record Declines (old new : CallerView) (change : Change) (answer : Answer) : Type 0 where
   pub sees : Sees old new
   pub answer_is : answer ≡ shared_answer old.limit old.opening new.seen change
 
 -- the change got this answer, at the point that the caller then knows
-pub record IsAnswered (old : View) (change : Change) (told : At Answer) (new : View) : Type 0 where
-  pub point : told.at ≡ length new.seen
+pub record IsAnswered (old : CallerView) (change : Change) (reply : At Answer) (new : CallerView) : Type 0 where
+  pub point : reply.at ≡ length new.seen
   pub legal : IsLegalView new
-  pub answered : MatchBool (is_accepted told.value) (Makes old new change told.value) (Declines old new change told.value)
+  pub answered : MatchBool (is_accepted reply.value) (Makes old new change reply.value) (Declines old new change reply.value)
 
 -- Without an answer the call is out of memory: nothing was changed and nothing seen.
-abbrev pub Tells : View → Change → Option (At Answer) → View → Type 0
-Tells old change None new = new ≡ old
-Tells old change (Some told) new = IsAnswered old change told new
+abbrev pub ChangesAt : CallerView → Change → Option (At Answer) → CallerView → Type 0
+ChangesAt old change None new = new ≡ old
+ChangesAt old change (Some reply) new = IsAnswered old change reply new
 
 -- the change got this answer
-abbrev pub Gets : View → Change → Answer → View → Type 0
+abbrev pub Gets : CallerView → Change → Answer → CallerView → Type 0
 Gets old change answer new = IsAnswered old change (record { at = length new.seen; value = answer }) new
 
 -- a read answers of the point that the caller then knows
-pub record IsRead (old : View) (q : Query) (told : At (Reply q)) (new : View) : Type 0 where
-  pub point : told.at ≡ length new.seen
+pub record IsRead (old : CallerView) (q : Query) (reply : At (Reply q)) (new : CallerView) : Type 0 where
+  pub point : reply.at ≡ length new.seen
   pub legal : IsLegalView new
   pub sees : Sees old new
-  pub answer_is : Reads (state_after old.opening new.seen) q told.value
+  pub answer_is : Reads (state_after old.opening new.seen) q reply.value
 
 -- Without an answer the read is out of memory, and nothing was seen.
-abbrev pub ReadsThere : View → (q : Query) → Option (At (Reply q)) → View → Type 0
-ReadsThere old q None new = new ≡ old
-ReadsThere old q (Some told) new = IsRead old q told new
+abbrev pub ReadsAt : CallerView → (q : Query) → Option (At (Reply q)) → CallerView → Type 0
+ReadsAt old q None new = new ≡ old
+ReadsAt old q (Some reply) new = IsRead old q reply new
 
 -- Two callers meet: each sees the history go on, to what one of them had seen.
-pub record Meets (one other one' other' : View) : Type 0 where
+pub record Meets (one other one' other' : CallerView) : Type 0 where
   pub one_sees : Sees one one'
   pub other_sees : Sees other other'
   pub same : one'.seen ≡ other'.seen
@@ -95,10 +95,10 @@ pub record Meets (one other one' other' : View) : Type 0 where
 
 -- A folder is closed that so many passes were given out of, these callers' among them: it is then after a legal history, which
 -- goes on from what each of them had seen, without entries of its own. If these are all passes, one of them had seen it all.
-pub record Closes (opening : FolderState) (limit passes : ℕ) (callers : List View) (end : FolderState) : Type 0 where
+pub record Closes (opening : FolderState) (limit passes : ℕ) (callers : List CallerView) (end : FolderState) : Type 0 where
   pub history : List Entry
   pub legal : IsLegal passes opening history
   pub room : length history + len end.pulls ≤ limit
   pub state_is : end ≡ state_after opening history
-  pub each : (v : View) → Contains callers v → (v.opening ≡ opening) × (v.limit ≡ limit) × Sees v (seeing v history)
-  pub whole : length callers ≡ passes → (v : View) × Contains callers v × (v.seen ≡ history)
+  pub each : (v : CallerView) → Contains callers v → (v.opening ≡ opening) × (v.limit ≡ limit) × Sees v (seeing v history)
+  pub whole : length callers ≡ passes → (v : CallerView) × Contains callers v × (v.seen ≡ history)

@@ -3,18 +3,19 @@ ghost use Rattle.std.specs.Prelude.{◌≡◌, ◌≢◌, ◌≤◌, ◌+◌, �
 ghost use Rattle.std.specs.FinMap.{len};
 ghost use Rattle.sync_record.specs.Assemblies.{IsAssembled};
 ghost use Rattle.folder_core.specs.Calls.{Changes, GivesBack as GivesBackOpen, close_answer, enter_answer, finish_answer, scan_answer};
-ghost use Rattle.folder_core.specs.Steps.{is_accepted, is_found, step};
+ghost use Rattle.folder_core.specs.Steps.{is_accepted, is_recordable, step};
 ghost use Rattle.folder_core.specs.declared.answer.Answer.TheVariants.{Begun};
 ghost use Rattle.folder_core.specs.declared.change.Change.TheVariants.{Forget, IndexFull, IndexMore, ScanFound, ScanGone, BeginPull, EnterCommit, Finish, GiveUp, Abort};
 ghost use Rattle.folder_calls.specs.Calls.{GivesBack, begin_value, enter_value, index_value, scan_value};
-ghost use Rattle.folder_calls.specs.Journals.{Enters, IsHistory, answered, end, entered_items, new_history};
+ghost use Rattle.folder_calls.specs.Journals.{Appends, IsHistory, answered, end, appended, new_history};
 
 use crate::{
-    BeginAnswer, Commit, EnterRefusal, Entry, HistoryFull, NotEntered, ScanRefusal, Ticket, replays,
+    BeginAnswer, Commit, EnterAllocError, EnterRefusal, Entry, HistoryFull, ScanRefusal, Ticket,
+    replays,
 };
 use bep_messages::{Copied, Items};
 use folder_core::{
-    Answer, Change, Finding, FolderCore, PlainFolder, ScanAnswer, ScanFault, Stray, Token,
+    Answer, Change, Finding, FolderCore, PlainFolder, PullInfo, ScanAnswer, ScanFault, Stray,
 };
 use std::alloc::{AllocError, Global};
 use std::marker::Model;
@@ -151,8 +152,8 @@ impl<C: FolderCore> Journal<C> {
         moment: Moment,
     ) -> Result<Result<ScanAnswer, ScanRefusal>, AllocError>
         requires pass { (1 ≤ pass) × (pass ≤ self.old.passes) }
-        requires found { IsTrue (is_found found.now.content) }
-        ensures enters { Enters self.old pass
+        requires found { IsTrue (is_recordable found.now.content) }
+        ensures appends { Appends self.old pass
             (ScanFound name.now (option_copied expected.entry) found.now moment)
             (answered scan_value result) self.new }
         ensures history { IsHistory self.new }
@@ -171,7 +172,7 @@ impl<C: FolderCore> Journal<C> {
             return Ok(Err(ScanRefusal::HistoryFull));
         };
         let answer = self.core.scan_found(name, expected, found, moment);
-        enter_scan(&mut self.entries, pass, change, answer)
+        append_scan(&mut self.entries, pass, change, answer)
     }
 
     /// [`FolderCore::scan_gone`] for a pass.
@@ -183,7 +184,7 @@ impl<C: FolderCore> Journal<C> {
         moment: Moment,
     ) -> Result<Result<ScanAnswer, ScanRefusal>, AllocError>
         requires pass { (1 ≤ pass) × (pass ≤ self.old.passes) }
-        ensures enters { Enters self.old pass
+        ensures appends { Appends self.old pass
             (ScanGone name.now (option_copied expected.entry) moment)
             (answered scan_value result) self.new }
         ensures history { IsHistory self.new }
@@ -202,7 +203,7 @@ impl<C: FolderCore> Journal<C> {
             return Ok(Err(ScanRefusal::HistoryFull));
         };
         let answer = self.core.scan_gone(name, expected, moment);
-        enter_scan(&mut self.entries, pass, change, answer)
+        append_scan(&mut self.entries, pass, change, answer)
     }
 
     /// [`FolderCore::index_full`] for a pass. The history keeps the records too; they share their memory.
@@ -214,7 +215,7 @@ impl<C: FolderCore> Journal<C> {
     ) -> Result<Result<(), HistoryFull>, AllocError>
         requires pass { (1 ≤ pass) × (pass ≤ self.old.passes) }
         requires device { device ≢ self.old.opening.me }
-        ensures enters { Enters self.old pass (IndexFull device records)
+        ensures appends { Appends self.old pass (IndexFull device records)
             (answered index_value result) self.new }
         ensures history { IsHistory self.new }
     {
@@ -227,7 +228,7 @@ impl<C: FolderCore> Journal<C> {
             records: records.copy()?,
         };
         self.core.index_full(device, records)?;
-        enter(&mut self.entries, pass, change, Answer::Applied);
+        append(&mut self.entries, pass, change, Answer::Applied);
         Ok(Ok(()))
     }
 
@@ -240,7 +241,7 @@ impl<C: FolderCore> Journal<C> {
     ) -> Result<Result<(), HistoryFull>, AllocError>
         requires pass { (1 ≤ pass) × (pass ≤ self.old.passes) }
         requires device { device ≢ self.old.opening.me }
-        ensures enters { Enters self.old pass (IndexMore device records)
+        ensures appends { Appends self.old pass (IndexMore device records)
             (answered index_value result) self.new }
         ensures history { IsHistory self.new }
     {
@@ -253,7 +254,7 @@ impl<C: FolderCore> Journal<C> {
             records: records.copy()?,
         };
         self.core.index_more(device, records)?;
-        enter(&mut self.entries, pass, change, Answer::Applied);
+        append(&mut self.entries, pass, change, Answer::Applied);
         Ok(Ok(()))
     }
 
@@ -265,7 +266,7 @@ impl<C: FolderCore> Journal<C> {
     ) -> Result<Result<(), HistoryFull>, AllocError>
         requires pass { (1 ≤ pass) × (pass ≤ self.old.passes) }
         requires device { device ≢ self.old.opening.me }
-        ensures enters { Enters self.old pass (Forget device)
+        ensures appends { Appends self.old pass (Forget device)
             (answered index_value result) self.new }
         ensures history { IsHistory self.new }
     {
@@ -274,7 +275,7 @@ impl<C: FolderCore> Journal<C> {
         }
         make_room(&mut self.entries, self.pulls, 1)?;
         self.core.forget(device)?;
-        enter(
+        append(
             &mut self.entries,
             pass,
             Change::Forget { device },
@@ -292,7 +293,7 @@ impl<C: FolderCore> Journal<C> {
         name: &SafeName,
     ) -> Result<Result<BeginAnswer, HistoryFull>, AllocError>
         requires pass { (1 ≤ pass) × (pass ≤ self.old.passes) }
-        ensures enters { Enters self.old pass (BeginPull name.now)
+        ensures appends { Appends self.old pass (BeginPull name.now)
             (answered begin_value result) self.new }
         ensures history { IsHistory self.new }
     {
@@ -302,7 +303,7 @@ impl<C: FolderCore> Journal<C> {
             return Ok(Err(HistoryFull));
         };
         let (answer, copy) = begin(&mut self.core, name)?;
-        self.pulls += enter_begin(&mut self.entries, pass, change, copy);
+        self.pulls += append_begin(&mut self.entries, pass, change, copy);
         Ok(Ok(answer))
     }
 
@@ -312,17 +313,17 @@ impl<C: FolderCore> Journal<C> {
         &mut self,
         pass: u64,
         ticket: Ticket,
-    ) -> Result<Result<Commit, EnterRefusal>, NotEntered>
+    ) -> Result<Result<Commit, EnterRefusal>, EnterAllocError>
         requires pass { (1 ≤ pass) × (pass ≤ self.old.passes) }
-        ensures enters { Enters self.old pass (EnterCommit ticket)
+        ensures appends { Appends self.old pass (EnterCommit ticket)
             (answered enter_value result) self.new }
         ensures given_back { IfOk result (λ entered. IfErr entered (GivesBack ticket)) }
         ensures out_of_memory { IfErr result (λ refused. refused.0 ≡ ticket) }
         ensures history { IsHistory self.new }
     {
         let has_room = self.has_room(1);
-        let Ok((asked, copy)) = two_copies(&ticket.token) else {
-            return Err(NotEntered(ticket));
+        let Ok((asked, copy)) = two_copies(&ticket.info) else {
+            return Err(EnterAllocError(ticket));
         };
         let change = Change::EnterCommit { ticket: asked };
         let change = match admit(
@@ -335,30 +336,30 @@ impl<C: FolderCore> Journal<C> {
         ) {
             Ok(Some(change)) => change,
             Ok(None) => return Ok(Err(EnterRefusal::HistoryFull(ticket))),
-            Err(AllocError) => return Err(NotEntered(ticket)),
+            Err(AllocError) => return Err(EnterAllocError(ticket)),
         };
-        let Ticket { inner, token } = ticket;
+        let Ticket { inner, info } = ticket;
         let entered = self.core.enter_commit(inner);
-        enter_entrance(&mut self.entries, pass, change, copy, token, entered)
+        append_enter(&mut self.entries, pass, change, copy, info, entered)
     }
 
     /// [`FolderCore::finish`] for a pass. Does not allocate; the history keeps what was assembled.
     pub fn finish(&mut self, pass: u64, commit: Commit, assembled: Assembled) -> Result<u64, Stray>
         requires pass { (1 ≤ pass) × (pass ≤ self.old.passes) }
         requires assembled { assembled ≡ commit.target }
-        ensures enters { Enters self.old pass (Finish commit assembled)
+        ensures appends { Appends self.old pass (Finish commit assembled)
             (Some (finish_answer result)) self.new }
         ensures assembled { IsAssembled assembled }
         ensures history { IsHistory self.new }
     {
-        let Commit { inner, token } = commit;
+        let Commit { inner, info } = commit;
         let sequence = self.core.finish(inner, &assembled)?;
         self.pulls -= 1;
-        enter(
+        append(
             &mut self.entries,
             pass,
             Change::Finish {
-                commit: token,
+                commit: info,
                 assembled,
             },
             Answer::Done(sequence),
@@ -369,18 +370,18 @@ impl<C: FolderCore> Journal<C> {
     /// [`FolderCore::give_up`] for a pass. Does not allocate.
     pub fn give_up(&mut self, pass: u64, ticket: Ticket) -> bool
         requires pass { (1 ≤ pass) × (pass ≤ self.old.passes) }
-        ensures enters { Enters self.old pass (GiveUp ticket)
+        ensures appends { Appends self.old pass (GiveUp ticket)
             (Some (close_answer result)) self.new }
         ensures history { IsHistory self.new }
     {
-        let Ticket { inner, token } = ticket;
+        let Ticket { inner, info } = ticket;
         let is_closed = self.core.give_up(inner);
         if is_closed {
             self.pulls -= 1;
-            enter(
+            append(
                 &mut self.entries,
                 pass,
-                Change::GiveUp { ticket: token },
+                Change::GiveUp { ticket: info },
                 Answer::Closed,
             );
         }
@@ -390,17 +391,17 @@ impl<C: FolderCore> Journal<C> {
     /// [`FolderCore::abort`] for a pass. Does not allocate.
     pub fn abort(&mut self, pass: u64, commit: Commit) -> bool
         requires pass { (1 ≤ pass) × (pass ≤ self.old.passes) }
-        ensures enters { Enters self.old pass (Abort commit) (Some (close_answer result)) self.new }
+        ensures appends { Appends self.old pass (Abort commit) (Some (close_answer result)) self.new }
         ensures history { IsHistory self.new }
     {
-        let Commit { inner, token } = commit;
+        let Commit { inner, info } = commit;
         let is_closed = self.core.abort(inner);
         if is_closed {
             self.pulls -= 1;
-            enter(
+            append(
                 &mut self.entries,
                 pass,
-                Change::Abort { commit: token },
+                Change::Abort { commit: info },
                 Answer::Closed,
             );
         }
@@ -495,7 +496,7 @@ fn admit_begin<C: FolderCore>(
 fn begin<C: FolderCore>(
     core: &mut C,
     name: &SafeName,
-) -> Result<(BeginAnswer, Option<Token>), AllocError>
+) -> Result<(BeginAnswer, Option<PullInfo>), AllocError>
     ensures change { Changes (C.state core.old) (BeginPull name.now)
         (answered (λ begun. begin_value (Ok begun.0)) result) (C.state core.new) }
     ensures begun { IfOk result (λ begun.
@@ -505,11 +506,11 @@ fn begin<C: FolderCore>(
 {
     match core.begin_pull(name)? {
         folder_core::BeginAnswer::Begun(inner) => {
-            let Ok((copy, token)) = two_tokens(&inner) else {
+            let Ok((copy, info)) = two_tokens(&inner) else {
                 let _ = core.give_up(inner);
                 return Err(AllocError);
             };
-            Ok((BeginAnswer::Begun(Ticket { inner, token }), Some(copy)))
+            Ok((BeginAnswer::Begun(Ticket { inner, info }), Some(copy)))
         }
         folder_core::BeginAnswer::NotNeeded => Ok((BeginAnswer::NotNeeded, None)),
         folder_core::BeginAnswer::Busy => Ok((BeginAnswer::Busy, None)),
@@ -517,8 +518,8 @@ fn begin<C: FolderCore>(
     }
 }
 
-// Enters an accepted change, for whose entry there is room. Does not allocate.
-fn enter(entries: &mut Vec<Entry>, pass: u64, change: Change, answer: Answer)
+// Appends the entry of an accepted change, for which there is room. Does not allocate.
+fn append(entries: &mut Vec<Entry>, pass: u64, change: Change, answer: Answer)
     requires room { length entries.old.items < vec_capacity entries.old }
     ensures items { entries.new.items
         ≡ entries.old.items ++ (record { pass = pass; change = change; answer = answer }) ∷ [] }
@@ -531,23 +532,28 @@ fn enter(entries: &mut Vec<Entry>, pass: u64, change: Change, answer: Answer)
     });
 }
 
-// Enters the begin of a pull that is open then, and returns how many it opened.
-fn enter_begin(entries: &mut Vec<Entry>, pass: u64, change: Change, ticket: Option<Token>) -> u64
+// Appends the entry of a pull that began, if it is open then, and returns how many it opened.
+fn append_begin(
+    entries: &mut Vec<Entry>,
+    pass: u64,
+    change: Change,
+    ticket: Option<PullInfo>,
+) -> u64
     requires { IfSome ticket (λ _. length entries.old.items < vec_capacity entries.old) }
     ensures opened { result ≡ if is_some ticket then 1 else 0 }
-    ensures entered { entries.new.items
-        ≡ entered_items entries.old.items pass change (option_map Begun ticket) }
+    ensures appended { entries.new.items
+        ≡ appended entries.old.items pass change (option_map Begun ticket) }
     ensures capacity { vec_capacity entries.new ≡ vec_capacity entries.old }
 {
     let Some(ticket) = ticket else {
         return 0;
     };
-    enter(entries, pass, change, Answer::Begun(ticket));
+    append(entries, pass, change, Answer::Begun(ticket));
     1
 }
 
-// Enters a scan that was recorded, and says its answer.
-fn enter_scan(
+// Appends the entry of a scan, if it was recorded, and returns its answer.
+fn append_scan(
     entries: &mut Vec<Entry>,
     pass: u64,
     change: Change,
@@ -556,13 +562,13 @@ fn enter_scan(
     requires { IfSome (scan_answer answer)
         (λ a. is_accepted a ≡ true → length entries.old.items < vec_capacity entries.old) }
     ensures answer { answered scan_value result ≡ scan_answer answer }
-    ensures entered { entries.new.items
-        ≡ entered_items entries.old.items pass change (scan_answer answer) }
+    ensures appended { entries.new.items
+        ≡ appended entries.old.items pass change (scan_answer answer) }
     ensures capacity { vec_capacity entries.new ≡ vec_capacity entries.old }
 {
     match answer {
         Ok(ScanAnswer::Recorded(sequence)) => {
-            enter(entries, pass, change, Answer::Recorded(sequence));
+            append(entries, pass, change, Answer::Recorded(sequence));
             Ok(Ok(ScanAnswer::Recorded(sequence)))
         }
         Ok(answer) => Ok(Ok(answer)),
@@ -572,68 +578,68 @@ fn enter_scan(
     }
 }
 
-// Enters a commit that was entered, and says its answer.
-fn enter_entrance(
+// Appends the entry of a commit, if it was entered, and returns the answer.
+fn append_enter(
     entries: &mut Vec<Entry>,
     pass: u64,
     change: Change,
-    copy: Token,
-    token: Token,
-    entered: Result<folder_core::Commit, folder_core::NotEntered>,
-) -> Result<Result<Commit, EnterRefusal>, NotEntered>
+    copy: PullInfo,
+    info: PullInfo,
+    entered: Result<folder_core::Commit, folder_core::EnterFault>,
+) -> Result<Result<Commit, EnterRefusal>, EnterAllocError>
     requires room { IfSome (enter_answer entered)
         (λ a. is_accepted a ≡ true → length entries.old.items < vec_capacity entries.old) }
-    requires same { IfOk entered (λ commit. (commit ≡ copy) × (commit ≡ token)) }
-    requires given_back { IfErr entered (GivesBackOpen token) }
+    requires same { IfOk entered (λ commit. (commit ≡ copy) × (commit ≡ info)) }
+    requires given_back { IfErr entered (GivesBackOpen info) }
     ensures answer { answered enter_value result ≡ enter_answer entered }
-    ensures given_back { IfOk result (λ entered. IfErr entered (GivesBack token)) }
-    ensures out_of_memory { IfErr result (λ refused. refused.0 ≡ token) }
-    ensures entered { entries.new.items
-        ≡ entered_items entries.old.items pass change (enter_answer entered) }
+    ensures given_back { IfOk result (λ entered. IfErr entered (GivesBack info)) }
+    ensures out_of_memory { IfErr result (λ refused. refused.0 ≡ info) }
+    ensures appended { entries.new.items
+        ≡ appended entries.old.items pass change (enter_answer entered) }
     ensures capacity { vec_capacity entries.new ≡ vec_capacity entries.old }
 {
     Ok(Err(match entered {
         Ok(inner) => {
-            enter(entries, pass, change, Answer::Entered(copy));
-            return Ok(Ok(Commit { inner, token }));
+            append(entries, pass, change, Answer::Entered(copy));
+            return Ok(Ok(Commit { inner, info }));
         }
-        Err(folder_core::NotEntered::Stray) => EnterRefusal::Stray,
-        Err(folder_core::NotEntered::LocalMoved(inner)) => {
-            EnterRefusal::LocalMoved(Ticket { inner, token })
+        Err(folder_core::EnterFault::Stray) => EnterRefusal::Stray,
+        Err(folder_core::EnterFault::LocalMoved(inner)) => {
+            EnterRefusal::LocalMoved(Ticket { inner, info })
         }
-        Err(folder_core::NotEntered::Superseded(inner)) => {
-            EnterRefusal::Superseded(Ticket { inner, token })
+        Err(folder_core::EnterFault::Superseded(inner)) => {
+            EnterRefusal::Superseded(Ticket { inner, info })
         }
-        Err(folder_core::NotEntered::SequenceFull(inner)) => {
-            EnterRefusal::SequenceFull(Ticket { inner, token })
+        Err(folder_core::EnterFault::SequenceFull(inner)) => {
+            EnterRefusal::SequenceFull(Ticket { inner, info })
         }
-        Err(folder_core::NotEntered::OutOfMemory(inner)) => {
-            return Err(NotEntered(Ticket { inner, token }));
+        Err(folder_core::EnterFault::OutOfMemory(inner)) => {
+            return Err(EnterAllocError(Ticket { inner, info }));
         }
     }))
 }
 
-fn two_copies(token: &Token) -> Result<(Token, Token), AllocError>
-    ensures { IfOk result (λ copies. (copies.0 ≡ token.now) × (copies.1 ≡ token.now)) }
+fn two_copies(info: &PullInfo) -> Result<(PullInfo, PullInfo), AllocError>
+    ensures { IfOk result (λ copies. (copies.0 ≡ info.now) × (copies.1 ≡ info.now)) }
 {
-    Ok((token.copy()?, token.copy()?))
+    Ok((info.copy()?, info.copy()?))
 }
 
-fn two_tokens(ticket: &folder_core::Ticket) -> Result<(Token, Token), AllocError>
-    ensures { IfOk result (λ tokens. (tokens.0 ≡ ticket.now) × (tokens.1 ≡ ticket.now)) }
+fn two_tokens(ticket: &folder_core::Ticket) -> Result<(PullInfo, PullInfo), AllocError>
+    ensures { IfOk result (λ infos. (infos.0 ≡ ticket.now) × (infos.1 ≡ ticket.now)) }
 {
-    let token = token_of(ticket)?;
-    Ok((token.copy()?, token))
+    let info = token_of(ticket)?;
+    Ok((info.copy()?, info))
 }
 
-fn token_of(ticket: &folder_core::Ticket) -> Result<Token, AllocError>
-    ensures { IfOk result (λ token. token ≡ ticket.now) }
+fn token_of(ticket: &folder_core::Ticket) -> Result<PullInfo, AllocError>
+    ensures { IfOk result (λ info. info ≡ ticket.now) }
 {
     let base = match ticket.base() {
         Some(record) => Some(record.copy()?),
         None => None,
     };
-    Ok(Token {
+    Ok(PullInfo {
         number: ticket.number(),
         name: ticket.name().copy()?,
         base,

@@ -23,4 +23,7 @@ pub use histories::{
 pub use meetings::{callers_who_meet_know_the_longer_history, closing_keeps_what_callers_saw};
 pub use rows::histories_in_rows;
 pub use values::comparison_is_equality;
-pub use workers::{answers_are_those_of_the_folder, changes_are_asked_in_order, entries_add_up};
+pub use workers::{
+    answers_are_those_of_the_folder, changes_are_asked_in_order, entries_add_up,
+    tickets_are_those_that_were_asked_for,
+};

@@ -3,16 +3,15 @@ ghost use Rattle.std.specs.Prelude.{IsTrue, ◌≢◌, ◌∷◌, [], map, ◌�
 ghost use Rattle.std.specs.FinMap.{len};
 ghost use Rattle.folder_core.specs.Calls.{close_answer, finish_answer};
 ghost use Rattle.folder_core.specs.Reads.{Bests, Best as BestOf, CountAll, FindBlock, Known, Local, LocalSince, Need};
-ghost use Rattle.folder_core.specs.Steps.{MayChange, is_found};
-ghost use Rattle.folder_core.specs.declared.answer.Answer.{Answer as AnswerOf};
+ghost use Rattle.folder_core.specs.Steps.{is_recordable};
 ghost use Rattle.folder_core.specs.declared.change.Change.TheVariants.{Forget, IndexFull, IndexMore, ScanFound, ScanGone, BeginPull, EnterCommit, Finish, GiveUp, Abort};
-ghost use Rattle.folder_calls.specs.Alone.{ChangesAlone, GoesOn, IsToldAt, ReadsAlone, change_of, new_alone, seen_by};
-ghost use Rattle.folder_calls.specs.Calls.{GivesBack, begin_value, enter_value, found, index_value, scan_value, told, told_at};
-ghost use Rattle.folder_calls.specs.Journals.{Enters, IsHistory, end};
-ghost use Rattle.folder_calls.specs.Shared.{Closes, ReadsThere, Tells};
+ghost use Rattle.folder_calls.specs.LoneStates.{ChangesAfterPlan, ReadsAfterPlan, WithPoint, new_lone, seen_by};
+ghost use Rattle.folder_calls.specs.Calls.{GivesBack, begin_value, enter_value, best_entry, index_value, scan_value, answered_at, answer_at};
+ghost use Rattle.folder_calls.specs.Journals.{IsHistory, end};
+ghost use Rattle.folder_calls.specs.Shared.{ChangesAt, Closes, ReadsAt};
 
 use crate::{
-    At, BeginAnswer, Commit, EnterRefusal, FolderCalls, HistoryFull, Journal, NotEntered, Outside,
+    At, BeginAnswer, Commit, EnterAllocError, EnterRefusal, FolderCalls, HistoryFull, Journal,
     Plan, ScanRefusal, Ticket,
 };
 use bep_messages::Items;
@@ -25,25 +24,24 @@ use sync_version::{Moment, Version};
 
 /// A folder for one caller, with the history of its changes. The caller's entries are those of pass 1.
 ///
-/// For tests of what calls it, a change of another caller may be planned just before one of the next calls; its entry is one of
-/// pass 2.
+/// Tests of what calls it may plan a change of another caller ([`Lone::plan`]), whose entry is one of pass 2.
 #[derive(Drop)]
 pub struct Lone<C: FolderCore> {
-    journal: Journal<C>,
+    pub(crate) journal: Journal<C>,
     seen: u64,
-    plan: Option<Plan>,
-    planned: bool,
+    pub(crate) plan: Option<Plan>,
+    pub(crate) planned: bool,
 }
 
 impl<C: FolderCore> Model for Lone<C> {
-    ghost use Rattle.folder_calls.specs.declared.alone.Alone.{Alone};
-    ghost use Rattle.folder_calls.specs.Alone.{IsAlone};
+    ghost use Rattle.folder_calls.specs.declared.lone_state.LoneState.{LoneState};
+    ghost use Rattle.folder_calls.specs.LoneStates.{IsLone};
 
-    ghost Value = { Alone };
+    ghost Value = { LoneState };
 
-    ghost use Rattle.folder_calls.specs.Codes.{coded_alone};
+    ghost use Rattle.folder_calls.specs.Codes.{coded_lone};
 
-    ghost coded = { coded_alone };
+    ghost coded = { coded_lone };
 
     ghost view = { λ l. record {
       history = l.journal;
@@ -52,7 +50,7 @@ impl<C: FolderCore> Model for Lone<C> {
       planned = l.planned;
     } };
 
-    ghost invariant = { λ l. IsAlone
+    ghost invariant = { λ l. IsLone
         (record { history = l.journal; seen = l.seen; plan = l.plan; planned = l.planned }) };
 }
 
@@ -61,7 +59,7 @@ impl<C: FolderCore> Lone<C> {
     /// copy could not be allocated. O(n) time and memory for n records, which share their memory.
     pub fn open(alloc: Global, core: C, history_limit: u64) -> Result<Lone<C>, C>
         requires { len (C.state core).pulls ≡ 0 }
-        ensures ok { IfOk result (λ lone. lone ≡ new_alone (C.state core) history_limit) }
+        ensures ok { IfOk result (λ lone. lone ≡ new_lone (C.state core) history_limit) }
         ensures err { IfErr result (λ back. C.state back ≡ C.state core) }
     {
         Ok(Lone {
@@ -89,44 +87,13 @@ impl<C: FolderCore> Lone<C> {
         } = self;
         journal.into_core()
     }
-
-    /// Plans the change of another caller just before a call from now on, where 1 is the next. It takes the place of one that
-    /// was planned and not made yet. If the folder doesn't accept it then, or memory is out, nothing is made.
-    pub fn plan(&mut self, call: u64, change: Outside)
-        requires call { 1 ≤ call }
-        requires may { MayChange self.old.history.opening.me (change_of change) }
-        ensures { self.new ≡ record self.old {
-          plan = Some (record { call = call; change = change });
-          planned = true;
-        } }
-    {
-        self.plan = Some(Plan { call, change });
-        self.planned = true;
-    }
-
-    // Makes the planned change if its call is the next one.
-    fn go_on(&mut self)
-        ensures goes_on { GoesOn self.old.plan self.old self.new }
-        ensures seen { seen_by self.new ≡ seen_by self.old }
-    {
-        match self.plan.take() {
-            Some(Plan { call, change }) if call > 1 => {
-                self.plan = Some(Plan {
-                    call: call - 1,
-                    change,
-                });
-            }
-            Some(Plan { call: _, change }) => make_outside(&mut self.journal, change),
-            None => {}
-        }
-    }
 }
 
 impl<C: FolderCore> FolderCalls for Lone<C> {
     /// Whether a change of another caller was ever planned.
-    type Home = bool;
+    type Folder = bool;
 
-    ghost home = { λ l. l.planned };
+    ghost folder = { λ l. l.planned };
 
     ghost view = { λ l. seen_by l };
 
@@ -141,18 +108,18 @@ impl<C: FolderCore> FolderCalls for Lone<C> {
         found: &Finding,
         moment: Moment,
     ) -> Result<At<Result<ScanAnswer, ScanRefusal>>, AllocError>
-        requires { IsTrue (is_found found.now.content) }
-        ensures home { self.new.planned ≡ self.old.planned }
-        ensures tells { Tells (seen_by self.old)
+        requires { IsTrue (is_recordable found.now.content) }
+        ensures folder { self.new.planned ≡ self.old.planned }
+        ensures changes { ChangesAt (seen_by self.old)
             (ScanFound name.now (option_copied expected.entry) found.now moment)
-            (told scan_value result) (seen_by self.new) }
-        ensures alone { ChangesAlone self.old
+            (answered_at scan_value result) (seen_by self.new) }
+        ensures planned { ChangesAfterPlan self.old
             (ScanFound name.now (option_copied expected.entry) found.now moment)
-            (told scan_value result) self.new }
+            (answered_at scan_value result) self.new }
     {
         self.go_on();
         let answer = self.journal.scan_found(1, name, expected, found, moment);
-        told_here(&self.journal, &mut self.seen, answer)
+        with_point(&self.journal, &mut self.seen, answer)
     }
 
     fn scan_gone(
@@ -161,17 +128,17 @@ impl<C: FolderCore> FolderCalls for Lone<C> {
         expected: Option<&Version>,
         moment: Moment,
     ) -> Result<At<Result<ScanAnswer, ScanRefusal>>, AllocError>
-        ensures home { self.new.planned ≡ self.old.planned }
-        ensures tells { Tells (seen_by self.old)
-            (ScanGone name.now (option_copied expected.entry) moment) (told scan_value result)
+        ensures folder { self.new.planned ≡ self.old.planned }
+        ensures changes { ChangesAt (seen_by self.old)
+            (ScanGone name.now (option_copied expected.entry) moment) (answered_at scan_value result)
             (seen_by self.new) }
-        ensures alone { ChangesAlone self.old
+        ensures planned { ChangesAfterPlan self.old
             (ScanGone name.now (option_copied expected.entry) moment)
-            (told scan_value result) self.new }
+            (answered_at scan_value result) self.new }
     {
         self.go_on();
         let answer = self.journal.scan_gone(1, name, expected, moment);
-        told_here(&self.journal, &mut self.seen, answer)
+        with_point(&self.journal, &mut self.seen, answer)
     }
 
     fn index_full(
@@ -180,15 +147,15 @@ impl<C: FolderCore> FolderCalls for Lone<C> {
         records: Items<Record>,
     ) -> Result<At<Result<(), HistoryFull>>, AllocError>
         requires { device ≢ (seen_by self.old).opening.me }
-        ensures home { self.new.planned ≡ self.old.planned }
-        ensures tells { Tells (seen_by self.old) (IndexFull device records)
-            (told index_value result) (seen_by self.new) }
-        ensures alone { ChangesAlone self.old (IndexFull device records)
-            (told index_value result) self.new }
+        ensures folder { self.new.planned ≡ self.old.planned }
+        ensures changes { ChangesAt (seen_by self.old) (IndexFull device records)
+            (answered_at index_value result) (seen_by self.new) }
+        ensures planned { ChangesAfterPlan self.old (IndexFull device records)
+            (answered_at index_value result) self.new }
     {
         self.go_on();
         let answer = self.journal.index_full(1, device, records);
-        told_here(&self.journal, &mut self.seen, answer)
+        with_point(&self.journal, &mut self.seen, answer)
     }
 
     fn index_more(
@@ -197,68 +164,68 @@ impl<C: FolderCore> FolderCalls for Lone<C> {
         records: Items<Record>,
     ) -> Result<At<Result<(), HistoryFull>>, AllocError>
         requires { device ≢ (seen_by self.old).opening.me }
-        ensures home { self.new.planned ≡ self.old.planned }
-        ensures tells { Tells (seen_by self.old) (IndexMore device records)
-            (told index_value result) (seen_by self.new) }
-        ensures alone { ChangesAlone self.old (IndexMore device records)
-            (told index_value result) self.new }
+        ensures folder { self.new.planned ≡ self.old.planned }
+        ensures changes { ChangesAt (seen_by self.old) (IndexMore device records)
+            (answered_at index_value result) (seen_by self.new) }
+        ensures planned { ChangesAfterPlan self.old (IndexMore device records)
+            (answered_at index_value result) self.new }
     {
         self.go_on();
         let answer = self.journal.index_more(1, device, records);
-        told_here(&self.journal, &mut self.seen, answer)
+        with_point(&self.journal, &mut self.seen, answer)
     }
 
     fn forget(&mut self, device: DeviceId) -> Result<At<Result<(), HistoryFull>>, AllocError>
         requires { device ≢ (seen_by self.old).opening.me }
-        ensures home { self.new.planned ≡ self.old.planned }
-        ensures tells { Tells (seen_by self.old) (Forget device) (told index_value result)
+        ensures folder { self.new.planned ≡ self.old.planned }
+        ensures changes { ChangesAt (seen_by self.old) (Forget device) (answered_at index_value result)
             (seen_by self.new) }
-        ensures alone { ChangesAlone self.old (Forget device) (told index_value result) self.new }
+        ensures planned { ChangesAfterPlan self.old (Forget device) (answered_at index_value result) self.new }
     {
         self.go_on();
         let answer = self.journal.forget(1, device);
-        told_here(&self.journal, &mut self.seen, answer)
+        with_point(&self.journal, &mut self.seen, answer)
     }
 
     fn begin_pull(
         &mut self,
         name: &SafeName,
     ) -> Result<At<Result<BeginAnswer, HistoryFull>>, AllocError>
-        ensures home { self.new.planned ≡ self.old.planned }
-        ensures tells { Tells (seen_by self.old) (BeginPull name.now) (told begin_value result)
+        ensures folder { self.new.planned ≡ self.old.planned }
+        ensures changes { ChangesAt (seen_by self.old) (BeginPull name.now) (answered_at begin_value result)
             (seen_by self.new) }
-        ensures alone { ChangesAlone self.old (BeginPull name.now)
-            (told begin_value result) self.new }
+        ensures planned { ChangesAfterPlan self.old (BeginPull name.now)
+            (answered_at begin_value result) self.new }
     {
         self.go_on();
         let answer = self.journal.begin_pull(1, name);
-        told_here(&self.journal, &mut self.seen, answer)
+        with_point(&self.journal, &mut self.seen, answer)
     }
 
     fn enter_commit(
         &mut self,
         ticket: Ticket,
-    ) -> Result<At<Result<Commit, EnterRefusal>>, NotEntered>
-        ensures home { self.new.planned ≡ self.old.planned }
-        ensures tells { Tells (seen_by self.old) (EnterCommit ticket) (told enter_value result)
+    ) -> Result<At<Result<Commit, EnterRefusal>>, EnterAllocError>
+        ensures folder { self.new.planned ≡ self.old.planned }
+        ensures changes { ChangesAt (seen_by self.old) (EnterCommit ticket) (answered_at enter_value result)
             (seen_by self.new) }
-        ensures alone { ChangesAlone self.old (EnterCommit ticket)
-            (told enter_value result) self.new }
-        ensures given_back { IfOk result (λ told. IfErr told.value (GivesBack ticket)) }
+        ensures planned { ChangesAfterPlan self.old (EnterCommit ticket)
+            (answered_at enter_value result) self.new }
+        ensures given_back { IfOk result (λ reply. IfErr reply.value (GivesBack ticket)) }
         ensures out_of_memory { IfErr result (λ refused. refused.0 ≡ ticket) }
     {
         self.go_on();
         let answer = self.journal.enter_commit(1, ticket);
-        told_here(&self.journal, &mut self.seen, answer)
+        with_point(&self.journal, &mut self.seen, answer)
     }
 
     fn finish(&mut self, commit: Commit, assembled: Assembled) -> At<Result<u64, Stray>>
         requires { assembled ≡ commit.target }
-        ensures home { self.new.planned ≡ self.old.planned }
-        ensures tells { Tells (seen_by self.old) (Finish commit assembled)
-            (Some (told_at finish_answer result)) (seen_by self.new) }
-        ensures alone { ChangesAlone self.old (Finish commit assembled)
-            (Some (told_at finish_answer result)) self.new }
+        ensures folder { self.new.planned ≡ self.old.planned }
+        ensures changes { ChangesAt (seen_by self.old) (Finish commit assembled)
+            (Some (answer_at finish_answer result)) (seen_by self.new) }
+        ensures planned { ChangesAfterPlan self.old (Finish commit assembled)
+            (Some (answer_at finish_answer result)) self.new }
     {
         self.go_on();
         let value = self.journal.finish(1, commit, assembled);
@@ -270,11 +237,11 @@ impl<C: FolderCore> FolderCalls for Lone<C> {
     }
 
     fn give_up(&mut self, ticket: Ticket) -> At<bool>
-        ensures home { self.new.planned ≡ self.old.planned }
-        ensures tells { Tells (seen_by self.old) (GiveUp ticket)
-            (Some (told_at close_answer result)) (seen_by self.new) }
-        ensures alone { ChangesAlone self.old (GiveUp ticket)
-            (Some (told_at close_answer result)) self.new }
+        ensures folder { self.new.planned ≡ self.old.planned }
+        ensures changes { ChangesAt (seen_by self.old) (GiveUp ticket)
+            (Some (answer_at close_answer result)) (seen_by self.new) }
+        ensures planned { ChangesAfterPlan self.old (GiveUp ticket)
+            (Some (answer_at close_answer result)) self.new }
     {
         self.go_on();
         let value = self.journal.give_up(1, ticket);
@@ -286,11 +253,11 @@ impl<C: FolderCore> FolderCalls for Lone<C> {
     }
 
     fn abort(&mut self, commit: Commit) -> At<bool>
-        ensures home { self.new.planned ≡ self.old.planned }
-        ensures tells { Tells (seen_by self.old) (Abort commit) (Some (told_at close_answer result))
+        ensures folder { self.new.planned ≡ self.old.planned }
+        ensures changes { ChangesAt (seen_by self.old) (Abort commit) (Some (answer_at close_answer result))
             (seen_by self.new) }
-        ensures alone { ChangesAlone self.old (Abort commit)
-            (Some (told_at close_answer result)) self.new }
+        ensures planned { ChangesAfterPlan self.old (Abort commit)
+            (Some (answer_at close_answer result)) self.new }
     {
         self.go_on();
         let value = self.journal.abort(1, commit);
@@ -302,15 +269,15 @@ impl<C: FolderCore> FolderCalls for Lone<C> {
     }
 
     fn best(&mut self, name: &SafeName) -> Result<At<Option<Best>>, AllocError>
-        ensures home { self.new.planned ≡ self.old.planned }
-        ensures reads { ReadsThere (seen_by self.old) (BestOf name.now)
-            (told (λ b. option_map found b) result) (seen_by self.new) }
-        ensures alone { ReadsAlone self.old (BestOf name.now)
-            (told (λ b. option_map found b) result) self.new }
+        ensures folder { self.new.planned ≡ self.old.planned }
+        ensures reads { ReadsAt (seen_by self.old) (BestOf name.now)
+            (answered_at (λ b. option_map best_entry b) result) (seen_by self.new) }
+        ensures planned { ReadsAfterPlan self.old (BestOf name.now)
+            (answered_at (λ b. option_map best_entry b) result) self.new }
     {
         self.go_on();
         let answer = self.journal.core().best(name);
-        told_here(&self.journal, &mut self.seen, answer)
+        with_point(&self.journal, &mut self.seen, answer)
     }
 
     fn bests(
@@ -318,26 +285,26 @@ impl<C: FolderCore> FolderCalls for Lone<C> {
         after: Option<&SafeName>,
         limit: usize,
     ) -> Result<At<Items<Best>>, AllocError>
-        ensures home { self.new.planned ≡ self.old.planned }
-        ensures reads { ReadsThere (seen_by self.old) (Bests (option_copied after.entry) limit)
-            (told (λ page. map found page) result) (seen_by self.new) }
-        ensures alone { ReadsAlone self.old (Bests (option_copied after.entry) limit)
-            (told (λ page. map found page) result) self.new }
+        ensures folder { self.new.planned ≡ self.old.planned }
+        ensures reads { ReadsAt (seen_by self.old) (Bests (option_copied after.entry) limit)
+            (answered_at (λ page. map best_entry page) result) (seen_by self.new) }
+        ensures planned { ReadsAfterPlan self.old (Bests (option_copied after.entry) limit)
+            (answered_at (λ page. map best_entry page) result) self.new }
     {
         self.go_on();
         let answer = self.journal.core().bests(after, limit);
-        told_here(&self.journal, &mut self.seen, answer)
+        with_point(&self.journal, &mut self.seen, answer)
     }
 
     fn local(&mut self, name: &SafeName) -> Result<At<Option<Record>>, AllocError>
-        ensures home { self.new.planned ≡ self.old.planned }
-        ensures reads { ReadsThere (seen_by self.old) (Local name.now) (told (λ r. r) result)
+        ensures folder { self.new.planned ≡ self.old.planned }
+        ensures reads { ReadsAt (seen_by self.old) (Local name.now) (answered_at (λ r. r) result)
             (seen_by self.new) }
-        ensures alone { ReadsAlone self.old (Local name.now) (told (λ r. r) result) self.new }
+        ensures planned { ReadsAfterPlan self.old (Local name.now) (answered_at (λ r. r) result) self.new }
     {
         self.go_on();
         let answer = self.journal.core().local(name);
-        told_here(&self.journal, &mut self.seen, answer)
+        with_point(&self.journal, &mut self.seen, answer)
     }
 
     fn need(
@@ -345,47 +312,47 @@ impl<C: FolderCore> FolderCalls for Lone<C> {
         after: Option<&SafeName>,
         limit: usize,
     ) -> Result<At<Items<SafeName>>, AllocError>
-        ensures home { self.new.planned ≡ self.old.planned }
-        ensures reads { ReadsThere (seen_by self.old) (Need (option_copied after.entry) limit)
-            (told (λ names. names) result) (seen_by self.new) }
-        ensures alone { ReadsAlone self.old (Need (option_copied after.entry) limit)
-            (told (λ names. names) result) self.new }
+        ensures folder { self.new.planned ≡ self.old.planned }
+        ensures reads { ReadsAt (seen_by self.old) (Need (option_copied after.entry) limit)
+            (answered_at (λ names. names) result) (seen_by self.new) }
+        ensures planned { ReadsAfterPlan self.old (Need (option_copied after.entry) limit)
+            (answered_at (λ names. names) result) self.new }
     {
         self.go_on();
         let answer = self.journal.core().need(after, limit);
-        told_here(&self.journal, &mut self.seen, answer)
+        with_point(&self.journal, &mut self.seen, answer)
     }
 
     fn local_since(&mut self, sequence: u64, limit: usize) -> Result<At<Items<Record>>, AllocError>
-        ensures home { self.new.planned ≡ self.old.planned }
-        ensures reads { ReadsThere (seen_by self.old) (LocalSince sequence limit)
-            (told (λ page. page) result) (seen_by self.new) }
-        ensures alone { ReadsAlone self.old (LocalSince sequence limit)
-            (told (λ page. page) result) self.new }
+        ensures folder { self.new.planned ≡ self.old.planned }
+        ensures reads { ReadsAt (seen_by self.old) (LocalSince sequence limit)
+            (answered_at (λ page. page) result) (seen_by self.new) }
+        ensures planned { ReadsAfterPlan self.old (LocalSince sequence limit)
+            (answered_at (λ page. page) result) self.new }
     {
         self.go_on();
         let answer = self.journal.core().local_since(sequence, limit);
-        told_here(&self.journal, &mut self.seen, answer)
+        with_point(&self.journal, &mut self.seen, answer)
     }
 
     fn find_block(&mut self, hash: &[u8; 32]) -> Result<At<Option<Place>>, AllocError>
-        ensures home { self.new.planned ≡ self.old.planned }
-        ensures reads { ReadsThere (seen_by self.old) (FindBlock hash.now)
-            (told (λ place. place) result) (seen_by self.new) }
-        ensures alone { ReadsAlone self.old (FindBlock hash.now)
-            (told (λ place. place) result) self.new }
+        ensures folder { self.new.planned ≡ self.old.planned }
+        ensures reads { ReadsAt (seen_by self.old) (FindBlock hash.now)
+            (answered_at (λ place. place) result) (seen_by self.new) }
+        ensures planned { ReadsAfterPlan self.old (FindBlock hash.now)
+            (answered_at (λ place. place) result) self.new }
     {
         self.go_on();
         let answer = self.journal.core().find_block(hash);
-        told_here(&self.journal, &mut self.seen, answer)
+        with_point(&self.journal, &mut self.seen, answer)
     }
 
     fn known(&mut self, device: DeviceId) -> At<u64>
-        ensures home { self.new.planned ≡ self.old.planned }
-        ensures reads { ReadsThere (seen_by self.old) (Known device)
-            (Some (told_at (λ sequence. sequence) result)) (seen_by self.new) }
-        ensures alone { ReadsAlone self.old (Known device)
-            (Some (told_at (λ sequence. sequence) result)) self.new }
+        ensures folder { self.new.planned ≡ self.old.planned }
+        ensures reads { ReadsAt (seen_by self.old) (Known device)
+            (Some (answer_at (λ sequence. sequence) result)) (seen_by self.new) }
+        ensures planned { ReadsAfterPlan self.old (Known device)
+            (Some (answer_at (λ sequence. sequence) result)) self.new }
     {
         self.go_on();
         let value = self.journal.core().known(device);
@@ -397,11 +364,11 @@ impl<C: FolderCore> FolderCalls for Lone<C> {
     }
 
     fn counts(&mut self) -> At<Counts>
-        ensures home { self.new.planned ≡ self.old.planned }
-        ensures reads { ReadsThere (seen_by self.old) CountAll
-            (Some (told_at (λ counts. counts) result)) (seen_by self.new) }
-        ensures alone { ReadsAlone self.old CountAll
-            (Some (told_at (λ counts. counts) result)) self.new }
+        ensures folder { self.new.planned ≡ self.old.planned }
+        ensures reads { ReadsAt (seen_by self.old) CountAll
+            (Some (answer_at (λ counts. counts) result)) (seen_by self.new) }
+        ensures planned { ReadsAfterPlan self.old CountAll
+            (Some (answer_at (λ counts. counts) result)) self.new }
     {
         self.go_on();
         let value = self.journal.core().counts();
@@ -414,50 +381,14 @@ impl<C: FolderCore> FolderCalls for Lone<C> {
 }
 
 // What a call returns that got this answer of the folder: its point, which its caller has then seen, if it has an answer.
-fn told_here<C: FolderCore, T, E>(
+fn with_point<C: FolderCore, T, E>(
     journal: &Journal<C>,
     seen: &mut u64,
     answer: Result<T, E>,
 ) -> Result<At<T>, E>
-    ensures { IsToldAt (length journal.now.entries) answer result seen.old seen.new }
+    ensures { WithPoint (length journal.now.entries) answer result seen.old seen.new }
 {
     let value = answer?;
     *seen = journal.len();
     Ok(At { at: *seen, value })
-}
-
-// Makes another caller's change, as one of pass 2.
-fn make_outside<C: FolderCore>(journal: &mut Journal<C>, change: Outside)
-    requires passes { journal.old.passes ≡ 2 }
-    requires may { MayChange journal.old.opening.me (change_of change) }
-    ensures made { (answer : Option AnswerOf)
-        × Enters journal.old 2 (change_of change) answer journal.new }
-    ensures history { IsHistory journal.new }
-{
-    match change {
-        Outside::ScanFound {
-            name,
-            expected,
-            found,
-            moment,
-        } => {
-            let _ = journal.scan_found(2, &name, expected.as_ref(), &found, moment);
-        }
-        Outside::ScanGone {
-            name,
-            expected,
-            moment,
-        } => {
-            let _ = journal.scan_gone(2, &name, expected.as_ref(), moment);
-        }
-        Outside::IndexFull { device, records } => {
-            let _ = journal.index_full(2, device, records);
-        }
-        Outside::IndexMore { device, records } => {
-            let _ = journal.index_more(2, device, records);
-        }
-        Outside::Forget { device } => {
-            let _ = journal.forget(2, device);
-        }
-    }
 }

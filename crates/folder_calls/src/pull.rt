@@ -1,7 +1,7 @@
 //! What the callers of a folder with a history hold of their pulls.
 ghost use Rattle.std.specs.Prelude.{◌≡◌, option_copied};
 
-use folder_core::Token;
+use folder_core::PullInfo;
 use std::marker::Model;
 use sync_names::SafeName;
 use sync_record::Record;
@@ -12,18 +12,18 @@ use sync_record::Record;
 #[derive(Debug)]
 pub struct Ticket {
     pub(crate) inner: folder_core::Ticket,
-    pub(crate) token: Token,
+    pub(crate) info: PullInfo,
 }
 
 impl Model for Ticket {
     ghost use Rattle.std.specs.Prelude.{◌≡◌};
-    ghost use Rattle.folder_core.specs.declared.token.Token.{Token};
+    ghost use Rattle.folder_core.specs.declared.pull_info.PullInfo.{PullInfo};
 
-    ghost Value = { Token };
+    ghost Value = { PullInfo };
 
-    ghost view = { λ t. t.token };
+    ghost view = { λ t. t.info };
 
-    ghost invariant = { λ t. t.inner ≡ t.token };
+    ghost invariant = { λ t. t.inner ≡ t.info };
 }
 
 impl Ticket {
@@ -31,28 +31,28 @@ impl Ticket {
     pub fn number(&self) -> u64
         ensures { result ≡ self.now.number }
     {
-        self.token.number
+        self.info.number
     }
 
     /// Its name. O(1).
     pub fn name(&self) -> &SafeName
         ensures { result.now ≡ self.now.name }
     {
-        &self.token.name
+        &self.info.name
     }
 
     /// The record whose file is fetched. O(1).
     pub fn target(&self) -> &Record
         ensures { result.now ≡ self.now.target }
     {
-        &self.token.target
+        &self.info.target
     }
 
     /// The local record when the pull began, if there was one. O(1).
     pub fn base(&self) -> Option<&Record>
         ensures { option_copied result ≡ self.now.base }
     {
-        self.token.base.as_ref()
+        self.info.base.as_ref()
     }
 }
 
@@ -62,18 +62,18 @@ impl Ticket {
 #[derive(Debug)]
 pub struct Commit {
     pub(crate) inner: folder_core::Commit,
-    pub(crate) token: Token,
+    pub(crate) info: PullInfo,
 }
 
 impl Model for Commit {
     ghost use Rattle.std.specs.Prelude.{◌≡◌};
-    ghost use Rattle.folder_core.specs.declared.token.Token.{Token};
+    ghost use Rattle.folder_core.specs.declared.pull_info.PullInfo.{PullInfo};
 
-    ghost Value = { Token };
+    ghost Value = { PullInfo };
 
-    ghost view = { λ c. c.token };
+    ghost view = { λ c. c.info };
 
-    ghost invariant = { λ c. c.inner ≡ c.token };
+    ghost invariant = { λ c. c.inner ≡ c.info };
 }
 
 impl Commit {
@@ -81,28 +81,28 @@ impl Commit {
     pub fn number(&self) -> u64
         ensures { result ≡ self.now.number }
     {
-        self.token.number
+        self.info.number
     }
 
     /// Its name. O(1).
     pub fn name(&self) -> &SafeName
         ensures { result.now ≡ self.now.name }
     {
-        &self.token.name
+        &self.info.name
     }
 
     /// The record whose file is put in place. O(1).
     pub fn target(&self) -> &Record
         ensures { result.now ≡ self.now.target }
     {
-        &self.token.target
+        &self.info.target
     }
 
     /// The local record when the pull began, which is the local one still, if there was one. O(1).
     pub fn base(&self) -> Option<&Record>
         ensures { option_copied result ≡ self.now.base }
     {
-        self.token.base.as_ref()
+        self.info.base.as_ref()
     }
 }
 
@@ -136,4 +136,4 @@ pub enum EnterRefusal {
 
 /// A commit was not entered, because memory is out. Nothing changed, and the ticket comes back.
 #[derive(Debug)]
-pub struct NotEntered(pub Ticket);
+pub struct EnterAllocError(pub Ticket);

@@ -1,4 +1,2 @@
-pub mod TwoCalls
+pub mod Pulls
 pub mod PagesGiven
-pub mod PullsAdded
-pub mod ScansOver

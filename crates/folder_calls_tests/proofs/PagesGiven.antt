@@ -13,6 +13,7 @@ use Rattle.std.proofs.lemmas.List.Elements.{Contains-append_left, Contains-appen
 use Rattle.std.proofs.lemmas.Option.{get_or_from_slice_get, slice_get-get_or, slice_get_within}
 use Rattle.std.proofs.lemmas.Option.{none-some}
 use Rattle.sync_record.specs.Records.{Name, FileRecord}
+use mathlib.Core.List.{IsPrefix}
 use Rattle.folder_core.specs.Reads.{LocalSince, local_since}
 use Rattle.folder_core.specs.States.{FolderState, IsFolder, local}
 use Rattle.folder_core.proofs.ListTests.{In, inside}
@@ -20,38 +21,35 @@ use Rattle.folder_core.proofs.ReadPages.{IsFull, Stops, page-has, page-of, page-
 use Rattle.folder_calls.specs.declared.at.At.{At}
 use Rattle.folder_calls.specs.declared.entry.Entry.{Entry}
 use Rattle.folder_calls.specs.Histories.{IsLegal, own_entries, state_after}
-use Rattle.folder_calls.specs.Shared.{IsLegalView, ReadsThere, Sees, View, seeing}
+use Rattle.folder_calls.specs.Shared.{CallerView, IsLegalView, ReadsAt, Sees, now, seeing}
 use Rattle.folder_calls.proofs.HistoryEntries.{legal-folder}
 use Rattle.folder_calls.proofs.HistoryFronts.{history-on, legal-divided, state-divided}
+use Rattle.folder_calls_tests.proofs.Pulls.{sees-itself}
 use Rattle.folder_calls_tests.specs.Paging.{Gives, IsUpTo, Rise}
-use Rattle.folder_calls_tests.proofs.TwoCalls.{prefix-on}
 
 -- ---- what is seen on the way
 
-abbrev pub now : View → FolderState
-now v = state_after v.opening v.seen
+prefix-on : (xs ys zs : List Entry) → IsPrefix xs ys → IsPrefix ys zs → IsPrefix xs zs
+prefix-on xs ys zs first second = (first.0 ++ second.0, sym (append_assoc xs first.0 second.0) ∙ ap (λ l. l ++ second.0) first.1 ∙ second.1)
 
-pub sees-itself : (v : View) → Sees v v
-sees-itself v = record { longer = ([], append-nil v.seen); own = refl; same = refl }
-
-pub sees-on : (a b c : View) → Sees a b → Sees b c → Sees a c
+pub sees-on : (a b c : CallerView) → Sees a b → Sees b c → Sees a c
 sees-on a b c first second = record {
   longer = prefix-on a.seen b.seen c.seen first.longer second.longer;
-  own = subst (λ p. own_entries p c.seen ≡ own_entries p b.seen) (ap (λ (v : View). v.pass) first.same) second.own ∙ first.own;
-  same = second.same ∙ ap (λ (v : View). seeing v c.seen) first.same;
+  own = subst (λ p. own_entries p c.seen ≡ own_entries p b.seen) (ap (λ (v : CallerView). v.pass) first.same) second.own ∙ first.own;
+  same = second.same ∙ ap (λ (v : CallerView). seeing v c.seen) first.same;
 }
 
-pub folder-now : (v : View) → IsLegalView v → IsFolder (now v)
+pub folder-now : (v : CallerView) → IsLegalView v → IsFolder (now v)
 folder-now v view = legal-folder view.passes v.opening v.seen view.opening view.legal
 
 -- a local record stays, or a later one comes in its place
 abbrev pub GoesOn : FolderState → FolderState → Type 0
 GoesOn s t = (n : Name) → (local t n ≡ local s n) ⊎ ((r : FileRecord) × (local t n ≡ Some r) × (s.last < r.sequence))
 
-pub seen-on : (a b : View) → Sees a b → IsLegalView b → GoesOn (now a) (now b)
+pub seen-on : (a b : CallerView) → Sees a b → IsLegalView b → GoesOn (now a) (now b)
 seen-on a b sees view =
     let rest : List Entry = sees.longer.0 in
-    let opening : b.opening ≡ a.opening = ap (λ (v : View). v.opening) sees.same in
+    let opening : b.opening ≡ a.opening = ap (λ (v : CallerView). v.opening) sees.same in
     let whole : IsLegal view.passes a.opening (a.seen ++ rest) =
     subst (IsLegal view.passes a.opening) (sym sees.longer.1) (subst (λ s. IsLegal view.passes s b.seen) opening view.legal) in
     let legal = (legal-divided view.passes a.opening a.seen rest whole).1 in
@@ -210,14 +208,14 @@ none-last : (rs : List FileRecord) → None ≡ slice_get rs (length rs - 1) →
 none-last [] none = refl
 none-last (r ∷ rs) none = absurd (none-some _ (none ∙ slice_get-get_or (r ∷ rs) (length (r ∷ rs) - 1) r (omega arith)))
 
-module _ (first before after : View) (from upto limit : ℕ) (start given : List FileRecord)
+module _ (first before after : CallerView) (from upto limit : ℕ) (start given : List FileRecord)
     (sees : Sees first before) (gives : Gives (now before) from upto start given) (bound : (upto ≤ (now before).last) ⊎ (upto ≡ from))
-    (told : At (List FileRecord)) (reads : ReadsThere before (LocalSince upto limit) (Some told) after) where
+    (reply : At (List FileRecord)) (reads : ReadsAt before (LocalSince upto limit) (Some reply) after) where
   folder : IsFolder (now after)
   folder = folder-now after reads.legal
 
-  page-read : told.value ≡ local_since (now after) upto limit
-  page-read = reads.answer_is ∙ ap (λ s. local_since (state_after s after.seen) upto limit) (sym (ap (λ (v : View). v.opening) reads.sees.same))
+  page-read : reply.value ≡ local_since (now after) upto limit
+  page-read = reads.answer_is ∙ ap (λ s. local_since (state_after s after.seen) upto limit) (sym (ap (λ (v : CallerView). v.opening) reads.sees.same))
 
   pub read-sees : Sees first after
   read-sees = sees-on first before after sees reads.sees
@@ -225,10 +223,10 @@ module _ (first before after : View) (from upto limit : ℕ) (start given : List
   pub read-gives : Gives (now after) from upto start given
   read-gives = gives-on (now before) (now after) (seen-on before after reads.sees reads.legal) from upto start given bound gives
 
-  pub read-none : 1 ≤ limit → (rs : List FileRecord) → rs ≡ told.value → None ≡ slice_get rs (length rs - 1) → IsUpTo (now after) upto
+  pub read-none : 1 ≤ limit → (rs : List FileRecord) → rs ≡ reply.value → None ≡ slice_get rs (length rs - 1) → IsUpTo (now after) upto
   read-none some rs is none = page-none (now after) folder upto limit rs some (is ∙ page-read) (none-last rs none)
 
-  module _ (rs : List FileRecord) (is : rs ≡ told.value) (last : FileRecord) (there : Some last ≡ slice_get rs (length rs - 1)) (next : ℕ) (next_is : next ≡ last.sequence) where
+  module _ (rs : List FileRecord) (is : rs ≡ reply.value) (last : FileRecord) (there : Some last ≡ slice_get rs (length rs - 1)) (next : ℕ) (next_is : next ≡ last.sequence) where
     pub read-rises : upto < next
     read-rises = subst (λ k. upto < k) (sym next_is) (page-after (now after) folder upto limit rs last (is ∙ page-read) there)
 

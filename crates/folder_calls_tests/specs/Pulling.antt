@@ -1,67 +1,66 @@
--- What a pull of a file comes to, as its caller sees it. Own rule.
-use Rattle.std.specs.Prelude.{◌≡◌, ◌⊎◌, ℕ, List, [], ◌∷◌, ◌++◌}
+-- What a pull of a file comes to: what its worker asked for, and the answers that it got. Own rule.
+use Rattle.std.specs.Prelude.{◌≡◌, ◌⊎◌, ℕ, Bool, false, List, [], ◌∷◌, Option, Some, None}
 use Rattle.sync_record.specs.Records.{Name}
-use Rattle.folder_core.specs.declared.answer.Answer.TheVariants.{Begun, Closed, Done, Entered}
+use Rattle.folder_core.specs.Calls.{close_answer}
+use Rattle.folder_core.specs.Steps.{is_accepted}
+use Rattle.folder_core.specs.declared.answer.Answer.{Answer}
+use Rattle.folder_core.specs.declared.answer.Answer.TheVariants.{Begun, Closed, Done, Entered, Stray}
 use Rattle.folder_core.specs.declared.change.Change.TheVariants.{BeginPull, EnterCommit, Finish, GiveUp}
-use Rattle.folder_core.specs.declared.stage.Stage.{Stage}
-use Rattle.folder_core.specs.declared.stage.Stage.TheVariants.{Pulling, Committing}
-use Rattle.folder_core.specs.declared.token.Token.{Token}
-use Rattle.folder_core.specs.States.{FolderState, Pull}
-use Rattle.folder_core.specs.Steps.{IsFor}
-use Rattle.folder_calls.specs.declared.entry.Entry.{Entry}
-use Rattle.folder_calls.specs.Histories.{EndsPull}
-use Rattle.folder_calls.specs.Adds.{Adds, Asked}
-use Rattle.folder_calls.specs.Shared.{View, now, own_entry}
+use Rattle.folder_core.specs.declared.pull_info.PullInfo.{PullInfo}
+use Rattle.folder_calls.specs.Adds.{Asked, Asks}
+use Rattle.folder_calls.specs.Shared.{CallerView, Gets}
 use Rattle.folder_calls_tests.specs.declared.pulling.Pulled.{Pulled}
 use Rattle.folder_calls_tests.specs.declared.pulling.Pulled.TheVariants as pulled
 
-abbrev pub begins : Name → Token → Asked
+abbrev pub begins : Name → PullInfo → Asked
 begins n t = (BeginPull n, Begun t)
 
-abbrev pub enters : Token → Asked
+abbrev pub enters : PullInfo → Asked
 enters t = (EnterCommit t, Entered t)
 
-abbrev pub finishes : Token → ℕ → Asked
-finishes t k = (Finish t t.target, Done k)
+abbrev pub finishes : PullInfo → Answer → Asked
+finishes t answer = (Finish t t.target, answer)
 
-abbrev pub gives_up : Token → Asked
-gives_up t = (GiveUp t, Closed)
+-- the pull was given up with this answer, at once or after its commit was not entered
+abbrev pub IsGivenUpWith : PullInfo → Answer → List Asked → Type 0
+IsGivenUpWith t answer asked =
+    (asked ≡ (GiveUp t, answer) ∷ [])
+    ⊎ ((refusal : Answer) × (is_accepted refusal ≡ false) × (asked ≡ (EnterCommit t, refusal) ∷ (GiveUp t, answer) ∷ []))
 
--- no pull is open that the token is for, at this stage
-abbrev pub IsStray : FolderState → Token → Stage → Type 0
-IsStray s t stage = (p : Pull) → ¬ (IsFor s t stage p)
+-- what is asked for a pull that was begun, until it ends so
+abbrev pub EndsBy : PullInfo → Pulled → List Asked → Type 0
+EndsBy t (pulled.Done k) asked = asked ≡ enters t ∷ finishes t (Done k) ∷ []
+EndsBy t pulled.GivenUp asked = IsGivenUpWith t Closed asked
+EndsBy t pulled.Stray asked =
+    IsGivenUpWith t Stray asked ⊎ ((asked ≡ (EnterCommit t, Stray) ∷ []) ⊎ (asked ≡ enters t ∷ finishes t Stray ∷ []))
+EndsBy t pulled.NotBegun asked = ⊥
 
--- The last entry is the finish of the pull: it ends the pull over the local record on which that was begun, with its target, of
--- each of whose blocks some bytes have the size and the digest.
-pub record EndsWith (old : View) (t : Token) (k : ℕ) (new : View) : Type 0 where
-  pub front : List Entry
-  pub last : new.seen ≡ front ++ own_entry old (Finish t t.target) (Done k) ∷ []
-  pub ends : EndsPull old.opening front t t.target
-
--- after it was begun, a pull is given up, or its ticket is stray
-abbrev pub GivesUp : View → Token → Pulled → View → Type 0
-GivesUp old t pulled.GivenUp new = Adds old (gives_up t ∷ []) new
-GivesUp old t pulled.Stray new = Adds old [] new × IsStray (now new) t Pulling
+-- a pull that was begun is given up, or its ticket is stray
+abbrev pub GivesUp : CallerView → PullInfo → Pulled → CallerView → Type 0
+GivesUp old t pulled.GivenUp new = Gets old (GiveUp t) Closed new
+GivesUp old t pulled.Stray new = Gets old (GiveUp t) Stray new
 GivesUp old t _ new = ⊥
 
--- after it was begun, a pull is entered and finished, or it is given up, or its ticket or its commit is stray
-abbrev pub Commits : View → Token → Pulled → View → Type 0
-Commits old t (pulled.Done k) new = Adds old (enters t ∷ finishes t k ∷ []) new × EndsWith old t k new
-Commits old t pulled.GivenUp new = Adds old (gives_up t ∷ []) new
-Commits old t pulled.Stray new =
-    (Adds old [] new × IsStray (now new) t Pulling) ⊎ (Adds old (enters t ∷ []) new × IsStray (now new) t Committing)
-Commits old t pulled.NotBegun new = ⊥
+-- a pull that was begun ends so
+abbrev pub Ends : CallerView → PullInfo → Pulled → CallerView → Type 0
+Ends old t result new = (asked : List Asked) × EndsBy t result asked × Asks old asked new
+
+-- the pull of a name was not begun
+abbrev pub IsNotBegun : CallerView → Name → CallerView → Type 0
+IsNotBegun old n new = (refusal : Answer) × (is_accepted refusal ≡ false) × Gets old (BeginPull n) refusal new
 
 -- what a pull of a name comes to
-abbrev pub Comes : View → Name → Pulled → View → Type 0
-Comes old n (pulled.Done k) new =
-    (t : Token) × Adds old (begins n t ∷ enters t ∷ finishes t k ∷ []) new × EndsWith old t k new
-Comes old n pulled.NotBegun new = Adds old [] new
-Comes old n pulled.GivenUp new = (t : Token) × Adds old (begins n t ∷ gives_up t ∷ []) new
-Comes old n pulled.Stray new =
-    (t : Token) × ((Adds old (begins n t ∷ []) new × IsStray (now new) t Pulling)
-    ⊎ (Adds old (begins n t ∷ enters t ∷ []) new × IsStray (now new) t Committing))
+abbrev pub Comes : CallerView → Name → Pulled → CallerView → Type 0
+Comes old n pulled.NotBegun new = IsNotBegun old n new
+Comes old n result new = (t : PullInfo) × (asked : List Asked) × EndsBy t result asked × Asks old (begins n t ∷ asked) new
 
--- it isn't finished
-abbrev pub Breaks : View → Name → View → Type 0
-Breaks old n new = Comes old n pulled.NotBegun new ⊎ (Comes old n pulled.GivenUp new ⊎ Comes old n pulled.Stray new)
+-- a pull of a name runs out of memory: it was not asked for, or it was begun and then given up at once
+abbrev pub Breaks : CallerView → Name → CallerView → Type 0
+Breaks old n new =
+    (new ≡ old)
+    ⊎ ((t : PullInfo) × (answer : Answer) × ((answer ≡ Closed) ⊎ (answer ≡ Stray)) × Asks old (begins n t ∷ (GiveUp t, answer) ∷ []) new)
+
+-- a pull of a name is begun and given up again: whether it was begun, and was then still open
+abbrev pub IsTried : CallerView → Name → Option Bool → CallerView → Type 0
+IsTried old n None new = IsNotBegun old n new
+IsTried old n (Some is_open) new = (t : PullInfo) × Asks old (begins n t ∷ (GiveUp t, close_answer is_open) ∷ []) new

@@ -28,7 +28,7 @@ pub(crate) fn takes_two<W: FolderCalls>(rt: &(impl AllocGlobal + Abort), calls: 
     assert_eq!(rt; calls.counts().at, 2);
 }
 
-/// An empty folder whose history takes four entries has room for the finish of a pull after an index, a begin and an entrance.
+/// An empty folder whose history takes four entries has room for the finish of a pull after an index, a begin and an entered commit.
 pub(crate) fn finishes_when_full<W: FolderCalls>(rt: &(impl AllocGlobal + Abort), calls: &mut W) {
     announces(rt, calls, "x");
     let ticket = begins(rt, calls, "x");

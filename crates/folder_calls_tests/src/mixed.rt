@@ -189,7 +189,7 @@ fn works<W: FolderCalls>(
     calls: &mut W,
     front: &str,
 ) -> Vec<(u64, Made)>
-    ensures { W.home calls.new ≡ W.home calls.old }
+    ensures { W.folder calls.new ≡ W.folder calls.old }
 {
     let mut made = Vec::new(rt.alloc());
     let pulled = name(rt, "x");
@@ -205,7 +205,7 @@ fn works<W: FolderCalls>(
 
 /// Records a directory, and returns the number of entries then.
 fn scans<W: FolderCalls>(rt: &(impl AllocGlobal + Abort), calls: &mut W, name: &SafeName) -> u64
-    ensures { W.home calls.new ≡ W.home calls.old }
+    ensures { W.folder calls.new ≡ W.folder calls.old }
 {
     match calls.scan_found(name, None, &directory(), moment(rt)) {
         Ok(
@@ -226,7 +226,7 @@ fn pulls<W: FolderCalls>(
     name: &SafeName,
     made: &mut Vec<(u64, Made)>,
 )
-    ensures { W.home calls.new ≡ W.home calls.old }
+    ensures { W.folder calls.new ≡ W.folder calls.old }
 {
     let At { at, value } = calls.begin_pull(name).expect(rt, "an answer");
     match value {

@@ -19,7 +19,7 @@ pub fn give_pages<W: FolderCalls>(
     given: &mut Vec<Record>,
 ) -> Result<(), AllocError>
     requires { 1 ≤ limit }
-    ensures home { W.home calls.new ≡ W.home calls.old }
+    ensures folder { W.folder calls.new ≡ W.folder calls.old }
     ensures sees { Sees (W.view calls.old) (W.view calls.new) }
     ensures gives { Gives (state_after (W.view calls.new).opening
         (W.view calls.new).seen) cursor.old cursor.new given.old.items given.new.items }

@@ -36,7 +36,7 @@ pub(crate) fn gives<W: FolderCalls>(
     after: u64,
     given: &mut Vec<Record>,
 ) -> u64
-    ensures { W.home calls.new ≡ W.home calls.old }
+    ensures { W.folder calls.new ≡ W.folder calls.old }
 {
     let mut cursor = after;
     give_pages(calls, &mut cursor, 2, given).expect(rt, "pages");

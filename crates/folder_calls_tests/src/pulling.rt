@@ -1,9 +1,12 @@
 //! A worker that pulls a name, whose bytes are at hand.
 ghost use Rattle.std.specs.Prelude.{◌≡◌, ◌⊎◌, IfErr, IfOk, IfSome};
-ghost use Rattle.folder_calls_tests.specs.Pulling.{Breaks, Comes, Commits, GivesUp};
+ghost use Rattle.folder_calls_tests.specs.Pulling.{Breaks, Comes, Ends, GivesUp};
 ghost use Rattle.folder_calls_tests.specs.declared.pulling.Pulled.TheVariants.{GivenUp, Stray};
 
-use folder_calls::{At, BeginAnswer, EnterRefusal, FolderCalls, HistoryFull, NotEntered, Ticket};
+use folder_calls::laws::tickets_are_those_that_were_asked_for;
+use folder_calls::{
+    At, BeginAnswer, EnterAllocError, EnterRefusal, FolderCalls, HistoryFull, Ticket,
+};
 use std::alloc::{AllocError, Global};
 use sync_names::SafeName;
 use sync_record::{Assembled, Assembly, Block, Kind, Record};
@@ -29,7 +32,7 @@ pub fn pull_bytes<W: FolderCalls>(
     name: &SafeName,
     bytes: &[u8],
 ) -> Result<Pulled, AllocError>
-    ensures home { W.home calls.new ≡ W.home calls.old }
+    ensures folder { W.folder calls.new ≡ W.folder calls.old }
     ensures comes { IfOk result (λ pulled.
         Comes (W.view calls.old) name.now pulled (W.view calls.new)) }
     ensures out_of_memory { IfErr result
@@ -52,9 +55,9 @@ fn pull<W: FolderCalls>(
     ticket: Ticket,
     bytes: &[u8],
 ) -> Result<Pulled, AllocError>
-    ensures home { W.home calls.new ≡ W.home calls.old }
-    ensures commits { IfOk result (λ pulled.
-        Commits (W.view calls.old) ticket pulled (W.view calls.new)) }
+    ensures folder { W.folder calls.new ≡ W.folder calls.old }
+    ensures ends { IfOk result (λ pulled.
+        Ends (W.view calls.old) ticket pulled (W.view calls.new)) }
     ensures out_of_memory { IfErr result
         (λ _. GivesUp (W.view calls.old) ticket GivenUp (W.view calls.new)
         ⊎ GivesUp (W.view calls.old) ticket Stray (W.view calls.new)) }
@@ -76,16 +79,17 @@ fn commit<W: FolderCalls>(
     assembled: Assembled,
 ) -> Result<Pulled, AllocError>
     requires { assembled ≡ ticket.target }
-    ensures home { W.home calls.new ≡ W.home calls.old }
-    ensures commits { IfOk result (λ pulled.
-        Commits (W.view calls.old) ticket pulled (W.view calls.new)) }
+    ensures folder { W.folder calls.new ≡ W.folder calls.old }
+    ensures ends { IfOk result (λ pulled.
+        Ends (W.view calls.old) ticket pulled (W.view calls.new)) }
     ensures out_of_memory { IfErr result
         (λ _. GivesUp (W.view calls.old) ticket GivenUp (W.view calls.new)
         ⊎ GivesUp (W.view calls.old) ticket Stray (W.view calls.new)) }
 {
+    tickets_are_those_that_were_asked_for();
     let entered = match calls.enter_commit(ticket) {
         Ok(At { at: _, value }) => value,
-        Err(NotEntered(ticket)) => {
+        Err(EnterAllocError(ticket)) => {
             let _ = give_up(calls, ticket);
             return Err(AllocError);
         }
@@ -104,7 +108,7 @@ fn commit<W: FolderCalls>(
 }
 
 fn give_up<W: FolderCalls>(calls: &mut W, ticket: Ticket) -> Pulled
-    ensures home { W.home calls.new ≡ W.home calls.old }
+    ensures folder { W.folder calls.new ≡ W.folder calls.old }
     ensures gives_up { GivesUp (W.view calls.old) ticket result (W.view calls.new) }
 {
     if calls.give_up(ticket).value {

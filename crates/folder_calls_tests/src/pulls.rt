@@ -65,7 +65,7 @@ pub(crate) fn pulls<W: FolderCalls>(
     text: &str,
     bytes: &[u8],
 ) -> Pulled
-    ensures { W.home calls.new ≡ W.home calls.old }
+    ensures { W.folder calls.new ≡ W.folder calls.old }
 {
     let name = name(rt, text);
     match pull_bytes(rt.alloc(), calls, &name, bytes) {
@@ -86,7 +86,7 @@ fn offered(rt: &(impl AllocGlobal + Abort), limit: u64) -> Lone<PlainFolder> {
 
 /// The first device announces the file x, which has the bytes "abc", and nothing else.
 pub(crate) fn offers<W: FolderCalls>(rt: &(impl AllocGlobal + Abort), calls: &mut W)
-    ensures { W.home calls.new ≡ W.home calls.old }
+    ensures { W.folder calls.new ≡ W.folder calls.old }
 {
     let peer = device(1);
     assert!(rt; peer != calls.me());

@@ -1,6 +1,6 @@
 //! The check of a history, of entries that are written by hand.
 ghost use Rattle.std.specs.Prelude.{◌≡◌, IsTrue};
-ghost use Rattle.folder_core.specs.Steps.{is_found};
+ghost use Rattle.folder_core.specs.Steps.{is_recordable};
 
 use crate::values::{device, moment, name};
 use bep_messages::Items;
@@ -34,7 +34,7 @@ fn empty(rt: &(impl AllocGlobal + Abort)) -> PlainFolder {
 
 /// An empty file that is found.
 fn file(rt: &impl AllocGlobal) -> Finding
-    ensures { IsTrue (is_found result.content) }
+    ensures { IsTrue (is_recordable result.content) }
 {
     Finding {
         content: FoundContent::File {
@@ -56,7 +56,7 @@ fn with_file(rt: &(impl AllocGlobal + Abort)) -> PlainFolder {
 
 /// It is found at x, where nothing was, and recorded first.
 fn finds(rt: &(impl AllocGlobal + Abort), folder: &mut PlainFolder, found: &Finding)
-    requires { IsTrue (is_found found.now.content) }
+    requires { IsTrue (is_recordable found.now.content) }
 {
     match folder.scan_found(&name(rt, "x"), None, found, moment(rt)) {
         Ok(ScanAnswer::Recorded(1)) => {}

@@ -154,12 +154,12 @@ fn tickets_of_another_folder_are_stray(rt: HostRuntime) {
 
 fn tickets_are_stray<C: FolderCore + Drop, R: AllocGlobal + Abort + Wait>(
     rt: &R,
-    home: (&SharedFolder<C>, Pass<C>),
+    folder: (&SharedFolder<C>, Pass<C>),
     other: (&SharedFolder<C>, Pass<C>),
 )
-    requires { IsPassOf home.0.now.locked home.1 × IsPassOf other.0.now.locked other.1 }
+    requires { IsPassOf folder.0.now.locked folder.1 × IsPassOf other.0.now.locked other.1 }
 {
-    let mut member = Member::new(home.0, rt, home.1);
+    let mut member = Member::new(folder.0, rt, folder.1);
     let mut stranger = Member::new(other.0, rt, other.1);
     announces(rt, &mut member, "x");
     announces(rt, &mut member, "y");

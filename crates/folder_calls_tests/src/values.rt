@@ -2,7 +2,7 @@
 ghost use Rattle.std.specs.Prelude.{◌≡◌, ◌≢◌, IsTrue};
 ghost use Rattle.std.specs.FinMap.{len};
 ghost use Rattle.sync_record.specs.Records.{is_directory};
-ghost use Rattle.folder_core.specs.Steps.{is_found};
+ghost use Rattle.folder_core.specs.Steps.{is_recordable};
 
 use bep_messages::Items;
 use folder_calls::{At, FolderCalls, HistoryFull, Lone, ScanRefusal};
@@ -32,7 +32,7 @@ pub(crate) fn moment(rt: &impl Abort) -> Moment {
 
 /// A directory that is found.
 pub(crate) fn directory() -> Finding
-    ensures { IsTrue (is_found result.content) }
+    ensures { IsTrue (is_recordable result.content) }
 {
     Finding {
         content: FoundContent::Directory,
@@ -99,7 +99,7 @@ pub(crate) fn scanned_as(answer: Result<ScanAnswer, ScanRefusal>) -> (&'static s
 
 /// The first device announces a directory too.
 pub(crate) fn announces<W: FolderCalls>(rt: &(impl AllocGlobal + Abort), calls: &mut W, text: &str)
-    ensures { W.home calls.new ≡ W.home calls.old }
+    ensures { W.folder calls.new ≡ W.folder calls.old }
 {
     let peer = device(1);
     assert!(rt; peer != calls.me());

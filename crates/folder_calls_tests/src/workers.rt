@@ -1,14 +1,9 @@
 //! Workers, as any program may have them: each is lent the calls of a folder, and is proved once for whoever keeps it.
-ghost use Rattle.std.specs.Prelude.{◌≡◌, ◌++◌, ◌∷◌, [], IfOk, IsTrue, None, Some, false, option_copied, option_map, true};
-ghost use mathlib.Core.List.{IsPrefix};
-ghost use Rattle.folder_core.specs.Steps.{is_accepted, is_found};
-ghost use Rattle.folder_core.specs.declared.token.Token.{Token};
-ghost use Rattle.folder_core.specs.declared.answer.Answer.TheVariants.{Begun, Closed};
-ghost use Rattle.folder_core.specs.declared.change.Change.TheVariants.{BeginPull, GiveUp};
+ghost use Rattle.std.specs.Prelude.{◌≡◌, IfErr, IfOk, IsTrue, None, Some, option_copied, option_map};
+ghost use Rattle.folder_core.specs.Steps.{is_recordable};
 ghost use Rattle.folder_calls.specs.Calls.{scan_value};
-ghost use Rattle.folder_calls.specs.Histories.{own_entries};
-ghost use Rattle.folder_calls.specs.Shared.{own_entry};
-ghost use Rattle.folder_calls.specs.Adds.{Adds};
+ghost use Rattle.folder_calls.specs.Shared.{Sees};
+ghost use Rattle.folder_calls_tests.specs.Pulling.{IsTried};
 ghost use Rattle.folder_calls_tests.specs.Recording.{RecordsOver};
 
 use folder_calls::{At, BeginAnswer, FolderCalls, HistoryFull, ScanRefusal};
@@ -26,15 +21,11 @@ pub fn record_over<W: FolderCalls>(
     found: &Finding,
     moment: Moment,
 ) -> Result<Result<ScanAnswer, ScanRefusal>, AllocError>
-    requires { IsTrue (is_found found.now.content) }
-    ensures home { W.home calls.new ≡ W.home calls.old }
-    ensures grows { IsPrefix (W.view calls.old).seen (W.view calls.new).seen }
-    ensures recorded { IfOk result (λ scanned. is_accepted (scan_value scanned) ≡ true →
-        RecordsOver (W.view calls.old) name.now found.now moment (scan_value scanned)
-        (W.view calls.new)) }
-    ensures not_recorded { IfOk result
-        (λ scanned. is_accepted (scan_value scanned) ≡ false →
-        Adds (W.view calls.old) [] (W.view calls.new)) }
+    requires { IsTrue (is_recordable found.now.content) }
+    ensures folder { W.folder calls.new ≡ W.folder calls.old }
+    ensures over { IfOk result (λ scanned. RecordsOver (W.view calls.old) name.now found.now moment
+        (scan_value scanned) (W.view calls.new)) }
+    ensures out_of_memory { IfErr result (λ _. Sees (W.view calls.old) (W.view calls.new)) }
 {
     let read = calls.local(name)?;
     let version = version_of(&read.value);
@@ -48,20 +39,10 @@ pub fn begin_and_give_up<W: FolderCalls>(
     calls: &mut W,
     name: &SafeName,
 ) -> Result<Option<bool>, AllocError>
-    ensures home { W.home calls.new ≡ W.home calls.old }
-    ensures grows { IsPrefix (W.view calls.old).seen (W.view calls.new).seen }
-    ensures not_begun { IfOk result (λ begun. begun ≡ None →
-        own_entries (W.view calls.old).pass (W.view calls.new).seen
-        ≡ own_entries (W.view calls.old).pass (W.view calls.old).seen) }
-    ensures stray { IfOk result (λ begun. begun ≡ Some false → (t : Token) ×
-        (own_entries (W.view calls.old).pass (W.view calls.new).seen
-        ≡ own_entries (W.view calls.old).pass (W.view calls.old).seen ++ own_entry
-        (W.view calls.old) (BeginPull name.now) (Begun t) ∷ [])) }
-    ensures given_up { IfOk result (λ begun. begun ≡ Some true → (t : Token) ×
-        (own_entries (W.view calls.old).pass (W.view calls.new).seen
-        ≡ own_entries (W.view calls.old).pass (W.view calls.old).seen
-        ++ own_entry (W.view calls.old) (BeginPull name.now) (Begun t) ∷ own_entry
-        (W.view calls.old) (GiveUp t) Closed ∷ [])) }
+    ensures folder { W.folder calls.new ≡ W.folder calls.old }
+    ensures tried { IfOk result (λ is_open.
+        IsTried (W.view calls.old) name.now is_open (W.view calls.new)) }
+    ensures out_of_memory { IfErr result (λ _. W.view calls.new ≡ W.view calls.old) }
 {
     let At { at: _, value } = calls.begin_pull(name)?;
     match value {

@@ -11,16 +11,16 @@ use Rattle.sync_version.specs.Versions.{Vector}
 use Rattle.sync_record.specs.Contents.{same_content}
 use Rattle.sync_record.specs.Records.{Name, FileRecord, is_file, is_directory}
 use Rattle.sync_record.specs.Validity.{is_valid}
-use Rattle.folder_core.specs.declared.stage.Stage.{Stage}
-use Rattle.folder_core.specs.declared.stage.Stage.TheVariants.{Pulling, Committing}
-use Rattle.folder_core.specs.Announced.{Announcement, best}
+use Rattle.folder_core.specs.declared.pull_stage.PullStage.{PullStage}
+use Rattle.folder_core.specs.declared.pull_stage.PullStage.TheVariants.{Pulling, Committing}
+use Rattle.folder_core.specs.Announced.{KeyedRecord, best}
 use Rattle.folder_core.specs.States.{FolderState, HaveOwnNumbers, NoCommit, Pull, is_committing, local, local_version, max_sequence, need, open_commits, same_stage}
 use Rattle.folder_core.specs.declared.answer.Answer.{Answer}
 use Rattle.folder_core.specs.declared.answer.Answer.TheVariants.{Begun, Closed, Done, Entered, Recorded, Stray}
 use Rattle.folder_core.specs.declared.change.Change.{Change}
 use Rattle.folder_core.specs.declared.change.Change.TheVariants.{ScanFound, ScanGone, BeginPull, EnterCommit, Finish, GiveUp, Abort}
 use Rattle.folder_core.specs.declared.finding.Finding.{Finding}
-use Rattle.folder_core.specs.declared.token.Token.{Token}
+use Rattle.folder_core.specs.declared.pull_info.PullInfo.{PullInfo}
 use Rattle.folder_core.specs.Steps.{IsFor, is_accepted, next_ticket, step}
 use Rattle.folder_core.proofs.AnnouncedMaps.{insert_apart, insert_here, insert_other, remove_here, remove_other, remove_split}
 use Rattle.folder_core.proofs.BestRule.{best-found}
@@ -37,11 +37,11 @@ use Rattle.folder_core.proofs.PullStages.{begun_pull}
 
 -- ---- begun
 
-abbrev pub IsBegun : FolderState → Name → Token → Type 0
+abbrev pub IsBegun : FolderState → Name → PullInfo → Type 0
 IsBegun s n t =
     (t.name ≡ n) × (t.base ≡ local s n) × IsTrue (is_valid t.target)
     × ((t.target.deleted ≡ true) ⊎ ((is_file t.target ≡ true) ⊎ (is_directory t.target ≡ true)))
-    × ((e : Announcement) × (best (entries s.announced) n ≡ Some e) × (t.target ≡ e.1))
+    × ((e : KeyedRecord) × (best (entries s.announced) n ≡ Some e) × (t.target ≡ e.1))
     × Contains (need s) n × (get s.pulls n ≡ None)
     × (1 ≤ t.number) × ((m : Name) (p : Pull) → get s.pulls m ≡ Some p → p.number ≢ t.number)
 
@@ -91,33 +91,33 @@ begins s = step-cases s (λ c d. Begins s (asked_name c) d.0) (record {
   aborted = λ t p found. tt;
 })
 
-pub begun-says : (s : FolderState) (n : Name) (t : Token) → (step s (BeginPull n)).0 ≡ Begun t → IsBegun s n t
+pub begun-says : (s : FolderState) (n : Name) (t : PullInfo) → (step s (BeginPull n)).0 ≡ Begun t → IsBegun s n t
 begun-says s n t is = subst (Begins s (Some n)) is (begins s (BeginPull n))
 
 -- ---- entered
 
-abbrev pub IsEntered : FolderState → Token → Token → Type 0
+abbrev pub IsEntered : FolderState → PullInfo → PullInfo → Type 0
 IsEntered s t c =
     (c ≡ t) × (p : Pull) × IsFor s t Pulling p × (local_version s t.name ≡ p.base)
-    × ((e : Announcement) × (best (entries s.announced) t.target.name ≡ Some e) × (e.1.version ≡ t.target.version) × IsTrue (same_content e.1 t.target))
+    × ((e : KeyedRecord) × (best (entries s.announced) t.target.name ≡ Some e) × (e.1.version ≡ t.target.version) × IsTrue (same_content e.1 t.target))
     × (open_commits s < max_sequence - s.last)
 
-abbrev asked_ticket : Change → Option Token
+abbrev asked_ticket : Change → Option PullInfo
 asked_ticket (EnterCommit t) = Some t
 asked_ticket _ = None
 
-abbrev Enters : FolderState → Option Token → Answer → Type 0
+abbrev Enters : FolderState → Option PullInfo → Answer → Type 0
 Enters s (Some t) (Entered c) = IsEntered s t c
 Enters s (Some t) _ = ⊤
 Enters s None a = ⊤
 
-not-entered : (s : FolderState) (o : Option Token) (a : Answer) → is_accepted a ≡ false → Enters s o a
+not-entered : (s : FolderState) (o : Option PullInfo) (a : Answer) → is_accepted a ≡ false → Enters s o a
 not-entered s (Some t) (Entered c) unmade = absurd (true≢false unmade)
 not-entered s (Some t) _ unmade = tt
 not-entered s None a unmade = tt
 
-still-best : (r : FileRecord) (o : Option Announcement) → option_map_or (λ b. same_version b.1.version r.version && same_content b.1 r) o false ≡ true
-    → (e : Announcement) × (o ≡ Some e) × (e.1.version ≡ r.version) × IsTrue (same_content e.1 r)
+still-best : (r : FileRecord) (o : Option KeyedRecord) → option_map_or (λ b. same_version b.1.version r.version && same_content b.1 r) o false ≡ true
+    → (e : KeyedRecord) × (o ≡ Some e) × (e.1.version ≡ r.version) × IsTrue (same_content e.1 r)
 still-best r None e = absurd (true≢false (sym e))
 still-best r (Some b) e =
     let u = and_parts _ _ e in
@@ -139,7 +139,7 @@ enters s = step-cases s (λ c d. Enters s (asked_ticket c) d.0) (record {
         p,
         st,
         same_local (local_version s t.name) p.base (not-false _ fails.0),
-        subst (λ r. (e : Announcement) × (best (entries s.announced) r.name ≡ Some e) × (e.1.version ≡ r.version) × IsTrue (same_content e.1 r)) st.target still,
+        subst (λ r. (e : KeyedRecord) × (best (entries s.announced) r.name ≡ Some e) × (e.1.version ≡ r.version) × IsTrue (same_content e.1 r)) st.target still,
         let h = leb-false (max_sequence - s.last) (open_commits s) fails.1.1.0 in omega arith,
       );
   finished = λ t assembled p found. tt;
@@ -147,7 +147,7 @@ enters s = step-cases s (λ c d. Enters s (asked_ticket c) d.0) (record {
   aborted = λ t p found. tt;
 })
 
-pub entered-says : (s : FolderState) (t c : Token) → (step s (EnterCommit t)).0 ≡ Entered c → IsEntered s t c
+pub entered-says : (s : FolderState) (t c : PullInfo) → (step s (EnterCommit t)).0 ≡ Entered c → IsEntered s t c
 entered-says s t c is = subst (Enters s (Some t)) is (enters s (EnterCommit t))
 
 -- ---- recorded
@@ -167,7 +167,7 @@ module _ (s : FolderState) (n : Name) where
   idle : option_map_or is_committing (get s.pulls n) false ≡ false → NoCommit s n
   idle e p g = at p.stage (ap (λ o. option_map_or is_committing o false) (sym g) ∙ e)
     where
-      at : (stage : Stage) → same_stage stage Committing ≡ false → stage ≡ Pulling
+      at : (stage : PullStage) → same_stage stage Committing ≡ false → stage ≡ Pulling
       at Pulling e = refl
       at Committing e = absurd (true≢false e)
 
@@ -206,11 +206,11 @@ gone-says s n expected moment k is = subst (Scans s (ScanGone n expected moment)
 apart : (a b : Answer) → is_stray a ≡ false → is_stray b ≡ true → a ≡ b → ⊥
 apart a b f t same = true≢false (sym t ∙ ap is_stray (sym same) ∙ f)
 
-pub stray-ticket : (s : FolderState) (t : Token) → ((step s (EnterCommit t)).0 ≡ Stray) ⊎ ((step s (GiveUp t)).0 ≡ Stray) → (p : Pull) → ¬ (IsFor s t Pulling p)
+pub stray-ticket : (s : FolderState) (t : PullInfo) → ((step s (EnterCommit t)).0 ≡ Stray) ⊎ ((step s (GiveUp t)).0 ≡ Stray) → (p : Pull) → ¬ (IsFor s t Pulling p)
 stray-ticket s t (inl e) p st = enter-known s t p st e
 stray-ticket s t (inr e) p st = apart Closed Stray refl refl (sym (give_up-closed s t p st) ∙ e)
 
-pub stray-commit : (s : FolderState) (c : Token) (assembled : FileRecord) → ((step s (Finish c assembled)).0 ≡ Stray) ⊎ ((step s (Abort c)).0 ≡ Stray)
+pub stray-commit : (s : FolderState) (c : PullInfo) (assembled : FileRecord) → ((step s (Finish c assembled)).0 ≡ Stray) ⊎ ((step s (Abort c)).0 ≡ Stray)
     → (p : Pull) → ¬ (IsFor s c Committing p)
 stray-commit s c assembled (inl e) p st = apart (Done (s.last + 1)) Stray refl refl (sym (finish-done s c assembled p st) ∙ e)
 stray-commit s c assembled (inr e) p st = apart Closed Stray refl refl (sym (abort-closed s c p st) ∙ e)
@@ -219,7 +219,7 @@ stray-commit s c assembled (inr e) p st = apart Closed Stray refl refl (sym (abo
 
 -- the change ends a pull of the name
 abbrev pub EndsAt : Change → Name → Type 0
-EndsAt c n = (t : Token) × (t.name ≡ n) × ((c ≡ GiveUp t) ⊎ ((c ≡ Abort t) ⊎ ((r : FileRecord) × (c ≡ Finish t r))))
+EndsAt c n = (t : PullInfo) × (t.name ≡ n) × ((c ≡ GiveUp t) ⊎ ((c ≡ Abort t) ⊎ ((r : FileRecord) × (c ≡ Finish t r))))
 
 abbrev Stays : FolderState → Change → Answer × FolderState → Type 0
 Stays s c d =
@@ -288,7 +288,7 @@ old-or s = step-cases s (λ c d. OldOr s (asked_name c) d) (record {
     begun-or m r n q (inr old) = inl (q, old.1, refl)
     begun-or m r n q (inl new) = inr (ap Some (sym new.0), λ j p g e. (number-least s).1 j p g (e ∙ ap (λ (x : Pull). x.number) (sym new.1)))
 
-    entered-or : (t : Token) (p : Pull) → get s.pulls t.name ≡ Some p → (n : Name) (q : Pull)
+    entered-or : (t : PullInfo) (p : Pull) → get s.pulls t.name ≡ Some p → (n : Name) (q : Pull)
         → ((n ≡ t.name) × (record p { stage = Committing } ≡ q)) ⊎ ((n ≢ t.name) × (get s.pulls n ≡ Some q))
         → ((p : Pull) × (get s.pulls n ≡ Some p) × (p.number ≡ q.number)) ⊎ ((None ≡ Some n) × ((m : Name) (p : Pull) → get s.pulls m ≡ Some p → p.number ≢ q.number))
     entered-or t p g n q (inr old) = inl (q, old.1, refl)

@@ -6,7 +6,7 @@ use Rattle.folder_core.proofs.AnnouncedMaps.{insert_split}
 use Rattle.folder_core.proofs.PullNeed.{Rising, bests-rising, names-rising}
 use Rattle.folder_core.proofs.Orders.{bytes_total, keys_total, exact_keys}
 use Rattle.folder_core.proofs.ListTests.{In, in_contains, contains_in, of_filter, found_in, in_get}
-use Rattle.folder_core.specs.Announced.{Announced, Announcement, Key, key, is_of, is_best, announce, without, best, bests}
+use Rattle.folder_core.specs.Announced.{Announced, KeyedRecord, Key, key, is_of, is_best, announce, without, best, bests}
 use Rattle.folder_core.specs.States.{FolderState}
 use Rattle.folder_core.specs.declared.change.Change.TheVariants.{IndexFull, IndexMore}
 use Rattle.folder_core.specs.Steps.{step}
@@ -31,10 +31,10 @@ pub bests-rise : (a : Announced) → IsStrictlySortedBy bytes_cmp (map (λ e. e.
 bests-rise a = names-rising (bests (entries a)) (bests-rising a)
 
 -- a best is what is announced under its key
-pub bests-announced : (a : Announced) (e : Announcement) → In e (bests (entries a)) → get a e.0 ≡ Some e.1
+pub bests-announced : (a : Announced) (e : KeyedRecord) → In e (bests (entries a)) → get a e.0 ≡ Some e.1
 bests-announced a e i = in_get keys_total exact_keys a e (of_filter (is_best (entries a)) (entries a) e i).0
 
-pub bests-listed : (a : Announced) (n : Name) (e : Announcement) → (Contains (bests (entries a)) e × (e.0.name ≡ n)) ↔ (best (entries a) n ≡ Some e)
+pub bests-listed : (a : Announced) (n : Name) (e : KeyedRecord) → (Contains (bests (entries a)) e × (e.0.name ≡ n)) ↔ (best (entries a) n ≡ Some e)
 bests-listed a n e = (
   λ h. let chosen = of_filter (is_best (entries a)) (entries a) e (contains_in (bests (entries a)) e h.0) in
       let b = of_is_best a (entries a) (lists-entries a) e (bests-announced a e (contains_in (bests (entries a)) e h.0)) chosen.1 in
@@ -52,23 +52,23 @@ all_at P (m ∷ names) all n (inr i) = all_at P names all.1 n i
 pub apart : (m n : Name) → bytes_cmp m n ≡ Less → m ≢ n
 apart m n less same = true≢false (ap is_lt (sym less ∙ ap (bytes_cmp m) (sym same) ∙ tied_itself bytes_total m))
 
-named_other : (n : Name) (e : Announcement) → e.0.name ≢ n → is_of n e ≡ false
+named_other : (n : Name) (e : KeyedRecord) → e.0.name ≢ n → is_of n e ≡ false
 named_other n e other = false_from_ne_true (is_of n e) (λ t. other ((bytes_eq-Decides e.0.name n).0 t))
 
-not_found : (n : Name) (es : List Announcement) → ((e : Announcement) → In e es → e.0.name ≢ n) → find (is_of n) es ≡ None
+not_found : (n : Name) (es : List KeyedRecord) → ((e : KeyedRecord) → In e es → e.0.name ≢ n) → find (is_of n) es ≡ None
 not_found n [] other = refl
 not_found n (e ∷ es) other =
     ap (λ b. cond b (Some e) (find (is_of n) es)) (named_other n e (other e (inl refl)))
     ∙ not_found n es (λ f i. other f (inr i))
 
-picked_same : (g h : Name → Option Announcement) (names : List Name) → ((n : Name) → In n names → g n ≡ h n) → filter_map g names ≡ filter_map h names
+picked_same : (g h : Name → Option KeyedRecord) (names : List Name) → ((n : Name) → In n names → g n ≡ h n) → filter_map g names ≡ filter_map h names
 picked_same g h [] same = refl
 picked_same g h (n ∷ names) same =
     ap (λ o. cons_option o (filter_map g names)) (same n (inl refl))
     ∙ ap (cons_option (h n)) (picked_same g h names (λ m i. same m (inr i)))
 
-abbrev Covers : List Name → List Announcement → Type 0
-Covers names es = (e : Announcement) → In e es → In e.0.name names
+abbrev Covers : List Name → List KeyedRecord → Type 0
+Covers names es = (e : KeyedRecord) → In e es → In e.0.name names
 
 none_picked : (names : List Name) → filter_map (λ n. find (is_of n) []) names ≡ []
 none_picked [] = refl
@@ -78,11 +78,11 @@ later_name : (m n : Name) (names : List Name) → m ≢ n → (m ≡ n) ⊎ In m
 later_name m n names other (inl s) = absurd (other s)
 later_name m n names other (inr i) = i
 
-below_all : (n : Name) (e : Announcement) (es : List Announcement) → Rising (e ∷ es) → bytes_cmp n e.0.name ≡ Less → (f : Announcement) → (f ≡ e) ⊎ In f es → bytes_cmp n f.0.name ≡ Less
-below_all n e es rise less f (inl s) = ap (λ (x : Announcement). bytes_cmp n x.0.name) s ∙ less
+below_all : (n : Name) (e : KeyedRecord) (es : List KeyedRecord) → Rising (e ∷ es) → bytes_cmp n e.0.name ≡ Less → (f : KeyedRecord) → (f ≡ e) ⊎ In f es → bytes_cmp n f.0.name ≡ Less
+below_all n e es rise less f (inl s) = ap (λ (x : KeyedRecord). bytes_cmp n x.0.name) s ∙ less
 below_all n e es rise less f (inr i) = bytes_total.trans n e.0.name f.0.name less (rise.0 f i)
 
-pub looked_up : (names : List Name) (es : List Announcement) → IsStrictlySortedBy bytes_cmp names → Rising es → Covers names es → filter_map (λ n. find (is_of n) es) names ≡ es
+pub looked_up : (names : List Name) (es : List KeyedRecord) → IsStrictlySortedBy bytes_cmp names → Rising es → Covers names es → filter_map (λ n. find (is_of n) es) names ≡ es
 unfolding IsStrictlySortedBy
 looked_up [] [] sorted rise covers = refl
 looked_up [] (e ∷ es) sorted rise covers = absurd (covers e (inl refl))
@@ -98,12 +98,12 @@ looked_up (n ∷ names) (e ∷ es) sorted rise covers =
       | false ↦ λ t.
           let other : e.0.name ≢ n = λ s. true≢false (sym ((bytes_eq-Decides e.0.name n).1 s) ∙ t) in
           let less : bytes_cmp n e.0.name ≡ Less = all_at (λ y. bytes_cmp n y ≡ Less) names sorted.0 e.0.name (later_name e.0.name n names other (covers e (inl refl))) in
-          let below : (f : Announcement) → In f (e ∷ es) → f.0.name ≢ n = λ f i s. apart n f.0.name (below_all n e es rise less f i) (sym s) in
+          let below : (f : KeyedRecord) → In f (e ∷ es) → f.0.name ≢ n = λ f i s. apart n f.0.name (below_all n e es rise less f i) (sym s) in
           ap (λ o. cons_option o (filter_map (λ m. find (is_of m) (e ∷ es)) names)) (not_found n es (λ f i. below f (inr i)))
           ∙ looked_up names (e ∷ es) sorted.1 rise (λ f i. later_name f.0.name n names (below f i) (covers f i))
     ] refl
 
-pub bests-by_name : (a : Announced) (names : List Name) → IsStrictlySortedBy bytes_cmp names → ((e : Announcement) → Contains (bests (entries a)) e → Contains names e.0.name) → filter_map (λ n. best (entries a) n) names ≡ bests (entries a)
+pub bests-by_name : (a : Announced) (names : List Name) → IsStrictlySortedBy bytes_cmp names → ((e : KeyedRecord) → Contains (bests (entries a)) e → Contains names e.0.name) → filter_map (λ n. best (entries a) n) names ≡ bests (entries a)
 bests-by_name a names sorted covers =
     looked_up names (bests (entries a)) sorted (bests-rising a) (λ e i. contains_in names e.0.name (covers e (in_contains (bests (entries a)) e i)))
 
@@ -116,7 +116,7 @@ picked_lines g line [] = refl
 picked_lines g line (x ∷ xs) = ap (λ l. option_map_or line (g x) [] ++ l) (picked_lines g line xs) ∙ one_line line (g x) (filter_map g xs)
 
 -- the same with what is made of each best, name by name
-pub bests-lines : (a : Announced) (line : Announcement → List ℕ) (names : List Name) → IsStrictlySortedBy bytes_cmp names → ((e : Announcement) → Contains (bests (entries a)) e → Contains names e.0.name) → flat_map (λ n. option_map_or line (best (entries a) n) []) names ≡ flat_map line (bests (entries a))
+pub bests-lines : (a : Announced) (line : KeyedRecord → List ℕ) (names : List Name) → IsStrictlySortedBy bytes_cmp names → ((e : KeyedRecord) → Contains (bests (entries a)) e → Contains names e.0.name) → flat_map (λ n. option_map_or line (best (entries a) n) []) names ≡ flat_map line (bests (entries a))
 bests-lines a line names sorted covers = picked_lines (best (entries a)) line names ∙ ap (flat_map line) (bests-by_name a names sorted covers)
 
 -- ---- where names come from

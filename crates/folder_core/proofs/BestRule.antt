@@ -1,7 +1,7 @@
 -- The best of a name, in the words of the rules: a candidate that is preferred to every other.
 use Rattle.folder_core.proofs.AnnouncedListings.{lists-entries}
 use Rattle.folder_core.proofs.ListTests.{inside, same_bytes as same, alike_bytes as alike, by_or, In, all_in, in_all, any_in, in_any, in_filter, of_filter, found_in, only_found, some_free, Lists}
-use Rattle.folder_core.specs.Announced.{Announced, Announcement, key, is_of, is_by, is_candidate, is_best, best, bests, IsCandidate, IsBest}
+use Rattle.folder_core.specs.Announced.{Announced, KeyedRecord, key, is_of, is_by, is_candidate, is_best, best, bests, IsCandidate, IsBest}
 use Rattle.std.proofs.Common.{◌≡◌, Bool, true, false, List, [], ◌∷◌, refl, sym, ap, subst, ◌∙◌, ◌↔◌}
 use Rattle.std.proofs.lemmas.Bool.{true≢false, and_parts, and_from, not-true, false_from_ne_true}
 use Rattle.folder_core.proofs.BestPreferred.{is_preferred}
@@ -31,28 +31,28 @@ not_both_greater Greater a b = true≢false (sym b)
 one_way : (a b : Identity × FileRecord) → is_gt (preference a b) ≡ true → is_gt (preference b a) ≡ true → ⊥
 one_way a b p q = not_both_greater (preference a b) p (ap is_gt (sym (preference_total.antisymm b a)) ∙ q)
 
-module _ (m : Announced) (es : List Announcement) (l : Lists m es) where
+module _ (m : Announced) (es : List KeyedRecord) (l : Lists m es) where
   -- what a record must not have against it
-  abbrev dominating : Announcement → Announcement → Bool
+  abbrev dominating : KeyedRecord → KeyedRecord → Bool
   dominating e f = is_of e.0.name f && is_valid f.1 && dominates f.1.version e.1.version
 
   -- an entry under some name, as what the map has there
-  at : (n : Name) (f : Announcement) → In f es → is_of n f ≡ true → get m (key n f.0.device) ≡ Some f.1
+  at : (n : Name) (f : KeyedRecord) → In f es → is_of n f ≡ true → get m (key n f.0.device) ≡ Some f.1
   at n f i e = ap (λ x. get m (key x f.0.device)) (sym (same f.0.name n e)) ∙ l.only f i
 
-  pub candidate : (e : Announcement) → get m e.0 ≡ Some e.1 → is_candidate es e ≡ true → IsCandidate m e.0.name e.0.device e.1
+  pub candidate : (e : KeyedRecord) → get m e.0 ≡ Some e.1 → is_candidate es e ≡ true → IsCandidate m e.0.name e.0.device e.1
   candidate e g c =
       let undominated = not-true _ (and_parts _ _ c).1 in
       record {
         announced = g;
         valid = (and_parts _ _ c).0;
         undominated = λ d q h v dominated.
-            let f : Announcement = (key e.0.name d, q) in
+            let f : KeyedRecord = (key e.0.name d, q) in
             true≢false (sym (in_any (dominating e) es f (l.has f.0 q h)
             (and_from _ _ (and_from _ _ (alike e.0.name e.0.name refl) v) dominated)) ∙ undominated);
       }
 
-  pub is_candidate_of : (e : Announcement) → IsCandidate m e.0.name e.0.device e.1 → is_candidate es e ≡ true
+  pub is_candidate_of : (e : KeyedRecord) → IsCandidate m e.0.name e.0.device e.1 → is_candidate es e ≡ true
   is_candidate_of e c =
       and_from _ _ c.valid (ap not (false_from_ne_true (list_any (dominating e) es) (λ one.
       let r = any_in (dominating e) es one in
@@ -60,28 +60,28 @@ module _ (m : Announced) (es : List Announcement) (l : Lists m es) where
       let u = and_parts _ _ t.0 in
       c.undominated r.0.0.device r.0.1 (at e.0.name r.0 r.1 u.0) u.1 t.1)))
 
-  abbrev rival : Announcement → Announcement → Bool
+  abbrev rival : KeyedRecord → KeyedRecord → Bool
   rival e f = is_of e.0.name f && is_candidate es f
 
-  abbrev outranks : Announcement → Announcement → Bool
+  abbrev outranks : KeyedRecord → KeyedRecord → Bool
   outranks e f = is_by e.0.device f || is_preferred e f
 
   other : (a b : Bool) → (a || b) ≡ true → a ≡ false → b ≡ true
   other true b e f = absurd (true≢false f)
   other false b e f = e
 
-  pub of_is_best : (e : Announcement) → get m e.0 ≡ Some e.1 → is_best es e ≡ true → IsBest m e.0.name e.0.device e.1
+  pub of_is_best : (e : KeyedRecord) → get m e.0 ≡ Some e.1 → is_best es e ≡ true → IsBest m e.0.name e.0.device e.1
   of_is_best e g b = record {
     candidate = candidate e g (and_parts _ _ b).0;
     preferred = λ d q c apart.
-        let f : Announcement = (key e.0.name d, q) in
+        let f : KeyedRecord = (key e.0.name d, q) in
         let found = l.has f.0 q c.announced in
         let listed = in_filter (rival e) es f found (and_from _ _ (alike e.0.name e.0.name refl) (is_candidate_of f c)) in
         other (is_by e.0.device f) (is_preferred e f) (all_in (outranks e) _ (and_parts _ _ b).1 f listed)
         (false_from_ne_true (is_by e.0.device f) (λ t. apart (same d e.0.device t)));
   }
 
-  pub is_best_of : (e : Announcement) → IsBest m e.0.name e.0.device e.1 → is_best es e ≡ true
+  pub is_best_of : (e : KeyedRecord) → IsBest m e.0.name e.0.device e.1 → is_best es e ≡ true
   is_best_of e b =
       and_from _ _ (is_candidate_of e b.candidate) (in_all (outranks e) (filter (rival e) es) (λ f i.
       let r = of_filter (rival e) es f i in
@@ -103,7 +103,7 @@ module _ (m : Announced) (es : List Announcement) (l : Lists m es) where
       (b.preferred d q a.candidate (λ s. true≢false (sym (alike d e s) ∙ f)))))
 
   -- what is computed is the best
-  pub best_is : (n : Name) (e : Announcement) → best es n ≡ Some e → (e.0.name ≡ n) × IsBest m n e.0.device e.1
+  pub best_is : (n : Name) (e : KeyedRecord) → best es n ≡ Some e → (e.0.name ≡ n) × IsBest m n e.0.device e.1
   best_is n e f =
       let r = found_in (is_of n) (bests es) e f in
       let t = of_filter (is_best es) es e r.0 in
@@ -113,7 +113,7 @@ module _ (m : Announced) (es : List Announcement) (l : Lists m es) where
   -- and the best is computed
   pub is_best_found : (n : Name) (d : Identity) (r : FileRecord) → IsBest m n d r → best es n ≡ Some (key n d, r)
   is_best_found n d r b =
-      let e : Announcement = (key n d, r) in
+      let e : KeyedRecord = (key n d, r) in
       let listed = l.has (key n d) r b.candidate.announced in
       only_found (is_of n) (bests es) e (in_filter (is_best es) es e listed (is_best_of e b)) (alike n n refl) (λ f i named.
       let t = of_filter (is_best es) es f i in
@@ -126,10 +126,10 @@ greater Less e = absurd (true≢false (sym e))
 greater Equal e = absurd (true≢false (sym e))
 greater Greater e = refl
 
-pub preferred_itself : (e : Announcement) → is_preferred e e ≡ false
+pub preferred_itself : (e : KeyedRecord) → is_preferred e e ≡ false
 preferred_itself e = ap is_gt (tied_itself preference_total (e.0.device, e.1))
 
-preferred_trans : (x y z : Announcement) → is_preferred x y ≡ true → is_preferred y z ≡ true → is_preferred x z ≡ true
+preferred_trans : (x y z : KeyedRecord) → is_preferred x y ≡ true → is_preferred y z ≡ true → is_preferred x z ≡ true
 preferred_trans x y z p q =
     let a : Identity × FileRecord = (x.0.device, x.1) in
     let b : Identity × FileRecord = (y.0.device, y.1) in
@@ -144,22 +144,22 @@ ranked Less P e tie less = less refl
 ranked Equal P e tie less = tie refl
 ranked Greater P e tie less = absurd (true≢false e)
 
-module _ (m : Announced) (es : List Announcement) (l : Lists m es) where
-  abbrev valid_of : Name → Announcement → Bool
+module _ (m : Announced) (es : List KeyedRecord) (l : Lists m es) where
+  abbrev valid_of : Name → KeyedRecord → Bool
   valid_of n f = is_of n f && is_valid f.1
 
-  abbrev candidate_of : Name → Announcement → Bool
+  abbrev candidate_of : Name → KeyedRecord → Bool
   candidate_of n f = is_of n f && is_candidate es f
 
-  abbrev dominated_by : Announcement → Announcement → Bool
+  abbrev dominated_by : KeyedRecord → KeyedRecord → Bool
   dominated_by f e = dominates f.1.version e.1.version
 
   -- where a record of the name is valid, one that none dominates is
-  some_candidate : (n : Name) (vs : List Announcement) → vs ≡ filter (valid_of n) es → (f : Announcement) → In f vs → (e : Announcement) × In e (filter (candidate_of n) es)
+  some_candidate : (n : Name) (vs : List KeyedRecord) → vs ≡ filter (valid_of n) es → (f : KeyedRecord) → In f vs → (e : KeyedRecord) × In e (filter (candidate_of n) es)
   some_candidate n [] is f i = absurd i
   some_candidate n (v ∷ vs) is f i =
       let free = some_free dominated_by (λ x. dominates_itself x.1.version) (λ x y z. dominates_trans x.1.version y.1.version z.1.version) v vs in
-      let e : Announcement = free.0 in
+      let e : KeyedRecord = free.0 in
       let listed = of_filter (valid_of n) es e (subst (In e) is free.1.0) in
       let named = and_parts _ _ listed.1 in
       let undominated = false_from_ne_true (list_any (dominating m es l e) es) (λ one.
@@ -171,11 +171,11 @@ module _ (m : Announced) (es : List Announcement) (l : Lists m es) where
       true≢false (sym t.1 ∙ free.1.1 r.0 among)) in
       (e, in_filter (candidate_of n) es e listed.0 (and_from _ _ named.0 (and_from _ _ named.1 (ap not undominated))))
 
-  some_best : (n : Name) (cs : List Announcement) → cs ≡ filter (candidate_of n) es → (f : Announcement) → In f cs → (e : Announcement) × (best es n ≡ Some e)
+  some_best : (n : Name) (cs : List KeyedRecord) → cs ≡ filter (candidate_of n) es → (f : KeyedRecord) → In f cs → (e : KeyedRecord) × (best es n ≡ Some e)
   some_best n [] is f i = absurd i
   some_best n (c ∷ cs) is f i =
       let free = some_free is_preferred preferred_itself preferred_trans c cs in
-      let e : Announcement = free.0 in
+      let e : KeyedRecord = free.0 in
       let listed = of_filter (candidate_of n) es e (subst (In e) is free.1.0) in
       let named = and_parts _ _ listed.1 in
       let name : e.0.name ≡ n = same e.0.name n named.0 in
@@ -196,15 +196,15 @@ module _ (m : Announced) (es : List Announcement) (l : Lists m es) where
       or_true false b e = e
 
   -- a name has a best wherever a valid record of it is announced
-  pub valid_has_best : (n : Name) (d : Identity) (r : FileRecord) → get m (key n d) ≡ Some r → is_valid r ≡ true → (e : Announcement) × (best es n ≡ Some e)
+  pub valid_has_best : (n : Name) (d : Identity) (r : FileRecord) → get m (key n d) ≡ Some r → is_valid r ≡ true → (e : KeyedRecord) × (best es n ≡ Some e)
   valid_has_best n d r g v =
-      let f : Announcement = (key n d, r) in
+      let f : KeyedRecord = (key n d, r) in
       let listed = in_filter (valid_of n) es f (l.has f.0 r g) (and_from _ _ (alike n n refl) v) in
       let c = some_candidate n (filter (valid_of n) es) refl f listed in
       some_best n (filter (candidate_of n) es) refl c.0 c.1
 
 -- the best doesn't depend on the order in which the records are listed
-pub best_any_order : (m : Announced) (es : List Announcement) → Lists m es → (n : Name) → best es n ≡ best (entries m) n
+pub best_any_order : (m : Announced) (es : List KeyedRecord) → Lists m es → (n : Name) → best es n ≡ best (entries m) n
 best_any_order m es l n =
     elim (best es n) as (λ o. best es n ≡ o → o ≡ best (entries m) n) [
       | Some e ↦ λ found.
@@ -219,12 +219,12 @@ best_any_order m es l n =
       ] refl
     ] refl
   where
-    absent : (o : Option Announcement) (x : Announcement) → o ≡ None → o ≡ Some x → ⊥
+    absent : (o : Option KeyedRecord) (x : KeyedRecord) → o ≡ None → o ≡ Some x → ⊥
     absent o x p q = let e : None ≡ Some x = sym p ∙ q in cc
 
 -- ---- of what is announced, as the laws say it
 
-pub best-found : (a : Announced) (n : Name) (e : Announcement) → best (entries a) n ≡ Some e → (e.0.name ≡ n) × IsBest a n e.0.device e.1
+pub best-found : (a : Announced) (n : Name) (e : KeyedRecord) → best (entries a) n ≡ Some e → (e.0.name ≡ n) × IsBest a n e.0.device e.1
 best-found a = best_is a (entries a) (lists-entries a)
 
 pub best-only : (a : Announced) (n : Name) (d : Identity) (r : FileRecord) → IsBest a n d r → best (entries a) n ≡ Some (key n d, r)
@@ -233,7 +233,7 @@ best-only a = is_best_found a (entries a) (lists-entries a)
 pub best-one : (a : Announced) (n : Name) (d e : Identity) (q r : FileRecord) → IsBest a n d q → IsBest a n e r → (d ≡ e) × (q ≡ r)
 best-one a = one_best a (entries a) (lists-entries a)
 
-pub best-some : (a : Announced) (n : Name) (d : Identity) (r : FileRecord) → get a (key n d) ≡ Some r → IsTrue (is_valid r) → (e : Announcement) × (best (entries a) n ≡ Some e)
+pub best-some : (a : Announced) (n : Name) (d : Identity) (r : FileRecord) → get a (key n d) ≡ Some r → IsTrue (is_valid r) → (e : KeyedRecord) × (best (entries a) n ≡ Some e)
 best-some a = valid_has_best a (entries a) (lists-entries a)
 
 pub best-none : (a : Announced) (n : Name) → (best (entries a) n ≡ None) ↔ ((d : Identity) (r : FileRecord) → get a (key n d) ≡ Some r → is_valid r ≡ false)
@@ -244,10 +244,10 @@ best-none a n = (
       true≢false (sym c.valid ∙ each e.0.device e.1 c.announced)),
 )
   where
-    no_best : (o : Option Announcement) → ((e : Announcement) → o ≡ Some e → ⊥) → o ≡ None
+    no_best : (o : Option KeyedRecord) → ((e : KeyedRecord) → o ≡ Some e → ⊥) → o ≡ None
     no_best None f = refl
     no_best (Some e) f = absurd (f e refl)
 
-pub best-undominated : (a : Announced) (n : Name) (e : Announcement) (d : Identity) (r : FileRecord) → best (entries a) n ≡ Some e → get a (key n d) ≡ Some r → IsTrue (is_valid r) → ¬ (Dominates r.version e.1.version)
+pub best-undominated : (a : Announced) (n : Name) (e : KeyedRecord) (d : Identity) (r : FileRecord) → best (entries a) n ≡ Some e → get a (key n d) ≡ Some r → IsTrue (is_valid r) → ¬ (Dominates r.version e.1.version)
 best-undominated a n e d r is g v dominated =
     (best-found a n e is).1.candidate.undominated d r g v ((dominates_tells r.version e.1.version).1 dominated)

@@ -11,15 +11,15 @@ use Rattle.sync_record.specs.Contents.{same_content}
 use Rattle.sync_record.specs.Devices.{short_id}
 use Rattle.sync_record.specs.Records.{Name, FileRecord}
 use Rattle.sync_record.specs.Same.{same_record}
-use Rattle.folder_core.specs.declared.stage.Stage.{Stage}
-use Rattle.folder_core.specs.declared.stage.Stage.TheVariants.{Pulling, Committing}
-use Rattle.folder_core.specs.Announced.{Announcement, best}
+use Rattle.folder_core.specs.declared.pull_stage.PullStage.{PullStage}
+use Rattle.folder_core.specs.declared.pull_stage.PullStage.TheVariants.{Pulling, Committing}
+use Rattle.folder_core.specs.Announced.{KeyedRecord, best}
 use Rattle.folder_core.specs.States.{FolderState, Pull, local, local_version, same_local_version, same_stage, is_committing, is_sequence_full, open_commits, max_sequence}
 use Rattle.folder_core.specs.declared.answer.Answer.{Answer}
 use Rattle.folder_core.specs.declared.answer.Answer.TheVariants.{Busy, Moved, Unchanged, CounterFull, SequenceFull, Recorded, Stray, LocalMoved, Superseded, Entered, Done, Closed}
 use Rattle.folder_core.specs.declared.change.Change.TheVariants.{ScanFound, ScanGone, EnterCommit, Finish, GiveUp, Abort}
 use Rattle.folder_core.specs.declared.finding.Finding.{Finding}
-use Rattle.folder_core.specs.declared.token.Token.{Token}
+use Rattle.folder_core.specs.declared.pull_info.PullInfo.{PullInfo}
 use Rattle.folder_core.specs.Steps.{step, first_answer, scan_gone, scan_tests, enter_commit, finish, close_pull, pull_of, is_pull_committing, is_still_best, with_local, with_commit, IsFor}
 use Rattle.folder_core.proofs.ChangeFolders.{same_local}
 use Rattle.folder_core.proofs.PullOpen.{pull_of-is, pull_of-fits}
@@ -30,7 +30,7 @@ same_local-own : (v : Option Vector) → same_local_version v v ≡ true
 same_local-own None = refl
 same_local-own (Some v) = (same_version_tells v v).1 refl
 
-stage-is : (st want : Stage) → same_stage st want ≡ true → st ≡ want
+stage-is : (st want : PullStage) → same_stage st want ≡ true → st ≡ want
 stage-is Pulling Pulling e = refl
 stage-is Committing Committing e = refl
 stage-is Pulling Committing e = absurd (true≢false (sym e))
@@ -196,10 +196,10 @@ abbrev pub is_stray : Answer → Bool
 is_stray Stray = true
 is_stray _ = false
 
-abbrev fits_ticket : Token → Stage → Pull → Bool
+abbrev fits_ticket : PullInfo → PullStage → Pull → Bool
 fits_ticket t stage p = (p.number == t.number) && same_record p.target t.target && same_stage p.stage stage
 
-pub ticket-found : (s : FolderState) (t : Token) (stage : Stage) (p : Pull) → IsFor s t stage p → pull_of s t stage ≡ Some p
+pub ticket-found : (s : FolderState) (t : PullInfo) (stage : PullStage) (p : Pull) → IsFor s t stage p → pull_of s t stage ≡ Some p
 ticket-found s t stage p st =
     ap (option_and_then (λ q. if fits_ticket t stage q then Some q else None)) st.open_pull
     ∙ cond-true (fits_ticket t stage p) (Some p) None
@@ -207,11 +207,11 @@ ticket-found s t stage p st =
     (ap (λ r. same_record r t.target) st.target ∙ same_record-own t.target))
     (ap (λ x. same_stage x stage) st.at_stage ∙ own stage))
   where
-    own : (x : Stage) → same_stage x x ≡ true
+    own : (x : PullStage) → same_stage x x ≡ true
     own Pulling = refl
     own Committing = refl
 
-pub found-ticket : (s : FolderState) (t : Token) (stage : Stage) (p : Pull) → pull_of s t stage ≡ Some p → IsFor s t stage p
+pub found-ticket : (s : FolderState) (t : PullInfo) (stage : PullStage) (p : Pull) → pull_of s t stage ≡ Some p → IsFor s t stage p
 found-ticket s t stage p found =
     let is = pull_of-is s t stage p found in
     let fit = and_parts _ _ (pull_of-fits s t stage p found) in
@@ -223,14 +223,14 @@ found-ticket s t stage p found =
       target = same_record-is p.target t.target same.1;
     }
 
-no-ticket : (s : FolderState) (t : Token) (stage : Stage) → ((p : Pull) → ¬ (IsFor s t stage p)) → pull_of s t stage ≡ None
+no-ticket : (s : FolderState) (t : PullInfo) (stage : PullStage) → ((p : Pull) → ¬ (IsFor s t stage p)) → pull_of s t stage ≡ None
 no-ticket s t stage none = by (pull_of s t stage) refl
   where
     by : (o : Option Pull) → pull_of s t stage ≡ o → o ≡ None
     by None e = refl
     by (Some p) e = absurd (none p (found-ticket s t stage p e))
 
-module _ (s : FolderState) (t : Token) where
+module _ (s : FolderState) (t : PullInfo) where
   pub enter-stray : ((p : Pull) → ¬ (IsFor s t Pulling p)) → (step s (EnterCommit t)).0 ≡ Stray
   enter-stray none = ap (λ o. answer (enter_commit s t o)) (no-ticket s t Pulling none)
 
@@ -288,20 +288,20 @@ module _ (s : FolderState) (t : Token) where
           past-stray ∙ fails s base_test (best_test ∷ room_test ∷ []) entered
           (not_from_true _ (ap (same_local_version (local_version s t.name)) (sym same) ∙ same_local-own (local_version s t.name)))
 
-      pub enter-superseded : ((e : Announcement) → best (entries s.announced) t.target.name ≡ Some e → e.1.version ≡ t.target.version → same_content e.1 t.target ≡ false)
+      pub enter-superseded : ((e : KeyedRecord) → best (entries s.announced) t.target.name ≡ Some e → e.1.version ≡ t.target.version → same_content e.1 t.target ≡ false)
           → (step s (EnterCommit t)).0 ≡ Superseded
       enter-superseded none =
           ap answer (past-moved-base ∙ holds s best_test (room_test ∷ []) entered
           (not_from_false _ (ap (is_still_best s) st.target ∙ by (best (entries s.announced) t.target.name) refl)))
         where
-          by : (o : Option Announcement) → best (entries s.announced) t.target.name ≡ o
+          by : (o : Option KeyedRecord) → best (entries s.announced) t.target.name ≡ o
               → option_map_or (λ b. same_version b.1.version t.target.version && same_content b.1 t.target) o false ≡ false
           by None e = refl
           by (Some b) e = false_from_ne_true _ (λ h.
               let u = and_parts _ _ h in
               true≢false (sym u.1 ∙ none b e ((same_version_tells b.1.version t.target.version).0 u.0)))
 
-      module _ (e : Announcement) (is : best (entries s.announced) t.target.name ≡ Some e) (version : e.1.version ≡ t.target.version) (content : same_content e.1 t.target ≡ true) where
+      module _ (e : KeyedRecord) (is : best (entries s.announced) t.target.name ≡ Some e) (version : e.1.version ≡ t.target.version) (content : same_content e.1 t.target ≡ true) where
         past-best : step s (EnterCommit t) ≡ first_answer s (room_test ∷ []) entered
         past-best =
             past-moved-base ∙ fails s best_test (room_test ∷ []) entered

@@ -8,15 +8,15 @@ use Rattle.sync_record.specs.Contents.{same_content}
 use Rattle.sync_record.specs.Devices.{Identity}
 use Rattle.sync_record.specs.Records.{Name, FileRecord}
 use Rattle.sync_version.specs.Versions.{Vector}
-use Rattle.folder_core.specs.Announced.{Announcement, announce, without, best}
-use Rattle.folder_core.specs.declared.stage.Stage.TheVariants.{Pulling, Committing}
+use Rattle.folder_core.specs.Announced.{KeyedRecord, announce, without, best}
+use Rattle.folder_core.specs.declared.pull_stage.PullStage.TheVariants.{Pulling, Committing}
 use Rattle.folder_core.specs.States.{FolderState, Pull, local}
 use Rattle.folder_core.specs.declared.answer.Answer.{Answer}
 use Rattle.folder_core.specs.declared.answer.Answer.TheVariants.{Recorded, Unchanged, Busy, NotNeeded, Stray, Applied, Closed, Done, Begun, Entered}
 use Rattle.folder_core.specs.declared.change.Change.{Change}
 use Rattle.folder_core.specs.declared.change.Change.TheVariants.{ScanFound, ScanGone, IndexFull, IndexMore, Forget, BeginPull, EnterCommit, Finish, GiveUp, Abort}
 use Rattle.folder_core.specs.declared.finding.Finding.{Finding}
-use Rattle.folder_core.specs.declared.token.Token.{Token}
+use Rattle.folder_core.specs.declared.pull_info.PullInfo.{PullInfo}
 use Rattle.folder_core.specs.Steps.{is_accepted, first_answer, step, scan_found, scan_gone, scan_tests, begin_tests, enter_tests, with_local, with_pull, with_commit, without_pull, found_record, gone_record, committed_record, next_version, next_ticket, begin_pull, enter_commit, finish, close_pull, pull_of}
 
 abbrev pub AllFail : List (Bool × Answer) → Type 0
@@ -65,14 +65,14 @@ pub record Cases (s : FolderState) (P : Change → Answer × FolderState → Typ
   pub full : (d : Identity) (rs : List FileRecord) → P (IndexFull d rs) (Applied, record s { announced = announce d rs (without d s.announced) })
   pub more : (d : Identity) (rs : List FileRecord) → P (IndexMore d rs) (Applied, record s { announced = announce d rs s.announced })
   pub forgotten : (d : Identity) → P (Forget d) (Applied, record s { announced = without d s.announced })
-  pub begun : (n : Name) (b : Announcement) → best (entries s.announced) n ≡ Some b → AllFail (begin_tests s n b)
+  pub begun : (n : Name) (b : KeyedRecord) → best (entries s.announced) n ≡ Some b → AllFail (begin_tests s n b)
       → P (BeginPull n) (Begun (next_ticket s n b.1), with_pull s (next_ticket s n b.1) Pulling)
-  pub entered : (t : Token) (p : Pull) → pull_of s t Pulling ≡ Some p → AllFail (enter_tests s t.name p)
+  pub entered : (t : PullInfo) (p : Pull) → pull_of s t Pulling ≡ Some p → AllFail (enter_tests s t.name p)
       → P (EnterCommit t) (Entered t, with_commit s t.name p)
-  pub finished : (t : Token) (assembled : FileRecord) (p : Pull) → pull_of s t Committing ≡ Some p
+  pub finished : (t : PullInfo) (assembled : FileRecord) (p : Pull) → pull_of s t Committing ≡ Some p
       → P (Finish t assembled) (Done (s.last + 1), without_pull (with_local s (committed_record p.base p.target)) t.name)
-  pub given_up : (t : Token) (p : Pull) → pull_of s t Pulling ≡ Some p → P (GiveUp t) (Closed, without_pull s t.name)
-  pub aborted : (t : Token) (p : Pull) → pull_of s t Committing ≡ Some p → P (Abort t) (Closed, without_pull s t.name)
+  pub given_up : (t : PullInfo) (p : Pull) → pull_of s t Pulling ≡ Some p → P (GiveUp t) (Closed, without_pull s t.name)
+  pub aborted : (t : PullInfo) (p : Pull) → pull_of s t Committing ≡ Some p → P (Abort t) (Closed, without_pull s t.name)
 
 module _ (s : FolderState) (P : Change → Answer × FolderState → Type 0) (c : Cases s P) where
   found-cases : (n : Name) (expected : Option Vector) (f : Finding) (moment : ℕ) → P (ScanFound n expected f moment) (scan_found s n expected f moment)
@@ -90,7 +90,7 @@ module _ (s : FolderState) (P : Change → Answer × FolderState → Type 0) (c 
       (Recorded (s.last + 1), with_local s (gone_now s n r moment))
       (refl, (refl, (refl, (refl, (refl, tt))))) (c.tested _) (c.gone n expected moment r is)
 
-  begin-cases : (n : Name) (b : Option Announcement) → best (entries s.announced) n ≡ b → P (BeginPull n) (begin_pull s n b)
+  begin-cases : (n : Name) (b : Option KeyedRecord) → best (entries s.announced) n ≡ b → P (BeginPull n) (begin_pull s n b)
   begin-cases n None is =
       answer-cases (P (BeginPull n)) s ((is_some (get s.pulls n), Busy) ∷ []) (NotNeeded, s)
       (refl, tt) (c.tested _) (λ _. c.tested _ NotNeeded refl)
@@ -98,21 +98,21 @@ module _ (s : FolderState) (P : Change → Answer × FolderState → Type 0) (c 
       answer-cases (P (BeginPull n)) s (begin_tests s n b) (Begun (next_ticket s n b.1), with_pull s (next_ticket s n b.1) Pulling)
       (refl, (refl, (refl, tt))) (c.tested _) (c.begun n b is)
 
-  enter-cases : (t : Token) (p : Option Pull) → pull_of s t Pulling ≡ p → P (EnterCommit t) (enter_commit s t p)
+  enter-cases : (t : PullInfo) (p : Option Pull) → pull_of s t Pulling ≡ p → P (EnterCommit t) (enter_commit s t p)
   enter-cases t None is = c.tested _ Stray refl
   enter-cases t (Some p) is =
       answer-cases (P (EnterCommit t)) s (enter_tests s t.name p) (Entered t, with_commit s t.name p)
       (refl, (refl, (refl, tt))) (c.tested _) (c.entered t p is)
 
-  finish-cases : (t : Token) (assembled : FileRecord) (p : Option Pull) → pull_of s t Committing ≡ p → P (Finish t assembled) (finish s t p)
+  finish-cases : (t : PullInfo) (assembled : FileRecord) (p : Option Pull) → pull_of s t Committing ≡ p → P (Finish t assembled) (finish s t p)
   finish-cases t assembled None is = c.tested _ Stray refl
   finish-cases t assembled (Some p) is = c.finished t assembled p is
 
-  give_up-cases : (t : Token) (p : Option Pull) → pull_of s t Pulling ≡ p → P (GiveUp t) (close_pull s t p)
+  give_up-cases : (t : PullInfo) (p : Option Pull) → pull_of s t Pulling ≡ p → P (GiveUp t) (close_pull s t p)
   give_up-cases t None is = c.tested _ Stray refl
   give_up-cases t (Some p) is = c.given_up t p is
 
-  abort-cases : (t : Token) (p : Option Pull) → pull_of s t Committing ≡ p → P (Abort t) (close_pull s t p)
+  abort-cases : (t : PullInfo) (p : Option Pull) → pull_of s t Committing ≡ p → P (Abort t) (close_pull s t p)
   abort-cases t None is = c.tested _ Stray refl
   abort-cases t (Some p) is = c.aborted t p is
 

@@ -10,14 +10,14 @@ use Rattle.sync_version.specs.Versions.{Vector}
 use Rattle.sync_record.specs.Devices.{Identity, bytes_cmp}
 use Rattle.sync_record.specs.Records.{Name, FileRecord}
 use Rattle.sync_record.specs.Validity.{is_valid}
-use Rattle.folder_core.specs.declared.stage.Stage.TheVariants.{Pulling, Committing}
+use Rattle.folder_core.specs.declared.pull_stage.PullStage.TheVariants.{Pulling, Committing}
 use Rattle.folder_core.specs.Announced.{Announced, Key, key, key_cmp, announce, without}
 use Rattle.folder_core.specs.States.{FolderState, Pull, local, local_version, same_local_version, is_committing, same_stage, open_commits, max_sequence, is_sequence_full, IsFolder}
 use Rattle.folder_core.specs.declared.change.Change.{Change}
 use Rattle.folder_core.specs.declared.finding.Finding.{Finding}
 use Rattle.folder_core.specs.declared.finding.FoundContent.{FoundContent}
 use Rattle.folder_core.specs.declared.finding.FoundContent.TheVariants.{Directory as FoundDirectory, File as FoundFile}
-use Rattle.folder_core.specs.Steps.{step, is_pull_committing, with_local, without_pull, is_found, found_record, committed_record, next_version, next_ticket, MayChange}
+use Rattle.folder_core.specs.Steps.{step, is_pull_committing, with_local, without_pull, is_recordable, found_record, committed_record, next_version, next_ticket, MayChange}
 use Rattle.folder_core.proofs.Orders.{keys_total, exact_keys, bytes_total, exact_names}
 use Rattle.folder_core.proofs.AnnouncedMaps.{insert_split, insert_other, remove_split}
 use Rattle.folder_core.proofs.PullCommits.{commits-put, commits-remove, commits-finish, none_counted}
@@ -82,7 +82,7 @@ module _ (s : FolderState) (old : IsFolder s) (r : FileRecord) (valid : is_valid
   }
 
 -- what is found makes a valid record
-pub found-valid : (s : FolderState) (n : Name) (v : Vector) (f : Finding) (c : FoundContent) → is_found c ≡ true → is_valid (found_record s n v (record f { content = c })) ≡ true
+pub found-valid : (s : FolderState) (n : Name) (v : Vector) (f : Finding) (c : FoundContent) → is_recordable c ≡ true → is_valid (found_record s n v (record f { content = c })) ≡ true
 found-valid s n v f FoundDirectory e = refl
 found-valid s n v f (FoundFile size block_size blocks) e = (and_parts (nat_lt size (2 ^ 63)) _ e).1
 

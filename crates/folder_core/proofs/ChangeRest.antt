@@ -6,14 +6,14 @@ use Rattle.std.proofs.lemmas.Bool.{cases_Bool, true≢false}
 use Rattle.std.proofs.lemmas.Slice.Eq.{bytes_eq-Decides}
 use Rattle.sync_record.specs.Devices.{Identity}
 use Rattle.sync_record.specs.Records.{Name, FileRecord}
-use Rattle.folder_core.specs.declared.stage.Stage.TheVariants.{Committing}
+use Rattle.folder_core.specs.declared.pull_stage.PullStage.TheVariants.{Committing}
 use Rattle.folder_core.specs.Announced.{Key, key}
 use Rattle.sync_version.specs.Versions.{Vector}
 use Rattle.folder_core.specs.States.{FolderState, local, IsFolder}
 use Rattle.folder_core.specs.declared.change.Change.{Change}
 use Rattle.folder_core.specs.declared.change.Change.TheVariants.{ScanFound, ScanGone, IndexFull, IndexMore, Forget, BeginPull, EnterCommit, Finish, GiveUp, Abort}
 use Rattle.folder_core.specs.declared.finding.Finding.{Finding}
-use Rattle.folder_core.specs.declared.token.Token.{Token}
+use Rattle.folder_core.specs.declared.pull_info.PullInfo.{PullInfo}
 use Rattle.folder_core.specs.Steps.{MayChange, next_version, step, with_local, committed_record}
 use Rattle.folder_core.proofs.Orders.{keys_total, exact_keys, bytes_total, exact_names}
 use Rattle.folder_core.proofs.AnnouncedMaps.{insert_other, remove_other}
@@ -74,7 +74,7 @@ step-devices s = step-cases s (λ x o. (n : Name) (d : Identity) → d ≢ s.me 
 abbrev pub PullsAt : Change → Name → Type 0
 PullsAt c n =
     (c ≡ BeginPull n)
-    ⊎ ((t : Token) × (t.name ≡ n) × ((c ≡ EnterCommit t) ⊎ (((r : FileRecord) × (c ≡ Finish t r)) ⊎ ((c ≡ GiveUp t) ⊎ (c ≡ Abort t)))))
+    ⊎ ((t : PullInfo) × (t.name ≡ n) × ((c ≡ EnterCommit t) ⊎ (((r : FileRecord) × (c ≡ Finish t r)) ⊎ ((c ≡ GiveUp t) ⊎ (c ≡ Abort t)))))
 
 -- and pulls by theirs
 pub step-pulls : (s : FolderState) (c : Change) (n : Name) → (get (step s c).1.pulls n ≡ get s.pulls n) ⊎ PullsAt c n
@@ -102,7 +102,7 @@ abbrev pub LocalAt : Change → Name → Type 0
 LocalAt c n =
     ((expected : Option Vector) × (f : Finding) × (moment : ℕ) × (c ≡ ScanFound n expected f moment))
     ⊎ (((expected : Option Vector) × (moment : ℕ) × (c ≡ ScanGone n expected moment))
-    ⊎ ((t : Token) × (r : FileRecord) × (t.name ≡ n) × (c ≡ Finish t r)))
+    ⊎ ((t : PullInfo) × (r : FileRecord) × (t.name ≡ n) × (c ≡ Finish t r)))
 
 -- local records change by scans and finishes of their names alone
 pub step-locals : (s : FolderState) → IsFolder s → (c : Change) (n : Name) → MayChange s.me c → (local (step s c).1 n ≡ local s n) ⊎ LocalAt c n

@@ -11,7 +11,7 @@ use Rattle.std.specs.Ordering.{eq_by_cmp, is_lt, is_eq, ordering_reverse}
 use Rattle.std.specs.Prelude.{bytes_eq, ◌&&◌, ◌||◌, ◌⊎◌, cond, T, Option, Some, None, is_some, Result, Ok, Err, IfOk, unwrap_or, map, filter, Contains}
 use Rattle.std.specs.declared.cmp.Ordering.{Ordering}
 use Rattle.std.specs.declared.cmp.Ordering.TheVariants.{Less, Equal, Greater}
-use Rattle.folder_core.specs.Announced.{Announced, Announcement, Key}
+use Rattle.folder_core.specs.Announced.{Announced, KeyedRecord, Key}
 use Rattle.sync_record.specs.Records.{FileRecord}
 
 -- x is among the elements, by recursion
@@ -20,9 +20,9 @@ In x [] = ⊥
 In x (y ∷ ys) = (x ≡ y) ⊎ In x ys
 
 -- the list has what is announced and nothing else
-pub record Lists (a : Announced) (es : List Announcement) : Type 0 where
+pub record Lists (a : Announced) (es : List KeyedRecord) : Type 0 where
   pub has : (k : Key) (r : FileRecord) → get a k ≡ Some r → In (k, r) es
-  pub only : (e : Announcement) → In e es → get a e.0 ≡ Some e.1
+  pub only : (e : KeyedRecord) → In e es → get a e.0 ≡ Some e.1
 
 pub inside : {A : Type 0} (x y : A) → Some x ≡ Some y → x ≡ y
 inside x y e = ap (λ o. unwrap_or o x) e

@@ -15,17 +15,17 @@ use Rattle.folder_core.specs.declared.announcement.Announcement.{Announcement as
 use Rattle.folder_core.specs.declared.plain.pull.OpenPull.{OpenPull}
 use Rattle.folder_core.specs.declared.plain.pulls.BeginObstacle.{BeginObstacle}
 use Rattle.folder_core.specs.declared.plain.pulls.BeginObstacle.TheVariants as begin
-use Rattle.folder_core.specs.declared.stage.Stage.TheVariants.{Pulling}
+use Rattle.folder_core.specs.declared.pull_stage.PullStage.TheVariants.{Pulling}
 use Rattle.folder_core.specs.Announced.{best, key_cmp}
 use Rattle.folder_core.specs.Plain.{IsPlain, IsReady, PullsRise, commits, filed, folder_of, opened, pulled, pulls_of}
-use Rattle.folder_core.specs.PlainPulls.{begin_refusal, begin_tests_of, best_in, is_unsupported, place_of}
+use Rattle.folder_core.specs.PlainPulls.{begin_refusal, begin_tests_of, best_in, is_unsupported, position_of}
 use Rattle.folder_core.specs.PlainReads.{is_needed_over, record_from}
 use Rattle.folder_core.specs.PlainScans.{first_of}
 use Rattle.folder_core.specs.States.{FolderState, IsFolder, local}
 use Rattle.folder_core.specs.declared.answer.Answer.{Answer}
 use Rattle.folder_core.specs.declared.answer.Answer.TheVariants.{Begun, Busy, NotNeeded, Unsupported}
 use Rattle.folder_core.specs.declared.change.Change.TheVariants.{BeginPull}
-use Rattle.folder_core.specs.declared.token.Token.{Token}
+use Rattle.folder_core.specs.declared.pull_info.PullInfo.{PullInfo}
 use Rattle.folder_core.specs.Steps.{begin_pull, first_answer, is_accepted, least_free, next_ticket, step, with_pull}
 use Rattle.folder_core.proofs.ChangeFolders.{step-folder}
 use Rattle.folder_core.proofs.ListTests.{none_of}
@@ -153,11 +153,11 @@ module _ (me : Identity) (es : List Entry) (capacity last : ℕ) (ps : List Open
   abbrev pub opened_pull : Option FileRecord → FileRecord → OpenPull
   opened_pull o r = record { number = least_free (numbers_of ps); base = o; target = r; ready = None }
 
-  abbrev pub ticket : Option FileRecord → FileRecord → Token
+  abbrev pub ticket : Option FileRecord → FileRecord → PullInfo
   ticket o r = record { number = least_free (numbers_of ps); name = n; base = o; target = r }
 
   module _ (b : Entry) (some : chosen ≡ Some b) (told : None ≡ first_of (tests_with chosen))
-      (o : Option FileRecord) (base : o ≡ local folder n) (new : List OpenPull) (is : new ≡ insert ps (place_of b.record.name ps) (opened_pull o b.record)) where
+      (o : Option FileRecord) (base : o ≡ local folder n) (new : List OpenPull) (is : new ≡ insert ps (position_of b.record.name ps) (opened_pull o b.record)) where
     free : is_open n ps ≡ false
     free = not_first (is_open n ps) Busy ((not (is_needed_over (local folder n) b.record), NotNeeded) ∷ (is_unsupported b.record, Unsupported) ∷ []) (told ∙ ap (λ x. first_of (tests_with x)) some)
 
@@ -185,7 +185,7 @@ module _ (me : Identity) (es : List Entry) (capacity last : ℕ) (ps : List Open
           target = b.record;
         })
 
-    pub begin-begun : (t : Token) → t ≡ ticket o b.record → step folder (BeginPull n) ≡ (Begun t, folder_of me es last (pulls_of new))
+    pub begin-begun : (t : PullInfo) → t ≡ ticket o b.record → step folder (BeginPull n) ≡ (Begun t, folder_of me es last (pulls_of new))
     begin-begun t same =
         begin-made b some told
         ∙ ap (λ u. (Begun u, with_pull folder u Pulling)) ticket-is
@@ -196,6 +196,6 @@ module _ (me : Identity) (es : List Entry) (capacity last : ℕ) (ps : List Open
       rises = old.rises;
       pulls_rise = new_rise;
       folder = subst IsFolder (ap (λ (d : Answer × FolderState). d.1) (begin-begun (ticket o b.record) refl)) (step-folder folder (BeginPull n) old.folder tt);
-      ready = subst (All IsReady) (sym is) (insert-ready ps (place_of b.record.name ps) (opened_pull o b.record) (λ r e. absurd (none-some r e)) old.ready);
-      room = let h = ap commits is ∙ insert-commits ps (place_of b.record.name ps) (opened_pull o b.record) refl in let k = old.room in omega arith;
+      ready = subst (All IsReady) (sym is) (insert-ready ps (position_of b.record.name ps) (opened_pull o b.record) (λ r e. absurd (none-some r e)) old.ready);
+      room = let h = ap commits is ∙ insert-commits ps (position_of b.record.name ps) (opened_pull o b.record) refl in let k = old.room in omega arith;
     }

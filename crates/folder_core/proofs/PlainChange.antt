@@ -14,7 +14,7 @@ use Rattle.std.specs.FinMap.Entries.{below_all, find-put, is_sorted-put, is_sort
 use Rattle.sync_record.specs.Devices.{Identity, bytes_cmp}
 use Rattle.sync_record.specs.Records.{Name, FileRecord}
 use Rattle.folder_core.specs.declared.announcement.Announcement.{Announcement as Entry}
-use Rattle.folder_core.specs.Announced.{Announced, Announcement, Key, announce, key, key_cmp, without, last_of}
+use Rattle.folder_core.specs.Announced.{Announced, KeyedRecord, Key, announce, key, key_cmp, without, last_of}
 use Rattle.folder_core.specs.Codes.{Pulls}
 use Rattle.folder_core.specs.Plain.{IsLastOfEach, IsPlain, Rises, commits, filed, filed_by, folder_of, pulls_of, put_all}
 use Rattle.folder_core.specs.declared.plain.pull.OpenPull.{OpenPull}
@@ -33,11 +33,11 @@ use Rattle.folder_core.proofs.ListTests.{alike_bytes, by_or, is_less, parts, sam
 
 -- ---- what is found in a list in which others were put
 
-find-above : (k : Key) (es : List Announcement) → T (below_all key_cmp k es) → find key_cmp k es ≡ None
+find-above : (k : Key) (es : List KeyedRecord) → T (below_all key_cmp k es) → find key_cmp k es ≡ None
 find-above k [] b = refl
 find-above k (e ∷ es) b = ap (λ r. cond (is_eq r) (Some e.1) (find key_cmp k es)) (is_less _ (parts _ _ b).0) ∙ find-above k es (parts _ _ b).1
 
-find-put_all : (q : Key) (es rs : List Announcement) → T (is_sorted key_cmp rs) → find key_cmp q (put_all es rs) ≡ option_or (find key_cmp q rs) (find key_cmp q es)
+find-put_all : (q : Key) (es rs : List KeyedRecord) → T (is_sorted key_cmp rs) → find key_cmp q (put_all es rs) ≡ option_or (find key_cmp q rs) (find key_cmp q es)
 find-put_all q es [] h = refl
 find-put_all q es (r ∷ rs) h =
     find-put_all q (put key_cmp r.0 r.1 es) rs (parts _ _ h).1
@@ -84,11 +84,11 @@ get-announce_at q d rs a =
 
 -- ---- the changes
 
-put_all-rises : (es rs : List Announcement) → T (is_sorted key_cmp es) → T (is_sorted key_cmp (put_all es rs))
+put_all-rises : (es rs : List KeyedRecord) → T (is_sorted key_cmp es) → T (is_sorted key_cmp (put_all es rs))
 put_all-rises es [] h = h
 put_all-rises es (r ∷ rs) h = put_all-rises (put key_cmp r.0 r.1 es) rs (is_sorted-put key_cmp keys_total r.0 r.1 es h)
 
-pub announce-sorted : (d : Identity) (records kept : List FileRecord) (es : List Announcement) → IsLastOfEach records kept → T (is_sorted key_cmp es) →
+pub announce-sorted : (d : Identity) (records kept : List FileRecord) (es : List KeyedRecord) → IsLastOfEach records kept → T (is_sorted key_cmp es) →
     announce d records (from_sorted es) ≡ from_sorted (put_all es (map (filed_by d) kept))
 announce-sorted d records kept es l h = same_map keys_total exact_keys _ _ (λ q.
     get-announce_at q d records (from_sorted es)

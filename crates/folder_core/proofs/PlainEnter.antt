@@ -16,17 +16,17 @@ use Rattle.folder_core.specs.declared.announcement.Announcement.{Announcement as
 use Rattle.folder_core.specs.declared.plain.pull.OpenPull.{OpenPull}
 use Rattle.folder_core.specs.declared.plain.pulls.EntryObstacle.{EntryObstacle}
 use Rattle.folder_core.specs.declared.plain.pulls.EntryObstacle.TheVariants as entry
-use Rattle.folder_core.specs.declared.stage.Stage.TheVariants.{Pulling}
+use Rattle.folder_core.specs.declared.pull_stage.PullStage.TheVariants.{Pulling}
 use Rattle.folder_core.specs.Announced.{best, key_cmp}
 use Rattle.folder_core.specs.Plain.{IsPlain, IsReady, Rises, commits, filed, folder_of, opened, pulled, pulls_of}
-use Rattle.folder_core.specs.PlainPulls.{best_in, entry_refusal, entry_tests_of, is_best_in, place_of, pull_for}
+use Rattle.folder_core.specs.PlainPulls.{best_in, entry_refusal, entry_tests_of, is_best_in, position_of, pull_for}
 use Rattle.folder_core.specs.PlainReads.{version_of}
 use Rattle.folder_core.specs.PlainScans.{first_of}
 use Rattle.folder_core.specs.States.{FolderState, IsFolder, local, max_sequence}
 use Rattle.folder_core.specs.declared.answer.Answer.{Answer}
 use Rattle.folder_core.specs.declared.answer.Answer.TheVariants.{Entered, Stray}
 use Rattle.folder_core.specs.declared.change.Change.TheVariants.{EnterCommit}
-use Rattle.folder_core.specs.declared.token.Token.{Token}
+use Rattle.folder_core.specs.declared.pull_info.PullInfo.{PullInfo}
 use Rattle.folder_core.specs.Steps.{committed_record, enter_commit, first_answer, is_accepted, is_still_best, step, with_commit}
 use Rattle.folder_core.proofs.ChangeFolders.{step-folder}
 use Rattle.folder_core.proofs.ListTests.{inside}
@@ -83,7 +83,7 @@ entry-refused entry.SequenceFull = refl
 
 -- ---- the commit is entered
 
-module _ (me : Identity) (es : List Entry) (capacity last : ℕ) (ps : List OpenPull) (old : IsPlain me es capacity last ps) (t : Token) where
+module _ (me : Identity) (es : List Entry) (capacity last : ℕ) (ps : List OpenPull) (old : IsPlain me es capacity last ps) (t : PullInfo) where
   abbrev pub folder : FolderState
   folder = folder_of me es last (pulls_of ps)
 
@@ -149,16 +149,16 @@ module _ (me : Identity) (es : List Entry) (capacity last : ℕ) (ps : List Open
         abbrev pub ready_pull : OpenPull
         ready_pull = record p { ready = Some (committed_record (version_of p.base) p.target) }
 
-        pub enter-set : (xs new : List OpenPull) → xs ≡ ps → (i : ℕ) → i ≡ place_of t.name xs
-            → IfSome (slice_get xs i) (λ q. new ≡ slice_set xs i (record q { ready = Some (committed_record (version_of q.base) q.target) })) → new ≡ slice_set ps (place_of t.name ps) ready_pull
+        pub enter-set : (xs new : List OpenPull) → xs ≡ ps → (i : ℕ) → i ≡ position_of t.name xs
+            → IfSome (slice_get xs i) (λ q. new ≡ slice_set xs i (record q { ready = Some (committed_record (version_of q.base) q.target) })) → new ≡ slice_set ps (position_of t.name ps) ready_pull
         enter-set xs new same i place set =
             let there : IfSome (slice_get ps i) (λ q. new ≡ slice_set ps i (record q { ready = Some (committed_record (version_of q.base) q.target) })) =
             subst (λ ys. IfSome (slice_get ys i) (λ q. new ≡ slice_set ys i (record q { ready = Some (committed_record (version_of q.base) q.target) }))) same set in
-            let at : IfSome (slice_get ps (place_of t.name ps)) (λ q. new ≡ slice_set ps (place_of t.name ps) (record q { ready = Some (committed_record (version_of q.base) q.target) })) =
-            subst (λ j. IfSome (slice_get ps j) (λ q. new ≡ slice_set ps j (record q { ready = Some (committed_record (version_of q.base) q.target) }))) (place ∙ ap (place_of t.name) same) there in
-            subst (λ o. IfSome o (λ q. new ≡ slice_set ps (place_of t.name ps) (record q { ready = Some (committed_record (version_of q.base) q.target) }))) (pull_for-at t Pulling ps p is) at
+            let at : IfSome (slice_get ps (position_of t.name ps)) (λ q. new ≡ slice_set ps (position_of t.name ps) (record q { ready = Some (committed_record (version_of q.base) q.target) })) =
+            subst (λ j. IfSome (slice_get ps j) (λ q. new ≡ slice_set ps j (record q { ready = Some (committed_record (version_of q.base) q.target) }))) (place ∙ ap (position_of t.name) same) there in
+            subst (λ o. IfSome o (λ q. new ≡ slice_set ps (position_of t.name ps) (record q { ready = Some (committed_record (version_of q.base) q.target) }))) (pull_for-at t Pulling ps p is) at
 
-        module _ (new : List OpenPull) (set : new ≡ slice_set ps (place_of t.name ps) ready_pull) where
+        module _ (new : List OpenPull) (set : new ≡ slice_set ps (position_of t.name ps) ready_pull) where
           put_there : map pulled new ≡ fin.put bytes_cmp t.name (opened ready_pull) (map pulled ps)
           put_there = ap (map pulled) set ∙ set-there bytes_total exact_names pulled t.name ready_pull p ps here (pull_for-at t Pulling ps p is) here
 
@@ -173,6 +173,6 @@ module _ (me : Identity) (es : List Entry) (capacity last : ℕ) (ps : List Open
             rises = subst Rises (sym same) old.rises;
             pulls_rise = ap (is_sorted bytes_cmp) put_there ∙ is_true _ (is_sorted-put bytes_cmp bytes_total t.name (opened ready_pull) (map pulled ps) (passes _ old.pulls_rise));
             folder = subst (λ ys. IsFolder (folder_of me ys last (pulls_of new))) (sym same) (subst IsFolder (ap (λ (d : Answer × FolderState). d.1) enter-step) (step-folder folder (EnterCommit t) old.folder tt));
-            ready = subst (All IsReady) (sym set) (set-ready ps (place_of t.name ps) ready_pull (λ r e. sym (inside _ r e)) old.ready);
-            room = let a = ap commits set in let b = set-commits ps (place_of t.name ps) ready_pull in omega arith;
+            ready = subst (All IsReady) (sym set) (set-ready ps (position_of t.name ps) ready_pull (λ r e. sym (inside _ r e)) old.ready);
+            room = let a = ap commits set in let b = set-commits ps (position_of t.name ps) ready_pull in omega arith;
           }

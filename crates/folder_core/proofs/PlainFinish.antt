@@ -12,13 +12,13 @@ use Rattle.sync_record.specs.Devices.{Identity}
 use Rattle.sync_record.specs.Records.{FileRecord}
 use Rattle.folder_core.specs.declared.announcement.Announcement.{Announcement as Entry}
 use Rattle.folder_core.specs.declared.plain.pull.OpenPull.{OpenPull}
-use Rattle.folder_core.specs.declared.stage.Stage.TheVariants.{Committing}
+use Rattle.folder_core.specs.declared.pull_stage.PullStage.TheVariants.{Committing}
 use Rattle.folder_core.specs.Announced.{key, key_cmp}
 use Rattle.folder_core.specs.Plain.{IsPlain, IsReady, PullsRise, commits, filed, folder_of, opened, pulls_of, stage_of}
-use Rattle.folder_core.specs.PlainPulls.{place_of, pull_for}
+use Rattle.folder_core.specs.PlainPulls.{position_of, pull_for}
 use Rattle.folder_core.specs.States.{FolderState, IsFolder, Pull, same_stage}
 use Rattle.folder_core.specs.declared.answer.Answer.TheVariants.{Done, Stray}
-use Rattle.folder_core.specs.declared.token.Token.{Token}
+use Rattle.folder_core.specs.declared.pull_info.PullInfo.{PullInfo}
 use Rattle.folder_core.specs.Steps.{close_pull, committed_record, finish, is_accepted, pull_of, with_local, without_pull}
 use Rattle.folder_core.proofs.ChangeFolders.{finished-folder}
 use Rattle.folder_core.proofs.Orders.{exact_keys, insert_listed, is_true, keys_total}
@@ -28,13 +28,13 @@ use Rattle.folder_core.proofs.PullOpen.{pull_of-is}
 
 -- ---- what was ready
 
-module _ (t : Token) (ps new : List OpenPull) where
+module _ (t : PullInfo) (ps new : List OpenPull) where
   abbrev pub ReadyTaken : Option FileRecord → Type 0
   ReadyTaken o =
       MatchOption o ((pull_for t Committing ps ≡ None) × (new ≡ ps))
-      (λ r. (option_and_then (λ p. p.ready) (pull_for t Committing ps) ≡ Some r) × (new ≡ remove ps (place_of t.name ps)))
+      (λ r. (option_and_then (λ p. p.ready) (pull_for t Committing ps) ≡ Some r) × (new ≡ remove ps (position_of t.name ps)))
 
-  pub ready-taken : (p : OpenPull) (o : Option FileRecord) → p.ready ≡ o → (pull_for t Committing ps ≡ Some p) × (new ≡ remove ps (place_of t.name ps)) → ReadyTaken o
+  pub ready-taken : (p : OpenPull) (o : Option FileRecord) → p.ready ≡ o → (pull_for t Committing ps ≡ Some p) × (new ≡ remove ps (position_of t.name ps)) → ReadyTaken o
   ready-taken p None none h = absurd (true≢false (sym (pull_for-stage t Committing ps p h.0) ∙ ap (λ r. same_stage (stage_of r) Committing) none))
   ready-taken p (Some r) some h = (ap (option_and_then (λ (q : OpenPull). q.ready)) h.0 ∙ some, h.1)
 
@@ -47,17 +47,17 @@ ready-at ps i p each at = subst IsReady (get_or_from_slice_get ps i p p at) (eac
 
 -- ---- whether a pull ends
 
-pub close-accepted : (s : FolderState) (t : Token) (o : Option Pull) → is_accepted (close_pull s t o).0 ≡ is_some o
+pub close-accepted : (s : FolderState) (t : PullInfo) (o : Option Pull) → is_accepted (close_pull s t o).0 ≡ is_some o
 close-accepted s t None = refl
 close-accepted s t (Some p) = refl
 
-pub finish-accepted : (s : FolderState) (t : Token) (o : Option Pull) → is_accepted (finish s t o).0 ≡ is_some o
+pub finish-accepted : (s : FolderState) (t : PullInfo) (o : Option Pull) → is_accepted (finish s t o).0 ≡ is_some o
 finish-accepted s t None = refl
 finish-accepted s t (Some p) = refl
 
 -- ---- the end of a commit
 
-module _ (me : Identity) (es : List Entry) (capacity last : ℕ) (ps new : List OpenPull) (old : IsPlain me es capacity last ps) (t : Token) where
+module _ (me : Identity) (es : List Entry) (capacity last : ℕ) (ps new : List OpenPull) (old : IsPlain me es capacity last ps) (t : PullInfo) where
   abbrev pub folder : FolderState
   folder = folder_of me es last (pulls_of ps)
 
@@ -66,11 +66,11 @@ module _ (me : Identity) (es : List Entry) (capacity last : ℕ) (ps new : List 
       ap (finish folder t) (pull_of-plain t Committing me es last ps old.pulls_rise ∙ ap (option_map opened) none)
       ∙ ap (λ xs. (Stray, folder_of me es last (pulls_of xs))) (sym same)
 
-  module _ (r : FileRecord) (taken : option_and_then (λ (p : OpenPull). p.ready) (pull_for t Committing ps) ≡ Some r) (left : new ≡ remove ps (place_of t.name ps)) where
+  module _ (r : FileRecord) (taken : option_and_then (λ (p : OpenPull). p.ready) (pull_for t Committing ps) ≡ Some r) (left : new ≡ remove ps (position_of t.name ps)) where
     pull : (p : OpenPull) × (pull_for t Committing ps ≡ Some p) × (p.ready ≡ Some r)
     pull = of_ready (pull_for t Committing ps) r taken
 
-    at : slice_get ps (place_of t.name ps) ≡ Some pull.0
+    at : slice_get ps (position_of t.name ps) ≡ Some pull.0
     at = pull_for-at t Committing ps pull.0 pull.1
 
     here : pull.0.target.name ≡ t.name
@@ -80,12 +80,12 @@ module _ (me : Identity) (es : List Entry) (capacity last : ℕ) (ps new : List 
     found = pull_of-plain t Committing me es last ps old.pulls_rise ∙ ap (option_map opened) pull.1
 
     ready-is : r ≡ committed_record (opened pull.0).base pull.0.target
-    ready-is = ready-at ps (place_of t.name ps) pull.0 old.ready at r pull.2
+    ready-is = ready-at ps (position_of t.name ps) pull.0 old.ready at r pull.2
 
     fewer : commits new + 1 ≡ commits ps
     fewer =
         let a = ap commits left in
-        let b = removed-commits ps (place_of t.name ps) pull.0 at in
+        let b = removed-commits ps (position_of t.name ps) pull.0 at in
         let c : one pull.0 ≡ 1 = ap (λ o. cond (is_some o) 1 0) pull.2 in
         omega arith
 
@@ -127,6 +127,6 @@ module _ (me : Identity) (es : List Entry) (capacity last : ℕ) (ps new : List 
         rises = ap (is_sorted key_cmp) placed ∙ is_true _ (is_sorted-put key_cmp keys_total (key r.name me) (record r { sequence = last + 1 }) (map filed es) (passes _ old.rises));
         pulls_rise = subst PullsRise (sym left) (removed-rise t.name ps old.pulls_rise pull.0 at here);
         folder = finish-folder;
-        ready = subst (All IsReady) (sym left) (removed-ready ps (place_of t.name ps) old.ready);
+        ready = subst (All IsReady) (sym left) (removed-ready ps (position_of t.name ps) old.ready);
         room = let a = old.room in let b = fewer in omega arith;
       }

@@ -24,13 +24,13 @@ use Rattle.sync_record.proofs.SameContent.{reflexive}
 use Rattle.sync_version.proofs.Lemmas.{dominates_itself, same_version_tells}
 use Rattle.sync_version.specs.Computed.{dominates, same_version}
 use Rattle.folder_core.specs.declared.announcement.Announcement.{Announcement as Entry}
-use Rattle.folder_core.specs.Announced.{Announcement, key_cmp, is_best, is_of, best, bests, devices_of}
+use Rattle.folder_core.specs.Announced.{KeyedRecord, key_cmp, is_best, is_of, best, bests, devices_of}
 use Rattle.folder_core.proofs.BestList.{apart}
 use Rattle.folder_core.proofs.PullNeed.{Rising, bests-rising}
 use Rattle.folder_core.proofs.Orders.{exact_keys, is_true, keys_total}
 use Rattle.folder_core.proofs.BestPreferred.{is_preferred}
 use Rattle.folder_core.specs.Codes.{Pulls}
-use Rattle.folder_core.specs.Reads.{best_found, bests_after, is_after, with_devices}
+use Rattle.folder_core.specs.Reads.{best_with_devices, bests_after, is_after, with_devices}
 use Rattle.folder_core.specs.Plain.{Rises, better, better_of, devices_with, filed, folder_of, group_best, is_undominated, listed_bests}
 use Rattle.folder_core.proofs.ListFilters.{filter_in, filter_map, filter_swap, any_map, none_found}
 use Rattle.folder_core.proofs.ListTests.{same_bytes, alike_bytes, below_in, in_map, inside, of_filter, parts, In}
@@ -84,7 +84,7 @@ module _ (n : Name) (es : List Entry) (rises : Rises es) where
   sorted : T (is_sorted key_cmp (map filed named_entries))
   sorted = subst (λ g. T (is_sorted key_cmp g)) group_is (is_sorted-where_key key_cmp (λ k. bytes_eq k.name n) (map filed es) (passes _ rises))
 
-  named : (e : Announcement) → In e (map filed named_entries) → e.0.name ≡ n
+  named : (e : KeyedRecord) → In e (map filed named_entries) → e.0.name ≡ n
   named e i = same_bytes e.0.name n (of_filter (is_of n) (map filed es) e (subst (In e) (sym group_is) i)).1
 
   pub best_is : best (map filed es) n ≡ option_map filed (reduce better (filter (is_undominated named_entries) named_entries))
@@ -129,24 +129,24 @@ module _ (n : Name) (es : List Entry) (rises : Rises es) where
       same_bytes b.record.name n (of_filter (is_named n) es b among.0).1
 
 module _ (me : Identity) (n : Name) (es : List Entry) (last : ℕ) (pulls : Pulls) (rises : Rises es) where
-  found_is : best_found (folder_of me es last pulls) n ≡ option_map (λ b. (b.1, devices_of (map filed es) b)) (best (map filed es) n)
+  found_is : best_with_devices (folder_of me es last pulls) n ≡ option_map (λ b. (b.1, devices_of (map filed es) b)) (best (map filed es) n)
   found_is = ap (λ xs. option_map (λ b. (b.1, devices_of xs b)) (best xs n)) (entries-from_sorted key_cmp (map filed es) (passes _ rises))
 
-  pub none_is_found : None ≡ reduce better (filter (is_undominated (filter (is_named n) es)) (filter (is_named n) es)) → None ≡ best_found (folder_of me es last pulls) n
+  pub none_is_found : None ≡ reduce better (filter (is_undominated (filter (is_named n) es)) (filter (is_named n) es)) → None ≡ best_with_devices (folder_of me es last pulls) n
   none_is_found none = sym (found_is ∙ ap (option_map (λ b. (b.1, devices_of (map filed es) b))) (best_is n es rises ∙ ap (option_map filed) (sym none)))
 
-  pub one_is_found : (b : Entry) → Some b ≡ reduce better (filter (is_undominated (filter (is_named n) es)) (filter (is_named n) es)) → Some (b.record, devices_with (filter (is_named n) es) b.record) ≡ best_found (folder_of me es last pulls) n
+  pub one_is_found : (b : Entry) → Some b ≡ reduce better (filter (is_undominated (filter (is_named n) es)) (filter (is_named n) es)) → Some (b.record, devices_with (filter (is_named n) es) b.record) ≡ best_with_devices (folder_of me es last pulls) n
   one_is_found b some =
       let here : b.record.name ≡ n = named_best n es rises b some in
       sym (found_is ∙ ap (option_map (λ b. (b.1, devices_of (map filed es) b))) (best_is n es rises ∙ ap (option_map filed) (sym some))
       ∙ ap (λ ds. Some (b.record, ds)) (devices_is n es rises b here))
 
   -- the best of the entries of a name is the folder's best of the name
-  pub group_found : (o : Option Entry) → o ≡ reduce better (filter (is_undominated (filter (is_named n) es)) (filter (is_named n) es)) → option_map (λ b. (b.record, devices_with (filter (is_named n) es) b.record)) o ≡ best_found (folder_of me es last pulls) n
+  pub group_found : (o : Option Entry) → o ≡ reduce better (filter (is_undominated (filter (is_named n) es)) (filter (is_named n) es)) → option_map (λ b. (b.record, devices_with (filter (is_named n) es) b.record)) o ≡ best_with_devices (folder_of me es last pulls) n
   group_found None is = none_is_found is
   group_found (Some b) is = one_is_found b is
 
-  pub best_is_found : group_best (filter (is_named n) es) ≡ best_found (folder_of me es last pulls) n
+  pub best_is_found : group_best (filter (is_named n) es) ≡ best_with_devices (folder_of me es last pulls) n
   best_is_found = group_found _ refl
 
 -- a valid entry alone is the best
@@ -162,7 +162,7 @@ alone_best e valid =
 -- ---- the bests of a list, name by name
 
 -- of rising names one at most is this one
-pub only_of : (n : Name) (bs : List Announcement) → Rising bs → filter (is_of n) bs ≡ option_to_list (find (is_of n) bs)
+pub only_of : (n : Name) (bs : List KeyedRecord) → Rising bs → filter (is_of n) bs ≡ option_to_list (find (is_of n) bs)
 only_of n [] rise = refl
 only_of n (b ∷ bs) rise =
     elim (is_of n b) as (λ t. is_of n b ≡ t → cond t (b ∷ filter (is_of n) bs) (filter (is_of n) bs) ≡ option_to_list (cond t (Some b) (find (is_of n) bs))) [
@@ -198,7 +198,7 @@ module _ (es : List Entry) (rises : Rises es) where
   pub bests_split : (p : Name → Bool) → es ≡ filter (λ e. p e.record.name) es ++ filter (λ e. not (p e.record.name)) es
       → bests (map filed es) ≡ filter (λ b. p b.0.name) (bests (map filed es)) ++ filter (λ b. not (p b.0.name)) (bests (map filed es))
   bests_split p split =
-      let xs : List Announcement = map filed es in
+      let xs : List KeyedRecord = map filed es in
       let parts : xs ≡ filter (λ e. p e.0.name) xs ++ filter (λ e. not (p e.0.name)) xs =
       ap (map filed) split ∙ map-append filed (filter (λ e. p e.record.name) es) (filter (λ e. not (p e.record.name)) es)
       ∙ (λ i. sym (filter_map filed (λ e. p e.0.name) es) i ++ sym (filter_map filed (λ e. not (p e.0.name)) es) i) in
@@ -208,7 +208,7 @@ module _ (es : List Entry) (rises : Rises es) where
   listed_split : (p : Name → Bool) → es ≡ filter (λ e. p e.record.name) es ++ filter (λ e. not (p e.record.name)) es →
       listed_bests es ≡ listed_bests (filter (λ e. p e.record.name) es) ++ listed_bests (filter (λ e. not (p e.record.name)) es)
   listed_split p split =
-      let xs : List Announcement = map filed es in
+      let xs : List KeyedRecord = map filed es in
       ap (map (with_devices xs)) (bests_split p split) ∙ map-append (with_devices xs) (filter (λ e. p e.0.name) (bests xs)) (filter (λ e. not (p e.0.name)) (bests xs))
       ∙ (λ i. sym (listed_part p) i ++ sym (listed_part (λ m. not (p m))) i)
 

@@ -18,7 +18,7 @@ use Rattle.sync_record.specs.Records.{Name}
 use Rattle.sync_record.specs.Validity.{is_valid}
 use Rattle.sync_version.specs.Computed.{dominates, same_version}
 use Rattle.folder_core.specs.declared.announcement.Announcement.{Announcement as Entry}
-use Rattle.folder_core.specs.Announced.{Announcement, Key, key_cmp, is_of, is_candidate, is_best, best, bests, devices_of, is_by}
+use Rattle.folder_core.specs.Announced.{KeyedRecord, Key, key_cmp, is_of, is_candidate, is_best, best, bests, devices_of, is_by}
 use Rattle.folder_core.specs.Reads.{is_after, with_devices}
 use Rattle.folder_core.proofs.BestPreferred.{is_preferred}
 use Rattle.folder_core.specs.Plain.{Rises, filed}
@@ -167,21 +167,21 @@ all_after (e ∷ es) = ap (λ ys. e ∷ ys) (all_after es)
 
 -- ---- the entries of some names alone
 
-module _ (p : Name → Bool) (es : List Announcement) where
-  abbrev pub is_part : Announcement → Bool
+module _ (p : Name → Bool) (es : List KeyedRecord) where
+  abbrev pub is_part : KeyedRecord → Bool
   is_part e = p e.0.name
 
-  abbrev pub part : List Announcement
+  abbrev pub part : List KeyedRecord
   part = filter is_part es
 
-  of_name : (e f : Announcement) → is_part e ≡ true → is_of e.0.name f ≡ true → is_part f ≡ true
+  of_name : (e f : KeyedRecord) → is_part e ≡ true → is_of e.0.name f ≡ true → is_part f ≡ true
   of_name e f t u = ap p (same_bytes f.0.name e.0.name u) ∙ t
 
-  candidate_in_part : (e : Announcement) → is_part e ≡ true → is_candidate part e ≡ is_candidate es e
+  candidate_in_part : (e : KeyedRecord) → is_part e ≡ true → is_candidate part e ≡ is_candidate es e
   candidate_in_part e t =
       ap (λ b. is_valid e.1 && not b) (any_filter is_part (λ f. is_of e.0.name f && is_valid f.1 && dominates f.1.version e.1.version) es (λ f u. of_name e f t (and_parts _ _ (and_parts _ _ u).0).0))
 
-  best_in_part_test : (e : Announcement) → is_part e ≡ true → is_best part e ≡ is_best es e
+  best_in_part_test : (e : KeyedRecord) → is_part e ≡ true → is_best part e ≡ is_best es e
   best_in_part_test e t =
       let rivals : filter (λ f. is_of e.0.name f && is_candidate part f) part ≡ filter (λ f. is_of e.0.name f && is_candidate es f) es =
       filter_filter is_part (λ f. is_of e.0.name f && is_candidate part f) (λ f. is_of e.0.name f && is_candidate es f) es (λ f.
@@ -196,10 +196,10 @@ module _ (p : Name → Bool) (es : List Announcement) where
       filter_in (is_best part) (is_best es) part (λ e i. best_in_part_test e (of_filter is_part es e i).1)
       ∙ filter_swap (is_best es) is_part es
 
-  abbrev has_best : Announcement → Announcement → Bool
+  abbrev has_best : KeyedRecord → KeyedRecord → Bool
   has_best b e = is_of b.0.name e && is_valid e.1 && same_version e.1.version b.1.version && same_content e.1 b.1
 
-  pub devices_in_part : (b : Announcement) → is_part b ≡ true → devices_of part b ≡ devices_of es b
+  pub devices_in_part : (b : KeyedRecord) → is_part b ≡ true → devices_of part b ≡ devices_of es b
   devices_in_part b t =
       ap (map (λ e. e.0.device)) (filter_filter is_part (has_best b) (has_best b) es (λ e.
       elim (is_of b.0.name e) as (λ u. is_of b.0.name e ≡ u → (u && is_valid e.1 && same_version e.1.version b.1.version && same_content e.1 b.1) ≡ (is_part e && (u && is_valid e.1 && same_version e.1.version b.1.version && same_content e.1 b.1))) [
@@ -216,10 +216,10 @@ module _ (p : Name → Bool) (es : List Announcement) where
 
 -- ---- a name's entries alone
 
-abbrev pub group : Name → List Announcement → List Announcement
+abbrev pub group : Name → List KeyedRecord → List KeyedRecord
 group n es = filter (is_of n) es
 
-pub best_in_group : (n : Name) (es : List Announcement) → best (group n es) n ≡ best es n
+pub best_in_group : (n : Name) (es : List KeyedRecord) → best (group n es) n ≡ best es n
 best_in_group n es =
     ap (find (is_of n)) (bests_in_part (λ m. bytes_eq m n) es)
     ∙ find_filter (is_of n) (is_of n) (bests es)
@@ -229,5 +229,5 @@ best_in_group n es =
     twice true = refl
     twice false = refl
 
-pub devices_in_group : (n : Name) (es : List Announcement) (b : Announcement) → b.0.name ≡ n → devices_of es b ≡ devices_of (group n es) b
+pub devices_in_group : (n : Name) (es : List KeyedRecord) (b : KeyedRecord) → b.0.name ≡ n → devices_of es b ≡ devices_of (group n es) b
 devices_in_group n es b named = sym (devices_in_part (λ m. bytes_eq m n) es b (alike_bytes b.0.name n named))

@@ -17,7 +17,7 @@ use Rattle.std.proofs.lemmas.Bool.{and_parts, true≢false}
 use Rattle.sync_record.specs.Devices.{Identity, bytes_cmp}
 use Rattle.sync_record.specs.Records.{FileRecord}
 use Rattle.folder_core.specs.declared.announcement.Announcement.{Announcement as Entry}
-use Rattle.folder_core.specs.Announced.{Announcement, Key, key, key_cmp}
+use Rattle.folder_core.specs.Announced.{KeyedRecord, Key, key, key_cmp}
 use Rattle.folder_core.specs.Plain.{NamesRise, Rises, filed, filed_by, named, put_all}
 use Rattle.folder_core.proofs.Orders.{keys_total, exact_keys, is_true}
 use Rattle.folder_core.proofs.ListFilters.{join, less_is}
@@ -25,14 +25,14 @@ use Rattle.folder_core.proofs.ListTests.{inside, is_less, parts}
 
 -- ---- lists that are before a key
 
-abbrev pub AreBefore : Key → List Announcement → Type 0
+abbrev pub AreBefore : Key → List KeyedRecord → Type 0
 AreBefore k es = AllByRecursion (λ e. key_cmp e.0 k ≡ Less) es
 
-are_before_push : (k : Key) (es : List Announcement) (e : Announcement) → AreBefore k es → key_cmp e.0 k ≡ Less → AreBefore k (es ++ e ∷ [])
+are_before_push : (k : Key) (es : List KeyedRecord) (e : KeyedRecord) → AreBefore k es → key_cmp e.0 k ≡ Less → AreBefore k (es ++ e ∷ [])
 are_before_push k [] e b less = (less, tt)
 are_before_push k (x ∷ es) e b less = (b.0, are_before_push k es e b.1 less)
 
-are_before_chain : (a b : Key) (es : List Announcement) → key_cmp a b ≡ Less → AreBefore a es → AreBefore b es
+are_before_chain : (a b : Key) (es : List KeyedRecord) → key_cmp a b ≡ Less → AreBefore a es → AreBefore b es
 are_before_chain a b [] less h = tt
 are_before_chain a b (e ∷ es) less h = (keys_total.trans e.0 a b h.0 less, are_before_chain a b es less h.1)
 
@@ -53,7 +53,7 @@ module _ {K X : Type 0} (R : K → K → Ordering) where
 
 -- ---- what is put before the last, after it, or in its place
 
-put_before : (r e : Announcement) (es : List Announcement) → key_cmp r.0 e.0 ≡ Less → put key_cmp r.0 r.1 (es ++ e ∷ []) ≡ put key_cmp r.0 r.1 es ++ e ∷ []
+put_before : (r e : KeyedRecord) (es : List KeyedRecord) → key_cmp r.0 e.0 ≡ Less → put key_cmp r.0 r.1 (es ++ e ∷ []) ≡ put key_cmp r.0 r.1 es ++ e ∷ []
 put_before r e [] less = ap (λ o. by_order o (r ∷ e ∷ []) ((e.0, r.1) ∷ []) (e ∷ r ∷ [])) less
 put_before r e (x ∷ es) less =
     elim (key_cmp r.0 x.0) as (λ o. by_order o (r ∷ x ∷ es ++ e ∷ []) ((x.0, r.1) ∷ es ++ e ∷ []) (x ∷ put key_cmp r.0 r.1 (es ++ e ∷ [])) ≡ by_order o (r ∷ x ∷ es) ((x.0, r.1) ∷ es) (x ∷ put key_cmp r.0 r.1 es) ++ e ∷ []) [
@@ -62,21 +62,21 @@ put_before r e (x ∷ es) less =
       | Greater ↦ ap (λ ys. x ∷ ys) (put_before r e es less)
     ]
 
-pub put_over : (x r : Announcement) (es : List Announcement) → key_cmp x.0 r.0 ≡ Less → put key_cmp r.0 r.1 (x ∷ es) ≡ x ∷ put key_cmp r.0 r.1 es
+pub put_over : (x r : KeyedRecord) (es : List KeyedRecord) → key_cmp x.0 r.0 ≡ Less → put key_cmp r.0 r.1 (x ∷ es) ≡ x ∷ put key_cmp r.0 r.1 es
 put_over x r es less =
     ap (λ o. by_order o (r ∷ x ∷ es) ((x.0, r.1) ∷ es) (x ∷ put key_cmp r.0 r.1 es)) (keys_total.antisymm r.0 x.0 ∙ ap ordering_reverse less)
 
-put_after : (r : Announcement) (es : List Announcement) → AreBefore r.0 es → put key_cmp r.0 r.1 es ≡ es ++ r ∷ []
+put_after : (r : KeyedRecord) (es : List KeyedRecord) → AreBefore r.0 es → put key_cmp r.0 r.1 es ≡ es ++ r ∷ []
 put_after r [] b = refl
 put_after r (x ∷ es) b = put_over x r es b.0 ∙ ap (λ ys. x ∷ ys) (put_after r es b.1)
 
-put_instead : (r e : Announcement) (es : List Announcement) → AreBefore r.0 es → key_cmp e.0 r.0 ≡ Equal → put key_cmp r.0 r.1 (es ++ e ∷ []) ≡ es ++ r ∷ []
+put_instead : (r e : KeyedRecord) (es : List KeyedRecord) → AreBefore r.0 es → key_cmp e.0 r.0 ≡ Equal → put key_cmp r.0 r.1 (es ++ e ∷ []) ≡ es ++ r ∷ []
 put_instead r e [] b equal =
     ap (λ o. by_order o (r ∷ e ∷ []) ((e.0, r.1) ∷ []) (e ∷ r ∷ [])) (keys_total.antisymm r.0 e.0 ∙ ap ordering_reverse equal)
     ∙ ap (λ (k : Key). (k, r.1) ∷ []) (exact_keys e.0 r.0 equal)
 put_instead r e (x ∷ es) b equal = put_over x r (es ++ e ∷ []) b.0 ∙ ap (λ ys. x ∷ ys) (put_instead r e es b.1 equal)
 
-put_are_before : (k : Key) (r : Announcement) (es : List Announcement) → key_cmp r.0 k ≡ Less → AreBefore k es → AreBefore k (put key_cmp r.0 r.1 es)
+put_are_before : (k : Key) (r : KeyedRecord) (es : List KeyedRecord) → key_cmp r.0 k ≡ Less → AreBefore k es → AreBefore k (put key_cmp r.0 r.1 es)
 put_are_before k r [] less b = (less, tt)
 put_are_before k r (x ∷ es) less b =
     elim (key_cmp r.0 x.0) as (λ o. AreBefore k (by_order o (r ∷ x ∷ es) ((x.0, r.1) ∷ es) (x ∷ put key_cmp r.0 r.1 es))) [
@@ -85,17 +85,17 @@ put_are_before k r (x ∷ es) less b =
       | Greater ↦ (b.0, put_are_before k r es less b.1)
     ]
 
-put_all_are_before : (k : Key) (rs es : List Announcement) → AreBefore k rs → AreBefore k es → AreBefore k (put_all es rs)
+put_all_are_before : (k : Key) (rs es : List KeyedRecord) → AreBefore k rs → AreBefore k es → AreBefore k (put_all es rs)
 put_all_are_before k [] es b c = c
 put_all_are_before k (r ∷ rs) es b c = put_all_are_before k rs (put key_cmp r.0 r.1 es) b.1 (put_are_before k r es b.0 c)
 
-put_all_before : (e : Announcement) (rs es : List Announcement) → AreBefore e.0 rs → put_all (es ++ e ∷ []) rs ≡ put_all es rs ++ e ∷ []
+put_all_before : (e : KeyedRecord) (rs es : List KeyedRecord) → AreBefore e.0 rs → put_all (es ++ e ∷ []) rs ≡ put_all es rs ++ e ∷ []
 put_all_before e [] es b = refl
 put_all_before e (r ∷ rs) es b =
     ap (λ ys. put_all ys rs) (put_before r e es b.0)
     ∙ put_all_before e rs (put key_cmp r.0 r.1 es) b.1
 
-put_all_push : (es rs : List Announcement) (r : Announcement) → put_all es (rs ++ r ∷ []) ≡ put key_cmp r.0 r.1 (put_all es rs)
+put_all_push : (es rs : List KeyedRecord) (r : KeyedRecord) → put_all es (rs ++ r ∷ []) ≡ put key_cmp r.0 r.1 (put_all es rs)
 put_all_push es rs r = fold-append (λ es r. put key_cmp r.0 r.1 es) es rs (r ∷ [])
 
 -- ---- records of a device, by their names
@@ -162,7 +162,7 @@ last_before k (x ∷ xs) rises less =
     (are_before_push k (map filed front) (filed e) (are_before_chain (filed e).0 k (map filed front) (sym here) (entries_push front e (subst Rises split rises)).1) (sym here))
 
 module _ (d : Identity) where
-  abbrev pub merged : List Entry → List FileRecord → List Announcement
+  abbrev pub merged : List Entry → List FileRecord → List KeyedRecord
   merged es rs = put_all (map filed es) (map (filed_by d) rs)
 
   -- how an entry compares with a record: before it where there is none
@@ -252,7 +252,7 @@ module _ (k : Key) (old es es' : List Entry) (e : Entry) (kept n : ℕ) (front :
   popped_front = sym (ap (take (length es')) (whole ∙ append_assoc es' (e ∷ []) (drop n old)) ∙ take-append_seam es' (e ∷ drop n old))
 
 -- what is moved from the end of one list to the end of the other
-pub moved : (es' : List Announcement) (room : List Entry) (e : Entry) → es' ++ map filed (reverse (room ++ e ∷ [])) ≡ (es' ++ filed e ∷ []) ++ map filed (reverse room)
+pub moved : (es' : List KeyedRecord) (room : List Entry) (e : Entry) → es' ++ map filed (reverse (room ++ e ∷ [])) ≡ (es' ++ filed e ∷ []) ++ map filed (reverse room)
 moved es' room e =
     ap (λ xs. es' ++ map filed xs) (reverse-append room (e ∷ []))
     ∙ sym (append_assoc es' (filed e ∷ []) (map filed (reverse room)))

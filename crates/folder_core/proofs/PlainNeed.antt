@@ -11,7 +11,7 @@ use Rattle.std.proofs.lemmas.Option.{none-some}
 use Rattle.sync_record.specs.Devices.{Identity}
 use Rattle.sync_record.specs.Records.{Name}
 use Rattle.folder_core.specs.declared.announcement.Announcement.{Announcement as Entry}
-use Rattle.folder_core.specs.Announced.{Announcement, bests, key_cmp}
+use Rattle.folder_core.specs.Announced.{KeyedRecord, bests, key_cmp}
 use Rattle.folder_core.specs.Codes.{Pulls}
 use Rattle.folder_core.specs.Plain.{Rises, better, filed, folder_of, is_undominated}
 use Rattle.folder_core.specs.PlainReads.{is_needed_over, needed_names, needed_of, record_from, record_of}
@@ -23,13 +23,13 @@ use Rattle.folder_core.proofs.PlainFound.{at_cut, best_is, bests_split, count, f
 use Rattle.folder_core.proofs.PlainGroup.{bests_in_part, is_named}
 use Rattle.folder_core.proofs.PlainOwn.{local_is}
 
-abbrev name_of : Announcement → Name
+abbrev name_of : KeyedRecord → Name
 name_of b = b.0.name
 
 abbrev entry_name : Entry → Name
 entry_name e = e.record.name
 
-abbrev is_wanted : Identity → List Entry → Announcement → Bool
+abbrev is_wanted : Identity → List Entry → KeyedRecord → Bool
 is_wanted d es b = is_needed_over (record_of d es b.0.name) b.1
 
 -- ---- the entries of some names alone
@@ -38,7 +38,7 @@ module _ (d : Identity) (p : Name → Bool) (es : List Entry) where
   abbrev part : List Entry
   part = filter (λ e. p e.record.name) es
 
-  abbrev of_part : Announcement → Bool
+  abbrev of_part : KeyedRecord → Bool
   of_part b = p b.0.name
 
   same_record : (n : Name) → p n ≡ true → record_of d part n ≡ record_of d es n
@@ -67,7 +67,7 @@ module _ (d : Identity) (es : List Entry) (rises : Rises es) where
   needed_split : (p : Name → Bool) → es ≡ filter (λ e. p e.record.name) es ++ filter (λ e. not (p e.record.name)) es →
       needed_names d es ≡ needed_names d (filter (λ e. p e.record.name) es) ++ needed_names d (filter (λ e. not (p e.record.name)) es)
   needed_split p split =
-      let xs : List Announcement = map filed es in
+      let xs : List KeyedRecord = map filed es in
       ap (λ bs. map name_of (filter (is_wanted d es) bs)) (bests_split es rises p split)
       ∙ ap (map name_of) (filter-append (is_wanted d es) (filter (λ e. p e.0.name) (bests xs)) (filter (λ e. not (p e.0.name)) (bests xs)))
       ∙ map-append name_of (filter (is_wanted d es) (filter (λ e. p e.0.name) (bests xs))) (filter (is_wanted d es) (filter (λ e. not (p e.0.name)) (bests xs)))

@@ -15,13 +15,13 @@ use Rattle.sync_record.specs.Records.{Name}
 use Rattle.sync_record.specs.Same.{same_record}
 use Rattle.folder_core.specs.declared.announcement.Announcement.{Announcement as Entry}
 use Rattle.folder_core.specs.declared.plain.pull.OpenPull.{OpenPull}
-use Rattle.folder_core.specs.declared.stage.Stage.{Stage}
+use Rattle.folder_core.specs.declared.pull_stage.PullStage.{PullStage}
 use Rattle.folder_core.specs.Plain.{IsPlain, IsReady, PullsRise, commits, folder_of, opened, pulled, pulls_of, stage_of}
-use Rattle.folder_core.specs.PlainPulls.{is_for, place_of, pull_for}
+use Rattle.folder_core.specs.PlainPulls.{is_for, position_of, pull_for}
 use Rattle.folder_core.specs.States.{FolderState, IsFolder, Pull, same_stage}
 use Rattle.folder_core.specs.declared.answer.Answer.{Answer}
 use Rattle.folder_core.specs.declared.answer.Answer.TheVariants.{Closed, Stray}
-use Rattle.folder_core.specs.declared.token.Token.{Token}
+use Rattle.folder_core.specs.declared.pull_info.PullInfo.{PullInfo}
 use Rattle.folder_core.specs.Steps.{close_pull, pull_of}
 use Rattle.folder_core.specs.Calls.{close_answer}
 use Rattle.folder_core.proofs.ListTests.{inside, same_bytes}
@@ -31,17 +31,17 @@ use Rattle.folder_core.proofs.PullOpen.{fits}
 
 -- ---- what is found
 
-pub get-pull : (n : Name) (ps : List OpenPull) → PullsRise ps → get (pulls_of ps) n ≡ option_and_then (λ p. cond (bytes_eq n p.target.name) (Some (opened p)) None) (slice_get ps (place_of n ps))
+pub get-pull : (n : Name) (ps : List OpenPull) → PullsRise ps → get (pulls_of ps) n ≡ option_and_then (λ p. cond (bytes_eq n p.target.name) (Some (opened p)) None) (slice_get ps (position_of n ps))
 get-pull n ps rise =
     get-from_sorted bytes_cmp (map pulled ps) n (passes _ rise)
     ∙ find-there bytes_total exact_names pulled n ps (passes _ rise)
-    ∙ by_bytes (slice_get ps (place_of n ps))
+    ∙ by_bytes (slice_get ps (position_of n ps))
   where
     by_bytes : (o : Option OpenPull) → option_and_then (λ p. cond (eq_by_cmp bytes_cmp n p.target.name) (Some (opened p)) None) o ≡ option_and_then (λ p. cond (bytes_eq n p.target.name) (Some (opened p)) None) o
     by_bytes None = refl
     by_bytes (Some p) = ap (λ b. cond b (Some (opened p)) None) (sym (texts_ties n p.target.name))
 
-module _ (t : Token) (stage : Stage) where
+module _ (t : PullInfo) (stage : PullStage) where
   reorder : (p : OpenPull) (a b c d : Bool) → option_and_then (λ (q : Pull). cond ((b && d) && c) (Some q) None) (cond a (Some (opened p)) None) ≡ option_map opened (cond (((a && b) && c) && d) (Some p) None)
   reorder p false b c d = refl
   reorder p true false c d = refl
@@ -64,7 +64,7 @@ module _ (t : Token) (stage : Stage) where
   pub pull_of-plain : (me : Identity) (es : List Entry) (last : ℕ) (ps : List OpenPull) → PullsRise ps → pull_of (folder_of me es last (pulls_of ps)) t stage ≡ option_map opened (pull_for t stage ps)
   pull_of-plain me es last ps rise =
       ap (option_and_then (λ q. if fits t stage q then Some q else None)) (get-pull t.name ps rise)
-      ∙ found_from (slice_get ps (place_of t.name ps))
+      ∙ found_from (slice_get ps (position_of t.name ps))
 
   -- whether there is one, from the place that was found
   pub open-is : (me : Identity) (es : List Entry) (last : ℕ) (ps xs : List OpenPull) → PullsRise ps → xs ≡ ps → (place : Option ℕ) → IfSome place (λ i. i < length xs)
@@ -94,29 +94,29 @@ module _ (t : Token) (stage : Stage) where
   at_from p None is = absurd (let h : None ≡ Some p = is in cc)
   at_from p (Some q) is = let r = fits_from p q (is_for t stage q) refl is in (ap Some r.0, r.1)
 
-  pub pull_for-at : (ps : List OpenPull) (p : OpenPull) → pull_for t stage ps ≡ Some p → slice_get ps (place_of t.name ps) ≡ Some p
-  pull_for-at ps p is = (at_from p (slice_get ps (place_of t.name ps)) is).0
+  pub pull_for-at : (ps : List OpenPull) (p : OpenPull) → pull_for t stage ps ≡ Some p → slice_get ps (position_of t.name ps) ≡ Some p
+  pull_for-at ps p is = (at_from p (slice_get ps (position_of t.name ps)) is).0
 
   pub pull_for-name : (ps : List OpenPull) (p : OpenPull) → pull_for t stage ps ≡ Some p → p.target.name ≡ t.name
   pull_for-name ps p is =
-      let fit = (at_from p (slice_get ps (place_of t.name ps)) is).1 in
+      let fit = (at_from p (slice_get ps (position_of t.name ps)) is).1 in
       sym (same_bytes t.name p.target.name (and_parts _ _ (and_parts _ _ (and_parts _ _ fit).0).0).0)
 
   pub pull_for-stage : (ps : List OpenPull) (p : OpenPull) → pull_for t stage ps ≡ Some p → same_stage (stage_of p.ready) stage ≡ true
   pull_for-stage ps p is =
-      let fit = (at_from p (slice_get ps (place_of t.name ps)) is).1 in
+      let fit = (at_from p (slice_get ps (position_of t.name ps)) is).1 in
       (and_parts _ _ (and_parts _ _ fit).0).1
 
 -- ---- without one
 
-module _ (n : Name) (ps : List OpenPull) (rise : PullsRise ps) (p : OpenPull) (at : slice_get ps (place_of n ps) ≡ Some p) (here : p.target.name ≡ n) where
-  left : map pulled (remove ps (place_of n ps)) ≡ where_key bytes_cmp (λ m. not (eq_by_cmp bytes_cmp n m)) (map pulled ps)
+module _ (n : Name) (ps : List OpenPull) (rise : PullsRise ps) (p : OpenPull) (at : slice_get ps (position_of n ps) ≡ Some p) (here : p.target.name ≡ n) where
+  left : map pulled (remove ps (position_of n ps)) ≡ where_key bytes_cmp (λ m. not (eq_by_cmp bytes_cmp n m)) (map pulled ps)
   left = remove-there bytes_total exact_names pulled n p ps (passes _ rise) at here
 
-  pub removed-rise : PullsRise (remove ps (place_of n ps))
+  pub removed-rise : PullsRise (remove ps (position_of n ps))
   removed-rise = ap (is_sorted bytes_cmp) left ∙ is_true _ (is_sorted-where_key bytes_cmp (λ m. not (eq_by_cmp bytes_cmp n m)) (map pulled ps) (passes _ rise))
 
-  pub removed-pulls : pulls_of (remove ps (place_of n ps)) ≡ fin.remove (pulls_of ps) n
+  pub removed-pulls : pulls_of (remove ps (position_of n ps)) ≡ fin.remove (pulls_of ps) n
   removed-pulls =
       ap from_sorted left
       ∙ sym (listed bytes_total exact_names (fin.remove (pulls_of ps) n)
@@ -153,12 +153,12 @@ removed-ready (q ∷ ps) (suc i) each = both (removed-ready ps i (λ j e l. each
 
 -- ---- a pull is closed
 
-module _ (me : Identity) (es : List Entry) (capacity last : ℕ) (ps new : List OpenPull) (old : IsPlain me es capacity last ps) (t : Token) (stage : Stage) where
+module _ (me : Identity) (es : List Entry) (capacity last : ℕ) (ps new : List OpenPull) (old : IsPlain me es capacity last ps) (t : PullInfo) (stage : PullStage) where
   abbrev state : FolderState
   state = folder_of me es last (pulls_of ps)
 
   abbrev Taken : Option OpenPull → Type 0
-  Taken r = MatchOption r ((pull_for t stage ps ≡ None) × (new ≡ ps)) (λ p. (pull_for t stage ps ≡ Some p) × (new ≡ remove ps (place_of t.name ps)))
+  Taken r = MatchOption r ((pull_for t stage ps ≡ None) × (new ≡ ps)) (λ p. (pull_for t stage ps ≡ Some p) × (new ≡ remove ps (position_of t.name ps)))
 
   pub close-step : (r : Option OpenPull) → Taken r → close_pull state t (pull_of state t stage) ≡ (close_answer (is_some r), folder_of me es last (pulls_of new))
   close-step None h =
@@ -174,6 +174,6 @@ module _ (me : Identity) (es : List Entry) (capacity last : ℕ) (ps new : List 
     rises = old.rises;
     pulls_rise = removed-rise t.name ps old.pulls_rise p (pull_for-at t stage ps p h.0) (pull_for-name t stage ps p h.0);
     folder = subst (λ xs. IsFolder (folder_of me es last (pulls_of xs))) h.1 (subst IsFolder (ap (λ (d : Answer × FolderState). d.1) (close-step (Some p) h)) folder);
-    ready = removed-ready ps (place_of t.name ps) old.ready;
-    room = let h = removed-commits ps (place_of t.name ps) p (pull_for-at t stage ps p h.0) in let k = old.room in omega arith;
+    ready = removed-ready ps (position_of t.name ps) old.ready;
+    room = let h = removed-commits ps (position_of t.name ps) p (pull_for-at t stage ps p h.0) in let k = old.room in omega arith;
   })

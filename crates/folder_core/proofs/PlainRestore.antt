@@ -12,7 +12,7 @@ use Rattle.sync_record.specs.Devices.{Identity}
 use Rattle.sync_record.specs.Records.{FileRecord}
 use Rattle.sync_record.specs.Validity.{is_valid}
 use Rattle.folder_core.specs.declared.announcement.Announcement.{Announcement as Entry}
-use Rattle.folder_core.specs.Announced.{Announced, Announcement, Key, key, key_cmp}
+use Rattle.folder_core.specs.Announced.{Announced, KeyedRecord, Key, key, key_cmp}
 use Rattle.folder_core.specs.Plain.{IsPlain, Rises, filed, folder_of, pulls_of}
 use Rattle.folder_core.specs.PlainReads.{is_from}
 use Rattle.folder_core.specs.PlainRestores.{AreNumbered, IsOnce, given, is_numbered}
@@ -170,7 +170,7 @@ module _ (me : Identity) (records es : List Entry) (last : ℕ) where
         let m = of_map filed es (k, r) i in
         let e : Entry = m.0 in
         let g = found-given pairs once e.device e.record (in_map given records e (back e m.1)) in
-        ap (get restored) (sym (ap (λ (p : Announcement). p.0) m.2)) ∙ g ∙ ap (λ (p : Announcement). Some p.1) m.2
+        ap (get restored) (sym (ap (λ (p : KeyedRecord). p.0) m.2)) ∙ g ∙ ap (λ (p : KeyedRecord). Some p.1) m.2
 
     restored-has : (k : Key) (r : FileRecord) → get restored k ≡ Some r → get announced k ≡ Some r
     restored-has k r g =

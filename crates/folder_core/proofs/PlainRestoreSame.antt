@@ -15,8 +15,8 @@ use Rattle.sync_version.specs.Computed.{same_version}
 use Rattle.sync_version.specs.Versions.{Vector}
 use Rattle.folder_core.specs.declared.announcement.Announcement.{Announcement as Entry}
 use Rattle.folder_core.specs.declared.plain.pull.OpenPull.{OpenPull}
-use Rattle.folder_core.specs.declared.stage.Stage.TheVariants.{Committing}
-use Rattle.folder_core.specs.Announced.{Announcement, key_cmp}
+use Rattle.folder_core.specs.declared.pull_stage.PullStage.TheVariants.{Committing}
+use Rattle.folder_core.specs.Announced.{KeyedRecord, key_cmp}
 use Rattle.folder_core.specs.Plain.{PullsRise, Rises, filed, folder_of, pulled, pulls_of, stage_of}
 use Rattle.folder_core.specs.PlainRestores.{same_pull}
 use Rattle.folder_core.specs.States.{FolderState, Pull, same_stage}
@@ -102,7 +102,7 @@ module _ (records : RecordsAreSame) (versions : VersionsAreSame) where
 
 -- ---- folders
 
-unfiled : Announcement → Entry
+unfiled : KeyedRecord → Entry
 unfiled a = record { device = a.0.device; «record» = a.1 }
 
 filed-back : (es : List Entry) → map unfiled (map filed es) ≡ es

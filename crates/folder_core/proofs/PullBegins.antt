@@ -4,8 +4,8 @@ use Rattle.std.specs.Prelude.{not, ◌&&◌, ◌||◌, Option, Some, None, is_so
 use Rattle.std.specs.FinMap.{get, entries}
 use Rattle.std.proofs.lemmas.Bool.{and_from, and_left, and_right, or_from, or_left, or_right, not_from_true, not_from_false, false_from_ne_true}
 use Rattle.sync_record.specs.Records.{Name, is_live, is_file, is_directory}
-use Rattle.folder_core.specs.declared.stage.Stage.TheVariants.{Pulling}
-use Rattle.folder_core.specs.Announced.{Announcement, best}
+use Rattle.folder_core.specs.declared.pull_stage.PullStage.TheVariants.{Pulling}
+use Rattle.folder_core.specs.Announced.{KeyedRecord, best}
 use Rattle.folder_core.specs.States.{FolderState, Pull, is_needed, need}
 use Rattle.folder_core.specs.declared.answer.Answer.{Answer}
 use Rattle.folder_core.specs.declared.answer.Answer.TheVariants.{Busy, NotNeeded, Unsupported, Begun}
@@ -15,17 +15,17 @@ use Rattle.folder_core.proofs.ListTests.{inside}
 use Rattle.folder_core.proofs.ChangeCases.{holds, fails}
 use Rattle.folder_core.proofs.PullNeed.{needed-listed, listed-needed}
 
-abbrev made : FolderState → Name → Announcement → Answer × FolderState
+abbrev made : FolderState → Name → KeyedRecord → Answer × FolderState
 made s n b = (Begun (next_ticket s n b.1), with_pull s (next_ticket s n b.1) Pulling)
 
-abbrev needed_test : FolderState → Announcement → Bool × Answer
+abbrev needed_test : FolderState → KeyedRecord → Bool × Answer
 needed_test s b = (not (is_needed s b), NotNeeded)
 
-abbrev kind_test : Announcement → Bool × Answer
+abbrev kind_test : KeyedRecord → Bool × Answer
 kind_test b = (is_live b.1 && not (is_file b.1 || is_directory b.1), Unsupported)
 
 module _ (s : FolderState) (n : Name) where
-  busy-by : (b : Option Announcement) (p : Pull) → get s.pulls n ≡ Some p → (begin_pull s n b).0 ≡ Busy
+  busy-by : (b : Option KeyedRecord) (p : Pull) → get s.pulls n ≡ Some p → (begin_pull s n b).0 ≡ Busy
   busy-by None p g = ap (λ (d : Answer × FolderState). d.0) (holds s (is_some (get s.pulls n), Busy) [] (NotNeeded, s) (ap is_some g))
   busy-by (Some b) p g = ap (λ (d : Answer × FolderState). d.0) (holds s (is_some (get s.pulls n), Busy) (needed_test s b ∷ kind_test b ∷ []) (made s n b) (ap is_some g))
 
@@ -33,10 +33,10 @@ module _ (s : FolderState) (n : Name) where
   begin-busy p g = busy-by (best (entries s.announced) n) p g
 
   module _ (free : get s.pulls n ≡ None) where
-    past-busy : (b : Announcement) → begin_pull s n (Some b) ≡ first_answer s (needed_test s b ∷ kind_test b ∷ []) (made s n b)
+    past-busy : (b : KeyedRecord) → begin_pull s n (Some b) ≡ first_answer s (needed_test s b ∷ kind_test b ∷ []) (made s n b)
     past-busy b = fails s (is_some (get s.pulls n), Busy) (needed_test s b ∷ kind_test b ∷ []) (made s n b) (ap is_some free)
 
-    unneeded-by : (b : Option Announcement) → best (entries s.announced) n ≡ b → ¬ (Contains (need s) n) → (begin_pull s n b).0 ≡ NotNeeded
+    unneeded-by : (b : Option KeyedRecord) → best (entries s.announced) n ≡ b → ¬ (Contains (need s) n) → (begin_pull s n b).0 ≡ NotNeeded
     unneeded-by None is absent = ap (λ (d : Answer × FolderState). d.0) (fails s (is_some (get s.pulls n), Busy) [] (NotNeeded, s) (ap is_some free))
     unneeded-by (Some b) is absent =
         ap (λ (d : Answer × FolderState). d.0)
@@ -46,7 +46,7 @@ module _ (s : FolderState) (n : Name) where
     pub begin-unneeded : ¬ (Contains (need s) n) → (step s (BeginPull n)).0 ≡ NotNeeded
     begin-unneeded absent = unneeded-by (best (entries s.announced) n) refl absent
 
-    module _ (e : Announcement) (is : best (entries s.announced) n ≡ Some e) (listed : Contains (need s) n) where
+    module _ (e : KeyedRecord) (is : best (entries s.announced) n ≡ Some e) (listed : Contains (need s) n) where
       needed : is_needed s e ≡ true
       needed =
           let h = listed-needed s n listed in

@@ -3,7 +3,7 @@ use Rattle.folder_core.proofs.BestRule.{of_is_best, one_best, is_best_found}
 use Rattle.folder_core.proofs.AnnouncedListings.{lists-entries}
 use Rattle.folder_core.proofs.Orders.{bytes_total, keys_total, exact_keys}
 use Rattle.folder_core.proofs.ListTests.{parts, inside, In, in_contains, contains_in, in_map, of_map, in_filter, of_filter, found_in, below_in, in_get}
-use Rattle.folder_core.specs.Announced.{Announced, Announcement, key_cmp, is_of, is_best, best, bests, IsBest}
+use Rattle.folder_core.specs.Announced.{Announced, KeyedRecord, key_cmp, is_of, is_best, best, bests, IsBest}
 use Rattle.folder_core.specs.States.{FolderState, local, local_version, same_local_version, is_needed, need}
 use Rattle.std.proofs.Common.{◌≡◌, Bool, true, false, List, [], ◌∷◌, refl, sym, ap, subst, ◌∙◌, ◌↔◌, ◌≢◌, inl, inr}
 use Rattle.std.proofs.lemmas.Bool.{true≢false, and_parts, and_from, not-true, not_from_false, false_from_ne_true, or_right}
@@ -23,11 +23,11 @@ use Rattle.sync_record.specs.Devices.{Identity, bytes_cmp}
 use Rattle.sync_record.specs.Records.{Name, FileRecord, is_live}
 
 -- each name is below those after it
-abbrev pub Rising : List Announcement → Type 0
+abbrev pub Rising : List KeyedRecord → Type 0
 Rising [] = ⊤
-Rising (e ∷ es) = ((f : Announcement) → In f es → bytes_cmp e.0.name f.0.name ≡ Less) × Rising es
+Rising (e ∷ es) = ((f : KeyedRecord) → In f es → bytes_cmp e.0.name f.0.name ≡ Less) × Rising es
 
-pub rising-filter : (p : Announcement → Bool) (es : List Announcement) → Rising es → Rising (filter p es)
+pub rising-filter : (p : KeyedRecord → Bool) (es : List KeyedRecord) → Rising es → Rising (filter p es)
 rising-filter p [] r = tt
 rising-filter p (e ∷ es) r =
     let rest = rising-filter p es r.1 in
@@ -43,11 +43,11 @@ names_less n m d e Equal is l one =
     absurd (true≢false (ap is_lt (sym l ∙ ap (bytes_cmp d) (sym (one (exact_bytes n m is))) ∙ tied_itself bytes_total d)))
 names_less n m d e Greater is l one = absurd (true≢false (ap is_gt l))
 
-module _ (p : Announcement → Bool) where
-  abbrev OneEach : List Announcement → Type 0
-  OneEach es = (e f : Announcement) → In e es → In f es → p e ≡ true → p f ≡ true → e.0.name ≡ f.0.name → e.0.device ≡ f.0.device
+module _ (p : KeyedRecord → Bool) where
+  abbrev OneEach : List KeyedRecord → Type 0
+  OneEach es = (e f : KeyedRecord) → In e es → In f es → p e ≡ true → p f ≡ true → e.0.name ≡ f.0.name → e.0.device ≡ f.0.device
 
-  rising_kept : (es : List Announcement) → T (is_sorted key_cmp es) → OneEach es → Rising (filter p es)
+  rising_kept : (es : List KeyedRecord) → T (is_sorted key_cmp es) → OneEach es → Rising (filter p es)
   rising_kept [] s one = tt
   rising_kept (e ∷ es) s one =
       let rest = rising_kept es (parts _ _ s).1 (λ x y i j. one x y (inr i) (inr j)) in
@@ -70,11 +70,11 @@ bests-rising m = rising_kept (is_best (entries m)) (entries m) (entries_sorted m
     let b = of_is_best m (entries m) (lists-entries m) f (in_get keys_total exact_keys m f j) q in
     (one_best m (entries m) (lists-entries m) f.0.name e.0.device f.0.device e.1 f.1 (subst (λ x. IsBest m x e.0.device e.1) named a) b).0)
 
-names_all : (n : Name) (es : List Announcement) → ((f : Announcement) → In f es → bytes_cmp n f.0.name ≡ Less) → AllByRecursion (λ m. bytes_cmp n m ≡ Less) (map (λ e. e.0.name) es)
+names_all : (n : Name) (es : List KeyedRecord) → ((f : KeyedRecord) → In f es → bytes_cmp n f.0.name ≡ Less) → AllByRecursion (λ m. bytes_cmp n m ≡ Less) (map (λ e. e.0.name) es)
 names_all n [] each = tt
 names_all n (e ∷ es) each = (each e (inl refl), names_all n es (λ f i. each f (inr i)))
 
-pub names-rising : (es : List Announcement) → Rising es → IsStrictlySortedBy bytes_cmp (map (λ e. e.0.name) es)
+pub names-rising : (es : List KeyedRecord) → Rising es → IsStrictlySortedBy bytes_cmp (map (λ e. e.0.name) es)
 unfolding IsStrictlySortedBy
 names-rising [] r = tt
 names-rising (e ∷ es) r = (names_all e.0.name es r.0, names-rising es r.1)
@@ -104,32 +104,32 @@ rule (Some r) q = (
 -- what `need` has of a name, in the words of the rule
 abbrev pub NeedsIt : FolderState → Name → Type 0
 NeedsIt s n =
-    (e : Announcement) × (best (entries s.announced) n ≡ Some e)
+    (e : KeyedRecord) × (best (entries s.announced) n ≡ Some e)
     × ((r : FileRecord) → local s n ≡ Some r → r.version ≢ e.1.version)
     × ¬ (IsTrue e.1.deleted × (local s n ≡ None))
 
 -- a needed name by its best
 module _ (s : FolderState) (n : Name) where
-  abbrev es : List Announcement
+  abbrev es : List KeyedRecord
   es = entries s.announced
 
-  abbrev is_needed_by : Name → Announcement → Bool
+  abbrev is_needed_by : Name → KeyedRecord → Bool
   is_needed_by m e = not (same_local_version (local_version s m) (Some e.1.version)) && (is_live e.1 || is_some (local s m))
 
-  listed-name : (e : Announcement) → In e (bests es) → is_of n e ≡ true → is_needed s e ≡ true → Contains (need s) n
+  listed-name : (e : KeyedRecord) → In e (bests es) → is_of n e ≡ true → is_needed s e ≡ true → Contains (need s) n
   listed-name e i named needed =
       in_contains (need s) n (subst (λ x. In x (need s)) ((bytes_eq-Decides e.0.name n).0 named)
-      (in_map (λ (b : Announcement). b.0.name) (filter (is_needed s) (bests es)) e (in_filter (is_needed s) (bests es) e i needed)))
+      (in_map (λ (b : KeyedRecord). b.0.name) (filter (is_needed s) (bests es)) e (in_filter (is_needed s) (bests es) e i needed)))
 
-  pub needed-listed : (e : Announcement) → best es n ≡ Some e → is_needed s e ≡ true → Contains (need s) n
+  pub needed-listed : (e : KeyedRecord) → best es n ≡ Some e → is_needed s e ≡ true → Contains (need s) n
   needed-listed e is needed = let f = found_in (is_of n) (bests es) e is in listed-name e f.0 f.1 needed
 
-  pub listed-needed : Contains (need s) n → (e : Announcement) × (best es n ≡ Some e) × (e.0.name ≡ n) × (is_needed s e ≡ true)
-  listed-needed c = by (of_map (λ (b : Announcement). b.0.name) (filter (is_needed s) (bests es)) n (contains_in (need s) n c))
+  pub listed-needed : Contains (need s) n → (e : KeyedRecord) × (best es n ≡ Some e) × (e.0.name ≡ n) × (is_needed s e ≡ true)
+  listed-needed c = by (of_map (λ (b : KeyedRecord). b.0.name) (filter (is_needed s) (bests es)) n (contains_in (need s) n c))
     where
-      by : (e : Announcement) × In e (filter (is_needed s) (bests es)) × (e.0.name ≡ n) → (e : Announcement) × (best es n ≡ Some e) × (e.0.name ≡ n) × (is_needed s e ≡ true)
+      by : (e : KeyedRecord) × In e (filter (is_needed s) (bests es)) × (e.0.name ≡ n) → (e : KeyedRecord) × (best es n ≡ Some e) × (e.0.name ≡ n) × (is_needed s e ≡ true)
       by x =
-          let e : Announcement = x.0 in
+          let e : KeyedRecord = x.0 in
           let kept = of_filter (is_needed s) (bests es) e x.1 in
           let chosen = of_filter (is_best es) es e kept.0 in
           let b = of_is_best s.announced es (lists-entries s.announced) e (in_get keys_total exact_keys s.announced e chosen.0) chosen.1 in

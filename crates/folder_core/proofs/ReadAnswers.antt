@@ -19,9 +19,9 @@ use Rattle.sync_record.specs.Contents.{same_content}
 use Rattle.sync_record.specs.Devices.{Identity, bytes_cmp}
 use Rattle.sync_record.specs.Records.{Name, FileRecord, is_live_file}
 use Rattle.sync_record.specs.Validity.{is_valid}
-use Rattle.folder_core.specs.Announced.{Announced, Announcement, key, is_by, best, devices_of, IsBest}
+use Rattle.folder_core.specs.Announced.{Announced, KeyedRecord, key, is_by, best, devices_of, IsBest}
 use Rattle.folder_core.specs.States.{FolderState, local, need}
-use Rattle.folder_core.specs.Reads.{is_after, locals, best_found, need_page, places, known, IsPlaceFound}
+use Rattle.folder_core.specs.Reads.{is_after, locals, best_with_devices, need_page, places, known, IsSomePlace}
 use Rattle.folder_core.proofs.Orders.{keys_total, exact_keys}
 use Rattle.folder_core.proofs.BestRule.{best-found, best-none}
 use Rattle.folder_core.proofs.BestDevices.{devices-rise, devices-listed}
@@ -38,24 +38,24 @@ BestFound s n r ds =
     (d : Identity) × IsBest s.announced n d r × IsStrictlySortedBy bytes_cmp ds × ((e : Identity) → Contains ds e ↔ HasBestOf s.announced n r e)
 
 module _ (s : FolderState) (n : Name) where
-  abbrev shown : Option Announcement → Option (FileRecord × List Identity)
+  abbrev shown : Option KeyedRecord → Option (FileRecord × List Identity)
   shown o = option_map (λ b. (b.1, devices_of (entries s.announced) b)) o
 
-  best-by : (o : Option Announcement) → best (entries s.announced) n ≡ o → (r : FileRecord) (ds : List Identity) → Some (r, ds) ≡ shown o → BestFound s n r ds
+  best-by : (o : Option KeyedRecord) → best (entries s.announced) n ≡ o → (r : FileRecord) (ds : List Identity) → Some (r, ds) ≡ shown o → BestFound s n r ds
   best-by None is r ds e = absurd (none-some (r, ds) (sym e))
   best-by (Some b) is r ds e =
       let same : (b.1, devices_of (entries s.announced) b) ≡ (r, ds) = inside (b.1, devices_of (entries s.announced) b) (r, ds) (sym e) in
       subst (λ (x : FileRecord × List Identity). BestFound s n x.0 x.1) same
       (b.0.device, (best-found s.announced n b is).1, devices-rise s.announced b, λ d. devices-listed s.announced n b d is)
 
-  pub best-read : (r : FileRecord) (ds : List Identity) → Some (r, ds) ≡ best_found s n → BestFound s n r ds
+  pub best-read : (r : FileRecord) (ds : List Identity) → Some (r, ds) ≡ best_with_devices s n → BestFound s n r ds
   best-read r ds e = best-by (best (entries s.announced) n) refl r ds e
 
-  none-by : (o : Option Announcement) → None ≡ shown o → o ≡ None
+  none-by : (o : Option KeyedRecord) → None ≡ shown o → o ≡ None
   none-by None e = refl
   none-by (Some b) e = absurd (none-some (b.1, devices_of (entries s.announced) b) e)
 
-  pub no_best-read : None ≡ best_found s n → (d : Identity) (r : FileRecord) → get s.announced (key n d) ≡ Some r → is_valid r ≡ false
+  pub no_best-read : None ≡ best_with_devices s n → (d : Identity) (r : FileRecord) → get s.announced (key n d) ≡ Some r → is_valid r ≡ false
   no_best-read e = (best-none s.announced n).0 (none-by (best (entries s.announced) n) e)
 
 -- ---- pages of needed names
@@ -147,18 +147,18 @@ module _ (s : FolderState) (after : Option Name) (limit : ℕ) where
 
 pub own-listed : (s : FolderState) (n : Name) (r : FileRecord) → local s n ≡ Some r → In r (locals s)
 own-listed s n r g =
-    in_map (λ (e : Announcement). e.1) (filter (is_by s.me) (entries s.announced)) (key n s.me, r)
+    in_map (λ (e : KeyedRecord). e.1) (filter (is_by s.me) (entries s.announced)) (key n s.me, r)
     (in_filter (is_by s.me) (entries s.announced) (key n s.me, r) (get_in keys_total exact_keys s.announced (key n s.me) r g) ((bytes_eq-Decides s.me s.me).1 refl))
 
 -- what a device announced
-by_device : (s : FolderState) (d : Identity) (e : Announcement) → In e (filter (is_by d) (entries s.announced)) → get s.announced (key e.0.name d) ≡ Some e.1
+by_device : (s : FolderState) (d : Identity) (e : KeyedRecord) → In e (filter (is_by d) (entries s.announced)) → get s.announced (key e.0.name d) ≡ Some e.1
 by_device s d e i =
     let r = of_filter (is_by d) (entries s.announced) e i in
     (λ j. get s.announced (key e.0.name (sym ((bytes_eq-Decides e.0.device d).0 r.1) j))) ∙ in_get keys_total exact_keys s.announced e r.0
 
 pub listed-own : (s : FolderState) (r : FileRecord) → In r (locals s) → (n : Name) × (local s n ≡ Some r)
 listed-own s r i =
-    let m = of_map (λ (e : Announcement). e.1) (filter (is_by s.me) (entries s.announced)) r i in
+    let m = of_map (λ (e : KeyedRecord). e.1) (filter (is_by s.me) (entries s.announced)) r i in
     (m.0.0.name, by_device s s.me m.0 m.1 ∙ ap Some m.2)
 
 module _ {A : Type 0} where
@@ -230,14 +230,14 @@ module _ (s : FolderState) (hash : List ℕ) where
       let wanted = of_filter is_wanted r.blocks b y.1 in
       (own.0, r, b, own.1, file.1, in_contains r.blocks b wanted.0, (bytes_eq-Decides b.hash hash).0 wanted.1, sym y.2)
 
-  pub place-read : (p : Place) → IsPlaceFound s hash (Some p) ↔ IsPlaceOf s hash p
+  pub place-read : (p : Place) → IsSomePlace s hash (Some p) ↔ IsPlaceOf s hash p
   place-read p = (λ c. listed-place p (contains_in (places s hash) p c), λ h. in_contains (places s hash) p (place-listed p h))
 
   none-of : (ps : List Place) → ((p : Place) → In p ps → ⊥) → ps ≡ []
   none-of [] none = refl
   none-of (p ∷ ps) none = absurd (none p (inl refl))
 
-  pub no_place-read : IsPlaceFound s hash None ↔ ((p : Place) → ¬ (IsPlaceOf s hash p))
+  pub no_place-read : IsSomePlace s hash None ↔ ((p : Place) → ¬ (IsPlaceOf s hash p))
   no_place-read = (
     λ e p h. subst (In p) e (place-listed p h),
     λ none. none-of (places s hash) (λ p i. none p (listed-place p i)),
@@ -274,7 +274,7 @@ pub known-own : (s : FolderState) → known s s.me ≡ s.last
 known-own s = cond-true (bytes_eq s.me s.me) s.last _ ((bytes_eq-Decides s.me s.me).1 refl)
 
 module _ (s : FolderState) (d : Identity) (other : d ≢ s.me) where
-  abbrev theirs : List Announcement
+  abbrev theirs : List KeyedRecord
   theirs = filter (is_by d) (entries s.announced)
 
   abbrev sequences : List ℕ
@@ -286,7 +286,7 @@ module _ (s : FolderState) (d : Identity) (other : d ≢ s.me) where
   pub known-greatest : (n : Name) (r : FileRecord) → get s.announced (key n d) ≡ Some r → r.sequence ≤ known s d
   known-greatest n r g =
       let i = in_filter (is_by d) (entries s.announced) (key n d, r) (get_in keys_total exact_keys s.announced (key n d) r g) ((bytes_eq-Decides d d).1 refl) in
-      let e = greatest-of 0 sequences r.sequence (in_map (λ (x : Announcement). x.1.sequence) theirs (key n d, r) i) in
+      let e = greatest-of 0 sequences r.sequence (in_map (λ (x : KeyedRecord). x.1.sequence) theirs (key n d, r) i) in
       let k = known-is in
       omega arith
 
@@ -296,5 +296,5 @@ module _ (s : FolderState) (d : Identity) (other : d ≢ s.me) where
       by : (fold max 0 sequences ≡ 0) ⊎ In (fold max 0 sequences) sequences → (known s d ≡ 0) ⊎ ((n : Name) × (r : FileRecord) × (get s.announced (key n d) ≡ Some r) × (r.sequence ≡ known s d))
       by (inl e) = inl (known-is ∙ e)
       by (inr i) =
-          let m = of_map (λ (x : Announcement). x.1.sequence) theirs (fold max 0 sequences) i in
+          let m = of_map (λ (x : KeyedRecord). x.1.sequence) theirs (fold max 0 sequences) i in
           inr (m.0.0.name, m.0.1, by_device s d m.0 m.1, m.2 ∙ sym known-is)

@@ -11,7 +11,7 @@ use Rattle.std.proofs.lemmas.Slice.Eq.{bytes_eq-Decides}
 use Rattle.sync_record.specs.Devices.{bytes_cmp}
 use Rattle.sync_record.specs.Records.{Name, FileRecord, is_live, is_live_file, is_directory}
 use Rattle.folder_core.specs.declared.counts.Counts.{Counts}
-use Rattle.folder_core.specs.Announced.{Announcement, Key, key, is_by}
+use Rattle.folder_core.specs.Announced.{KeyedRecord, Key, key, is_by}
 use Rattle.folder_core.specs.States.{FolderState, Pull, local, need}
 use Rattle.folder_core.specs.Reads.{IsNumberOf, IsCounted, counts, locals}
 use Rattle.folder_core.proofs.ListFilters.{filter_map}
@@ -57,26 +57,26 @@ module _ {K X : Type 0} {R : K → K → Ordering} (o : IsTotalOrder R) (same : 
       λ k. (key k, value k)
 
 module _ (s : FolderState) where
-  abbrev es : List Announcement
+  abbrev es : List KeyedRecord
   es = entries s.announced
 
-  abbrev own : List Announcement
+  abbrev own : List KeyedRecord
   own = filter (is_by s.me) es
 
   abbrev HasLocal : (FileRecord → Bool) → Name → Type 0
   HasLocal p n = (r : FileRecord) × (local s n ≡ Some r) × (p r ≡ true)
 
-  own-key : (e : Announcement) → In e own → e.0 ≡ key e.0.name s.me
+  own-key : (e : KeyedRecord) → In e own → e.0 ≡ key e.0.name s.me
   own-key e i = ap (key e.0.name) ((bytes_eq-Decides e.0.device s.me).0 (of_filter (is_by s.me) es e i).1)
 
-  own-local : (e : Announcement) → In e own → local s e.0.name ≡ Some e.1
+  own-local : (e : KeyedRecord) → In e own → local s e.0.name ≡ Some e.1
   own-local e i = ap (get s.announced) (sym (own-key e i)) ∙ in_get keys_total exact_keys s.announced e (of_filter (is_by s.me) es e i).0
 
   -- names by their local records
   locals-number : (p : FileRecord → Bool) → IsNumberOf (HasLocal p) (count_by p (locals s))
   locals-number p =
-      subst (IsNumberOf (HasLocal p)) (sym (length-map kept (λ (e : Announcement). e.1)) ∙ ap length (sym (filter_map (λ (e : Announcement). e.1) p own)) ∙ length-filter p (locals s))
-      (number-of (λ (e : Announcement). e.0.name) kept (HasLocal p)
+      subst (IsNumberOf (HasLocal p)) (sym (length-map kept (λ (e : KeyedRecord). e.1)) ∙ ap length (sym (filter_map (λ (e : KeyedRecord). e.1) p own)) ∙ length-filter p (locals s))
+      (number-of (λ (e : KeyedRecord). e.0.name) kept (HasLocal p)
       (apart-filter passes own (apart-filter (is_by s.me) es (entries-apart keys_total exact_keys s.announced)))
       (λ d e i j named.
       let k = (of_filter passes own d i).0 in
@@ -85,33 +85,33 @@ module _ (s : FolderState) where
       (own-key d k ∙ ap (λ n. key n s.me) named ∙ sym (own-key e l)))
       (λ e i. let t = of_filter passes own e i in (e.1, own-local e t.0, t.1))
       (λ n h.
-      let e : Announcement = (key n s.me, h.0) in
+      let e : KeyedRecord = (key n s.me, h.0) in
       let i = in_filter (is_by s.me) es e (get_in keys_total exact_keys s.announced (key n s.me) h.0 h.1) ((bytes_eq-Decides s.me s.me).1 refl) in
       (e, in_filter passes own e i h.2, refl)))
     where
-      passes : Announcement → Bool
+      passes : KeyedRecord → Bool
       passes e = p e.1
 
-      kept : List Announcement
+      kept : List KeyedRecord
       kept = filter passes own
 
   abbrev IsOther : Key → Type 0
   IsOther k = (r : FileRecord) × (get s.announced k ≡ Some r) × (k.device ≢ s.me)
 
-  abbrev foreign : Announcement → Bool
+  abbrev foreign : KeyedRecord → Bool
   foreign e = not (is_by s.me e)
 
   others-number : IsNumberOf IsOther (count_by foreign es)
   others-number =
       subst (IsNumberOf IsOther) (length-filter foreign es)
-      (number-of (λ (e : Announcement). e.0) (filter foreign es) IsOther
+      (number-of (λ (e : KeyedRecord). e.0) (filter foreign es) IsOther
       (apart-filter foreign es (entries-apart keys_total exact_keys s.announced))
       (λ d e i j. one-entry keys_total exact_keys s.announced d e (of_filter foreign es d i).0 (of_filter foreign es e j).0)
       (λ e i.
       let t = of_filter foreign es e i in
       (e.1, in_get keys_total exact_keys s.announced e t.0, λ same. true≢false (sym ((bytes_eq-Decides e.0.device s.me).1 same) ∙ not-true _ t.1)))
       (λ k h.
-      let e : Announcement = (k, h.0) in
+      let e : KeyedRecord = (k, h.0) in
       let other = false_from_ne_true (is_by s.me e) (λ t. h.2 ((bytes_eq-Decides k.device s.me).0 t)) in
       (e, in_filter foreign es e (get_in keys_total exact_keys s.announced k h.0 h.1) (not_from_false _ other), refl)))
 

@@ -6,9 +6,9 @@ use Rattle.sync_record.specs.Devices.{Identity, bytes_cmp}
 use Rattle.sync_record.specs.Records.{Name, FileRecord}
 use Rattle.sync_record.specs.Validity.{is_valid}
 use Rattle.folder_core.specs.declared.place.Place.{Place}
-use Rattle.folder_core.specs.Announced.{Announcement, key, devices_of}
+use Rattle.folder_core.specs.Announced.{KeyedRecord, key, devices_of}
 use Rattle.folder_core.specs.States.{FolderState}
-use Rattle.folder_core.specs.Reads.{Query, Reply, Reads, Local, Best, Bests, Need, LocalSince, FindBlock, Known, CountAll, IsPlaceFound, best_found, known, places, with_devices}
+use Rattle.folder_core.specs.Reads.{Query, Reply, Reads, Local, Best, Bests, Need, LocalSince, FindBlock, Known, CountAll, IsSomePlace, best_with_devices, known, places, with_devices}
 use Rattle.folder_core.proofs.BestRule.{best-none, best-only}
 use Rattle.folder_core.proofs.BestDevices.{devices-rise, devices-listed}
 use Rattle.folder_core.proofs.ListTests.{in_contains, contains_in}
@@ -16,7 +16,7 @@ use Rattle.folder_core.proofs.Orders.{bytes_total}
 use Rattle.folder_core.proofs.ReadAnswers.{BestFound, known-greatest, known-reached}
 use Rattle.folder_core.proofs.ReadLists.{rising-same}
 
-some-place : (s : FolderState) (hash : List ℕ) (ps : List Place) → places s hash ≡ ps → (r : Option Place) × IsPlaceFound s hash r
+some-place : (s : FolderState) (hash : List ℕ) (ps : List Place) → places s hash ≡ ps → (r : Option Place) × IsSomePlace s hash r
 some-place s hash [] e = (None, e)
 some-place s hash (p ∷ ps) e = (Some p, subst (λ l. Contains l p) (sym e) (0, omega arith, refl))
 
@@ -41,12 +41,12 @@ one-reply s (Known d) r t e f = inl (e ∙ sym f)
 one-reply s CountAll r t e f = inl (e ∙ sym f)
 
 module _ (s : FolderState) (n : Name) where
-  pub no_best-is : ((d : Identity) (r : FileRecord) → get s.announced (key n d) ≡ Some r → is_valid r ≡ false) → None ≡ best_found s n
+  pub no_best-is : ((d : Identity) (r : FileRecord) → get s.announced (key n d) ≡ Some r → is_valid r ≡ false) → None ≡ best_with_devices s n
   no_best-is each = sym (ap (option_map (with_devices (entries s.announced))) ((best-none s.announced n).1 each))
 
-  pub best-is : (r : FileRecord) (ds : List Identity) → BestFound s n r ds → Some (r, ds) ≡ best_found s n
+  pub best-is : (r : FileRecord) (ds : List Identity) → BestFound s n r ds → Some (r, ds) ≡ best_with_devices s n
   best-is r ds h =
-      let b : Announcement = (key n h.0, r) in
+      let b : KeyedRecord = (key n h.0, r) in
       let is = best-only s.announced n h.0 r h.1 in
       let theirs = devices_of (entries s.announced) b in
       let same : ds ≡ theirs =

@@ -13,7 +13,7 @@ use Rattle.sync_record.specs.Devices.{bytes_cmp}
 use Rattle.sync_record.specs.Records.{Name, FileRecord}
 use Rattle.folder_core.specs.Announced.{IsNamed}
 use Rattle.folder_core.specs.States.{FolderState, IsNumbered, local, need}
-use Rattle.folder_core.specs.Reads.{ArePages, Found, best_found, bests_after, bests_page, need_page, last_page, local_since, next_page}
+use Rattle.folder_core.specs.Reads.{ArePages, BestEntry, best_with_devices, bests_after, bests_page, need_page, last_page, local_since, next_page}
 use Rattle.folder_core.proofs.BestPages.{bests_after-next, bests-page_has, bests-page_of, bests-page_rises, found_cmp}
 use Rattle.folder_core.proofs.ListTests.{In, in_contains, contains_in}
 use Rattle.folder_core.proofs.Orders.{bytes_total}
@@ -84,16 +84,16 @@ need-whole s after limit names rise few only all =
 
 -- ---- bests
 
-pub bests-whole : (s : FolderState) (after : Option Name) (limit : ℕ) (page : List Found) → IsNamed s.announced
+pub bests-whole : (s : FolderState) (after : Option Name) (limit : ℕ) (page : List BestEntry) → IsNamed s.announced
     → IsStrictlySortedBy bytes_cmp (map (λ b. b.0.name) page) → length page ≤ limit → length (bests_page s after limit) ≤ limit
-    → ((b : Found) → Contains page b → (Some b ≡ best_found s b.0.name) × IsAfter after b.0.name)
-    → ((n : Name) (b : Found) → Some b ≡ best_found s n → IsAfter after n → Contains page b ⊎ ((length page ≡ limit) × ((d : Found) → Contains page d → bytes_cmp d.0.name n ≡ Less)))
+    → ((b : BestEntry) → Contains page b → (Some b ≡ best_with_devices s b.0.name) × IsAfter after b.0.name)
+    → ((n : Name) (b : BestEntry) → Some b ≡ best_with_devices s n → IsAfter after n → Contains page b ⊎ ((length page ≡ limit) × ((d : BestEntry) → Contains page d → bytes_cmp d.0.name n ≡ Less)))
     → page ≡ bests_page s after limit
 bests-whole s after limit page named rise few short only all =
-    one-first found_cmp (on_total (λ b. b.0.name) bytes_total) (λ b. (Some b ≡ best_found s b.0.name) × IsAfter after b.0.name) limit page (bests_page s after limit)
-    (record { rise = unmapped (λ (b : Found). b.0.name) bytes_cmp page rise; few = few; only = only; all = λ b due. all b.0.name b due.0 due.1 })
+    one-first found_cmp (on_total (λ b. b.0.name) bytes_total) (λ b. (Some b ≡ best_with_devices s b.0.name) × IsAfter after b.0.name) limit page (bests_page s after limit)
+    (record { rise = unmapped (λ (b : BestEntry). b.0.name) bytes_cmp page rise; few = few; only = only; all = λ b due. all b.0.name b due.0 due.1 })
     (record {
-      rise = unmapped (λ (b : Found). b.0.name) bytes_cmp (bests_page s after limit) (bests-page_rises s named after limit);
+      rise = unmapped (λ (b : BestEntry). b.0.name) bytes_cmp (bests_page s after limit) (bests-page_rises s named after limit);
       few = short;
       only = bests-page_of s named after limit;
       all = λ b due. bests-page_has s after b.0.name due.1 named limit b due.0;
@@ -199,12 +199,12 @@ module _ (s : FolderState) (seq limit : ℕ) (numbered : IsNumbered s) where
 
 module _ (s : FolderState) (named : IsNamed s.announced) (limit : ℕ) (one : 1 ≤ limit) where
   abbrev Pages : Option Name → Type 0
-  Pages after = (pages : List (List Found)) × ArePages s limit after pages
+  Pages after = (pages : List (List BestEntry)) × ArePages s limit after pages
 
-  full-page : (after : Option Name) → limit ≤ length (bests_page s after limit) → (front : List Found) × (b : Found) × (bests_page s after limit ≡ front ++ b ∷ [])
+  full-page : (after : Option Name) → limit ≤ length (bests_page s after limit) → (front : List BestEntry) × (b : BestEntry) × (bests_page s after limit ≡ front ++ b ∷ [])
   full-page after full = split (bests_page s after limit) (omega arith)
     where
-      split : (xs : List Found) → 1 ≤ length xs → (front : List Found) × (b : Found) × (xs ≡ front ++ b ∷ [])
+      split : (xs : List BestEntry) → 1 ≤ length xs → (front : List BestEntry) × (b : BestEntry) × (xs ≡ front ++ b ∷ [])
       split [] some = absurd (omega arith)
       split (x ∷ []) some = ([], x, refl)
       split (x ∷ y ∷ xs) some = let r = split (y ∷ xs) (omega arith) in (x ∷ r.0, r.1, ap (λ l. x ∷ l) r.2)

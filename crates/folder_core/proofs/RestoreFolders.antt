@@ -9,7 +9,7 @@ use Rattle.std.proofs.lemmas.Option.{none-some}
 use Rattle.sync_record.specs.Devices.{Identity, bytes_cmp}
 use Rattle.sync_record.specs.Infos.{is_natural, natural}
 use Rattle.sync_record.specs.Records.{Name, FileRecord}
-use Rattle.folder_core.specs.Announced.{Announced, Announcement, IsNamed, Key, key, key_cmp, by_device}
+use Rattle.folder_core.specs.Announced.{Announced, KeyedRecord, IsNamed, Key, key, key_cmp, by_device}
 use Rattle.folder_core.specs.States.{FolderState, Pull, IsFolder, local}
 use Rattle.folder_core.specs.Restores.{MayRestore, key_of, records_of, restored_folder}
 use Rattle.folder_core.proofs.ListTests.{inside, In, in_contains, contains_in, in_map, of_map, in_get}
@@ -41,7 +41,7 @@ module _ {A B : Type 0} (f : A → B) where
 
 -- ---- what is looked up among the records
 
-abbrev filed : Identity × FileRecord → Announcement
+abbrev filed : Identity × FileRecord → KeyedRecord
 filed p = (key_of p, p.1)
 
 abbrev given : List (Identity × FileRecord) → Announced
@@ -140,14 +140,14 @@ restored-last (negsuc n) e = absurd (true≢false (sym e))
 
 -- ---- a folder's own records
 
-filed-again : (es : List Announcement) → ((e : Announcement) → In e es → e.1.name ≡ e.0.name) → map filed (map by_device es) ≡ es
+filed-again : (es : List KeyedRecord) → ((e : KeyedRecord) → In e es → e.1.name ≡ e.0.name) → map filed (map by_device es) ≡ es
 filed-again [] named = refl
 filed-again (e ∷ es) named =
     let name = named e (inl refl) in
     let rest = filed-again es (λ f i. named f (inr i)) in
     λ i. (key (name i) e.0.device, e.1) ∷ rest i
 
-keys-again : (es : List Announcement) → ((e : Announcement) → In e es → e.1.name ≡ e.0.name) → map key_of (map by_device es) ≡ map (λ e. e.0) es
+keys-again : (es : List KeyedRecord) → ((e : KeyedRecord) → In e es → e.1.name ≡ e.0.name) → map key_of (map by_device es) ≡ map (λ e. e.0) es
 keys-again [] named = refl
 keys-again (e ∷ es) named =
     let name = named e (inl refl) in
@@ -166,15 +166,15 @@ module _ (s : FolderState) (folder : IsFolder s) where
 
   once-again : AllPairs (λ p q. key_of p ≢ key_of q) (records_of s)
   once-again =
-      let es : List Announcement = entries s.announced in
-      let keys : Apart (map (λ (e : Announcement). e.0) es) =
-      apart-map (λ (e : Announcement). e.0) es (entries-apart keys_total exact_keys s.announced) (one-entry keys_total exact_keys s.announced) in
+      let es : List KeyedRecord = entries s.announced in
+      let keys : Apart (map (λ (e : KeyedRecord). e.0) es) =
+      apart-map (λ (e : KeyedRecord). e.0) es (entries-apart keys_total exact_keys s.announced) (one-entry keys_total exact_keys s.announced) in
       apart-pairs_by key_of (records_of s) (subst Apart (sym (keys-again es (λ e i. folder.named e.0 e.1 (in_get keys_total exact_keys s.announced e i)))) keys)
 
   own-again : (r : FileRecord) → Contains (records_of s) (s.me, r) → local s r.name ≡ Some r
   own-again r c =
       let m = of_map by_device (entries s.announced) (s.me, r) (contains_in (records_of s) (s.me, r) c) in
-      let e : Announcement = m.0 in
+      let e : KeyedRecord = m.0 in
       let g = in_get keys_total exact_keys s.announced e m.1 in
       let value : e.1 ≡ r = ap (λ (p : Identity × FileRecord). p.1) m.2 in
       let device : e.0.device ≡ s.me = ap (λ (p : Identity × FileRecord). p.0) m.2 in

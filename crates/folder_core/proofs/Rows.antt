@@ -4,7 +4,7 @@ use Rattle.std.specs.Prelude.{replicate, pos, Some, None, false}
 use Rattle.std.specs.FinMap.{entries}
 use Rattle.folder_core.specs.Announced.{best, is_candidate}
 use Rattle.folder_core.specs.States.{need}
-use Rattle.folder_core.specs.Reads.{best_found, local_since, places, counts, known, need_page}
+use Rattle.folder_core.specs.Reads.{best_with_devices, local_since, places, counts, known, need_page}
 use Rattle.folder_core.specs.declared.answer.Answer.TheVariants.{NotNeeded, Unsupported, Applied, Begun}
 use Rattle.folder_core.specs.declared.change.Change.TheVariants.{BeginPull, IndexFull, IndexMore}
 use Rattle.folder_core.specs.Steps.{step}
@@ -38,10 +38,10 @@ cut-candidate = refl
 pub cut-best : best (cut_short ∷ []) x ≡ None
 cut-best = refl
 
-pub contents-best : best_found (folder one_version 0 []) x ≡ Some (content 3 abc (file ((1, 1) ∷ []) 1), p1 ∷ [])
+pub contents-best : best_with_devices (folder one_version 0 []) x ≡ Some (content 3 abc (file ((1, 1) ∷ []) 1), p1 ∷ [])
 contents-best = simp listed
 
-pub content-devices : best_found (folder one_content 0 []) x ≡ Some (content 3 abc (file ((2, 1) ∷ []) 2), p2 ∷ [])
+pub content-devices : best_with_devices (folder one_content 0 []) x ≡ Some (content 3 abc (file ((2, 1) ∷ []) 2), p2 ∷ [])
 content-devices = simp listed
 
 pub invalid-passed : best invalid_above x ≡ Some (by p2 (file ((1, 1) ∷ []) 1))
@@ -53,7 +53,7 @@ nanoseconds-later = refl
 pub counters-greater : best counters_apart x ≡ Some (by p2 (file ((1, 2) ∷ []) 1))
 counters-greater = refl
 
-pub shared-devices : best_found (folder shared_by_two 1 []) x ≡ Some (content 3 abc (file ((1, 1) ∷ []) 2), me ∷ p1 ∷ [])
+pub shared-devices : best_with_devices (folder shared_by_two 1 []) x ≡ Some (content 3 abc (file ((1, 1) ∷ []) 2), me ∷ p1 ∷ [])
 shared-devices = simp listed
 
 pub kinds-counted : counts of_each_kind ≡ counts_of_each_kind

@@ -1,6 +1,6 @@
 -- Announced records and open pulls that are written out as lists: `simp (listed)` computes what definitions make of them.
 use Rattle.folder_core.proofs.Orders.{entries_listed, get_listed, insert_listed, retain_listed, remove_listed, keys_total, exact_keys, bytes_total, exact_names}
-use Rattle.folder_core.specs.Announced.{Announcement, Key, key_cmp}
+use Rattle.folder_core.specs.Announced.{KeyedRecord, Key, key_cmp}
 use Rattle.folder_core.specs.States.{Pull}
 use Rattle.folder_core.specs.Samples.{announced, pulls}
 use Rattle.std.proofs.Common.{◌≡◌, Bool, true, List}
@@ -11,16 +11,16 @@ use Rattle.std.specs.Prelude.{not}
 use Rattle.sync_record.specs.Devices.{bytes_cmp}
 use Rattle.sync_record.specs.Records.{Name, FileRecord}
 
-pub entries-announced : (es : List Announcement) → is_sorted key_cmp es ≡ true → entries (announced es) ≡ es
+pub entries-announced : (es : List KeyedRecord) → is_sorted key_cmp es ≡ true → entries (announced es) ≡ es
 entries-announced es e = entries_listed key_cmp es e
 
-pub get-announced : (es : List Announcement) (k : Key) → is_sorted key_cmp es ≡ true → get (announced es) k ≡ find key_cmp k es
+pub get-announced : (es : List KeyedRecord) (k : Key) → is_sorted key_cmp es ≡ true → get (announced es) k ≡ find key_cmp k es
 get-announced es k e = get_listed key_cmp es k e
 
-pub insert-announced : (es : List Announcement) (k : Key) (r : FileRecord) → is_sorted key_cmp es ≡ true → insert (announced es) k r ≡ announced (put key_cmp k r es)
+pub insert-announced : (es : List KeyedRecord) (k : Key) (r : FileRecord) → is_sorted key_cmp es ≡ true → insert (announced es) k r ≡ announced (put key_cmp k r es)
 insert-announced es k r e = insert_listed keys_total exact_keys es k r e
 
-pub retain-announced : (es : List Announcement) (p : Key → Bool) → is_sorted key_cmp es ≡ true → retain_keys (announced es) p ≡ announced (where_key key_cmp p es)
+pub retain-announced : (es : List KeyedRecord) (p : Key → Bool) → is_sorted key_cmp es ≡ true → retain_keys (announced es) p ≡ announced (where_key key_cmp p es)
 retain-announced es p e = retain_listed keys_total exact_keys es p e
 
 pub entries-pulls : (es : List (Name × Pull)) → is_sorted bytes_cmp es ≡ true → entries (pulls es) ≡ es

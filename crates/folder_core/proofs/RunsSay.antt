@@ -12,7 +12,7 @@ use Rattle.folder_core.specs.declared.answer.Answer.{Answer}
 use Rattle.folder_core.specs.declared.answer.Answer.TheVariants.{Begun, Entered, Moved, Recorded}
 use Rattle.folder_core.specs.declared.change.Change.{Change}
 use Rattle.folder_core.specs.declared.change.Change.TheVariants.{Abort, Finish, GiveUp}
-use Rattle.folder_core.specs.declared.token.Token.{Token}
+use Rattle.folder_core.specs.declared.pull_info.PullInfo.{PullInfo}
 
 pub run-more : (s : FolderState) (cs ds : List Change) → run s (cs ++ ds) ≡ ((run s cs).0 ++ (run (run s cs).1 ds).0, (run (run s cs).1 ds).1)
 run-more s [] ds = refl
@@ -24,7 +24,7 @@ partway-says s t cs answers p =
     (p.made, p.rest, p.divided, ap (λ (r : List Answer × FolderState). r.0) p.ran, ap (λ (r : List Answer × FolderState). r.1) p.ran)
 
 abbrev Ends : Change → Type 0
-Ends c = ((t : Token) × (r : FileRecord) × (c ≡ Finish t r)) ⊎ (((t : Token) × (c ≡ GiveUp t)) ⊎ ((t : Token) × (c ≡ Abort t)))
+Ends c = ((t : PullInfo) × (r : FileRecord) × (c ≡ Finish t r)) ⊎ (((t : PullInfo) × (c ≡ GiveUp t)) ⊎ ((t : PullInfo) × (c ≡ Abort t)))
 
 pub ends-to : (c : Change) → ends_pull c ≡ true → Ends c
 ends-to (Finish t r) e = inl (t, r, refl)
@@ -38,7 +38,7 @@ ends-from c (inr (inl x)) = ap ends_pull x.1
 ends-from c (inr (inr x)) = ap ends_pull x.1
 
 abbrev Copies : Answer → Type 0
-Copies a = ((v : Vector) × (a ≡ Moved (Some v))) ⊎ (((t : Token) × (a ≡ Begun t)) ⊎ ((t : Token) × (a ≡ Entered t)))
+Copies a = ((v : Vector) × (a ≡ Moved (Some v))) ⊎ (((t : PullInfo) × (a ≡ Begun t)) ⊎ ((t : PullInfo) × (a ≡ Entered t)))
 
 pub copies-to : (a : Answer) → copy_allocates a ≡ true → Copies a
 copies-to (Moved (Some v)) e = inl (v, refl)

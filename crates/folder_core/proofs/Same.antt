@@ -26,7 +26,7 @@ use Rattle.folder_core.specs.contracts.counts.CountsPartialEq.TheImpl as counts_
 use Rattle.folder_core.specs.contracts.finding.FindingPartialEq.TheImpl as finding_test
 use Rattle.folder_core.specs.contracts.finding.FoundContentPartialEq.TheImpl as content_test
 use Rattle.folder_core.specs.contracts.place.PlacePartialEq.TheImpl as place_test
-use Rattle.folder_core.specs.contracts.token.TokenPartialEq.TheImpl as token_test
+use Rattle.folder_core.specs.contracts.pull_info.PullInfoPartialEq.TheImpl as info_test
 
 -- ---- a test that is true exactly where two are one
 
@@ -101,8 +101,8 @@ blocks = through (λ b. (b.offset, (b.size, b.hash))) (λ f. record { offset = f
 
 -- ---- each type
 
-pub tokens : IsExact token_test.ghosts.eq
-tokens = through (λ t. (t.number, (t.name, (t.base, t.target))))
+pub infos : IsExact info_test.ghosts.eq
+infos = through (λ t. (t.number, (t.name, (t.base, t.target))))
     (λ f. record { number = f.0; name = f.1.0; base = f.1.1.0; target = f.1.1.1 }) (λ t. refl)
     (before unsigned_Decides (before bytes_eq-Decides (before (options records) records)))
 
@@ -165,9 +165,9 @@ answers = variants answer.enum _ (
                             (
                               one unsigned_Decides,
                               (
-                                one tokens,
+                                one infos,
                                 (
-                                  one tokens,
+                                  one infos,
                                   tt,
                                 ),
                               ),
@@ -201,13 +201,13 @@ changes = variants change.enum _ (
           (
             one bytes_eq-Decides,
             (
-              one tokens,
+              one infos,
               (
-                before tokens (one records),
+                before infos (one records),
                 (
-                  one tokens,
+                  one infos,
                   (
-                    one tokens,
+                    one infos,
                     tt,
                   ),
                 ),

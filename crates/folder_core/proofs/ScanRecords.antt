@@ -9,8 +9,8 @@ use Rattle.sync_blocks.specs.declared.block.Block.{Block}
 use Rattle.sync_record.specs.Devices.{short_id}
 use Rattle.sync_record.specs.Records.{Name, FileRecord}
 use Rattle.sync_record.specs.Validity.{is_valid}
-use Rattle.folder_core.specs.declared.stage.Stage.{Stage}
-use Rattle.folder_core.specs.declared.stage.Stage.TheVariants.{Pulling, Committing}
+use Rattle.folder_core.specs.declared.pull_stage.PullStage.{PullStage}
+use Rattle.folder_core.specs.declared.pull_stage.PullStage.TheVariants.{Pulling, Committing}
 use Rattle.folder_core.specs.Announced.{Key, key}
 use Rattle.folder_core.specs.States.{FolderState, Pull, local, local_version, same_stage, IsFolder}
 use Rattle.folder_core.specs.declared.answer.Answer.{Answer}
@@ -19,7 +19,7 @@ use Rattle.folder_core.specs.declared.change.Change.{Change}
 use Rattle.folder_core.specs.declared.change.Change.TheVariants.{ScanFound, ScanGone, IndexFull, IndexMore, Forget, BeginPull, EnterCommit, Finish, GiveUp, Abort}
 use Rattle.folder_core.specs.declared.finding.Finding.{Finding}
 use Rattle.folder_core.specs.declared.finding.FoundContent.TheVariants.{Directory as FoundDirectory, File as FoundFile}
-use Rattle.folder_core.specs.declared.token.Token.{Token}
+use Rattle.folder_core.specs.declared.pull_info.PullInfo.{PullInfo}
 use Rattle.folder_core.specs.Steps.{is_accepted, step, with_local, without_pull, committed_record, gone_record, next_version}
 use Rattle.folder_core.proofs.Orders.{keys_total, exact_keys, bytes_total, exact_names}
 use Rattle.folder_core.proofs.AnnouncedMaps.{insert_here, insert_other, remove_here}
@@ -134,12 +134,12 @@ gone-recorded s n expected moment k r folder there is =
 
 -- ---- commits
 
-committing : (st : Stage) → same_stage st Committing ≡ true → st ≡ Committing
+committing : (st : PullStage) → same_stage st Committing ≡ true → st ≡ Committing
 committing Pulling e = absurd (true≢false (sym e))
 committing Committing e = refl
 
 -- what a finish leaves, by the open pull
-pub record Finishes (s : FolderState) (c : Token) (k : ℕ) (t : FolderState) : Type 0 where
+pub record Finishes (s : FolderState) (c : PullInfo) (k : ℕ) (t : FolderState) : Type 0 where
   pub pull : Pull
   pub open_pull : get s.pulls c.name ≡ Some pull
   pub stage : pull.stage ≡ Committing
@@ -156,7 +156,7 @@ abbrev Finished : FolderState → Change → Answer × FolderState → Type 0
 Finished s (Finish c assembled) d = (k : ℕ) → IsFolder s → d.0 ≡ Done k → Finishes s c k d.1
 Finished s _ d = ⊤
 
-finishes : (s : FolderState) (c : Token) (p : Pull) (k : ℕ) → IsFolder s → (get s.pulls c.name ≡ Some p) → p.stage ≡ Committing → p.number ≡ c.number → p.target ≡ c.target → k ≡ s.last + 1
+finishes : (s : FolderState) (c : PullInfo) (p : Pull) (k : ℕ) → IsFolder s → (get s.pulls c.name ≡ Some p) → p.stage ≡ Committing → p.number ≡ c.number → p.target ≡ c.target → k ≡ s.last + 1
     → Finishes s c k (without_pull (with_local s (committed_record p.base p.target)) c.name)
 finishes s c p k folder is stage number target given = record {
   pull = p;
@@ -176,7 +176,7 @@ finishes s c p k folder is stage number target given = record {
     name : p.target.name ≡ c.name
     name = (folder.targets c.name p is).0
 
-finish-cases : (s : FolderState) (c : Token) (assembled : FileRecord) → Finished s (Finish c assembled) (step s (Finish c assembled))
+finish-cases : (s : FolderState) (c : PullInfo) (assembled : FileRecord) → Finished s (Finish c assembled) (step s (Finish c assembled))
 finish-cases s c assembled = step-cases s (Finished s) (record {
   tested = none;
   found = λ n expected f moment _. tt;
@@ -208,5 +208,5 @@ finish-cases s c assembled = step-cases s (Finished s) (record {
     none (GiveUp t) a fails = tt
     none (Abort t) a fails = tt
 
-pub finish-recorded : (s : FolderState) (c : Token) (assembled : FileRecord) (k : ℕ) → IsFolder s → (step s (Finish c assembled)).0 ≡ Done k → Finishes s c k (step s (Finish c assembled)).1
+pub finish-recorded : (s : FolderState) (c : PullInfo) (assembled : FileRecord) (k : ℕ) → IsFolder s → (step s (Finish c assembled)).0 ≡ Done k → Finishes s c k (step s (Finish c assembled)).1
 finish-recorded s c assembled = finish-cases s c assembled

@@ -32,13 +32,13 @@ abbrev pub IsNamed : Announced → Type 0
 IsNamed a = (k : Key) (r : FileRecord) → get a k ≡ Some r → r.name ≡ k.name
 
 -- Every device's record of each name, as `entries` lists them: by name, and then by device.
-abbrev pub Announcement : Type 0
-Announcement = Key × FileRecord
+abbrev pub KeyedRecord : Type 0
+KeyedRecord = Key × FileRecord
 
-abbrev pub is_of : Name → Announcement → Bool
+abbrev pub is_of : Name → KeyedRecord → Bool
 is_of n e = bytes_eq e.0.name n
 
-abbrev pub is_by : Identity → Announcement → Bool
+abbrev pub is_by : Identity → KeyedRecord → Bool
 is_by d e = bytes_eq e.0.device d
 
 -- the device announces these records too; of several under one name the last counts
@@ -54,29 +54,29 @@ abbrev pub without : Identity → Announced → Announced
 without d a = retain_keys a (λ k. not (bytes_eq k.device d))
 
 -- a valid record, where no valid record of its name dominates it
-abbrev pub is_candidate : List Announcement → Announcement → Bool
+abbrev pub is_candidate : List KeyedRecord → KeyedRecord → Bool
 is_candidate es e =
     is_valid e.1 && not (list_any (λ f. is_of e.0.name f && is_valid f.1 && dominates f.1.version e.1.version) es)
 
 -- the record with its device
-abbrev pub by_device : Announcement → Identity × FileRecord
+abbrev pub by_device : KeyedRecord → Identity × FileRecord
 by_device e = (e.0.device, e.1)
 
 -- the candidate that is preferred to every other of its name
-abbrev pub is_best : List Announcement → Announcement → Bool
+abbrev pub is_best : List KeyedRecord → KeyedRecord → Bool
 is_best es e =
     is_candidate es e
     && list_all (λ f. is_by e.0.device f || is_preferred (by_device e) (by_device f)) (filter (λ f. is_of e.0.name f && is_candidate es f) es)
 
 -- the best of each name that has one, in byte order
-abbrev pub bests : List Announcement → List Announcement
+abbrev pub bests : List KeyedRecord → List KeyedRecord
 bests es = filter (is_best es) es
 
-abbrev pub best : List Announcement → Name → Option Announcement
+abbrev pub best : List KeyedRecord → Name → Option KeyedRecord
 best es n = find (is_of n) (bests es)
 
 -- the devices whose valid record of that name has its version and its content, rising
-abbrev pub devices_of : List Announcement → Announcement → List Identity
+abbrev pub devices_of : List KeyedRecord → KeyedRecord → List Identity
 devices_of es b =
     map (λ e. e.0.device)
     (filter (λ e. is_of b.0.name e && is_valid e.1 && same_version e.1.version b.1.version && same_content e.1 b.1) es)

@@ -3,8 +3,8 @@ use Rattle.std.specs.Prelude.{◌≡◌, ℕ, ⊤, Bool, true, false, Option, So
 use Rattle.std.specs.declared.alloc.AllocError.{AllocError}
 use Rattle.folder_core.specs.declared.pull.BeginAnswer.{BeginAnswer}
 use Rattle.folder_core.specs.declared.pull.BeginAnswer.TheVariants as begin
-use Rattle.folder_core.specs.declared.pull.NotEntered.{NotEntered}
-use Rattle.folder_core.specs.declared.pull.NotEntered.TheVariants as enter
+use Rattle.folder_core.specs.declared.pull.EnterFault.{EnterFault}
+use Rattle.folder_core.specs.declared.pull.EnterFault.TheVariants as enter
 use Rattle.folder_core.specs.declared.pull.Stray.{Stray as StrayCommit}
 use Rattle.folder_core.specs.declared.scan.ScanAnswer.{ScanAnswer}
 use Rattle.folder_core.specs.declared.scan.ScanAnswer.TheVariants as scan
@@ -14,7 +14,7 @@ use Rattle.folder_core.specs.States.{FolderState}
 use Rattle.folder_core.specs.declared.answer.Answer.{Answer}
 use Rattle.folder_core.specs.declared.answer.Answer.TheVariants.{Busy, Moved, Unchanged, Recorded, CounterFull, SequenceFull, Applied, NotNeeded, Unsupported, Begun, Stray, LocalMoved, Superseded, Entered, Done, Closed}
 use Rattle.folder_core.specs.declared.change.Change.{Change}
-use Rattle.folder_core.specs.declared.token.Token.{Token}
+use Rattle.folder_core.specs.declared.pull_info.PullInfo.{PullInfo}
 use Rattle.folder_core.specs.Steps.{step}
 
 -- A change of a state gives this answer and leaves the new state. Without an answer it is out of memory, and nothing
@@ -43,7 +43,7 @@ begin_answer (Ok begin.Busy) = Some Busy
 begin_answer (Ok begin.Unsupported) = Some Unsupported
 begin_answer (Err fault) = None
 
-abbrev pub enter_answer : Result Token NotEntered → Option Answer
+abbrev pub enter_answer : Result PullInfo EnterFault → Option Answer
 enter_answer (Ok commit) = Some (Entered commit)
 enter_answer (Err enter.Stray) = Some Stray
 enter_answer (Err (enter.LocalMoved ticket)) = Some LocalMoved
@@ -52,7 +52,7 @@ enter_answer (Err (enter.SequenceFull ticket)) = Some SequenceFull
 enter_answer (Err (enter.OutOfMemory ticket)) = None
 
 -- a ticket that isn't stray comes back
-abbrev pub GivesBack : Token → NotEntered → Type 0
+abbrev pub GivesBack : PullInfo → EnterFault → Type 0
 GivesBack given enter.Stray = ⊤
 GivesBack given (enter.LocalMoved ticket) = ticket ≡ given
 GivesBack given (enter.Superseded ticket) = ticket ≡ given
@@ -67,7 +67,7 @@ abbrev pub close_answer : Bool → Answer
 close_answer true = Closed
 close_answer false = Stray
 
--- With these answers a scan, a begin or an entrance makes something new: a record that is kept, a version that is told, a
+-- With these answers a scan, a begin or an entered commit makes something new: a record that is kept, a version, a
 -- ticket or a commit. With every other one it needs no memory.
 abbrev pub may_allocate : Answer → Bool
 may_allocate (Recorded sequence) = true
@@ -76,7 +76,7 @@ may_allocate (Begun ticket) = true
 may_allocate (Entered commit) = true
 may_allocate _ = false
 
--- these answers have a version or a token, for which a copy allocates
+-- these answers have a version or say something of a pull, for which a copy allocates
 abbrev pub copy_allocates : Answer → Bool
 copy_allocates (Moved (Some version)) = true
 copy_allocates (Begun ticket) = true

@@ -2,8 +2,8 @@
 use Rattle.std.specs.Prelude.{◌≡◌, ℕ, ℤ, Bool, true, false, List, Option, refl}
 use Rattle.std.specs.Coded.{Coded, code_by, coded_ℕ, coded_ℤ, coded_bool, coded_list, coded_option, coded×}
 use Rattle.std.specs.FinMap as map
-use Rattle.folder_core.specs.declared.stage.Stage.{Stage}
-use Rattle.folder_core.specs.declared.stage.Stage.TheVariants.{Pulling, Committing}
+use Rattle.folder_core.specs.declared.pull_stage.PullStage.{PullStage}
+use Rattle.folder_core.specs.declared.pull_stage.PullStage.TheVariants.{Pulling, Committing}
 use Rattle.sync_blocks.specs.declared.block.Block.{Block}
 use Rattle.sync_record.specs.Devices.{bytes_cmp}
 use Rattle.sync_record.specs.Records.{FileRecord}
@@ -76,23 +76,23 @@ abbrev pub coded_key : Coded Key
 coded_key = code_by (Bytes × Bytes) (coded× coded_bytes coded_bytes)
     (λ k. (k.name, k.device)) (λ p. record { name = p.0; device = p.1 }) (λ _. refl)
 
-abbrev pub is_committing_stage : Stage → Bool
+abbrev pub is_committing_stage : PullStage → Bool
 is_committing_stage Pulling = false
 is_committing_stage Committing = true
 
-abbrev pub stage_of : Bool → Stage
+abbrev pub stage_of : Bool → PullStage
 stage_of false = Pulling
 stage_of true = Committing
 
-pub stage_of-is_committing : (s : Stage) → stage_of (is_committing_stage s) ≡ s
+pub stage_of-is_committing : (s : PullStage) → stage_of (is_committing_stage s) ≡ s
 stage_of-is_committing Pulling = refl
 stage_of-is_committing Committing = refl
 
-abbrev pub coded_stage : Coded Stage
+abbrev pub coded_stage : Coded PullStage
 coded_stage = code_by Bool coded_bool is_committing_stage stage_of stage_of-is_committing
 
 abbrev pub coded_pull : Coded Pull
-coded_pull = code_by (ℕ × (Option Vector × (FileRecord × Stage))) (coded× coded_ℕ (coded× (coded_option coded_version) (coded× coded_record coded_stage)))
+coded_pull = code_by (ℕ × (Option Vector × (FileRecord × PullStage))) (coded× coded_ℕ (coded× (coded_option coded_version) (coded× coded_record coded_stage)))
     (λ p. (p.number, (p.base, (p.target, p.stage)))) (λ q. record { number = q.0; base = q.1.0; target = q.1.1.0; stage = q.1.1.1 }) (λ _. refl)
 
 abbrev pub Pulls : Type 0

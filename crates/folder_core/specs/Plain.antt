@@ -5,26 +5,26 @@ use Rattle.std.specs.List.{list_any, reduce}
 use Rattle.std.specs.FinMap as map
 use Rattle.folder_core.specs.declared.announcement.Announcement.{Announcement as Entry}
 use Rattle.folder_core.specs.declared.plain.pull.OpenPull.{OpenPull}
-use Rattle.folder_core.specs.declared.stage.Stage.{Stage}
-use Rattle.folder_core.specs.declared.stage.Stage.TheVariants.{Pulling, Committing}
+use Rattle.folder_core.specs.declared.pull_stage.PullStage.{PullStage}
+use Rattle.folder_core.specs.declared.pull_stage.PullStage.TheVariants.{Pulling, Committing}
 use Rattle.sync_record.specs.Contents.{same_content}
 use Rattle.sync_record.specs.Devices.{Identity, bytes_cmp}
 use Rattle.sync_record.specs.Preference.{is_preferred}
 use Rattle.sync_record.specs.Records.{Name, FileRecord}
 use Rattle.sync_record.specs.Validity.{is_valid}
 use Rattle.sync_version.specs.Computed.{dominates, same_version}
-use Rattle.folder_core.specs.Announced.{Announcement, bests, key, key_cmp, last_of}
+use Rattle.folder_core.specs.Announced.{KeyedRecord, bests, key, key_cmp, last_of}
 use Rattle.folder_core.specs.Codes.{Pulls}
-use Rattle.folder_core.specs.Reads.{Found, with_devices}
+use Rattle.folder_core.specs.Reads.{BestEntry, with_devices}
 use Rattle.folder_core.specs.States.{FolderState, IsFolder, Pull}
 use Rattle.folder_core.specs.Steps.{committed_record}
 
 -- what a device announces, under its key
-abbrev pub filed : Entry → Announcement
+abbrev pub filed : Entry → KeyedRecord
 filed e = (key e.record.name e.device, e.record)
 
 -- a record of the device, under its key
-abbrev pub filed_by : Identity → FileRecord → Announcement
+abbrev pub filed_by : Identity → FileRecord → KeyedRecord
 filed_by d r = (key r.name d, r)
 
 -- no two entries are of one key, and they rise by name and then by device
@@ -32,11 +32,11 @@ abbrev pub Rises : List Entry → Type 0
 Rises es = IsTrue (map.is_sorted key_cmp (map filed es))
 
 -- the best of each name, in byte order, with the devices that have it
-abbrev pub listed_bests : List Entry → List Found
+abbrev pub listed_bests : List Entry → List BestEntry
 listed_bests es = map (with_devices (map filed es)) (bests (map filed es))
 
 -- a pull commits from when on the record that it will announce stands ready
-abbrev pub stage_of : Option FileRecord → Stage
+abbrev pub stage_of : Option FileRecord → PullStage
 stage_of None = Pulling
 stage_of (Some r) = Committing
 
@@ -75,7 +75,7 @@ pub record IsPlain (me : Identity) (es : List Entry) (capacity last : ℕ) (ps :
   pub room : length es + commits ps ≤ capacity
 
 -- the list with these, each in its place or in place of what has its key
-abbrev pub put_all : List Announcement → List Announcement → List Announcement
+abbrev pub put_all : List KeyedRecord → List KeyedRecord → List KeyedRecord
 put_all es rs = fold (λ es r. map.put key_cmp r.0 r.1 es) es rs
 
 abbrev pub named : FileRecord → Name × FileRecord
@@ -110,5 +110,5 @@ better_of None f = f
 better_of (Some e) f = better e f
 
 -- the best of entries of one name, with the devices that have it
-abbrev pub group_best : List Entry → Option Found
+abbrev pub group_best : List Entry → Option BestEntry
 group_best es = option_map (λ b. (b.record, devices_with es b.record)) (reduce better (filter (is_undominated es) es))

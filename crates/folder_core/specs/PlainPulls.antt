@@ -11,8 +11,8 @@ use Rattle.folder_core.specs.declared.plain.pulls.BeginObstacle.{BeginObstacle}
 use Rattle.folder_core.specs.declared.plain.pulls.BeginObstacle.TheVariants as begin
 use Rattle.folder_core.specs.declared.plain.pulls.EntryObstacle.{EntryObstacle}
 use Rattle.folder_core.specs.declared.plain.pulls.EntryObstacle.TheVariants as entry
-use Rattle.folder_core.specs.declared.stage.Stage.{Stage}
-use Rattle.folder_core.specs.declared.token.Token.{Token}
+use Rattle.folder_core.specs.declared.pull_stage.PullStage.{PullStage}
+use Rattle.folder_core.specs.declared.pull_info.PullInfo.{PullInfo}
 use Rattle.sync_record.specs.Contents.{same_content}
 use Rattle.sync_record.specs.Devices.{bytes_cmp}
 use Rattle.sync_record.specs.Records.{Name, FileRecord, is_live, is_file, is_directory}
@@ -23,16 +23,16 @@ use Rattle.folder_core.specs.PlainReads.{is_needed_over, version_of}
 use Rattle.folder_core.specs.States.{same_local_version, same_stage}
 
 -- how many pulls are of a lesser name
-abbrev pub place_of : Name → List OpenPull → ℕ
-place_of n ps = prefix_len (λ p. is_lt (bytes_cmp p.target.name n)) ps
+abbrev pub position_of : Name → List OpenPull → ℕ
+position_of n ps = prefix_len (λ p. is_lt (bytes_cmp p.target.name n)) ps
 
 -- the pull is the one that the ticket is for, and is at this stage
-abbrev pub is_for : Token → Stage → OpenPull → Bool
+abbrev pub is_for : PullInfo → PullStage → OpenPull → Bool
 is_for t stage p =
     bytes_eq t.name p.target.name && (p.number == t.number) && same_stage (stage_of p.ready) stage && same_record p.target t.target
 
-abbrev pub pull_for : Token → Stage → List OpenPull → Option OpenPull
-pull_for t stage ps = option_and_then (λ p. if is_for t stage p then Some p else None) (slice_get ps (place_of t.name ps))
+abbrev pub pull_for : PullInfo → PullStage → List OpenPull → Option OpenPull
+pull_for t stage ps = option_and_then (λ p. if is_for t stage p then Some p else None) (slice_get ps (position_of t.name ps))
 
 -- live, and neither a file nor a directory
 abbrev pub is_unsupported : FileRecord → Bool
@@ -61,7 +61,7 @@ begin_refusal begin.Busy = Busy
 begin_refusal begin.NotNeeded = NotNeeded
 begin_refusal begin.Unsupported = Unsupported
 
--- the tests of an entrance: the pull, the local record, whether the best is its target still, and whether no sequence is left
+-- the tests before a commit is entered: the pull, the local record, whether the best is its target still, and whether no sequence is left
 abbrev pub entry_tests_of : OpenPull → Option FileRecord → Bool → Bool → List (Bool × Answer)
 entry_tests_of p own is_best is_full =
     (not (same_local_version (version_of own) (version_of p.base)), LocalMoved)
@@ -69,7 +69,7 @@ entry_tests_of p own is_best is_full =
     ∷ (is_full, SequenceFull)
     ∷ []
 
--- what an entrance answers for this reason
+-- what is answered where a commit is not entered for this reason
 abbrev pub entry_refusal : EntryObstacle → Answer
 entry_refusal entry.LocalMoved = LocalMoved
 entry_refusal entry.Superseded = Superseded

@@ -8,7 +8,7 @@ use Rattle.folder_core.specs.declared.place.Place.{Place}
 use Rattle.folder_core.specs.declared.counts.Counts.{Counts}
 use Rattle.sync_record.specs.Devices.{Identity, bytes_cmp}
 use Rattle.sync_record.specs.Records.{Name, FileRecord, is_live, is_live_file, is_directory}
-use Rattle.folder_core.specs.Announced.{Announcement, Key, is_by, best, bests, devices_of}
+use Rattle.folder_core.specs.Announced.{KeyedRecord, Key, is_by, best, bests, devices_of}
 use Rattle.folder_core.specs.States.{FolderState, Pull, local, need}
 
 -- this device's records, in byte order of their names
@@ -16,27 +16,27 @@ abbrev pub locals : FolderState → List FileRecord
 locals s = map (λ e. e.1) (filter (is_by s.me) (entries s.announced))
 
 -- the record, and the devices that have it
-abbrev pub Found : Type 0
-Found = FileRecord × List Identity
+abbrev pub BestEntry : Type 0
+BestEntry = FileRecord × List Identity
 
-abbrev pub with_devices : List Announcement → Announcement → Found
+abbrev pub with_devices : List KeyedRecord → KeyedRecord → BestEntry
 with_devices es b = (b.1, devices_of es b)
 
 -- the best of a name, with the devices that have it
-abbrev pub best_found : FolderState → Name → Option Found
-best_found s n = option_map (with_devices (entries s.announced)) (best (entries s.announced) n)
+abbrev pub best_with_devices : FolderState → Name → Option BestEntry
+best_with_devices s n = option_map (with_devices (entries s.announced)) (best (entries s.announced) n)
 
 -- the name is greater than the one given, if one is given
 abbrev pub is_after : Option Name → Name → Bool
 is_after after n = option_map_or (λ a. is_gt (bytes_cmp n a)) after true
 
 -- the bests of the names after a name, with their devices, in byte order
-abbrev pub bests_after : FolderState → Option Name → List Found
+abbrev pub bests_after : FolderState → Option Name → List BestEntry
 bests_after s after =
     map (with_devices (entries s.announced)) (filter (λ b. is_after after b.0.name) (bests (entries s.announced)))
 
 -- the first of these, at most limit of them
-abbrev pub bests_page : FolderState → Option Name → ℕ → List Found
+abbrev pub bests_page : FolderState → Option Name → ℕ → List BestEntry
 bests_page s after limit = take limit (bests_after s after)
 
 -- the first needed names after a name, at most limit of them
@@ -76,8 +76,8 @@ places s hash =
     (filter is_live_file (locals s))
 
 -- any of them may be found, and none only where there is none
-abbrev pub IsPlaceFound : FolderState → List ℕ → Option Place → Type 0
-IsPlaceFound s hash found = MatchOption found (places s hash ≡ []) (λ p. Contains (places s hash) p)
+abbrev pub IsSomePlace : FolderState → List ℕ → Option Place → Type 0
+IsSomePlace s hash found = MatchOption found (places s hash ≡ []) (λ p. Contains (places s hash) p)
 
 -- the greatest sequence that a device announced, 0 without any; of this device the last one given
 abbrev pub known : FolderState → Identity → ℕ
@@ -108,8 +108,8 @@ pub data Query : Type 0 where
 -- what kind of answer a query has
 abbrev pub Reply : Query → Type 0
 Reply (Local n) = Option FileRecord
-Reply (Best n) = Option Found
-Reply (Bests after limit) = List Found
+Reply (Best n) = Option BestEntry
+Reply (Bests after limit) = List BestEntry
 Reply (Need after limit) = List Name
 Reply (LocalSince seq limit) = List FileRecord
 Reply (FindBlock hash) = Option Place
@@ -119,19 +119,19 @@ Reply CountAll = Counts
 -- the folder may answer so
 abbrev pub Reads : FolderState → (q : Query) → Reply q → Type 0
 Reads s (Local n) r = r ≡ local s n
-Reads s (Best n) r = r ≡ best_found s n
+Reads s (Best n) r = r ≡ best_with_devices s n
 Reads s (Bests after limit) r = r ≡ bests_page s after limit
 Reads s (Need after limit) r = r ≡ need_page s after limit
 Reads s (LocalSince seq limit) r = r ≡ local_since s seq limit
-Reads s (FindBlock hash) r = IsPlaceFound s hash r
+Reads s (FindBlock hash) r = IsSomePlace s hash r
 Reads s (Known d) r = r ≡ known s d
 Reads s CountAll r = r ≡ counts s
 
 -- Pages of bests after a name, one after the other: each is read after the last name of the one before it, and the last
 -- page has fewer than limit.
-pub data ArePages (s : FolderState) (limit : ℕ) : Option Name → List (List Found) → Type 0 where
-  last_page : (after : Option Name) (page : List Found) → Reads s (Bests after limit) page → length page < limit → ArePages s limit after (page ∷ [])
-  next_page : (after : Option Name) (front : List Found) (b : Found) (pages : List (List Found)) →
+pub data ArePages (s : FolderState) (limit : ℕ) : Option Name → List (List BestEntry) → Type 0 where
+  last_page : (after : Option Name) (page : List BestEntry) → Reads s (Bests after limit) page → length page < limit → ArePages s limit after (page ∷ [])
+  next_page : (after : Option Name) (front : List BestEntry) (b : BestEntry) (pages : List (List BestEntry)) →
       Reads s (Bests after limit) (front ++ b ∷ []) → ArePages s limit (Some b.0.name) pages → ArePages s limit after ((front ++ b ∷ []) ∷ pages)
 
 -- There are n of them: they can be listed, each once.

@@ -7,9 +7,9 @@ use Rattle.sync_record.specs.Records.{Name, FileRecord}
 use Rattle.sync_version.specs.Versions.{Vector}
 use Rattle.folder_core.specs.declared.counts.Counts.{Counts}
 use Rattle.folder_core.specs.declared.place.Place.{Place}
-use Rattle.folder_core.specs.declared.stage.Stage.{Stage}
-use Rattle.folder_core.specs.declared.stage.Stage.TheVariants.{Pulling, Committing}
-use Rattle.folder_core.specs.Announced.{Announced, Announcement, key}
+use Rattle.folder_core.specs.declared.pull_stage.PullStage.{PullStage}
+use Rattle.folder_core.specs.declared.pull_stage.PullStage.TheVariants.{Pulling, Committing}
+use Rattle.folder_core.specs.Announced.{Announced, KeyedRecord, key}
 use Rattle.folder_core.specs.States.{FolderState, Pull}
 use Rattle.folder_core.specs.declared.answer.Answer.{Answer}
 use Rattle.folder_core.specs.declared.answer.Answer.TheVariants.{Busy, Moved, Unchanged, CounterFull, SequenceFull, NotNeeded, Stray, LocalMoved, Superseded, Applied, Closed, Recorded, Done, Begun, Entered}
@@ -17,7 +17,7 @@ use Rattle.folder_core.specs.declared.change.Change.{Change}
 use Rattle.folder_core.specs.declared.change.Change.TheVariants.{ScanFound, ScanGone, IndexFull, BeginPull, EnterCommit, Finish, GiveUp, Abort}
 use Rattle.folder_core.specs.declared.finding.Finding.{Finding}
 use Rattle.folder_core.specs.declared.finding.FoundContent.TheVariants.{File as FoundFile, Directory as FoundDirectory}
-use Rattle.folder_core.specs.declared.token.Token.{Token}
+use Rattle.folder_core.specs.declared.pull_info.PullInfo.{PullInfo}
 use Rattle.folder_core.specs.Steps.{step}
 
 -- ---- devices, names, records
@@ -85,17 +85,17 @@ abd = block 0 3 8 ∷ []
 
 -- ---- folders
 
-abbrev pub by : Identity → FileRecord → Announcement
+abbrev pub by : Identity → FileRecord → KeyedRecord
 by d r = (key r.name d, r)
 
-abbrev pub announced : List Announcement → Announced
+abbrev pub announced : List KeyedRecord → Announced
 announced es = from_sorted es
 
 abbrev pub pulls : List (Name × Pull) → FinMap bytes_cmp Pull
 pulls es = from_sorted es
 
 -- this device's folder
-abbrev pub folder : List Announcement → ℕ → List (Name × Pull) → FolderState
+abbrev pub folder : List KeyedRecord → ℕ → List (Name × Pull) → FolderState
 folder es last ps = record { me = me; announced = announced es; last = last; pulls = pulls ps }
 
 -- changes, each with its answer and its state
@@ -110,44 +110,44 @@ Leads s (m ∷ ms) = (step s m.0 ≡ (m.1, m.2)) × Leads m.2 ms
 -- ---- which record is the best
 
 -- P1's version dominates P2's, and P3's is concurrent with both
-abbrev pub ring : List Announcement
+abbrev pub ring : List KeyedRecord
 ring = by p1 (file ((1, 2) ∷ []) 1) ∷ by p2 (file ((1, 1) ∷ []) 3) ∷ by p3 (file ((3, 1) ∷ []) 2) ∷ []
 
-abbrev pub deleted_and_live : List Announcement
+abbrev pub deleted_and_live : List KeyedRecord
 deleted_and_live = by p1 (deletion ((1, 2) ∷ []) 9) ∷ by p2 (file ((2, 1) ∷ []) 1) ∷ []
 
-abbrev pub deleted_alone : List Announcement
+abbrev pub deleted_alone : List KeyedRecord
 deleted_alone = by p1 (deletion ((1, 1) ∷ []) 1) ∷ []
 
-abbrev pub modified_by_5_and_7 : List Announcement
+abbrev pub modified_by_5_and_7 : List KeyedRecord
 modified_by_5_and_7 = by p1 (modified 5 (file ((1, 1) ∷ []) 1)) ∷ by p2 (modified 7 (file ((2, 1) ∷ []) 1)) ∷ []
 
 -- one second, and another part of it
-abbrev pub nanoseconds_apart : List Announcement
+abbrev pub nanoseconds_apart : List KeyedRecord
 nanoseconds_apart = by p1 (record (file ((1, 1) ∷ []) 1) { modified_ns = pos 3 }) ∷ by p2 (record (file ((2, 1) ∷ []) 1) { modified_ns = pos 4 }) ∷ []
 
 -- equal times and authors, and two versions in conflict
-abbrev pub counters_apart : List Announcement
+abbrev pub counters_apart : List KeyedRecord
 counters_apart = by p1 (file ((1, 1) ∷ (2, 1) ∷ []) 1) ∷ by p2 (file ((1, 2) ∷ []) 1) ∷ []
 
 -- this device's record and P1's with the same version and content
-abbrev pub shared_by_two : List Announcement
+abbrev pub shared_by_two : List KeyedRecord
 shared_by_two = by me (content 3 abc (file ((1, 1) ∷ []) 1)) ∷ by p1 (content 3 abc (file ((1, 1) ∷ []) 2)) ∷ []
 
 -- the blocks of the file end too early
-abbrev pub cut_short : Announcement
+abbrev pub cut_short : KeyedRecord
 cut_short = by p1 (content 262144 (block 0 131072 7 ∷ []) (file ((1, 1) ∷ []) 1))
 
 -- one version with two contents
-abbrev pub one_version : List Announcement
+abbrev pub one_version : List KeyedRecord
 one_version = by p1 (content 3 abc (file ((1, 1) ∷ []) 1)) ∷ by p2 (content 3 abd (file ((1, 1) ∷ []) 1)) ∷ []
 
 -- one content of two versions
-abbrev pub one_content : List Announcement
+abbrev pub one_content : List KeyedRecord
 one_content = by p1 (content 3 abc (file ((1, 1) ∷ []) 1)) ∷ by p2 (content 3 abc (file ((2, 1) ∷ []) 2)) ∷ []
 
 -- an invalid record that dominates a valid one
-abbrev pub invalid_above : List Announcement
+abbrev pub invalid_above : List KeyedRecord
 invalid_above = by p1 (record (file ((1, 2) ∷ []) 9) { invalid = true }) ∷ by p2 (file ((1, 1) ∷ []) 1) ∷ []
 
 -- ---- a pull
@@ -159,10 +159,10 @@ target = content 3 abc (file ((1, 1) ∷ []) 5)
 abbrev pub offered : FolderState
 offered = folder (by p1 target ∷ []) 0 []
 
-abbrev pub ticket : Token
+abbrev pub ticket : PullInfo
 ticket = record { number = 1; name = x; base = None; target = target }
 
-abbrev pub pull : Stage → Pull
+abbrev pub pull : PullStage → Pull
 pull stage = record { number = 1; base = None; target = target; stage = stage }
 
 -- a scan finds the content abd
@@ -173,7 +173,7 @@ found_abd = record { content = FoundFile 3 131072 abd; modified_s = pos 4; modif
 abbrev pub recorded : Name → ℕ → FileRecord
 recorded n sequence = record (content 3 abd (file ((9, 1) ∷ []) 4)) { name = n; modified_ns = pos 6; modified_by = 9; sequence = sequence }
 
-abbrev pub appeared : List Announcement
+abbrev pub appeared : List KeyedRecord
 appeared = by me (recorded x 1) ∷ by p1 target ∷ []
 
 -- the local file appears while the pull runs
@@ -213,10 +213,10 @@ target_is_withdrawn =
     ∷ []
 
 -- a commit over a local record gives both versions' counters
-abbrev pub over_local : Token
+abbrev pub over_local : PullInfo
 over_local = record ticket { base = Some (recorded x 1) }
 
-abbrev pub pull_over_local : Stage → Pull
+abbrev pub pull_over_local : PullStage → Pull
 pull_over_local stage = record (pull stage) { base = Some ((9, 1) ∷ []) }
 
 abbrev pub merged : FileRecord
@@ -299,7 +299,7 @@ seen_deletion = deletion ((1, 1) ∷ (9, 1) ∷ []) 7
 abbrev pub deleted_there : FolderState
 deleted_there = folder (by me (recorded x 1) ∷ by p1 seen_deletion ∷ []) 1 []
 
-abbrev pub deletion_ticket : Token
+abbrev pub deletion_ticket : PullInfo
 deletion_ticket = record { number = 1; name = x; base = Some (recorded x 1); target = seen_deletion }
 
 abbrev pub deletion_pulled : FolderState
@@ -311,10 +311,10 @@ deletion_pulled = record deleted_there { pulls = pulls ((x, record { number = 1;
 abbrev pub full_target : FileRecord
 full_target = record target { version = (9, 18446744073709551615) ∷ [] }
 
-abbrev pub full_ticket : Token
+abbrev pub full_ticket : PullInfo
 full_ticket = record ticket { target = full_target }
 
-abbrev pub full_pull : Stage → Pull
+abbrev pub full_pull : PullStage → Pull
 full_pull stage = record (pull stage) { target = full_target }
 
 abbrev pub full_state : FolderState
@@ -358,10 +358,10 @@ abbrev pub places_of_abd : List Place
 places_of_abd = record { name = x; offset = 0; size = 3 } ∷ record { name = y; offset = 0; size = 3 } ∷ []
 
 -- of each kind another number: local files, directories, deletions; and P1's new files, with a pull of one
-abbrev pub local_named : Name → FileRecord → Announcement
+abbrev pub local_named : Name → FileRecord → KeyedRecord
 local_named n r = by me (record r { name = n })
 
-abbrev pub offered_named : Name → Announcement
+abbrev pub offered_named : Name → KeyedRecord
 offered_named n = by p1 (record (file ((1, 1) ∷ []) 1) { name = n })
 
 abbrev pub of_each_kind : FolderState

@@ -1,16 +1,16 @@
 -- A folder as one device keeps it.
 use Rattle.std.specs.Prelude.{◌≡◌, ℕ, ◌+◌, ◌-◌, ◌^◌, ◌≤◌, Bool, true, false, not, ◌&&◌, ◌||◌, List, map, filter, count_by, Option, Some, None, is_some, option_map, IsTrue, nat_le}
 use Rattle.std.specs.FinMap.{FinMap, empty, get, entries}
-use Rattle.folder_core.specs.declared.stage.Stage.{Stage}
-use Rattle.folder_core.specs.declared.stage.Stage.TheVariants.{Pulling, Committing}
+use Rattle.folder_core.specs.declared.pull_stage.PullStage.{PullStage}
+use Rattle.folder_core.specs.declared.pull_stage.PullStage.TheVariants.{Pulling, Committing}
 use Rattle.sync_record.specs.Devices.{Identity, bytes_cmp}
 use Rattle.sync_record.specs.Records.{Name, FileRecord, is_live}
 use Rattle.sync_record.specs.Validity.{is_valid}
 use Rattle.sync_version.specs.Computed.{same_version}
 use Rattle.sync_version.specs.Versions.{Vector}
-use Rattle.folder_core.specs.Announced.{Announced, Announcement, IsNamed, key, bests}
+use Rattle.folder_core.specs.Announced.{Announced, KeyedRecord, IsNamed, key, bests}
 
-abbrev pub same_stage : Stage → Stage → Bool
+abbrev pub same_stage : PullStage → PullStage → Bool
 same_stage Pulling Pulling = true
 same_stage Committing Committing = true
 same_stage _ _ = false
@@ -20,7 +20,7 @@ pub record Pull : Type 0 where
   pub number : ℕ
   pub base : Option Vector
   pub target : FileRecord
-  pub stage : Stage
+  pub stage : PullStage
 
 -- last is the sequence of the last local change; the pulls are by name
 pub record FolderState : Type 0 where
@@ -46,7 +46,7 @@ same_local_version _ _ = false
 
 -- The best of a name is needed where the local record is absent or of another version, except where
 -- the best is deleted and there is no local record.
-abbrev pub is_needed : FolderState → Announcement → Bool
+abbrev pub is_needed : FolderState → KeyedRecord → Bool
 is_needed s b =
     not (same_local_version (local_version s b.0.name) (Some b.1.version))
     && (is_live b.1 || is_some (local s b.0.name))

@@ -4,8 +4,8 @@ use Rattle.std.specs.List.{list_any, range_with_len}
 use Rattle.std.specs.Option.{option_map_or}
 use Rattle.std.specs.Ordering.{int_eq}
 use Rattle.std.specs.FinMap.{get, insert, remove, entries}
-use Rattle.folder_core.specs.declared.stage.Stage.{Stage}
-use Rattle.folder_core.specs.declared.stage.Stage.TheVariants.{Pulling, Committing}
+use Rattle.folder_core.specs.declared.pull_stage.PullStage.{PullStage}
+use Rattle.folder_core.specs.declared.pull_stage.PullStage.TheVariants.{Pulling, Committing}
 use Rattle.folder_core.specs.declared.answer.Answer.{Answer}
 use Rattle.folder_core.specs.declared.answer.Answer.TheVariants.{Busy, Unchanged, CounterFull, SequenceFull, NotNeeded, Unsupported, Stray, LocalMoved, Superseded, Applied, Closed, Moved, Recorded, Done, Begun, Entered}
 use Rattle.folder_core.specs.declared.change.Change.{Change}
@@ -13,7 +13,7 @@ use Rattle.folder_core.specs.declared.change.Change.TheVariants.{ScanFound, Scan
 use Rattle.folder_core.specs.declared.finding.Finding.{Finding}
 use Rattle.folder_core.specs.declared.finding.FoundContent.{FoundContent}
 use Rattle.folder_core.specs.declared.finding.FoundContent.TheVariants.{Directory as FoundDirectory, File as FoundFile}
-use Rattle.folder_core.specs.declared.token.Token.{Token}
+use Rattle.folder_core.specs.declared.pull_info.PullInfo.{PullInfo}
 use Rattle.sync_record.specs.Assemblies.{IsAssembled}
 use Rattle.sync_record.specs.Contents.{same_content}
 use Rattle.sync_record.specs.Devices.{Identity, short_id}
@@ -22,13 +22,13 @@ use Rattle.sync_record.specs.Same.{same_record}
 use Rattle.sync_record.specs.Validity.{describes_file}
 use Rattle.sync_version.specs.Computed.{same_version, covers, merge, raised, is_counter_full}
 use Rattle.sync_version.specs.Versions.{Vector}
-use Rattle.folder_core.specs.Announced.{Announcement, key, announce, without, best}
+use Rattle.folder_core.specs.Announced.{KeyedRecord, key, announce, without, best}
 use Rattle.folder_core.specs.States.{same_stage, Pull, FolderState, local, local_version, same_local_version, is_needed, is_committing, is_sequence_full}
 
 -- a directory, or a file as the record of a valid file describes one, whose size fits a record
-abbrev pub is_found : FoundContent → Bool
-is_found FoundDirectory = true
-is_found (FoundFile size block_size blocks) = nat_lt size (2 ^ 63) && describes_file (pos size) (pos block_size) blocks
+abbrev pub is_recordable : FoundContent → Bool
+is_recordable FoundDirectory = true
+is_recordable (FoundFile size block_size blocks) = nat_lt size (2 ^ 63) && describes_file (pos size) (pos block_size) blocks
 
 -- these answers say that the change was made; every other leaves the state
 abbrev pub is_accepted : Answer → Bool
@@ -124,7 +124,7 @@ scan_gone s n expected moment (Some r) =
 abbrev pub least_free : List ℕ → ℕ
 least_free used = unwrap_or (find (λ n. not (list_any (λ m. m == n) used)) (range_with_len 1 (length used + 1))) 0
 
-abbrev pub next_ticket : FolderState → Name → FileRecord → Token
+abbrev pub next_ticket : FolderState → Name → FileRecord → PullInfo
 next_ticket s n target = record {
   number = least_free (map (λ e. e.1.number) (entries s.pulls));
   name = n;
@@ -132,7 +132,7 @@ next_ticket s n target = record {
   target = target;
 }
 
-abbrev pub with_pull : FolderState → Token → Stage → FolderState
+abbrev pub with_pull : FolderState → PullInfo → PullStage → FolderState
 with_pull s t stage = record s {
   pulls = insert s.pulls t.name (record {
     number = t.number;
@@ -142,25 +142,25 @@ with_pull s t stage = record s {
   });
 }
 
-abbrev pub begin_tests : FolderState → Name → Announcement → List (Bool × Answer)
+abbrev pub begin_tests : FolderState → Name → KeyedRecord → List (Bool × Answer)
 begin_tests s n b =
     (is_some (get s.pulls n), Busy)
     ∷ (not (is_needed s b), NotNeeded)
     ∷ (is_live b.1 && not (is_file b.1 || is_directory b.1), Unsupported)
     ∷ []
 
-abbrev pub begin_pull : FolderState → Name → Option Announcement → Answer × FolderState
+abbrev pub begin_pull : FolderState → Name → Option KeyedRecord → Answer × FolderState
 begin_pull s n None = first_answer s ((is_some (get s.pulls n), Busy) ∷ []) (NotNeeded, s)
 begin_pull s n (Some b) =
     first_answer s (begin_tests s n b) (Begun (next_ticket s n b.1), with_pull s (next_ticket s n b.1) Pulling)
 
 -- the open pull that the ticket is for, at this stage; else the ticket is stray
-abbrev pub pull_of : FolderState → Token → Stage → Option Pull
+abbrev pub pull_of : FolderState → PullInfo → PullStage → Option Pull
 pull_of s t stage = option_and_then (λ p.
     if (p.number == t.number) && same_record p.target t.target && same_stage p.stage stage then Some p else None) (get s.pulls t.name)
 
 -- the ticket is for this open pull, which is at this stage
-pub record IsFor (s : FolderState) (t : Token) (stage : Stage) (p : Pull) : Type 0 where
+pub record IsFor (s : FolderState) (t : PullInfo) (stage : PullStage) (p : Pull) : Type 0 where
   pub open_pull : get s.pulls t.name ≡ Some p
   pub at_stage : p.stage ≡ stage
   pub number : p.number ≡ t.number
@@ -180,7 +180,7 @@ enter_tests s n p =
 abbrev pub with_commit : FolderState → Name → Pull → FolderState
 with_commit s n p = record s { pulls = insert s.pulls n (record p { stage = Committing }) }
 
-abbrev pub enter_commit : FolderState → Token → Option Pull → Answer × FolderState
+abbrev pub enter_commit : FolderState → PullInfo → Option Pull → Answer × FolderState
 enter_commit s t None = (Stray, s)
 enter_commit s t (Some p) = first_answer s (enter_tests s t.name p) (Entered t, with_commit s t.name p)
 
@@ -191,11 +191,11 @@ without_pull s n = record s { pulls = remove s.pulls n }
 abbrev pub committed_record : Option Vector → FileRecord → FileRecord
 committed_record base target = record target { version = merge (unwrap_or base []) target.version }
 
-abbrev pub finish : FolderState → Token → Option Pull → Answer × FolderState
+abbrev pub finish : FolderState → PullInfo → Option Pull → Answer × FolderState
 finish s c None = (Stray, s)
 finish s c (Some p) = (Done (s.last + 1), without_pull (with_local s (committed_record p.base p.target)) c.name)
 
-abbrev pub close_pull : FolderState → Token → Option Pull → Answer × FolderState
+abbrev pub close_pull : FolderState → PullInfo → Option Pull → Answer × FolderState
 close_pull s t None = (Stray, s)
 close_pull s t (Some p) = (Closed, without_pull s t.name)
 
@@ -217,7 +217,7 @@ abbrev pub MayChange : Identity → Change → Type 0
 MayChange me (IndexFull d records) = d ≢ me
 MayChange me (IndexMore d records) = d ≢ me
 MayChange me (Forget d) = d ≢ me
-MayChange me (ScanFound n expected found moment) = IsTrue (is_found found.content)
+MayChange me (ScanFound n expected found moment) = IsTrue (is_recordable found.content)
 MayChange me (Finish c assembled) = (assembled ≡ c.target) × IsAssembled assembled
 MayChange me _ = ⊤
 

@@ -1,7 +1,7 @@
 ghost use Rattle.std.specs.Prelude.{◌≡◌, IfErr, IfOk, IsTrue};
 ghost use Rattle.folder_core.specs.Calls.{copy_allocates};
 
-use crate::Token;
+use crate::PullInfo;
 use crate::copies::copied_version;
 use std::alloc::AllocError;
 use sync_version::Version;
@@ -40,13 +40,13 @@ pub enum Answer {
     /// The committed record is the local one, under this sequence.
     Done(u64),
     /// The pull began, and this is its ticket.
-    Begun(Token),
+    Begun(PullInfo),
     /// The pull's commit was entered, and this is its commit.
-    Entered(Token),
+    Entered(PullInfo),
 }
 
 impl Answer {
-    /// The same answer once more. Returns `Err` only if out of memory, and never for an answer without a version or a token.
+    /// The same answer once more. Returns `Err` only if out of memory, and never for an answer without a version or a pull.
     /// O(n) time and memory for n counters, or bytes of the name.
     pub fn copy(&self) -> Result<Answer, AllocError>
         ensures same { IfOk result (λ answer. answer ≡ self.now) }

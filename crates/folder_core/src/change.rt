@@ -4,7 +4,7 @@ ghost use Rattle.folder_core.specs.Steps.{MayChange};
 ghost use Rattle.folder_core.specs.declared.change.Change.TheVariants.{Forget};
 
 use crate::copies::copied_version;
-use crate::{Finding, Token};
+use crate::{Finding, PullInfo};
 use bep_messages::{Copied, Items};
 use std::alloc::AllocError;
 use sync_names::SafeName;
@@ -48,26 +48,26 @@ pub enum Change {
     },
     /// The ticket's pull enters its commit.
     EnterCommit {
-        ticket: Token,
+        ticket: PullInfo,
     },
     /// The commit's pull ends, and this is what was put in place.
     Finish {
-        commit: Token,
+        commit: PullInfo,
         assembled: Assembled,
     },
     /// The ticket's pull ends, with nothing put in place.
     GiveUp {
-        ticket: Token,
+        ticket: PullInfo,
     },
     /// The commit's pull ends, with nothing put in place.
     Abort {
-        commit: Token,
+        commit: PullInfo,
     },
 }
 
 impl Change {
     /// Whether a caller of this device's folder may ask for it: an index is of another device, what is found passes
-    /// [`FoundContent::is_found`](crate::FoundContent::is_found), and what was put in place is the commit's target. Does not
+    /// [`FoundContent::is_recordable`](crate::FoundContent::is_recordable), and what was put in place is the commit's target. Does not
     /// allocate. O(n) for n blocks.
     pub fn is_allowed(&self, me: DeviceId) -> bool
         ensures { IsTrue result ↔ MayChange me self.now }
@@ -76,7 +76,7 @@ impl Change {
             Change::IndexFull { device, .. }
             | Change::IndexMore { device, .. }
             | Change::Forget { device } => *device != me,
-            Change::ScanFound { found, .. } => found.content.is_found(),
+            Change::ScanFound { found, .. } => found.content.is_recordable(),
             Change::Finish { commit, assembled } => {
                 same_record_is_equality();
                 *assembled.target() == commit.target

@@ -1,5 +1,5 @@
 ghost use Rattle.std.specs.Prelude.{◌≡◌, IfOk, IsOk};
-ghost use Rattle.folder_core.specs.Steps.{is_found};
+ghost use Rattle.folder_core.specs.Steps.{is_recordable};
 ghost use Rattle.folder_core.specs.declared.finding.FoundContent.TheVariants.{Directory};
 
 use bep_messages::Items;
@@ -33,8 +33,8 @@ pub struct Finding {
 impl FoundContent {
     /// Whether a scan may find it: a directory, or a file of less than 2^63 bytes with a block size that files may have, which
     /// the blocks make up. Does not allocate. O(n) for n blocks.
-    pub fn is_found(&self) -> bool
-        ensures { result ≡ is_found self.now }
+    pub fn is_recordable(&self) -> bool
+        ensures { result ≡ is_recordable self.now }
     {
         match self {
             FoundContent::Directory => true,

@@ -1,12 +1,12 @@
 ghost use Rattle.std.specs.Prelude.{◌≡◌, ◌≢◌, Some, IfErr, IfOk, IsTrue, map, option_copied, option_map};
 ghost use Rattle.folder_core.specs.States.{FolderState, IsFolder, local};
 ghost use Rattle.folder_core.specs.declared.change.Change.TheVariants.{Forget, IndexFull, IndexMore, ScanFound, ScanGone, BeginPull, EnterCommit, Finish, GiveUp, Abort};
-ghost use Rattle.folder_core.specs.Steps.{is_accepted, is_found, step};
-ghost use Rattle.folder_core.specs.Reads.{IsPlaceFound, best_found, bests_page, counts, known, local_since, need_page};
+ghost use Rattle.folder_core.specs.Steps.{is_accepted, is_recordable, step};
+ghost use Rattle.folder_core.specs.Reads.{IsSomePlace, best_with_devices, bests_page, counts, known, local_since, need_page};
 ghost use Rattle.folder_core.specs.Calls.{Changes, GivesBack, index_answer, scan_answer, begin_answer, enter_answer, finish_answer, close_answer};
 
 use crate::{
-    BeginAnswer, Best, Change, Commit, Counts, Finding, NotEntered, Place, PlainFolder, ScanAnswer,
+    BeginAnswer, Best, Change, Commit, Counts, EnterFault, Finding, Place, PlainFolder, ScanAnswer,
     ScanFault, Stray, Ticket,
 };
 use bep_messages::Items;
@@ -37,7 +37,7 @@ pub trait FolderCore {
         found: &Finding,
         moment: Moment,
     ) -> Result<ScanAnswer, ScanFault>
-        requires { IsTrue (is_found found.now.content) }
+        requires { IsTrue (is_recordable found.now.content) }
         ensures { Changes (state self.old)
             (ScanFound name.now (option_copied expected.entry) found.now moment)
             (scan_answer result) (state self.new) };
@@ -83,7 +83,7 @@ pub trait FolderCore {
 
     /// Enters the commit of a pull, and fails with the first of these that applies: `Stray`, `LocalMoved`, `Superseded`,
     /// `SequenceFull` and `OutOfMemory`. Every ticket but a stray one comes back.
-    fn enter_commit(&mut self, ticket: Ticket) -> Result<Commit, NotEntered>
+    fn enter_commit(&mut self, ticket: Ticket) -> Result<Commit, EnterFault>
         ensures change { Changes (state self.old) (EnterCommit ticket) (enter_answer result)
             (state self.new) }
         ensures given_back { IfErr result (GivesBack ticket) };
@@ -110,7 +110,7 @@ pub trait FolderCore {
 
     /// Whether the change would be made if it were asked for now: whether its call, unless out of memory, would answer
     /// `Recorded`, `Begun` or `Entered`, return `Ok` for an index, `forget` and `finish`, or `true` for `give_up` and `abort`.
-    /// A token of the change stands for the ticket or the commit that it was made from. What the call requires beside is
+    /// What the change says of a pull stands for the ticket or the commit that it was made from. What the call requires beside is
     /// not asked. Changes nothing, and does not allocate.
     fn accepts(&self, change: &Change) -> bool
         ensures { result ≡ is_accepted (step (state self.now) change.now).0 };
@@ -119,7 +119,7 @@ pub trait FolderCore {
     /// content; `None` where no valid record of the name is announced. Returns `Err` only if out of memory.
     fn best(&self, name: &SafeName) -> Result<Option<Best>, AllocError>
         ensures { IfOk result (λ b. option_map (λ b. (b.record, b.devices)) b
-            ≡ best_found (state self.now) name.now) };
+            ≡ best_with_devices (state self.now) name.now) };
 
     /// The bests of the names greater than `after`, or of all names where it is `None`, in byte order of the names: the
     /// first `limit` of them, or all where there are fewer. Returns `Err` only if out of memory.
@@ -147,7 +147,7 @@ pub trait FolderCore {
     /// A place of the block with this SHA-256 digest in a live local file, if there is one. Returns `Err` only if out of
     /// memory.
     fn find_block(&self, hash: &[u8; 32]) -> Result<Option<Place>, AllocError>
-        ensures { IfOk result (λ place. IsPlaceFound (state self.now) hash.now place) };
+        ensures { IfOk result (λ place. IsSomePlace (state self.now) hash.now place) };
 
     /// The greatest sequence that the device announced, 0 without any; of this device the last one that it gave. Does not
     /// allocate.

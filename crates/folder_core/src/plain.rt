@@ -2,7 +2,7 @@
 ghost use Rattle.std.specs.Prelude.{◌≡◌, ◌≢◌, ◌↔◌, ◌+◌, ◌<◌, ◌≤◌, [], false, IfErr, IfOk, IsOk, IsSome, IsTrue, None, Some, filter, map, option_copied, option_map, vec_len, vec_capacity};
 ghost use Rattle.std.specs.FinMap.{empty, entries};
 ghost use Rattle.folder_core.specs.Calls.{Changes, GivesBack, index_answer, may_allocate, scan_answer, begin_answer, enter_answer, finish_answer, close_answer};
-ghost use Rattle.folder_core.specs.Reads.{IsPlaceFound, best_found, bests_page, counts, known, local_since, need_page, places};
+ghost use Rattle.folder_core.specs.Reads.{IsSomePlace, best_with_devices, bests_page, counts, known, local_since, need_page, places};
 ghost use Rattle.folder_core.specs.Plain.{Rises, commits, filed};
 ghost use Rattle.folder_core.specs.PlainReads.{is_from};
 ghost use Rattle.sync_record.specs.Infos.{is_natural};
@@ -11,7 +11,7 @@ ghost use Rattle.folder_core.specs.Restores.{MayRestore, restored_folder};
 ghost use Rattle.folder_core.specs.declared.restore_fault.RestoreFault.TheVariants.{BadRecords};
 ghost use Rattle.folder_core.specs.States.{empty_folder, local};
 ghost use Rattle.folder_core.specs.declared.change.Change.TheVariants.{Forget, IndexFull, IndexMore, ScanFound, ScanGone, BeginPull, EnterCommit, Finish, GiveUp, Abort};
-ghost use Rattle.folder_core.specs.Steps.{is_accepted, is_found, step};
+ghost use Rattle.folder_core.specs.Steps.{is_accepted, is_recordable, step};
 
 mod accept;
 mod compare;
@@ -30,14 +30,14 @@ mod scan;
 mod since;
 
 use crate::{
-    Announcement, BeginAnswer, Best, Change, Commit, Counts, Finding, FolderCore, NotEntered,
-    Place, RestoreFault, ScanAnswer, ScanFault, Stage, Stray, Ticket,
+    Announcement, BeginAnswer, Best, Change, Commit, Counts, EnterFault, Finding, FolderCore,
+    Place, PullStage, RestoreFault, ScanAnswer, ScanFault, Stray, Ticket,
 };
 use bep_messages::Items;
 use compare::{same_entries, same_pulls};
 use copy::{copied_entries, copied_pulls};
 use count::{deletions, live_directories, live_files, records_of_others};
-use find::place_of;
+use find::position_of;
 use group::{best_with_devices, bests_of, entries_after, entries_of};
 use merge::{merge, put};
 use message::last_of_each_name;
@@ -113,7 +113,7 @@ impl FolderCore for PlainFolder {
 
     /// O(log n + k + t) for n records kept, k devices that announce the name and t records after its place, which are moved,
     /// and the copies of the name, the version and the blocks, beside the open pulls. It allocates for them, and only where it
-    /// is recorded or a version is told.
+    /// is recorded or the answer has a version.
     fn scan_found(
         &mut self,
         name: &SafeName,
@@ -121,7 +121,7 @@ impl FolderCore for PlainFolder {
         found: &Finding,
         moment: Moment,
     ) -> Result<ScanAnswer, ScanFault>
-        requires { IsTrue (is_found found.now.content) }
+        requires { IsTrue (is_recordable found.now.content) }
         ensures changes { Changes self.old
             (ScanFound name.now (option_copied expected.entry) found.now moment)
             (scan_answer result) self.new }
@@ -156,7 +156,7 @@ impl FolderCore for PlainFolder {
 
     /// O(log n + k + t) for n records kept, k devices that announce the name and t records after its place, which are moved,
     /// and the copies of the name and the version, beside the open pulls. It allocates for them, and only where it is recorded
-    /// or a version is told.
+    /// or the answer has a version.
     fn scan_gone(
         &mut self,
         name: &SafeName,
@@ -248,26 +248,26 @@ impl FolderCore for PlainFolder {
             Ok(best) => best,
             Err(obstacle) => return Ok(begin_refused(obstacle)),
         };
-        let token = open(&mut self.pulls, name, base, &best.record)?;
-        Ok(BeginAnswer::Begun(Ticket { token }))
+        let info = open(&mut self.pulls, name, base, &best.record)?;
+        Ok(BeginAnswer::Begun(Ticket { info }))
     }
 
     /// O(k) for k open pulls.
     fn give_up(&mut self, ticket: Ticket) -> bool {
-        let Ticket { token } = ticket;
-        take(&mut self.pulls, &token, Stage::Pulling).is_some()
+        let Ticket { info } = ticket;
+        take(&mut self.pulls, &info, PullStage::Pulling).is_some()
     }
 
     /// O(k) for k open pulls.
     fn abort(&mut self, commit: Commit) -> bool {
-        let Commit { token } = commit;
-        take(&mut self.pulls, &token, Stage::Committing).is_some()
+        let Commit { info } = commit;
+        take(&mut self.pulls, &info, PullStage::Committing).is_some()
     }
 
     /// O(k + t) for k open pulls and t records kept after the place of the record.
     fn finish(&mut self, commit: Commit, _assembled: &Assembled) -> Result<u64, Stray> {
-        let Commit { token } = commit;
-        let Some(ready) = take_ready(&mut self.pulls, &token) else {
+        let Commit { info } = commit;
+        let Some(ready) = take_ready(&mut self.pulls, &info) else {
             return Err(Stray);
         };
         self.last += 1;
@@ -277,19 +277,19 @@ impl FolderCore for PlainFolder {
 
     /// O(log n + d^2 + k) for n records kept, d devices that announce the name and k open pulls, and a copy of the target.
     /// Only a commit that is entered allocates.
-    fn enter_commit(&mut self, ticket: Ticket) -> Result<Commit, NotEntered>
+    fn enter_commit(&mut self, ticket: Ticket) -> Result<Commit, EnterFault>
         ensures change { Changes self.old (EnterCommit ticket) (enter_answer result) self.new }
         ensures given_back { IfErr result (GivesBack ticket) }
         ensures refused { is_accepted (step self.old (EnterCommit ticket)).0 ≡ false →
             IsSome (enter_answer result) }
     {
-        let Some(place) = place_for(&self.pulls, &ticket.token, Stage::Pulling) else {
-            let Ticket { token } = ticket;
-            drop(token);
-            return Err(NotEntered::Stray);
+        let Some(place) = place_for(&self.pulls, &ticket.info, PullStage::Pulling) else {
+            let Ticket { info } = ticket;
+            drop(info);
+            return Err(EnterFault::Stray);
         };
         let pull = &self.pulls[place];
-        let group = entries_of(self.entries.as_slice(), &ticket.token.name);
+        let group = entries_of(self.entries.as_slice(), &ticket.info.name);
         let local = record_from(group, self.me);
         let promised = open_commits(&self.pulls);
         let is_full = is_full(self.last, promised);
@@ -297,18 +297,18 @@ impl FolderCore for PlainFolder {
             return Err(not_entered(obstacle, ticket));
         }
         if make_ready(&mut self.entries, promised, &mut self.pulls, place).is_err() {
-            return Err(NotEntered::OutOfMemory(ticket));
+            return Err(EnterFault::OutOfMemory(ticket));
         }
-        let Ticket { token } = ticket;
-        Ok(Commit { token })
+        let Ticket { info } = ticket;
+        Ok(Commit { info })
     }
 
     /// O(log n + k^2) for n records kept and k devices that announce the name, and the copy. A name without a best does
     /// not allocate.
     fn best(&self, name: &SafeName) -> Result<Option<Best>, AllocError>
         ensures found { IfOk result (λ b. option_map (λ b. (b.record, b.devices)) b
-            ≡ best_found self.now name.now) }
-        ensures none { best_found self.now name.now ≡ None → IsOk result }
+            ≡ best_with_devices self.now name.now) }
+        ensures none { best_with_devices self.now name.now ≡ None → IsOk result }
     {
         let group = entries_of(self.entries.as_slice(), name);
         best_with_devices(*self.entries.allocator(), group)
@@ -361,10 +361,10 @@ impl FolderCore for PlainFolder {
     /// O(n + b) for n records kept, up to the file that is found, and b blocks of the local files up to it, and the copy of
     /// the name. Of several places it returns the first by name. It does not allocate where there is none.
     fn find_block(&self, hash: &[u8; 32]) -> Result<Option<Place>, AllocError>
-        ensures found { IfOk result (λ place. IsPlaceFound self.now hash.now place) }
+        ensures found { IfOk result (λ place. IsSomePlace self.now hash.now place) }
         ensures none { places self.now hash.now ≡ [] → IsOk result }
     {
-        place_of(self.entries.as_slice(), self.me, hash)
+        position_of(self.entries.as_slice(), self.me, hash)
     }
 
     /// O(n) for n records kept, O(1) for this device.
@@ -409,9 +409,9 @@ impl FolderCore for PlainFolder {
             Change::IndexFull { .. } | Change::IndexMore { .. } | Change::Forget { .. } => true,
             Change::BeginPull { name } => self.accepts_begin(name),
             Change::EnterCommit { ticket } => self.accepts_entry(ticket),
-            Change::GiveUp { ticket } => self.has_open(ticket, Stage::Pulling),
+            Change::GiveUp { ticket } => self.has_open(ticket, PullStage::Pulling),
             Change::Finish { commit, .. } | Change::Abort { commit } => {
-                self.has_open(commit, Stage::Committing)
+                self.has_open(commit, PullStage::Committing)
             }
         }
     }

@@ -2,7 +2,7 @@
 ghost use Rattle.std.specs.Prelude.{◌≡◌, Some, option_copied, option_map};
 ghost use Rattle.folder_core.specs.Faults.{stray_name, stray_number};
 
-use crate::Token;
+use crate::PullInfo;
 use std::fmt::{self, Display, Formatter};
 use std::marker::Model;
 use sync_names::SafeName;
@@ -13,15 +13,15 @@ use thiserror::Error;
 /// copied nor dropped.
 #[derive(Debug)]
 pub struct Ticket {
-    pub(crate) token: Token,
+    pub(crate) info: PullInfo,
 }
 
 impl Model for Ticket {
-    ghost use Rattle.folder_core.specs.declared.token.Token.{Token};
+    ghost use Rattle.folder_core.specs.declared.pull_info.PullInfo.{PullInfo};
 
-    ghost Value = { Token };
+    ghost Value = { PullInfo };
 
-    ghost view = { λ t. t.token };
+    ghost view = { λ t. t.info };
 }
 
 impl Ticket {
@@ -29,28 +29,28 @@ impl Ticket {
     pub fn number(&self) -> u64
         ensures { result ≡ self.now.number }
     {
-        self.token.number
+        self.info.number
     }
 
     /// Its name. O(1).
     pub fn name(&self) -> &SafeName
         ensures { result.now ≡ self.now.name }
     {
-        &self.token.name
+        &self.info.name
     }
 
     /// The record whose file is fetched. O(1).
     pub fn target(&self) -> &Record
         ensures { result.now ≡ self.now.target }
     {
-        &self.token.target
+        &self.info.target
     }
 
     /// The local record when the pull began, if there was one. O(1).
     pub fn base(&self) -> Option<&Record>
         ensures { option_copied result ≡ self.now.base }
     {
-        self.token.base.as_ref()
+        self.info.base.as_ref()
     }
 }
 
@@ -58,15 +58,15 @@ impl Ticket {
 /// Only a folder makes one, and it must be handed back: it is neither copied nor dropped.
 #[derive(Debug)]
 pub struct Commit {
-    pub(crate) token: Token,
+    pub(crate) info: PullInfo,
 }
 
 impl Model for Commit {
-    ghost use Rattle.folder_core.specs.declared.token.Token.{Token};
+    ghost use Rattle.folder_core.specs.declared.pull_info.PullInfo.{PullInfo};
 
-    ghost Value = { Token };
+    ghost Value = { PullInfo };
 
-    ghost view = { λ c. c.token };
+    ghost view = { λ c. c.info };
 }
 
 impl Commit {
@@ -74,28 +74,28 @@ impl Commit {
     pub fn number(&self) -> u64
         ensures { result ≡ self.now.number }
     {
-        self.token.number
+        self.info.number
     }
 
     /// Its name. O(1).
     pub fn name(&self) -> &SafeName
         ensures { result.now ≡ self.now.name }
     {
-        &self.token.name
+        &self.info.name
     }
 
     /// The record whose file is put in place. O(1).
     pub fn target(&self) -> &Record
         ensures { result.now ≡ self.now.target }
     {
-        &self.token.target
+        &self.info.target
     }
 
     /// The local record when the pull began, which is the local one still, if there was one. O(1).
     pub fn base(&self) -> Option<&Record>
         ensures { option_copied result ≡ self.now.base }
     {
-        self.token.base.as_ref()
+        self.info.base.as_ref()
     }
 }
 
@@ -114,7 +114,7 @@ pub enum BeginAnswer {
 
 /// Why a commit was not entered. Every ticket but a stray one comes back.
 #[derive(Debug)]
-pub enum NotEntered {
+pub enum EnterFault {
     /// No pull is open with the ticket's number, name and target. The ticket is used up.
     Stray,
     /// The local version is no longer the one over which the pull began.

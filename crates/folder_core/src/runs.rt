@@ -5,13 +5,13 @@ ghost use Rattle.folder_core.specs.Runs.{IsPartway, ends_pull, made_answer, run}
 ghost use Rattle.folder_core.specs.Steps.{MayChange};
 
 use crate::{
-    Answer, BeginAnswer, Change, Commit, FolderCore, NotEntered, ScanAnswer, ScanFault, Stray,
+    Answer, BeginAnswer, Change, Commit, EnterFault, FolderCore, ScanAnswer, ScanFault, Stray,
     Ticket,
 };
 use bep_messages::Items;
 use std::alloc::{AllocError, Global};
 
-/// Makes a change on a folder, and returns its answer. A token of the change stands for the ticket or the commit that it was
+/// Makes a change on a folder, and returns its answer. What the change says of a pull stands for the ticket or the commit that it was
 /// made from; one that is for no open pull is stray. Returns `Err` only if out of memory, and then nothing changed; never
 /// for the end of a pull.
 pub fn make<C: FolderCore>(core: &mut C, change: Change) -> Result<Answer, AllocError>
@@ -36,13 +36,13 @@ pub fn make<C: FolderCore>(core: &mut C, change: Change) -> Result<Answer, Alloc
         Change::Forget { device } => applied(core.forget(device)),
         Change::BeginPull { name } => begin_answer(core.begin_pull(&name)),
         Change::EnterCommit { ticket } => {
-            enter_answer(core.enter_commit(Ticket { token: ticket }))
+            enter_answer(core.enter_commit(Ticket { info: ticket }))
         }
         Change::Finish { commit, assembled } => {
-            Ok(finish_answer(core.finish(Commit { token: commit }, &assembled)))
+            Ok(finish_answer(core.finish(Commit { info: commit }, &assembled)))
         }
-        Change::GiveUp { ticket } => Ok(close_answer(core.give_up(Ticket { token: ticket }))),
-        Change::Abort { commit } => Ok(close_answer(core.abort(Commit { token: commit }))),
+        Change::GiveUp { ticket } => Ok(close_answer(core.give_up(Ticket { info: ticket }))),
+        Change::Abort { commit } => Ok(close_answer(core.abort(Commit { info: commit }))),
     }
 }
 
@@ -113,23 +113,23 @@ fn begin_answer(answer: Result<BeginAnswer, AllocError>) -> Result<Answer, Alloc
     ensures { made_answer result ≡ begin_answer answer }
 {
     Ok(match answer? {
-        BeginAnswer::Begun(Ticket { token }) => Answer::Begun(token),
+        BeginAnswer::Begun(Ticket { info }) => Answer::Begun(info),
         BeginAnswer::NotNeeded => Answer::NotNeeded,
         BeginAnswer::Busy => Answer::Busy,
         BeginAnswer::Unsupported => Answer::Unsupported,
     })
 }
 
-fn enter_answer(answer: Result<Commit, NotEntered>) -> Result<Answer, AllocError>
+fn enter_answer(answer: Result<Commit, EnterFault>) -> Result<Answer, AllocError>
     ensures { made_answer result ≡ enter_answer answer }
 {
     match answer {
-        Ok(Commit { token }) => Ok(Answer::Entered(token)),
-        Err(NotEntered::Stray) => Ok(Answer::Stray),
-        Err(NotEntered::LocalMoved(ticket)) => Ok(spent(ticket, Answer::LocalMoved)),
-        Err(NotEntered::Superseded(ticket)) => Ok(spent(ticket, Answer::Superseded)),
-        Err(NotEntered::SequenceFull(ticket)) => Ok(spent(ticket, Answer::SequenceFull)),
-        Err(NotEntered::OutOfMemory(Ticket { token: _ })) => Err(AllocError),
+        Ok(Commit { info }) => Ok(Answer::Entered(info)),
+        Err(EnterFault::Stray) => Ok(Answer::Stray),
+        Err(EnterFault::LocalMoved(ticket)) => Ok(spent(ticket, Answer::LocalMoved)),
+        Err(EnterFault::Superseded(ticket)) => Ok(spent(ticket, Answer::Superseded)),
+        Err(EnterFault::SequenceFull(ticket)) => Ok(spent(ticket, Answer::SequenceFull)),
+        Err(EnterFault::OutOfMemory(Ticket { info: _ })) => Err(AllocError),
     }
 }
 
@@ -137,7 +137,7 @@ fn enter_answer(answer: Result<Commit, NotEntered>) -> Result<Answer, AllocError
 fn spent(ticket: Ticket, answer: Answer) -> Answer
     ensures { result ≡ answer }
 {
-    let Ticket { token: _ } = ticket;
+    let Ticket { info: _ } = ticket;
     answer
 }
 

@@ -28,7 +28,7 @@ pub enum ScanFault {
     CounterFull,
     /// No sequence is left, except those that the open commits will take.
     SequenceFull,
-    /// The record, or the version that is told, could not be allocated.
+    /// The record, or the version of the answer, could not be allocated.
     OutOfMemory,
 }
 

@@ -3,7 +3,7 @@
 use crate::calls::{assembled, copied, folder, restored};
 use crate::rows::{ME, Row, device, directory, file, moment, name, records, version};
 use bep_messages::Items;
-use folder_core::{Answer, Change, FolderCore, PlainFolder, Token, make};
+use folder_core::{Answer, Change, FolderCore, PlainFolder, PullInfo, make};
 use std::process::Abort;
 use sync_version::Version;
 
@@ -236,7 +236,7 @@ fn begins(
 }
 
 /// A pull of the name begins.
-fn begun(rt: &(impl AllocGlobal + Abort), folder: &mut PlainFolder, text: &str) -> Token {
+fn begun(rt: &(impl AllocGlobal + Abort), folder: &mut PlainFolder, text: &str) -> PullInfo {
     let name = name(rt, text);
     match makes(rt, folder, Change::BeginPull { name }, "Begun", true) {
         Answer::Begun(token) => token,
@@ -247,7 +247,7 @@ fn begun(rt: &(impl AllocGlobal + Abort), folder: &mut PlainFolder, text: &str) 
 fn enters(
     rt: &(impl AllocGlobal + Abort),
     folder: &mut PlainFolder,
-    token: &Token,
+    token: &PullInfo,
     wanted: &str,
     is_accepted: bool,
 ) {
@@ -264,7 +264,7 @@ fn enters(
 fn finishes(
     rt: &(impl AllocGlobal + Abort),
     folder: &mut PlainFolder,
-    token: &Token,
+    token: &PullInfo,
     wanted: &str,
     is_accepted: bool,
 ) {
@@ -282,7 +282,7 @@ fn finishes(
 fn gives_up(
     rt: &(impl AllocGlobal + Abort),
     folder: &mut PlainFolder,
-    token: &Token,
+    token: &PullInfo,
     wanted: &str,
     is_accepted: bool,
 ) {
@@ -293,7 +293,7 @@ fn gives_up(
 fn aborts(
     rt: &(impl AllocGlobal + Abort),
     folder: &mut PlainFolder,
-    token: &Token,
+    token: &PullInfo,
     wanted: &str,
     is_accepted: bool,
 ) {

@@ -6,7 +6,7 @@ ghost use Rattle.sync_record.specs.Validity.{is_valid};
 use crate::rows::{Announced, Row, announcements, device, moment, name, records, version};
 use bep_messages::Items;
 use folder_core::{
-    Answer, BeginAnswer, Best, Commit, Finding, FolderCore, NotEntered, Place, PlainFolder,
+    Answer, BeginAnswer, Best, Commit, EnterFault, Finding, FolderCore, Place, PlainFolder,
     RestoreFault, ScanAnswer, ScanFault, Ticket,
 };
 use std::process::Abort;
@@ -104,7 +104,7 @@ pub(crate) fn finds(
 ) {
     let name = name(rt, text);
     let expected = expected.map(|counters| version(rt, counters));
-    assert!(rt; found.content.is_found());
+    assert!(rt; found.content.is_recordable());
     let before = copied(rt, folder);
     let mut answer = folder.scan_found(&name, expected.as_ref(), found, moment(rt, 0));
     if matches!(&answer, Err(ScanFault::OutOfMemory)) {
@@ -203,11 +203,11 @@ pub(crate) fn try_enter(
     rt: &impl Abort,
     folder: &mut PlainFolder,
     ticket: Ticket,
-) -> Result<Commit, NotEntered> {
+) -> Result<Commit, EnterFault> {
     let number = ticket.number();
     let before = copied(rt, folder);
     match folder.enter_commit(ticket) {
-        Err(NotEntered::OutOfMemory(ticket)) => {
+        Err(EnterFault::OutOfMemory(ticket)) => {
             assert!(rt; folder.same_state(&before));
             assert_eq!(rt; ticket.number(), number);
             folder.enter_commit(ticket)

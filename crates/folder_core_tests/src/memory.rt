@@ -2,7 +2,7 @@
 use crate::calls::{assembled, begins, copied, enters, folder, more};
 use crate::rows::{device, directory, file, moment, name, records};
 use bep_messages::Items;
-use folder_core::{BeginAnswer, Commit, FolderCore, NotEntered, PlainFolder, Ticket};
+use folder_core::{BeginAnswer, Commit, EnterFault, FolderCore, PlainFolder, Ticket};
 use std::process::Abort;
 use sync_names::SafeName;
 use sync_record::Record;
@@ -74,7 +74,7 @@ fn tries_changes(rt: &(impl AllocGlobal + Abort), folder: &mut PlainFolder) {
 /// Records a directory, if there is memory. Returns whether there was.
 fn tries_scan(rt: &impl Abort, folder: &mut PlainFolder, name: &SafeName) -> bool {
     let found = directory(1);
-    assert!(rt; found.content.is_found());
+    assert!(rt; found.content.is_recordable());
     folder.scan_found(name, None, &found, moment(rt, 0)).is_ok()
 }
 
@@ -102,7 +102,7 @@ fn tries_pull(rt: &impl Abort, folder: &mut PlainFolder, name: &SafeName) -> boo
     };
     match folder.enter_commit(ticket) {
         Ok(commit) => assert!(rt; folder.abort(commit)),
-        Err(NotEntered::OutOfMemory(ticket)) => assert!(rt; folder.give_up(ticket)),
+        Err(EnterFault::OutOfMemory(ticket)) => assert!(rt; folder.give_up(ticket)),
         Err(fault) => panic!(rt; "{fault:?}"),
     }
     true

@@ -4,7 +4,7 @@ use crate::calls::{
     try_enter,
 };
 use crate::rows::{Row, file};
-use folder_core::{FolderCore, NotEntered, PlainFolder, Stray, Ticket};
+use folder_core::{EnterFault, FolderCore, PlainFolder, Stray, Ticket};
 use std::process::Abort;
 
 #[test]
@@ -60,7 +60,7 @@ fn gives_superseded_tickets_back(rt: HostRuntime) {
     let ticket = begins(&rt, &mut folder, "x", 1);
     more(&rt, &mut folder, 2, &[file("x", &[(1, 2)], 2)]);
     match try_enter(&rt, &mut folder, ticket) {
-        Err(NotEntered::Superseded(ticket)) => gives_up(&rt, &mut folder, ticket),
+        Err(EnterFault::Superseded(ticket)) => gives_up(&rt, &mut folder, ticket),
         other => panic!(rt; "{other:?}"),
     }
     let ticket = begins(&rt, &mut folder, "x", 1);
@@ -89,7 +89,7 @@ fn knows_stray_tickets(rt: HostRuntime) {
     let second = begins(&rt, &mut folder, "y", 2);
     let before = copied(&rt, &other);
     match other.enter_commit(first) {
-        Err(NotEntered::Stray) => {}
+        Err(EnterFault::Stray) => {}
         answer => panic!(rt; "{answer:?}"),
     }
     assert!(rt; !other.give_up(second));

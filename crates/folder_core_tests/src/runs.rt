@@ -7,7 +7,7 @@ use crate::calls::{
 };
 use crate::rows::{Row, device, directory, moment, name, record, records, version};
 use bep_messages::Items;
-use folder_core::{Answer, Change, FolderCore, Partway, PlainFolder, Token, make, make_all};
+use folder_core::{Answer, Change, FolderCore, Partway, PlainFolder, PullInfo, make, make_all};
 use std::process::Abort;
 use sync_record::DeviceId;
 
@@ -189,8 +189,8 @@ fn gone(rt: &(impl AllocGlobal + Abort)) -> Change {
 }
 
 /// What is said of the first pull, where there was no local record.
-fn token(rt: &(impl AllocGlobal + Abort), target: Row) -> Token {
-    Token {
+fn token(rt: &(impl AllocGlobal + Abort), target: Row) -> PullInfo {
+    PullInfo {
         number: 1,
         name: name(rt, target.name),
         base: None,

@@ -4,7 +4,7 @@ use crate::calls::{
     local_since, loses, more, restored, try_enter,
 };
 use crate::rows::{ME, OF_NOTHING, device, directory, file, found_file, name, version};
-use folder_core::{Answer, Counts, FolderCore, NotEntered, Place, PlainFolder};
+use folder_core::{Answer, Counts, EnterFault, FolderCore, Place, PlainFolder};
 use std::process::Abort;
 use sync_record::Block;
 
@@ -80,7 +80,7 @@ fn scanned_in_a_pull(rt: &(impl AllocGlobal + Abort), modified_s: i64) -> PlainF
     let found = directory(modified_s);
     finds(rt, &mut folder, "x", None, &found, &Answer::Recorded(1));
     match try_enter(rt, &mut folder, ticket) {
-        Err(NotEntered::LocalMoved(ticket)) => assert!(rt; folder.give_up(ticket)),
+        Err(EnterFault::LocalMoved(ticket)) => assert!(rt; folder.give_up(ticket)),
         other => panic!(rt; "{other:?}"),
     }
     folder
@@ -136,7 +136,7 @@ fn keeps_a_sequence_for_each_commit(rt: HostRuntime) {
     let full = Answer::SequenceFull;
     finds(&rt, &mut folder, "y", None, &directory(1), &full);
     match try_enter(&rt, &mut folder, second) {
-        Err(NotEntered::SequenceFull(ticket)) => assert!(rt; folder.give_up(ticket)),
+        Err(EnterFault::SequenceFull(ticket)) => assert!(rt; folder.give_up(ticket)),
         other => panic!(rt; "{other:?}"),
     }
     finishes(&rt, &mut folder, commit, 9_223_372_036_854_775_807);

@@ -3,7 +3,7 @@ use crate::rows::{
     Row, device, directory, file, file_content, moment, name, record, records, version,
 };
 use bep_messages::Items;
-use folder_core::{Answer, Best, Change, Finding, FoundContent, Place, Token};
+use folder_core::{Answer, Best, Change, Finding, FoundContent, Place, PullInfo};
 use std::process::Abort;
 use sync_record::Assembled;
 
@@ -169,8 +169,8 @@ fn add_pulls(rt: &(impl AllocGlobal + Abort), changes: &mut Items<Change>, numbe
     }
 }
 
-fn token(rt: &(impl AllocGlobal + Abort), number: u64) -> Token {
-    Token {
+fn token(rt: &(impl AllocGlobal + Abort), number: u64) -> PullInfo {
+    PullInfo {
         number,
         name: name(rt, "x"),
         base: Some(record(rt, &file("x", &[(1, 1)], 1))),

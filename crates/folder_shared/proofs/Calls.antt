@@ -15,16 +15,16 @@ use Rattle.folder_core.specs.declared.change.Change.{Change}
 use Rattle.folder_calls.specs.declared.at.At.{At}
 use Rattle.folder_calls.specs.declared.entry.Entry.{Entry}
 use Rattle.folder_calls.specs.declared.history.History.{History}
-use Rattle.folder_calls.specs.Calls.{told}
+use Rattle.folder_calls.specs.Calls.{answered_at}
 use Rattle.folder_calls.specs.Histories.{own_entries, shared_answer}
-use Rattle.folder_calls.specs.Journals.{Enters, IsHistory, answered, with_entry}
-use Rattle.folder_calls.specs.Shared.{Declines, IsAnswered, IsLegalView, Makes, Sees, Tells, View, seeing}
-use Rattle.folder_shared.specs.declared.known.Claim.{Claim}
+use Rattle.folder_calls.specs.Journals.{Appends, IsHistory, answered, with_entry}
+use Rattle.folder_calls.specs.Shared.{Declines, IsAnswered, IsLegalView, Makes, Sees, ChangesAt, CallerView, seeing}
+use Rattle.folder_shared.specs.declared.known.PassHistory.{PassHistory}
 use Rattle.folder_shared.specs.declared.known.Known.{Known}
 use Rattle.folder_shared.specs.declared.shared.Pass.{Pass}
 use Rattle.folder_shared.specs.declared.shared.LockedFolder.{LockedFolder}
-use Rattle.folder_shared.specs.Rule.{claim, claimed, IsFit, IsSame, Kept, MayPut, PutBack, seen_all}
-use Rattle.folder_shared.specs.Passes.{IsGivenBack, IsGrown, IsHeld, IsPassOf, IsPutBack, MayPutBack, claimed_of, knows, limit_of, opened_of, opening_of, seen_of, view_of}
+use Rattle.folder_shared.specs.Rule.{pass_history, first_history, IsFit, IsSame, Kept, MayPut, PutBack, seen_all}
+use Rattle.folder_shared.specs.Passes.{IsGivenBack, IsGrown, IsHeld, IsPassOf, IsPutBack, MayPutBack, history_of, knows, limit_of, opened_of, opening_of, seen_of, view_of}
 use Rattle.folder_shared.proofs.Histories.{length_starts, starts_trans, take_same, take_starts}
 use Rattle.folder_shared.proofs.Puts.{puts}
 
@@ -52,13 +52,13 @@ grown-passes : (x y : History) (n : ℕ) → IsGrown x n y → y.passes ≡ x.pa
 grown-passes x y n (inl is) = ap (λ (m : History). m.passes) is
 grown-passes x y n (inr g) = ap (λ (m : History). m.passes) g.2
 
-grown-put : (v : Known) (x y : History) (n : ℕ) (log : List Entry) → v.memo ≡ x → v.claims ≡ claim n log ∷ [] → IsGrown x n y → MayPut v y
+grown-put : (v : Known) (x y : History) (n : ℕ) (log : List Entry) → v.memo ≡ x → v.histories ≡ pass_history n log ∷ [] → IsGrown x n y → MayPut v y
 grown-put v x y n log memo one grown = let same = grown-same x y n grown in
     ((same.0 ∙ ap (λ (m : History). m.opening) (sym memo), same.1 ∙ ap (λ (m : History). m.limit) (sym memo)), grown-passes x y n grown ∙ ap (λ (m : History). m.passes) (sym memo), entries grown)
   where
-    entries : IsGrown x n y → (y.entries ≡ v.memo.entries) ⊎ ((e : Entry) × (y.entries ≡ v.memo.entries ++ e ∷ []) × (i : ℕ) × (c : Claim) × (get_elem? v.claims i ≡ some c) × (e.pass ≡ c.pass))
+    entries : IsGrown x n y → (y.entries ≡ v.memo.entries) ⊎ ((e : Entry) × (y.entries ≡ v.memo.entries ++ e ∷ []) × (i : ℕ) × (c : PassHistory) × (get_elem? v.histories i ≡ some c) × (e.pass ≡ c.pass))
     entries (inl is) = inl (ap (λ (m : History). m.entries) (is ∙ sym memo))
-    entries (inr g) = inr (g.0, ap (λ (m : History). m.entries) g.2 ∙ ap (λ (m : History). m.entries ++ g.0 ∷ []) (sym memo), 0, claim n log, ap (λ (cs : List Claim). get_elem? cs 0) one, g.1)
+    entries (inr g) = inr (g.0, ap (λ (m : History). m.entries) g.2 ∙ ap (λ (m : History). m.entries ++ g.0 ∷ []) (sym memo), 0, pass_history n log, ap (λ (cs : List PassHistory). get_elem? cs 0) one, g.1)
 
 -- with an answer or without one it may be put back so
 pub may-grown : {X E : Type 0} (x y : History) (n : ℕ) (answer : Result X E) → MayPutBack x n answer y → IsGrown x n y
@@ -73,18 +73,18 @@ may-unchanged x n (Ok value) = inl refl
 may-unchanged x n (Err fault) = refl
 
 -- a change that is answered leaves such a history
-pub answered-grown : (x y : History) (n : ℕ) (change : Change) (answer : Answer) → Enters x n change (Some answer) y → IsGrown x n y
+pub answered-grown : (x y : History) (n : ℕ) (change : Change) (answer : Answer) → Appends x n change (Some answer) y → IsGrown x n y
 answered-grown x y n change answer entered = by (is_accepted answer) entered.1
   where
     by : (b : Bool) → (y ≡ cond b (with_entry x n change answer) x) → IsGrown x n y
     by true is = inr (record { pass = n; change = change; answer = answer }, refl, is)
     by false is = inl is
 
--- what the change tells its caller
-there : (old now : View) (x y : History) (change : Change) (answer : Answer) → Enters x old.pass change (Some answer) y → IsSame x (record { opening = old.opening; limit = old.limit; entries = []; passes = 0 })
+-- what the change returns to its caller
+there : (old now : CallerView) (x y : History) (change : Change) (answer : Answer) → Appends x old.pass change (Some answer) y → IsSame x (record { opening = old.opening; limit = old.limit; entries = []; passes = 0 })
     → Sees old (seeing old x.entries) → now ≡ seeing old y.entries → IsLegalView now → IsAnswered old change (record { at = length y.entries; value = answer }) now
 there old now x y change answer entered same sees is legal = record {
-  point = ap (λ (v : View). length v.seen) (sym is);
+  point = ap (λ (v : CallerView). length v.seen) (sym is);
   legal = legal;
   answered = by (is_accepted answer) refl entered.1;
 }
@@ -101,18 +101,18 @@ there old now x y change answer entered same sees is legal = record {
     }
     by false tested grown = let same : now ≡ seeing old x.entries = is ∙ ap (λ (h : History). seeing old h.entries) grown in record {
       sees = subst (Sees old) (sym same) sees;
-      answer_is = at ∙ ap (λ (v : View). shared_answer old.limit old.opening v.seen change) (sym same);
+      answer_is = at ∙ ap (λ (v : CallerView). shared_answer old.limit old.opening v.seen change) (sym same);
     }
 
 module _ {C : Type 0} (s : LockedFolder C) (before held : Pass C) (x : History) (of : IsPassOf s before) (h : IsHeld s before held x) where
   memo-held : (knows held).memo ≡ x
   memo-held = ap (λ (v : Known). v.memo) h.taken.after
 
-  one-held : (knows held).claims ≡ claim before.number (claimed_of before) ∷ []
-  one-held = ap (λ (v : Known). v.claims) h.taken.after ∙ of.claims
+  one-held : (knows held).histories ≡ pass_history before.number (history_of before) ∷ []
+  one-held = ap (λ (v : Known). v.histories) h.taken.after ∙ of.histories
 
-  fit : IsFit x (claim before.number (claimed_of before))
-  fit = h.taken.fit 0 _ (ap (λ (cs : List Claim). get_elem? cs 0) of.claims)
+  fit : IsFit x (pass_history before.number (history_of before))
+  fit = h.taken.fit 0 _ (ap (λ (cs : List PassHistory). get_elem? cs 0) of.histories)
 
   pub same-held : IsSame x (opened_of s)
   same-held = (h.taken.same.0 ∙ of.same.0, h.taken.same.1 ∙ of.same.1)
@@ -124,7 +124,7 @@ module _ {C : Type 0} (s : LockedFolder C) (before held : Pass C) (x : History) 
   -- the point at which the folder was taken
   pub sees-held : Sees (view_of s before) (seeing (view_of s before) x.entries)
   sees-held = record {
-    longer = starts_trans x.entries (claimed_of before) (seen_of before) fit.0 (take_starts before.seen (claimed_of before));
+    longer = starts_trans x.entries (history_of before) (seen_of before) fit.0 (take_starts before.seen (history_of before));
     own = fit.1 ∙ sym of.own;
     same = refl;
   }
@@ -134,14 +134,14 @@ module _ {C : Type 0} (s : LockedFolder C) (before held : Pass C) (x : History) 
     same-grown = let g = grown-same x y before.number grown in (g.0 ∙ same-held.0, g.1 ∙ same-held.1)
 
     pub rule-back : (n port : ℕ) → Pushes Kept n port (knows held) y (PutBack (knows held) y)
-    rule-back n port = puts n port (knows held) y (ap (λ (v : Known). v.stage) h.taken.after) (grown-put (knows held) x y before.number (claimed_of before) memo-held one-held grown)
+    rule-back n port = puts n port (knows held) y (ap (λ (v : Known). v.state) h.taken.after) (grown-put (knows held) x y before.number (history_of before) memo-held one-held grown)
 
     module _ (now : Pass C) (number : now.number ≡ held.number) (seat : IsSeatAt (sends_on s.sender) now.token) (put : PutBack (knows held) y (knows now)) where
-      claims-now : (knows now).claims ≡ claim before.number y.entries ∷ []
-      claims-now = ap (λ (v : Known). v.claims) put ∙ ap (seen_all y.entries) one-held
+      histories-now : (knows now).histories ≡ pass_history before.number y.entries ∷ []
+      histories-now = ap (λ (v : Known). v.histories) put ∙ ap (seen_all y.entries) one-held
 
-      claimed-now : claimed_of now ≡ y.entries
-      claimed-now = ap claimed claims-now
+      first_history-now : history_of now ≡ y.entries
+      first_history-now = ap first_history histories-now
 
       is-number : now.number ≡ before.number
       is-number = number ∙ h.number
@@ -149,13 +149,13 @@ module _ {C : Type 0} (s : LockedFolder C) (before held : Pass C) (x : History) 
       same-now : IsSame (knows now).memo (opened_of s)
       same-now = (ap (λ (v : Known). v.memo.opening) put ∙ same-grown.0, ap (λ (v : Known). v.memo.limit) put ∙ same-grown.1)
 
-      own-claim : (knows now).claims ≡ claim now.number (claimed_of now) ∷ []
-      own-claim = claims-now ∙ (λ i. claim (sym is-number i) (sym claimed-now i) ∷ [])
+      own-pass_history : (knows now).histories ≡ pass_history now.number (history_of now) ∷ []
+      own-pass_history = histories-now ∙ (λ i. pass_history (sym is-number i) (sym first_history-now i) ∷ [])
 
       -- with an answer the pass has seen all
       module _ (history : IsHistory y) (seen : now.seen ≡ length y.entries) where
         all : seen_of now ≡ y.entries
-        all = ap (λ n. take n (claimed_of now)) seen ∙ ap (take (length y.entries)) claimed-now ∙ take_all (length y.entries) y.entries (omega arith)
+        all = ap (λ n. take n (history_of now)) seen ∙ ap (take (length y.entries)) first_history-now ∙ take_all (length y.entries) y.entries (omega arith)
 
         answered-view : view_of s now ≡ seeing (view_of s before) y.entries
         answered-view = (λ i. record { opening = opening_of s; limit = limit_of s; pass = is-number i; seen = all i })
@@ -169,11 +169,11 @@ module _ {C : Type 0} (s : LockedFolder C) (before held : Pass C) (x : History) 
         pub answered-pass : IsPassOf s now
         answered-pass = record {
           seat = seat;
-          idle = ap (λ (v : Known). v.stage) put;
+          idle = ap (λ (v : Known). v.state) put;
           same = same-now;
-          claims = own-claim;
-          counted = let c = ap length claimed-now in omega arith;
-          own = ap (own_entries now.number) (all ∙ sym claimed-now);
+          histories = own-pass_history;
+          counted = let c = ap length first_history-now in omega arith;
+          own = ap (own_entries now.number) (all ∙ sym first_history-now);
           legal = ∣ now-legal ∣₁;
         }
 
@@ -183,11 +183,11 @@ module _ {C : Type 0} (s : LockedFolder C) (before held : Pass C) (x : History) 
 
     -- out of memory it has seen no more
     module _ (same : y ≡ x) (now : Pass C) (number : now.number ≡ held.number) (seat : IsSeatAt (sends_on s.sender) now.token) (put : PutBack (knows held) y (knows now)) (seen : now.seen ≡ held.seen) where
-      still : claimed_of now ≡ x.entries
-      still = claimed-now now number seat put ∙ ap (λ (m : History). m.entries) same
+      still : history_of now ≡ x.entries
+      still = first_history-now now number seat put ∙ ap (λ (m : History). m.entries) same
 
       kept-seen : seen_of now ≡ seen_of before
-      kept-seen = ap (λ n. take n (claimed_of now)) (seen ∙ h.seen) ∙ ap (take before.seen) still ∙ take_same before.seen x.entries (claimed_of before) fit.0 of.counted
+      kept-seen = ap (λ n. take n (history_of now)) (seen ∙ h.seen) ∙ ap (take before.seen) still ∙ take_same before.seen x.entries (history_of before) fit.0 of.counted
 
       kept-view : view_of s now ≡ view_of s before
       kept-view = (λ i. record { opening = opening_of s; limit = limit_of s; pass = is-number now number seat put i; seen = kept-seen i })
@@ -195,11 +195,11 @@ module _ {C : Type 0} (s : LockedFolder C) (before held : Pass C) (x : History) 
       pub kept-pass : IsPassOf s now
       kept-pass = record {
         seat = seat;
-        idle = ap (λ (v : Known). v.stage) put;
+        idle = ap (λ (v : Known). v.state) put;
         same = same-now now number seat put;
-        claims = own-claim now number seat put;
-        counted = let c = ap length still in let l = length_starts x.entries (claimed_of before) fit.0 in let b = of.counted in let n = seen ∙ h.seen in omega arith;
-        own = subst (λ n. own_entries n (seen_of now) ≡ own_entries n (claimed_of now)) (sym (is-number now number seat put))
+        histories = own-pass_history now number seat put;
+        counted = let c = ap length still in let l = length_starts x.entries (history_of before) fit.0 in let b = of.counted in let n = seen ∙ h.seen in omega arith;
+        own = subst (λ n. own_entries n (seen_of now) ≡ own_entries n (history_of now)) (sym (is-number now number seat put))
             (ap (own_entries before.number) kept-seen ∙ of.own ∙ sym fit.1 ∙ ap (own_entries before.number) (sym still));
         legal = subst (λ v. ∥ IsLegalView v ∥₁) (sym kept-view) of.legal;
       }
@@ -208,37 +208,37 @@ module _ {C : Type 0} (s : LockedFolder C) (before held : Pass C) (x : History) 
       back-err answer fault is = subst (λ a. IsPutBack s before y a (Err fault) now) (sym is) (refl, kept-view)
 
   -- the value or the fault is the answer's
-  pub put-value : {X E : Type 0} (y : History) (now : Pass C) (answer : Result X E) (result : Result (At X) E) → IsPutBack s before y answer result now → IfOk result (λ told. answer ≡ Ok told.value)
-  put-value {X = X} {E = E} y now (Ok value) result back = let a : Result X E = Ok value in subst (λ r. IfOk r (λ told. a ≡ Ok told.value)) (sym back.0) refl
-  put-value {X = X} {E = E} y now (Err fault) result back = let a : Result X E = Err fault in subst (λ r. IfOk r (λ told. a ≡ Ok told.value)) (sym back.0) tt
+  pub put-value : {X E : Type 0} (y : History) (now : Pass C) (answer : Result X E) (result : Result (At X) E) → IsPutBack s before y answer result now → IfOk result (λ reply. answer ≡ Ok reply.value)
+  put-value {X = X} {E = E} y now (Ok value) result back = let a : Result X E = Ok value in subst (λ r. IfOk r (λ reply. a ≡ Ok reply.value)) (sym back.0) refl
+  put-value {X = X} {E = E} y now (Err fault) result back = let a : Result X E = Err fault in subst (λ r. IfOk r (λ reply. a ≡ Ok reply.value)) (sym back.0) tt
 
   pub put-fault : {X E : Type 0} (y : History) (now : Pass C) (answer : Result X E) (result : Result (At X) E) → IsPutBack s before y answer result now → IfErr result (λ fault. answer ≡ Err fault)
   put-fault {X = X} {E = E} y now (Ok value) result back = let a : Result X E = Ok value in subst (λ r. IfErr r (λ fault. a ≡ Err fault)) (sym back.0) tt
   put-fault {X = X} {E = E} y now (Err fault) result back = let a : Result X E = Err fault in subst (λ r. IfErr r (λ fault. a ≡ Err fault)) (sym back.0) refl
 
-  -- ---- what a read tells, whose caller puts the folder back as it was
+  -- ---- what a read returns, whose caller puts the folder back as it was
 
   pub read-given : {X E : Type 0} (now : Pass C) (answer : Result X E) (result : Result (At X) E) → IsPutBack s before x answer result now → IsGivenBack s before x answer result now
   read-given now (Ok value) result back = (
     back.0,
     back.1,
     record {
-      longer = subst (IsPrefix (seen_of before)) (ap (λ (v : View). v.seen) (sym back.1)) sees-held.longer;
-      own = subst (λ es. own_entries before.number es ≡ own_entries before.number (seen_of before)) (ap (λ (v : View). v.seen) (sym back.1)) sees-held.own;
-      same = back.1 ∙ ap (λ (v : View). seeing (view_of s before) v.seen) (sym back.1);
+      longer = subst (IsPrefix (seen_of before)) (ap (λ (v : CallerView). v.seen) (sym back.1)) sees-held.longer;
+      own = subst (λ es. own_entries before.number es ≡ own_entries before.number (seen_of before)) (ap (λ (v : CallerView). v.seen) (sym back.1)) sees-held.own;
+      same = back.1 ∙ ap (λ (v : CallerView). seeing (view_of s before) v.seen) (sym back.1);
     },
     back.2,
   )
   read-given now (Err fault) result back = back
 
-  -- ---- what a change tells
+  -- ---- what a change returns
 
-  pub change-grown : {X E : Type 0} (y : History) (f : X → Answer) (change : Change) (answer : Result X E) → Enters x held.number change (answered f answer) y → MayPutBack x before.number answer y
-  change-grown y f change (Ok value) entered = answered-grown x y before.number change (f value) (subst (λ n. Enters x n change (Some (f value)) y) h.number entered)
+  pub change-grown : {X E : Type 0} (y : History) (f : X → Answer) (change : Change) (answer : Result X E) → Appends x held.number change (answered f answer) y → MayPutBack x before.number answer y
+  change-grown y f change (Ok value) entered = answered-grown x y before.number change (f value) (subst (λ n. Appends x n change (Some (f value)) y) h.number entered)
   change-grown y f change (Err fault) entered = entered
 
-  pub change-tells : {X E : Type 0} (y : History) (now : Pass C) (f : X → Answer) (change : Change) (answer : Result X E) (result : Result (At X) E) → Enters x held.number change (answered f answer) y
-      → IsPutBack s before y answer result now → Tells (view_of s before) change (told f result) (view_of s now)
-  change-tells y now f change (Ok value) result entered back = subst (λ r. Tells (view_of s before) change (told f r) (view_of s now)) (sym back.0)
-      (there (view_of s before) (view_of s now) x y change (f value) (subst (λ n. Enters x n change (Some (f value)) y) h.number entered) same-held sees-held back.1 back.2)
-  change-tells y now f change (Err fault) result entered back = subst (λ r. Tells (view_of s before) change (told f r) (view_of s now)) (sym back.0) back.1
+  pub change-replies : {X E : Type 0} (y : History) (now : Pass C) (f : X → Answer) (change : Change) (answer : Result X E) (result : Result (At X) E) → Appends x held.number change (answered f answer) y
+      → IsPutBack s before y answer result now → ChangesAt (view_of s before) change (answered_at f result) (view_of s now)
+  change-replies y now f change (Ok value) result entered back = subst (λ r. ChangesAt (view_of s before) change (answered_at f r) (view_of s now)) (sym back.0)
+      (there (view_of s before) (view_of s now) x y change (f value) (subst (λ n. Appends x n change (Some (f value)) y) h.number entered) same-held sees-held back.1 back.2)
+  change-replies y now f change (Err fault) result entered back = subst (λ r. ChangesAt (view_of s before) change (answered_at f r) (view_of s now)) (sym back.0) back.1

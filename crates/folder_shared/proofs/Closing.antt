@@ -14,25 +14,25 @@ use Rattle.folder_calls.specs.declared.entry.Entry.{Entry}
 use mathlib.Core.List.{IsPrefix}
 use Rattle.folder_calls.specs.Histories.{own_entries, IsLegal, state_after}
 use Rattle.folder_calls.specs.Journals.{IsHistory, end}
-use Rattle.folder_calls.specs.Shared.{Closes, Sees, View, seeing}
+use Rattle.folder_calls.specs.Shared.{Closes, Sees, CallerView, seeing}
 use Rattle.folder_calls.proofs.HistoryEntries.{legal-front}
 use Rattle.folder_calls.proofs.HistoryFronts.{own-divided}
 use Rattle.folder_calls.specs.declared.history.History.{History}
-use Rattle.folder_shared.specs.declared.known.Claim.{Claim}
+use Rattle.folder_shared.specs.declared.known.PassHistory.{PassHistory}
 use Rattle.folder_shared.specs.declared.known.Known.{Known}
 use Rattle.folder_shared.specs.declared.shared.Pass.{Pass}
-use Rattle.folder_shared.specs.Rule.{claim, IsFit, AreFit, AreApart, Taken}
+use Rattle.folder_shared.specs.Rule.{pass_history, IsFit, AreFit, AreApart, Taken}
 use Rattle.folder_shared.specs.declared.shared.LockedFolder.{LockedFolder}
-use Rattle.folder_shared.specs.Passes.{IsPassOf, claimed_of, limit_of, opening_of, seen_of, view_of}
+use Rattle.folder_shared.specs.Passes.{IsPassOf, history_of, limit_of, opening_of, seen_of, view_of}
 use Rattle.folder_shared.proofs.Lists.{at_none, at_one, at_append}
 use Rattle.folder_shared.proofs.Histories.{starts_trans, take_starts}
 
 -- numbers
 
-apart_tail : (c : Claim) (cs : List Claim) → AreApart (c ∷ cs) → AreApart cs
+apart_tail : (c : PassHistory) (cs : List PassHistory) → AreApart (c ∷ cs) → AreApart cs
 apart_tail c cs a i j x y e f same = let h = a (suc i) (suc j) x y e f same in omega arith
 
-each_by : (F : ℕ → Type 0) (cs : List Claim) → ((i : ℕ) (c : Claim) → get_elem? cs i ≡ some c → F c.pass) → AllByRecursion F (map (λ (c : Claim). c.pass) cs)
+each_by : (F : ℕ → Type 0) (cs : List PassHistory) → ((i : ℕ) (c : PassHistory) → get_elem? cs i ≡ some c → F c.pass) → AllByRecursion F (map (λ (c : PassHistory). c.pass) cs)
 each_by F [] h = tt
 each_by F (c ∷ cs) h = (h 0 c refl, each_by F cs (λ i d e. h (suc i) d e))
 
@@ -43,24 +43,24 @@ differ a b n = cases (eqb a b) refl
     cases true is = absurd (n (grind (arith, nat_tests)))
     cases false is = refl
 
-distinct : (cs : List Claim) → AreApart cs → IsDistinct eqb (map (λ (c : Claim). c.pass) cs)
+distinct : (cs : List PassHistory) → AreApart cs → IsDistinct eqb (map (λ (c : PassHistory). c.pass) cs)
 unfolding IsDistinct
 distinct [] a = tt
 distinct (c ∷ cs) a = (each_by (λ (q : ℕ). eqb c.pass q ≡ false) cs (λ i d e. differ c.pass d.pass (λ same. let h = a 0 (suc i) c d refl e same in absurd (omega arith))), distinct cs (apart_tail c cs a))
 
--- a number is a claim's, or no claim's
-held : (n : ℕ) (cs : List Claim) → ((k : ℕ) × (c : Claim) × (get_elem? cs k ≡ some c) × (c.pass ≡ n)) ⊎ ((i : ℕ) (c : Claim) → get_elem? cs i ≡ some c → n ≢ c.pass)
+-- a number is that of a pass with a history here, or of none
+held : (n : ℕ) (cs : List PassHistory) → ((k : ℕ) × (c : PassHistory) × (get_elem? cs k ≡ some c) × (c.pass ≡ n)) ⊎ ((i : ℕ) (c : PassHistory) → get_elem? cs i ≡ some c → n ≢ c.pass)
 held n [] = inr (λ i c e. absurd (at_none i c e))
 held n (d ∷ cs) = cases (eqb n d.pass) refl (held n cs)
   where
-    cases : (t : Bool) → eqb n d.pass ≡ t → ((k : ℕ) × (c : Claim) × (get_elem? cs k ≡ some c) × (c.pass ≡ n)) ⊎ ((i : ℕ) (c : Claim) → get_elem? cs i ≡ some c → n ≢ c.pass)
-        → ((k : ℕ) × (c : Claim) × (get_elem? (d ∷ cs) k ≡ some c) × (c.pass ≡ n)) ⊎ ((i : ℕ) (c : Claim) → get_elem? (d ∷ cs) i ≡ some c → n ≢ c.pass)
+    cases : (t : Bool) → eqb n d.pass ≡ t → ((k : ℕ) × (c : PassHistory) × (get_elem? cs k ≡ some c) × (c.pass ≡ n)) ⊎ ((i : ℕ) (c : PassHistory) → get_elem? cs i ≡ some c → n ≢ c.pass)
+        → ((k : ℕ) × (c : PassHistory) × (get_elem? (d ∷ cs) k ≡ some c) × (c.pass ≡ n)) ⊎ ((i : ℕ) (c : PassHistory) → get_elem? (d ∷ cs) i ≡ some c → n ≢ c.pass)
     cases true is h = inl (0, d, refl, grind (arith, nat_tests))
     cases false is (inl h) = inl (suc h.0, h.1, h.2, h.3)
     cases false is (inr h) = inr others
       where
-        others : (i : ℕ) (c : Claim) → get_elem? (d ∷ cs) i ≡ some c → n ≢ c.pass
-        others zero c e same = let p = ap (λ (x : Claim). x.pass) (some-injective d c e) in absurd (grind (arith, nat_tests))
+        others : (i : ℕ) (c : PassHistory) → get_elem? (d ∷ cs) i ≡ some c → n ≢ c.pass
+        others zero c e same = let p = ap (λ (x : PassHistory). x.pass) (some-injective d c e) in absurd (grind (arith, nat_tests))
         others (suc i) c e same = h i c e same
 
 member_below : (m : ℕ) (xs : List ℕ) (q : ℕ) → AllByRecursion (λ (y : ℕ). y < m) xs → list_any (eqb q) xs ≡ true → q < m
@@ -71,26 +71,26 @@ member_below m (x ∷ xs) q a e = below_cases m x xs q (eqb q x) refl a.0 (λ f.
     below_cases m x xs q true is low rest f = grind (arith, nat_tests)
     below_cases m x xs q false is low rest f = rest f
 
-none_too : (n given : ℕ) (cs : List Claim) → AreApart cs → ((i : ℕ) (c : Claim) → get_elem? cs i ≡ some c → (0 < c.pass) × (c.pass ≤ given)) → 0 < n → ((i : ℕ) (c : Claim) → get_elem? cs i ≡ some c → n ≢ c.pass)
-    → IsDistinct eqb (0 ∷ n ∷ map (λ (c : Claim). c.pass) cs)
+none_too : (n given : ℕ) (cs : List PassHistory) → AreApart cs → ((i : ℕ) (c : PassHistory) → get_elem? cs i ≡ some c → (0 < c.pass) × (c.pass ≤ given)) → 0 < n → ((i : ℕ) (c : PassHistory) → get_elem? cs i ≡ some c → n ≢ c.pass)
+    → IsDistinct eqb (0 ∷ n ∷ map (λ (c : PassHistory). c.pass) cs)
 unfolding IsDistinct
 none_too n given cs a range low x = (
   (differ 0 n (λ e. omega arith), each_by (λ (q : ℕ). eqb 0 q ≡ false) cs (λ i c e. differ 0 c.pass (λ same. let r = (range i c e).0 in omega arith))),
   (each_by (λ (q : ℕ). eqb n q ≡ false) cs (λ i c e. differ n c.pass (x i c e)), distinct cs a),
 )
 
-too_many : (n given : ℕ) (cs : List Claim) → AreApart cs → ((i : ℕ) (c : Claim) → get_elem? cs i ≡ some c → (0 < c.pass) × (c.pass ≤ given)) → length cs ≡ given → 0 < n → n ≤ given
-    → ((i : ℕ) (c : Claim) → get_elem? cs i ≡ some c → n ≢ c.pass) → ⊥
+too_many : (n given : ℕ) (cs : List PassHistory) → AreApart cs → ((i : ℕ) (c : PassHistory) → get_elem? cs i ≡ some c → (0 < c.pass) × (c.pass ≤ given)) → length cs ≡ given → 0 < n → n ≤ given
+    → ((i : ℕ) (c : PassHistory) → get_elem? cs i ≡ some c → n ≢ c.pass) → ⊥
 too_many n given cs a range size low high x =
-    let b = length-le_from_distinct_below (0 ∷ n ∷ map (λ (c : Claim). c.pass) cs) (given + 1) (none_too n given cs a range low x)
-    (λ q e. member_below (given + 1) (0 ∷ n ∷ map (λ (c : Claim). c.pass) cs) q (omega arith, (omega arith, each_by (λ (y : ℕ). y < given + 1) cs (λ i c k. let r = (range i c k).1 in omega arith))) e) in
-    let l = length-map cs (λ (c : Claim). c.pass) in omega arith
+    let b = length-le_from_distinct_below (0 ∷ n ∷ map (λ (c : PassHistory). c.pass) cs) (given + 1) (none_too n given cs a range low x)
+    (λ q e. member_below (given + 1) (0 ∷ n ∷ map (λ (c : PassHistory). c.pass) cs) q (omega arith, (omega arith, each_by (λ (y : ℕ). y < given + 1) cs (λ i c k. let r = (range i c k).1 in omega arith))) e) in
+    let l = length-map cs (λ (c : PassHistory). c.pass) in omega arith
 
--- as many claims as numbers: each number is claimed
-covered : (n given : ℕ) (cs : List Claim) → AreApart cs → ((i : ℕ) (c : Claim) → get_elem? cs i ≡ some c → (0 < c.pass) × (c.pass ≤ given)) → length cs ≡ given → 0 < n → n ≤ given
-    → (k : ℕ) × (c : Claim) × (get_elem? cs k ≡ some c) × (c.pass ≡ n)
-covered n given cs a range size low high = ⊎_elim (λ (x : (k : ℕ) × (c : Claim) × (get_elem? cs k ≡ some c) × (c.pass ≡ n)). x)
-    (λ (x : (i : ℕ) (c : Claim) → get_elem? cs i ≡ some c → n ≢ c.pass). absurd (too_many n given cs a range size low high x)) (held n cs)
+-- as many histories as numbers: each number is the pass of one
+covered : (n given : ℕ) (cs : List PassHistory) → AreApart cs → ((i : ℕ) (c : PassHistory) → get_elem? cs i ≡ some c → (0 < c.pass) × (c.pass ≤ given)) → length cs ≡ given → 0 < n → n ≤ given
+    → (k : ℕ) × (c : PassHistory) × (get_elem? cs k ≡ some c) × (c.pass ≡ n)
+covered n given cs a range size low high = ⊎_elim (λ (x : (k : ℕ) × (c : PassHistory) × (get_elem? cs k ≡ some c) × (c.pass ≡ n)). x)
+    (λ (x : (i : ℕ) (c : PassHistory) → get_elem? cs i ≡ some c → n ≢ c.pass). absurd (too_many n given cs a range size low high x)) (held n cs)
 
 -- the last entry
 
@@ -134,31 +134,31 @@ starts_nil : (s : List Entry) → IsPrefix s [] → [] ≡ s
 starts_nil [] h = refl
 starts_nil (x ∷ s) h = let e = h.1 in absurd (cc)
 
--- the claims of passes, the last first
+-- the histories of passes, the last first
 
 module _ {C : Type 0} where
-  abbrev pub claim_of : Pass C → Claim
-  claim_of p = claim p.number (claimed_of p)
+  abbrev pub pass_history_of : Pass C → PassHistory
+  pass_history_of p = pass_history p.number (history_of p)
 
-  abbrev pub claims_back : List (Pass C) → List Claim
+  abbrev pub claims_back : List (Pass C) → List PassHistory
   claims_back [] = []
-  claims_back (p ∷ ps) = claims_back ps ++ claim_of p ∷ []
+  claims_back (p ∷ ps) = claims_back ps ++ pass_history_of p ∷ []
 
-  place : (ps : List (Pass C)) (i : ℕ) (p : Pass C) → get_elem? ps i ≡ some p → (k : ℕ) × (get_elem? (claims_back ps) k ≡ some (claim_of p))
+  place : (ps : List (Pass C)) (i : ℕ) (p : Pass C) → get_elem? ps i ≡ some p → (k : ℕ) × (get_elem? (claims_back ps) k ≡ some (pass_history_of p))
   place [] i p e = absurd (at_none i p e)
-  place (q ∷ ps) zero p e = (length (claims_back ps), ap (λ (r : Pass C). get_elem? (claims_back ps ++ claim_of r ∷ []) (length (claims_back ps))) (some-injective q p e) ∙ at_last (claims_back ps) (claim_of p) (length (claims_back ps)) refl)
-  place (q ∷ ps) (suc i) p e = let h = place ps i p e in (h.0, at_longer (claims_back ps) (claim_of q ∷ []) h.0 (claim_of p) h.1)
+  place (q ∷ ps) zero p e = (length (claims_back ps), ap (λ (r : Pass C). get_elem? (claims_back ps ++ pass_history_of r ∷ []) (length (claims_back ps))) (some-injective q p e) ∙ at_last (claims_back ps) (pass_history_of p) (length (claims_back ps)) refl)
+  place (q ∷ ps) (suc i) p e = let h = place ps i p e in (h.0, at_longer (claims_back ps) (pass_history_of q ∷ []) h.0 (pass_history_of p) h.1)
 
-  owner : (ps : List (Pass C)) (k : ℕ) (c : Claim) → get_elem? (claims_back ps) k ≡ some c → (i : ℕ) × (p : Pass C) × (get_elem? ps i ≡ some p) × (claim_of p ≡ c)
+  owner : (ps : List (Pass C)) (k : ℕ) (c : PassHistory) → get_elem? (claims_back ps) k ≡ some c → (i : ℕ) × (p : Pass C) × (get_elem? ps i ≡ some p) × (pass_history_of p ≡ c)
   owner [] k c e = absurd (at_none k c e)
   owner (q ∷ ps) k c e = ⊎_elim (λ (h : get_elem? (claims_back ps) k ≡ some c). let o = owner ps k c h in (suc o.0, o.1, o.2, o.3))
-      (λ (h : (j : ℕ) × (k ≡ length (claims_back ps) + j) × (get_elem? (claim_of q ∷ []) j ≡ some c)). (0, q, refl, (at_one (claim_of q) h.0 c h.2).1)) (at_append (claims_back ps) (claim_of q ∷ []) k c e)
+      (λ (h : (j : ℕ) × (k ≡ length (claims_back ps) + j) × (get_elem? (pass_history_of q ∷ []) j ≡ some c)). (0, q, refl, (at_one (pass_history_of q) h.0 c h.2).1)) (at_append (claims_back ps) (pass_history_of q ∷ []) k c e)
 
   length-claims_back : (ps : List (Pass C)) → length (claims_back ps) ≡ length ps
   length-claims_back [] = refl
-  length-claims_back (p ∷ ps) = let h = length-claims_back ps in let l = length-append (claims_back ps) (claim_of p ∷ []) in omega arith
+  length-claims_back (p ∷ ps) = let h = length-claims_back ps in let l = length-append (claims_back ps) (pass_history_of p ∷ []) in omega arith
 
-  one_whole : (opening : FolderState) (log : List Entry) (given : ℕ) (ps : List (Pass C)) → IsLegal given opening log → AreApart (claims_back ps) → ((i : ℕ) (c : Claim) → get_elem? (claims_back ps) i ≡ some c → (0 < c.pass) × (c.pass ≤ given))
+  one_whole : (opening : FolderState) (log : List Entry) (given : ℕ) (ps : List (Pass C)) → IsLegal given opening log → AreApart (claims_back ps) → ((i : ℕ) (c : PassHistory) → get_elem? (claims_back ps) i ≡ some c → (0 < c.pass) × (c.pass ≤ given))
       → ((i : ℕ) (p : Pass C) → get_elem? ps i ≡ some p → IsPrefix (seen_of p) log × (own_entries p.number log ≡ own_entries p.number (seen_of p))) → length ps ≡ given
       → (log ≡ []) ⊎ ((f : List Entry) × (e : Entry) × (log ≡ f ++ e ∷ [])) → 0 < length ps → (i : ℕ) × (p : Pass C) × (get_elem? ps i ≡ some p) × (log ≡ seen_of p)
   one_whole opening log given [] g apart range begins size last some_pass = absurd (omega arith)
@@ -168,7 +168,7 @@ module _ {C : Type 0} where
       let k = covered h.1.pass given (claims_back (q ∷ ps)) apart range (length-claims_back (q ∷ ps) ∙ size) (let l = r.0 in omega arith) r.1 in
       let o = owner (q ∷ ps) k.0 k.1 k.2 in
       let b = begins o.0 o.1 o.2 in
-      (o.0, o.1, o.2, last_seen log (seen_of o.1) h.0 h.1 o.1.number b.0 b.1 h.2 (sym (ap (λ (c : Claim). c.pass) o.3 ∙ k.3)))
+      (o.0, o.1, o.2, last_seen log (seen_of o.1) h.0 h.1 o.1.number b.0 b.1 h.2 (sym (ap (λ (c : PassHistory). c.pass) o.3 ∙ k.3)))
 
   -- who is among the mapped, is mapped from one of them
   among : {V : Type 0} (f : Pass C → V) (v : V) (ps : List (Pass C)) (k : ℕ) → k < length (map f ps) → slice_index_or (map f ps) k v ≡ v → (i : ℕ) × (p : Pass C) × (get_elem? ps i ≡ some p) × (f p ≡ v)
@@ -181,13 +181,13 @@ module _ {C : Type 0} where
   mapped f (q ∷ ps) zero p e = (0, omega arith, ap f (some-injective q p e))
   mapped f (q ∷ ps) (suc i) p e = let r = mapped f ps i p e in (suc r.0, (let l = r.1 in omega arith), r.2)
 
-  pub closes : (s : LockedFolder C) (x : History) (v w : Known) (ps : List (Pass C)) → Taken v x w → v.claims ≡ claims_back ps → (x.opening ≡ opening_of s) × (x.limit ≡ limit_of s) → IsHistory x → 0 < length ps
+  pub closes : (s : LockedFolder C) (x : History) (v w : Known) (ps : List (Pass C)) → Taken v x w → v.histories ≡ claims_back ps → (x.opening ≡ opening_of s) × (x.limit ≡ limit_of s) → IsHistory x → 0 < length ps
       → ((i : ℕ) (p : Pass C) → get_elem? ps i ≡ some p → IsPassOf s p) → (state : FolderState) → state ≡ end x → (given : ℕ) → given ≡ x.passes → Closes (opening_of s) (limit_of s) given (map (view_of s) ps) state
-  closes s x v w ps t claims same history some_pass of state state_is given passes =
-      let fit : AreFit x (claims_back ps) = subst (AreFit x) claims t.fit in
+  closes s x v w ps t histories same history some_pass of state state_is given passes =
+      let fit : AreFit x (claims_back ps) = subst (AreFit x) histories t.fit in
       let begins : (i : ℕ) (p : Pass C) → get_elem? ps i ≡ some p → IsPrefix (seen_of p) x.entries × (own_entries p.number x.entries ≡ own_entries p.number (seen_of p)) =
-      λ i p e. let h = place ps i p e in let f : IsFit x (claim_of p) = fit h.0 (claim_of p) h.1 in (starts_trans x.entries (claimed_of p) (seen_of p) f.0 (take_starts p.seen (claimed_of p)), f.1 ∙ sym (of i p e).own) in
-      let range : (i : ℕ) (c : Claim) → get_elem? (claims_back ps) i ≡ some c → (0 < c.pass) × (c.pass ≤ given) = λ i c e. let f = fit i c e in (f.2, (let b = f.3 in omega arith)) in
+      λ i p e. let h = place ps i p e in let f : IsFit x (pass_history_of p) = fit h.0 (pass_history_of p) h.1 in (starts_trans x.entries (history_of p) (seen_of p) f.0 (take_starts p.seen (history_of p)), f.1 ∙ sym (of i p e).own) in
+      let range : (i : ℕ) (c : PassHistory) → get_elem? (claims_back ps) i ≡ some c → (0 < c.pass) × (c.pass ≤ given) = λ i c e. let f = fit i c e in (f.2, (let b = f.3 in omega arith)) in
       let legal : IsLegal given (opening_of s) x.entries = subst (λ n. IsLegal n (opening_of s) x.entries) (sym passes) (subst (λ o. IsLegal x.passes o x.entries) same.0 history.legal) in
       let there : state ≡ state_after (opening_of s) x.entries = state_is ∙ ap (λ o. state_after o x.entries) same.0 in
       let room : length x.entries + len state.pulls ≤ limit_of s = (let r = history.room in let l = same.1 in let e = ap (λ (f : FolderState). len f.pulls) state_is in omega arith) in record {
@@ -196,17 +196,17 @@ module _ {C : Type 0} where
         room = room;
         state_is = there;
         each = λ u one. let o = among (view_of s) u ps one.0 one.1 one.2 in
-            subst (λ (u : View). (u.opening ≡ opening_of s) × (u.limit ≡ limit_of s) × Sees u (seeing u x.entries)) o.3
+            subst (λ (u : CallerView). (u.opening ≡ opening_of s) × (u.limit ≡ limit_of s) × Sees u (seeing u x.entries)) o.3
             (let b = begins o.0 o.1 o.2 in (refl, refl, record { longer = b.0; own = b.1; same = refl }));
-        whole = λ many. let w = one_whole (opening_of s) x.entries given ps legal (subst AreApart claims t.apart) range begins (sym (length-map ps (view_of s)) ∙ many) (last_or x.entries) some_pass in
+        whole = λ many. let w = one_whole (opening_of s) x.entries given ps legal (subst AreApart histories t.apart) range begins (sym (length-map ps (view_of s)) ∙ many) (last_or x.entries) some_pass in
             (view_of s w.1, mapped (view_of s) ps w.0 w.1 w.2, sym w.3);
       }
 
   -- a pass that is handed in was given out
-  pub closes-given : (x : History) (v w : Known) (ps : List (Pass C)) → Taken v x w → v.claims ≡ claims_back ps → (given : ℕ) → given ≡ x.passes → (i : ℕ) (p : Pass C) → get_elem? ps i ≡ some p → p.number ≤ given
-  closes-given x v w ps t claims given passes i p e =
+  pub closes-given : (x : History) (v w : Known) (ps : List (Pass C)) → Taken v x w → v.histories ≡ claims_back ps → (given : ℕ) → given ≡ x.passes → (i : ℕ) (p : Pass C) → get_elem? ps i ≡ some p → p.number ≤ given
+  closes-given x v w ps t histories given passes i p e =
       let h = place ps i p e in
-      let f : IsFit x (claim_of p) = subst (AreFit x) claims t.fit h.0 (claim_of p) h.1 in (let b = f.3 in omega arith)
+      let f : IsFit x (pass_history_of p) = subst (AreFit x) histories t.fit h.0 (pass_history_of p) h.1 in (let b = f.3 in omega arith)
 
   pub at_back : (all l s tail : List (Pass C)) (p : Pass C) → all ≡ l ++ tail → l ≡ s ++ p ∷ [] → get_elem? all (length s) ≡ some p
   at_back all l s tail p is longer = ap (λ (m : List (Pass C)). get_elem? m (length s)) (is ∙ ap (λ (m : List (Pass C)). m ++ tail) longer) ∙ at_longer (s ++ p ∷ []) tail (length s) p (at_last s p (length s) refl)

@@ -2,7 +2,7 @@ pub mod Lists
 pub mod Histories
 pub mod Moves
 pub mod Puts
-pub mod Roots
+pub mod Blanks
 pub mod Joins
 pub mod Parts
 pub mod Meets

@@ -14,33 +14,33 @@ use Rattle.folder_calls.specs.declared.history.History.{History}
 use Rattle.folder_calls.specs.Histories.{own_entries}
 use Rattle.folder_calls.specs.Shared.{IsLegalView, Meets, seeing}
 use Rattle.folder_calls.proofs.HistoryMeetings.{meet-legal}
-use Rattle.folder_shared.specs.declared.known.Claim.{Claim}
+use Rattle.folder_shared.specs.declared.known.PassHistory.{PassHistory}
 use Rattle.folder_shared.specs.declared.known.Known.{Known}
-use Rattle.folder_shared.specs.declared.known.Stage.TheVariants.{Idle}
+use Rattle.folder_shared.specs.declared.known.TokenState.TheVariants.{Idle}
 use Rattle.folder_shared.specs.declared.shared.Pass.{Pass}
 use Rattle.folder_shared.specs.declared.shared.LockedFolder.{LockedFolder}
-use Rattle.folder_shared.specs.Rule.{claim, claimed, Agree, IsFit, joined, left_of, longer, first_claim, right_of, second_claim}
-use Rattle.folder_shared.specs.Passes.{IsPassOf, claimed_of, knows, limit_of, opening_of, seen_of, view_of}
+use Rattle.folder_shared.specs.Rule.{pass_history, first_history, Agree, IsFit, joined, left_of, longer, first_of_two, right_of, second_of_two}
+use Rattle.folder_shared.specs.Passes.{IsPassOf, history_of, knows, limit_of, opening_of, seen_of, view_of}
 use Rattle.folder_shared.proofs.Histories.{length_starts, longer_starts, own_between, starts_trans, take_same, take_starts}
 
--- a token of one pass that claims a whole history, and has seen the first k entries of it
+-- a token with the history of one pass, which has seen the first k entries of it
 record Half (z : Known) (n k : ℕ) (before seen : List Entry) : Type 0 where
-  pub idle : z.stage ≡ Idle
-  pub claims : z.claims ≡ claim n (claimed z.claims) ∷ []
-  pub counted : k ≤ length (claimed z.claims)
-  pub own_all : own_entries n (take k (claimed z.claims)) ≡ own_entries n (claimed z.claims)
-  pub is : take k (claimed z.claims) ≡ seen
+  pub idle : z.state ≡ Idle
+  pub histories : z.histories ≡ pass_history n (first_history z.histories) ∷ []
+  pub counted : k ≤ length (first_history z.histories)
+  pub own_all : own_entries n (take k (first_history z.histories)) ≡ own_entries n (first_history z.histories)
+  pub is : take k (first_history z.histories) ≡ seen
   pub longer : IsPrefix before seen
   pub own : own_entries n seen ≡ own_entries n before
 
-half : (z : Known) (log : List Entry) (n k : ℕ) (before whole seen : List Entry) → z.stage ≡ Idle → z.claims ≡ claim n whole ∷ [] → IsPrefix whole log → IsPrefix seen whole → IsPrefix before seen
+half : (z : Known) (log : List Entry) (n k : ℕ) (before whole seen : List Entry) → z.state ≡ Idle → z.histories ≡ pass_history n whole ∷ [] → IsPrefix whole log → IsPrefix seen whole → IsPrefix before seen
     → take k whole ≡ seen → k ≤ length whole → own_entries n log ≡ own_entries n before → Half z n k before seen
-half z log n k before whole seen idle claims a b d is low own =
-    let c : claimed z.claims ≡ whole = ap claimed claims in
+half z log n k before whole seen idle histories a b d is low own =
+    let c : first_history z.histories ≡ whole = ap first_history histories in
     let e : own_entries n log ≡ own_entries n whole = own_between n log whole before a (starts_trans whole seen before b d) own in
     let f : own_entries n log ≡ own_entries n seen = own_between n log seen before (starts_trans log whole seen a b) d own in record {
       idle = idle;
-      claims = claims ∙ ap (λ (l : List Entry). claim n l ∷ []) (sym c);
+      histories = histories ∙ ap (λ (l : List Entry). pass_history n l ∷ []) (sym c);
       counted = rw c low;
       own_all = rw c (ap (own_entries n) is ∙ sym f ∙ e);
       is = ap (take k) c ∙ is;
@@ -81,12 +81,12 @@ record Halves (one other : Known) (m n k : ℕ) (before before' : List Entry) : 
   pub left : Half one m k before (longer before before')
   pub right : Half other n k before' (longer before before')
 
-halves : (v one other : Known) (items : List History) (m n j k : ℕ) (log log' : List Entry) → one ≡ left_of v → other ≡ right_of v → v.claims ≡ claim m log ∷ claim n log' ∷ [] → Agree v items
+halves : (v one other : Known) (items : List History) (m n j k : ℕ) (log log' : List Entry) → one ≡ left_of v → other ≡ right_of v → v.histories ≡ pass_history m log ∷ pass_history n log' ∷ [] → Agree v items
     → j ≤ length log → k ≤ length log' → own_entries m (take j log) ≡ own_entries m log → own_entries n (take k log') ≡ own_entries n log' → Halves one other m n (cond (leb j k) k j) (take j log) (take k log')
-halves v one other items m n j k log log' is is' claims agree low low' own own' =
+halves v one other items m n j k log log' is is' histories agree low low' own own' =
     let h = agree.0.entries in
-    let f : IsFit agree.0 (claim m log) = agree.2 0 (claim m log) (ap (λ (cs : List Claim). get_elem? cs 0) claims) in
-    let g : IsFit agree.0 (claim n log') = agree.2 1 (claim n log') (ap (λ (cs : List Claim). get_elem? cs 1) claims) in
+    let f : IsFit agree.0 (pass_history m log) = agree.2 0 (pass_history m log) (ap (λ (cs : List PassHistory). get_elem? cs 0) histories) in
+    let g : IsFit agree.0 (pass_history n log') = agree.2 1 (pass_history n log') (ap (λ (cs : List PassHistory). get_elem? cs 1) histories) in
     let all : List Entry = longer log log' in
     let s = longer_starts h log log' f.0 g.0 in
     let a : take j all ≡ take j log = take_same j all log s.1 low in
@@ -96,9 +96,9 @@ halves v one other items m n j k log log' is is' claims agree low low' own own' 
     let whole : longer (take j log) (take k log') ≡ take (cond (leb j k) k j) all = (λ i. longer (sym a i) (sym b i)) ∙ longer_take all j k la lb in
     let p = longer_starts all (take j log) (take k log') (subst (λ l. IsPrefix l all) a (take_starts j all)) (subst (λ l. IsPrefix l all) b (take_starts k all)) in
     record {
-      left = half one h m (cond (leb j k) k j) (take j log) all (longer (take j log) (take k log')) (ap (λ (u : Known). u.stage) is) (ap (λ (u : Known). u.claims) is ∙ ap first_claim claims) s.0 p.0 p.1
+      left = half one h m (cond (leb j k) k j) (take j log) all (longer (take j log) (take k log')) (ap (λ (u : Known). u.state) is) (ap (λ (u : Known). u.histories) is ∙ ap first_of_two histories) s.0 p.0 p.1
           (sym whole) (low_cond (leb j k) j k (length all) la lb) (f.1 ∙ sym own);
-      right = half other h n (cond (leb j k) k j) (take k log') all (longer (take j log) (take k log')) (ap (λ (u : Known). u.stage) is') (ap (λ (u : Known). u.claims) is' ∙ ap second_claim claims) s.0 p.0 p.2
+      right = half other h n (cond (leb j k) k j) (take k log') all (longer (take j log) (take k log')) (ap (λ (u : Known). u.state) is') (ap (λ (u : Known). u.histories) is' ∙ ap second_of_two histories) s.0 p.0 p.2
           (sym whole) (low_cond (leb j k) j k (length all) la lb) (g.1 ∙ sym own');
     }
 
@@ -113,13 +113,13 @@ pub record Course (v v' w w' j l one other : Known) (items : List History) : Typ
   pub cuts : one ≡ left_of l
   pub rest : other ≡ right_of l
 
-course_halves : (v v' w w' j l one other : Known) (items : List History) (m n a b k : ℕ) → Course v v' w w' j l one other items → v.claims ≡ claim m (claimed v.claims) ∷ [] → v'.claims ≡ claim n (claimed v'.claims) ∷ []
-    → a ≤ length (claimed v.claims) → b ≤ length (claimed v'.claims) → own_entries m (take a (claimed v.claims)) ≡ own_entries m (claimed v.claims) → own_entries n (take b (claimed v'.claims)) ≡ own_entries n (claimed v'.claims) → k ≡ cond (leb a b) b a
-    → Halves one other m n k (take a (claimed v.claims)) (take b (claimed v'.claims))
-course_halves v v' w w' j l one other items m n a b k c claims claims' low low' own own' is =
-    subst (λ (h : ℕ). Halves one other m n h (take a (claimed v.claims)) (take b (claimed v'.claims))) (sym is)
-    (halves l one other items m n a b (claimed v.claims) (claimed v'.claims) c.cuts c.rest
-    (ap (λ (u : Known). u.claims) (c.learns ∙ c.joins ∙ (λ i. joined (c.first i) (c.second i))) ∙ (λ i. claims i ++ claims' i))
+course_halves : (v v' w w' j l one other : Known) (items : List History) (m n a b k : ℕ) → Course v v' w w' j l one other items → v.histories ≡ pass_history m (first_history v.histories) ∷ [] → v'.histories ≡ pass_history n (first_history v'.histories) ∷ []
+    → a ≤ length (first_history v.histories) → b ≤ length (first_history v'.histories) → own_entries m (take a (first_history v.histories)) ≡ own_entries m (first_history v.histories) → own_entries n (take b (first_history v'.histories)) ≡ own_entries n (first_history v'.histories) → k ≡ cond (leb a b) b a
+    → Halves one other m n k (take a (first_history v.histories)) (take b (first_history v'.histories))
+course_halves v v' w w' j l one other items m n a b k c histories histories' low low' own own' is =
+    subst (λ (h : ℕ). Halves one other m n h (take a (first_history v.histories)) (take b (first_history v'.histories))) (sym is)
+    (halves l one other items m n a b (first_history v.histories) (first_history v'.histories) c.cuts c.rest
+    (ap (λ (u : Known). u.histories) (c.learns ∙ c.joins ∙ (λ i. joined (c.first i) (c.second i))) ∙ (λ i. histories i ++ histories' i))
     (subst (λ (u : Known). Agree u items) (sym c.learns) c.agree) low low' own own')
 
 course_memos : (v v' w w' j l one other : Known) (items : List History) → Course v v' w w' j l one other items → (one.memo ≡ v.memo) × (other.memo ≡ v.memo)
@@ -132,13 +132,13 @@ module _ {C : Type 0} (s : LockedFolder C) (one other one' other' : Pass C) (w w
     (seen : one'.seen ≡ max one.seen other.seen) (seen' : other'.seen ≡ one'.seen)
   where
     both : Halves (knows one') (knows other') one.number other.number one'.seen (seen_of one) (seen_of other)
-    both = course_halves _ _ _ _ _ _ _ _ _ _ _ one.seen other.seen _ course of.claims of'.claims of.counted of'.counted of.own of'.own (seen ∙ max_is one.seen other.seen)
+    both = course_halves _ _ _ _ _ _ _ _ _ _ _ one.seen other.seen _ course of.histories of'.histories of.counted of'.counted of.own of'.own (seen ∙ max_is one.seen other.seen)
 
     seen-one : seen_of one' ≡ longer (seen_of one) (seen_of other)
     seen-one = both.left.is
 
     seen-other : seen_of other' ≡ longer (seen_of one) (seen_of other)
-    seen-other = ap (λ n. take n (claimed_of other')) seen' ∙ both.right.is
+    seen-other = ap (λ n. take n (history_of other')) seen' ∙ both.right.is
 
     view-one : view_of s one' ≡ seeing (view_of s one) (seen_of one')
     view-one = ap (λ n. record { opening = opening_of s; limit = limit_of s; pass = n; seen = seen_of one' }) number
@@ -174,9 +174,9 @@ module _ {C : Type 0} (s : LockedFolder C) (one other one' other' : Pass C) (w w
       seat = seat;
       idle = h.idle;
       same = (ap (λ (x : History). x.opening) m ∙ of.same.0, ap (λ (x : History). x.limit) m ∙ of.same.1);
-      claims = h.claims ∙ ap (λ n. claim n (claimed_of one') ∷ []) (sym number);
+      histories = h.histories ∙ ap (λ n. pass_history n (history_of one') ∷ []) (sym number);
       counted = h.counted;
-      own = subst (λ n. own_entries n (seen_of one') ≡ own_entries n (claimed_of one')) (sym number) h.own_all;
+      own = subst (λ n. own_entries n (seen_of one') ≡ own_entries n (history_of one')) (sym number) h.own_all;
       legal = ∥∥₁_map legal (λ both. both.0);
     }
 
@@ -185,9 +185,9 @@ module _ {C : Type 0} (s : LockedFolder C) (one other one' other' : Pass C) (w w
       seat = seat;
       idle = h.idle;
       same = (ap (λ (x : History). x.opening) m ∙ of.same.0, ap (λ (x : History). x.limit) m ∙ of.same.1);
-      claims = h.claims ∙ ap (λ n. claim n (claimed_of other') ∷ []) (sym number');
-      counted = subst (λ k. k ≤ length (claimed_of other')) (sym seen') h.counted;
-      own = subst (λ n. own_entries n (seen_of other') ≡ own_entries n (claimed_of other')) (sym number')
-          (subst (λ k. own_entries other.number (take k (claimed_of other')) ≡ own_entries other.number (claimed_of other')) (sym seen') h.own_all);
+      histories = h.histories ∙ ap (λ n. pass_history n (history_of other') ∷ []) (sym number');
+      counted = subst (λ k. k ≤ length (history_of other')) (sym seen') h.counted;
+      own = subst (λ n. own_entries n (seen_of other') ≡ own_entries n (history_of other')) (sym number')
+          (subst (λ k. own_entries other.number (take k (history_of other')) ≡ own_entries other.number (history_of other')) (sym seen') h.own_all);
       legal = ∥∥₁_map legal (λ both. both.1);
     }

@@ -13,12 +13,12 @@ use Rattle.folder_calls.specs.Journals.{IsHistory}
 use Rattle.folder_calls.specs.Shared.{IsLegalView}
 use Rattle.folder_calls.proofs.HistoryShared.{view-opened}
 use Rattle.folder_shared.specs.declared.known.Known.{Known}
-use Rattle.folder_shared.specs.declared.known.Stage.TheVariants.{Holding}
+use Rattle.folder_shared.specs.declared.known.TokenState.TheVariants.{Holding}
 use Rattle.folder_shared.specs.declared.shared.Pass.{Pass}
 use Rattle.folder_shared.specs.declared.shared.SharedFolder.{SharedFolder}
-use Rattle.folder_shared.specs.Root.{IsRootOf}
-use Rattle.folder_shared.specs.Rule.{blank_of, claim, claimed, IsSame, Kept, MayNumber, Numbered, PutBack, Taken}
-use Rattle.folder_shared.specs.Passes.{IsPassOf, claimed_of, knows, limit_of, opened_of, opening_of, seen_of}
+use Rattle.folder_shared.specs.Blank.{IsBlankOf}
+use Rattle.folder_shared.specs.Rule.{blank_of, pass_history, first_history, IsSame, Kept, MayNumber, Numbered, PutBack, Taken}
+use Rattle.folder_shared.specs.Passes.{IsPassOf, history_of, knows, limit_of, opened_of, opening_of, seen_of}
 use Rattle.folder_shared.proofs.Puts.{numbers, puts}
 
 -- a pass that was not given out has no entries
@@ -28,15 +28,15 @@ none-given passes n s (e ∷ es) more legal =
     ap (λ b. cond b (e ∷ own_entries n es) (own_entries n es)) (ne_eqb e.pass n (λ same. let g = legal.0.given.1 in absurd (omega arith)))
     ∙ none-given passes n (after s e) es more legal.1
 
-module _ {C : Type 0} (s : SharedFolder C) (root : Token History Known) (m : IsRootOf s.root.table.shared.key root) (v : Known) (v_is : v ≡ blank_of (view root)) (x : History) (w : Known) (t : Taken v x w) where
+module _ {C : Type 0} (s : SharedFolder C) (blank : Token History Known) (m : IsBlankOf s.blank.table.shared.key blank) (v : Known) (v_is : v ≡ blank_of (view blank)) (x : History) (w : Known) (t : Taken v x w) where
   same-opened : IsSame x (opened_of s.locked)
   same-opened = (
     t.same.0 ∙ ap (λ (u : Known). u.memo.opening) v_is ∙ m.same.0 ∙ ap (λ (h : History). h.opening) s.same,
     t.same.1 ∙ ap (λ (u : Known). u.memo.limit) v_is ∙ m.same.1 ∙ ap (λ (h : History). h.limit) s.same,
   )
 
-  holds : w.stage ≡ Holding
-  holds = ap (λ (u : Known). u.stage) t.after
+  holds : w.state ≡ Holding
+  holds = ap (λ (u : Known). u.state) t.after
 
   memo : w.memo ≡ x
   memo = ap (λ (u : Known). u.memo) t.after
@@ -46,7 +46,7 @@ module _ {C : Type 0} (s : SharedFolder C) (root : Token History Known) (m : IsR
     module _ (number : ℕ) (next : number ≡ x.passes + 1) (is : y ≡ record x { passes = number }) where
       may : MayNumber w y
       may = (
-        ap (λ (u : Known). u.claims) t.after ∙ ap (λ (u : Known). u.claims) v_is,
+        ap (λ (u : Known). u.histories) t.after ∙ ap (λ (u : Known). u.histories) v_is,
         (ap (λ (h : History). h.opening) is ∙ ap (λ (h : History). h.opening) (sym memo), ap (λ (h : History). h.limit) is ∙ ap (λ (h : History). h.limit) (sym memo)),
         ap (λ (h : History). h.passes) is ∙ next ∙ ap (λ (h : History). h.passes + 1) (sym memo),
         ap (λ (h : History). h.entries) is ∙ ap (λ (h : History). h.entries) (sym memo),
@@ -57,13 +57,13 @@ module _ {C : Type 0} (s : SharedFolder C) (root : Token History Known) (m : IsR
 
       pub numbered-pass : IsHistory x → (p : Pass C) → p.number ≡ number → p.seen ≡ 0 → IsSeatAt (sends_on s.locked.sender) p.token → Numbered w y (knows p) → IsPassOf s.locked p
       numbered-pass history p number_is none seat put =
-          let c : claimed_of p ≡ x.entries = ap (λ (u : Known). claimed u.claims) put ∙ ap (λ (h : History). h.entries) is in
-          let nothing : seen_of p ≡ [] = ap (λ n. take n (claimed_of p)) none in
+          let c : history_of p ≡ x.entries = ap (λ (u : Known). first_history u.histories) put ∙ ap (λ (h : History). h.entries) is in
+          let nothing : seen_of p ≡ [] = ap (λ n. take n (history_of p)) none in
           record {
             seat = seat;
-            idle = ap (λ (u : Known). u.stage) put;
+            idle = ap (λ (u : Known). u.state) put;
             same = (ap (λ (u : Known). u.memo.opening) put ∙ ap (λ (h : History). h.opening) is ∙ same-opened.0, ap (λ (u : Known). u.memo.limit) put ∙ ap (λ (h : History). h.limit) is ∙ same-opened.1);
-            claims = ap (λ (u : Known). u.claims) put ∙ (λ i. claim ((ap (λ (h : History). h.passes) is ∙ sym number_is) i) (ap (λ (h : History). h.entries) is i) ∷ []) ∙ (λ i. claim p.number (sym c i) ∷ []);
+            histories = ap (λ (u : Known). u.histories) put ∙ (λ i. pass_history ((ap (λ (h : History). h.passes) is ∙ sym number_is) i) (ap (λ (h : History). h.entries) is i) ∷ []) ∙ (λ i. pass_history p.number (sym c i) ∷ []);
             counted = omega arith;
             own = ap (own_entries p.number) nothing ∙ sym (none-given x.passes p.number x.opening x.entries (omega arith) history.legal) ∙ ap (own_entries p.number) (sym c);
             legal = ∣ subst (λ es. IsLegalView (record { opening = opening_of s.locked; limit = limit_of s.locked; pass = p.number; seen = es })) (sym nothing)

@@ -8,10 +8,10 @@ use Rattle.folder_calls.specs.declared.entry.Entry.{Entry}
 use mathlib.Core.List.{IsPrefix}
 use Rattle.folder_calls.specs.Histories.{own_entries}
 use Rattle.folder_calls.specs.declared.history.History.{History}
-use Rattle.folder_shared.specs.declared.known.Claim.{Claim}
-use Rattle.folder_shared.specs.declared.known.Stage.TheVariants.{Idle, Holding}
+use Rattle.folder_shared.specs.declared.known.PassHistory.{PassHistory}
+use Rattle.folder_shared.specs.declared.known.TokenState.TheVariants.{Idle, Holding}
 use Rattle.folder_shared.specs.declared.known.Known.{Known}
-use Rattle.folder_shared.specs.Rule.{claim, known, IsFit, SitAt, IsSame, Fits, Runs, Kept, seen_all, PutBack, MayPut, Numbered, MayNumber}
+use Rattle.folder_shared.specs.Rule.{pass_history, known, IsFit, SitAt, IsSame, Fits, Runs, Kept, seen_all, PutBack, MayPut, Numbered, MayNumber}
 use Rattle.folder_shared.proofs.Lists.{at_one, of_map, all_set}
 use Rattle.folder_shared.proofs.Histories.{starts_refl, starts_trans}
 use Rattle.folder_calls.proofs.HistoryEntries.{own-skip}
@@ -29,19 +29,19 @@ grown_own : (now x : History) (seat : ℕ → ℕ × ℕ) (port k : ℕ) → Gro
 grown_own now x seat port k (inl e) apart = ap (own_entries k) e
 grown_own now x seat port k (inr g) apart = ap (own_entries k) g.1 ∙ own-skip k now.entries g.0 (λ same. apart (ap (λ n. (seat n).0) (sym same) ∙ g.2))
 
-grown_fit : (now x : History) (seat : ℕ → ℕ × ℕ) (port : ℕ) (c : Claim) → Grows now x seat port → x.passes ≡ now.passes → (seat c.pass).0 ≢ port → IsFit now c → IsFit x c
+grown_fit : (now x : History) (seat : ℕ → ℕ × ℕ) (port : ℕ) (c : PassHistory) → Grows now x seat port → x.passes ≡ now.passes → (seat c.pass).0 ≢ port → IsFit now c → IsFit x c
 grown_fit now x seat port c g p apart f =
     (starts_trans x.entries now.entries c.seen (grown_starts now x seat port g) f.0, grown_own now x seat port c.pass g apart ∙ f.1, f.2, (let h = f.3 in omega arith))
 
-seen_fit : (m now : History) (c : Claim) → now.passes ≡ m.passes → IsFit now c → IsFit m (claim c.pass m.entries)
+seen_fit : (m now : History) (c : PassHistory) → now.passes ≡ m.passes → IsFit now c → IsFit m (pass_history c.pass m.entries)
 seen_fit m now c p f = (starts_refl m.entries, refl, f.2, (let h = f.3 in omega arith))
 
-put_runs : (port : ℕ) (v : Known) (x : History) (items : List History) (views : List Known) → v.stage ≡ Holding → (r : Runs items views) → get_elem? views port ≡ some v
-    → IsSame x v.memo → x.passes ≡ v.memo.passes → Grows r.now x r.seat port → Runs (items ++ x ∷ []) (set views port (known Idle x (seen_all x.entries v.claims)))
+put_runs : (port : ℕ) (v : Known) (x : History) (items : List History) (views : List Known) → v.state ≡ Holding → (r : Runs items views) → get_elem? views port ≡ some v
+    → IsSame x v.memo → x.passes ≡ v.memo.passes → Grows r.now x r.seat port → Runs (items ++ x ∷ []) (set views port (known Idle x (seen_all x.entries v.histories)))
 put_runs port v x items views is r at same passes grows =
     let f = r.all port v at in
     let h = f.holds is in
-    let w = known Idle x (seen_all x.entries v.claims) in
+    let w = known Idle x (seen_all x.entries v.histories) in
     let with_now : IsSame r.now x = same_sym x r.now (same_trans x v.memo r.now same (same_of v.memo r.now h.2)) in
     let given : r.now.passes ≡ x.passes = sym (passes ∙ ap (λ (m : History). m.passes) h.2) in
     record {
@@ -55,8 +55,8 @@ put_runs port v x items views is r at same passes grows =
             same = (λ _. (refl, refl));
             grown = (λ _. omega arith);
             holds = (λ e. absurd (cc));
-            sits = (λ i c e. let o = of_map (λ d. claim d.pass x.entries) v.claims i c e in ap (λ (d : Claim). r.seat d.pass) (sym o.2) ∙ f.sits i o.0 o.1);
-            fit = (λ i c e. let o = of_map (λ d. claim d.pass x.entries) v.claims i c e in subst (IsFit x) o.2 (seen_fit x r.now o.0 given (f.fit i o.0 o.1)));
+            sits = (λ i c e. let o = of_map (λ d. pass_history d.pass x.entries) v.histories i c e in ap (λ (d : PassHistory). r.seat d.pass) (sym o.2) ∙ f.sits i o.0 o.1);
+            fit = (λ i c e. let o = of_map (λ d. pass_history d.pass x.entries) v.histories i c e in subst (IsFit x) o.2 (seen_fit x r.now o.0 given (f.fit i o.0 o.1)));
           })
           (λ j u apart e. let fu = r.all j u e in record {
             old = fu.old;
@@ -68,18 +68,18 @@ put_runs port v x items views is r at same passes grows =
           });
     }
 
-grows_of : (port : ℕ) (v : Known) (x now : History) (seat : ℕ → ℕ × ℕ) → v.memo ≡ now → SitAt seat port v.claims
+grows_of : (port : ℕ) (v : Known) (x now : History) (seat : ℕ → ℕ × ℕ) → v.memo ≡ now → SitAt seat port v.histories
     → ((x.entries ≡ v.memo.entries)
-    ⊎ ((e : Entry) × (x.entries ≡ v.memo.entries ++ e ∷ []) × (i : ℕ) × (c : Claim) × (get_elem? v.claims i ≡ some c) × (e.pass ≡ c.pass)))
+    ⊎ ((e : Entry) × (x.entries ≡ v.memo.entries ++ e ∷ []) × (i : ℕ) × (c : PassHistory) × (get_elem? v.histories i ≡ some c) × (e.pass ≡ c.pass)))
     → Grows now x seat port
 grows_of port v x now seat is sits (inl e) = inl (e ∙ ap (λ (m : History). m.entries) is)
 grows_of port v x now seat is sits (inr g) = inr (g.0, g.1 ∙ ap (λ (m : History). m.entries ++ g.0 ∷ []) is, ap (λ n. (seat n).0) g.5 ∙ ap (λ (y : ℕ × ℕ). y.0) (sits g.2 g.3 g.4))
 
-pub puts : (n port : ℕ) (v : Known) (x : History) → v.stage ≡ Holding → MayPut v x → Pushes Kept n port v x (PutBack v x)
+pub puts : (n port : ℕ) (v : Known) (x : History) → v.state ≡ Holding → MayPut v x → Pushes Kept n port v x (PutBack v x)
 puts n port v x is may items views room (inl e) at = absurd (let s = not_new views port v e.1 at in cc)
 puts n port v x is may items views room (inr r) at =
     let f = r.all port v at in
-    (known Idle x (seen_all x.entries v.claims), inr (put_runs port v x items views is r at may.0 may.1 (grows_of port v x r.now r.seat (f.holds is).2 f.sits may.2)), refl)
+    (known Idle x (seen_all x.entries v.histories), inr (put_runs port v x items views is r at may.0 may.1 (grows_of port v x r.now r.seat (f.holds is).2 f.sits may.2)), refl)
 
 -- the new number sits at this port
 abbrev seats_one : (ℕ → ℕ × ℕ) → ℕ → ℕ → ℕ → ℕ × ℕ
@@ -99,13 +99,13 @@ sits_else seat port pass k below = cases (k == pass) refl
     cases true is = absurd (grind (arith, nat_tests))
     cases false is = refl
 
-number_runs : (port : ℕ) (v : Known) (x : History) (items : List History) (views : List Known) → v.stage ≡ Holding → (r : Runs items views) → get_elem? views port ≡ some v
-    → MayNumber v x → Runs (items ++ x ∷ []) (set views port (known Idle x (claim x.passes x.entries ∷ [])))
+number_runs : (port : ℕ) (v : Known) (x : History) (items : List History) (views : List Known) → v.state ≡ Holding → (r : Runs items views) → get_elem? views port ≡ some v
+    → MayNumber v x → Runs (items ++ x ∷ []) (set views port (known Idle x (pass_history x.passes x.entries ∷ [])))
 number_runs port v x items views is r at may =
     let f = r.all port v at in
     let h = f.holds is in
     let seat = seats_one r.seat port x.passes in
-    let w = known Idle x (claim x.passes x.entries ∷ []) in
+    let w = known Idle x (pass_history x.passes x.entries ∷ []) in
     let with_now : IsSame r.now x = same_sym x r.now (same_trans x v.memo r.now may.1 (same_of v.memo r.now h.2)) in
     let given : x.passes ≡ r.now.passes + 1 = may.2 ∙ ap (λ (m : History). m.passes + 1) h.2 in
     let same_log : x.entries ≡ r.now.entries = may.3 ∙ ap (λ (m : History). m.entries) h.2 in
@@ -120,8 +120,8 @@ number_runs port v x items views is r at may =
             same = (λ _. (refl, refl));
             grown = (λ _. omega arith);
             holds = (λ e. absurd (cc));
-            sits = (λ i c e. let o = at_one (claim x.passes x.entries) i c e in ap (λ (d : Claim). seat d.pass) (sym o.1) ∙ sits_here r.seat port x.passes ∙ ap (λ (k : ℕ). (port, k)) (sym o.0));
-            fit = (λ i c e. let o = at_one (claim x.passes x.entries) i c e in subst (IsFit x) o.1 (starts_refl x.entries, refl, (omega arith), (omega arith)));
+            sits = (λ i c e. let o = at_one (pass_history x.passes x.entries) i c e in ap (λ (d : PassHistory). seat d.pass) (sym o.1) ∙ sits_here r.seat port x.passes ∙ ap (λ (k : ℕ). (port, k)) (sym o.0));
+            fit = (λ i c e. let o = at_one (pass_history x.passes x.entries) i c e in subst (IsFit x) o.1 (starts_refl x.entries, refl, (omega arith), (omega arith)));
           })
           (λ j u apart e. let fu = r.all j u e in record {
             old = fu.old;
@@ -133,6 +133,6 @@ number_runs port v x items views is r at may =
           });
     }
 
-pub numbers : (n port : ℕ) (v : Known) (x : History) → v.stage ≡ Holding → MayNumber v x → Pushes Kept n port v x (Numbered v x)
+pub numbers : (n port : ℕ) (v : Known) (x : History) → v.state ≡ Holding → MayNumber v x → Pushes Kept n port v x (Numbered v x)
 numbers n port v x is may items views room (inl e) at = absurd (let s = not_new views port v e.1 at in cc)
-numbers n port v x is may items views room (inr r) at = (known Idle x (claim x.passes x.entries ∷ []), inr (number_runs port v x items views is r at may), refl)
+numbers n port v x is may items views room (inr r) at = (known Idle x (pass_history x.passes x.entries ∷ []), inr (number_runs port v x items views is r at may), refl)

@@ -7,14 +7,14 @@ use Rattle.folder_calls.specs.declared.at.At.{At}
 use Rattle.folder_calls.specs.declared.entry.Entry.{Entry}
 use Rattle.folder_calls.specs.declared.history.History.{History}
 use Rattle.folder_calls.specs.Histories.{own_entries}
-use Rattle.folder_calls.specs.Shared.{IsLegalView, Sees, View, seeing}
+use Rattle.folder_calls.specs.Shared.{IsLegalView, Sees, CallerView, seeing}
 use Rattle.folder_shared.specs.declared.known.Known.{Known}
-use Rattle.folder_shared.specs.declared.known.Stage.TheVariants.{Idle, Holding}
+use Rattle.folder_shared.specs.declared.known.TokenState.TheVariants.{Idle, Holding}
 use Rattle.folder_shared.specs.declared.shared.Pass.{Pass}
 use Rattle.folder_shared.specs.declared.shared.PassCount.{PassCount}
 use Rattle.folder_shared.specs.declared.shared.PassesFull.{PassesFull}
 use Rattle.folder_shared.specs.declared.shared.LockedFolder.{LockedFolder}
-use Rattle.folder_shared.specs.Rule.{claim, claimed, IsSame, Taken}
+use Rattle.folder_shared.specs.Rule.{pass_history, first_history, IsSame, Taken}
 
 -- the history is as it was, or has one entry more, of this pass
 abbrev pub IsGrown : History → ℕ → History → Type 0
@@ -29,12 +29,12 @@ module _ {C : Type 0} where
   abbrev pub knows : Pass C → Known
   knows p = view p.token
 
-  abbrev pub claimed_of : Pass C → List Entry
-  claimed_of p = claimed (knows p).claims
+  abbrev pub history_of : Pass C → List Entry
+  history_of p = first_history (knows p).histories
 
   -- what the pass has seen
   abbrev pub seen_of : Pass C → List Entry
-  seen_of p = take p.seen (claimed_of p)
+  seen_of p = take p.seen (history_of p)
 
   -- the history when the folder was opened
   abbrev pub opened_of : LockedFolder C → History
@@ -47,24 +47,24 @@ module _ {C : Type 0} where
   limit_of s = (opened_of s).limit
 
   -- what the pass knows
-  abbrev pub view_of : LockedFolder C → Pass C → View
+  abbrev pub view_of : LockedFolder C → Pass C → CallerView
   view_of s p = record { opening = opening_of s; limit = limit_of s; pass = p.number; seen = seen_of p }
 
-  -- The pass is one of this folder. It claims what it has seen, with all its entries; it may claim more, after a call that was
+  -- The pass is one of this folder. Its history is what it has seen, with all its entries; it may be longer, after a call that was
   -- out of memory.
   pub record IsPassOf (s : LockedFolder C) (p : Pass C) : Type 0 where
     pub seat : IsSeatAt (sends_on s.sender) p.token
-    pub idle : (knows p).stage ≡ Idle
+    pub idle : (knows p).state ≡ Idle
     pub same : IsSame (knows p).memo (opened_of s)
-    pub claims : (knows p).claims ≡ claim p.number (claimed_of p) ∷ []
-    pub counted : p.seen ≤ length (claimed_of p)
-    pub own : own_entries p.number (seen_of p) ≡ own_entries p.number (claimed_of p)
+    pub histories : (knows p).histories ≡ pass_history p.number (history_of p) ∷ []
+    pub counted : p.seen ≤ length (history_of p)
+    pub own : own_entries p.number (seen_of p) ≡ own_entries p.number (history_of p)
     pub legal : ∥ IsLegalView (view_of s p) ∥₁
 
   -- The folder that the call put back has as many passes as there may be. By the rule it has no fewer from then on.
   pub record IsFullOf (s : LockedFolder C) (e : PassesFull C) : Type 0 where
     pub seat : IsSeatAt (sends_on s.sender) e.token
-    pub idle : (view e.token).stage ≡ Idle
+    pub idle : (view e.token).state ≡ Idle
     pub same : IsSame (view e.token).memo (opened_of s)
     pub full : (view e.token).memo.passes ≡ 2 ^ 32
 
@@ -72,7 +72,7 @@ module _ {C : Type 0} where
   -- given out, no fewer and no more.
   pub record IsCountOf (s : LockedFolder C) (n : PassCount C) : Type 0 where
     pub seat : IsSeatAt (sends_on s.sender) n.token
-    pub holds : (view n.token).stage ≡ Holding
+    pub holds : (view n.token).state ≡ Holding
     pub same : IsSame (view n.token).memo (opened_of s)
     pub count : (view n.token).memo.passes ≡ n.count
 

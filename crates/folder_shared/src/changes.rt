@@ -1,16 +1,16 @@
 //! The changes of a shared folder.
 ghost use Rattle.std.specs.Prelude.{◌≡◌, ◌≢◌, IfErr, IfOk, IsTrue, Some, option_copied};
 ghost use Rattle.folder_core.specs.Calls.{close_answer, finish_answer};
-ghost use Rattle.folder_core.specs.Steps.{is_found};
+ghost use Rattle.folder_core.specs.Steps.{is_recordable};
 ghost use Rattle.folder_core.specs.declared.change.Change.TheVariants.{Forget, IndexFull, IndexMore, ScanFound, ScanGone, BeginPull, EnterCommit, Finish, GiveUp, Abort};
-ghost use Rattle.folder_calls.specs.Calls.{GivesBack, begin_value, enter_value, index_value, scan_value, told, told_at};
-ghost use Rattle.folder_calls.specs.Shared.{Tells};
+ghost use Rattle.folder_calls.specs.Calls.{GivesBack, begin_value, enter_value, index_value, scan_value, answered_at, answer_at};
+ghost use Rattle.folder_calls.specs.Shared.{ChangesAt};
 ghost use Rattle.folder_shared.specs.Passes.{IsPassOf, opening_of, view_of};
 
 use crate::{LockedFolder, Pass};
 use bep_messages::Items;
 use folder_calls::{
-    At, BeginAnswer, Commit, EnterRefusal, HistoryFull, NotEntered, ScanRefusal, Ticket,
+    At, BeginAnswer, Commit, EnterAllocError, EnterRefusal, HistoryFull, ScanRefusal, Ticket,
 };
 use folder_core::{Finding, FolderCore, ScanAnswer, Stray};
 use std::alloc::AllocError;
@@ -35,11 +35,11 @@ impl<C: FolderCore + Drop> LockedFolder<C> {
         moment: Moment,
     ) -> Result<At<Result<ScanAnswer, ScanRefusal>>, AllocError>
         requires pass { IsPassOf self.now pass.old }
-        requires found { IsTrue (is_found found.now.content) }
+        requires found { IsTrue (is_recordable found.now.content) }
         ensures pass { IsPassOf self.now pass.new × (pass.new.number ≡ pass.old.number) }
-        ensures tells { Tells (view_of self.now pass.old)
+        ensures changes { ChangesAt (view_of self.now pass.old)
             (ScanFound name.now (option_copied expected.entry) found.now moment)
-            (told scan_value result) (view_of self.now pass.new) }
+            (answered_at scan_value result) (view_of self.now pass.new) }
     {
         let mut journal = self.lend(rt, pass);
         let answer = journal.scan_found(pass.number, name, expected, found, moment);
@@ -59,8 +59,8 @@ impl<C: FolderCore + Drop> LockedFolder<C> {
     ) -> Result<At<Result<ScanAnswer, ScanRefusal>>, AllocError>
         requires pass { IsPassOf self.now pass.old }
         ensures pass { IsPassOf self.now pass.new × (pass.new.number ≡ pass.old.number) }
-        ensures tells { Tells (view_of self.now pass.old)
-            (ScanGone name.now (option_copied expected.entry) moment) (told scan_value result)
+        ensures changes { ChangesAt (view_of self.now pass.old)
+            (ScanGone name.now (option_copied expected.entry) moment) (answered_at scan_value result)
             (view_of self.now pass.new) }
     {
         let mut journal = self.lend(rt, pass);
@@ -79,8 +79,8 @@ impl<C: FolderCore + Drop> LockedFolder<C> {
         requires pass { IsPassOf self.now pass.old }
         requires device { device ≢ (opening_of self.now).me }
         ensures pass { IsPassOf self.now pass.new × (pass.new.number ≡ pass.old.number) }
-        ensures tells { Tells (view_of self.now pass.old) (IndexFull device records)
-            (told index_value result) (view_of self.now pass.new) }
+        ensures changes { ChangesAt (view_of self.now pass.old) (IndexFull device records)
+            (answered_at index_value result) (view_of self.now pass.new) }
     {
         let mut journal = self.lend(rt, pass);
         let answer = journal.index_full(pass.number, device, records);
@@ -98,8 +98,8 @@ impl<C: FolderCore + Drop> LockedFolder<C> {
         requires pass { IsPassOf self.now pass.old }
         requires device { device ≢ (opening_of self.now).me }
         ensures pass { IsPassOf self.now pass.new × (pass.new.number ≡ pass.old.number) }
-        ensures tells { Tells (view_of self.now pass.old) (IndexMore device records)
-            (told index_value result) (view_of self.now pass.new) }
+        ensures changes { ChangesAt (view_of self.now pass.old) (IndexMore device records)
+            (answered_at index_value result) (view_of self.now pass.new) }
     {
         let mut journal = self.lend(rt, pass);
         let answer = journal.index_more(pass.number, device, records);
@@ -116,7 +116,7 @@ impl<C: FolderCore + Drop> LockedFolder<C> {
         requires pass { IsPassOf self.now pass.old }
         requires device { device ≢ (opening_of self.now).me }
         ensures pass { IsPassOf self.now pass.new × (pass.new.number ≡ pass.old.number) }
-        ensures tells { Tells (view_of self.now pass.old) (Forget device) (told index_value result)
+        ensures changes { ChangesAt (view_of self.now pass.old) (Forget device) (answered_at index_value result)
             (view_of self.now pass.new) }
     {
         let mut journal = self.lend(rt, pass);
@@ -135,8 +135,8 @@ impl<C: FolderCore + Drop> LockedFolder<C> {
     ) -> Result<At<Result<BeginAnswer, HistoryFull>>, AllocError>
         requires pass { IsPassOf self.now pass.old }
         ensures pass { IsPassOf self.now pass.new × (pass.new.number ≡ pass.old.number) }
-        ensures tells { Tells (view_of self.now pass.old) (BeginPull name.now)
-            (told begin_value result) (view_of self.now pass.new) }
+        ensures changes { ChangesAt (view_of self.now pass.old) (BeginPull name.now)
+            (answered_at begin_value result) (view_of self.now pass.new) }
     {
         let mut journal = self.lend(rt, pass);
         let answer = journal.begin_pull(pass.number, name);
@@ -150,12 +150,12 @@ impl<C: FolderCore + Drop> LockedFolder<C> {
         rt: &R,
         pass: &mut Pass<C>,
         ticket: Ticket,
-    ) -> Result<At<Result<Commit, EnterRefusal>>, NotEntered>
+    ) -> Result<At<Result<Commit, EnterRefusal>>, EnterAllocError>
         requires pass { IsPassOf self.now pass.old }
         ensures pass { IsPassOf self.now pass.new × (pass.new.number ≡ pass.old.number) }
-        ensures tells { Tells (view_of self.now pass.old) (EnterCommit ticket)
-            (told enter_value result) (view_of self.now pass.new) }
-        ensures given_back { IfOk result (λ told. IfErr told.value (GivesBack ticket)) }
+        ensures changes { ChangesAt (view_of self.now pass.old) (EnterCommit ticket)
+            (answered_at enter_value result) (view_of self.now pass.new) }
+        ensures given_back { IfOk result (λ reply. IfErr reply.value (GivesBack ticket)) }
         ensures out_of_memory { IfErr result (λ refused. refused.0 ≡ ticket) }
     {
         let mut journal = self.lend(rt, pass);
@@ -176,14 +176,14 @@ impl<C: FolderCore + Drop> LockedFolder<C> {
         requires pass { IsPassOf self.now pass.old }
         requires assembled { assembled ≡ commit.target }
         ensures pass { IsPassOf self.now pass.new × (pass.new.number ≡ pass.old.number) }
-        ensures tells { Tells (view_of self.now pass.old) (Finish commit assembled)
-            (Some (told_at finish_answer result)) (view_of self.now pass.new) }
+        ensures changes { ChangesAt (view_of self.now pass.old) (Finish commit assembled)
+            (Some (answer_at finish_answer result)) (view_of self.now pass.new) }
     {
         let mut journal = self.lend(rt, pass);
         let value = journal.finish(pass.number, commit, assembled);
-        let told: Result<At<_>, Infallible> = self.hand_in(rt, pass, journal, Ok(value));
-        match told {
-            Ok(told) => told,
+        let reply: Result<At<_>, Infallible> = self.hand_in(rt, pass, journal, Ok(value));
+        match reply {
+            Ok(reply) => reply,
             Err(never) => match never {},
         }
     }
@@ -193,14 +193,14 @@ impl<C: FolderCore + Drop> LockedFolder<C> {
     pub fn give_up<R: Wait>(&self, rt: &R, pass: &mut Pass<C>, ticket: Ticket) -> At<bool>
         requires pass { IsPassOf self.now pass.old }
         ensures pass { IsPassOf self.now pass.new × (pass.new.number ≡ pass.old.number) }
-        ensures tells { Tells (view_of self.now pass.old) (GiveUp ticket)
-            (Some (told_at close_answer result)) (view_of self.now pass.new) }
+        ensures changes { ChangesAt (view_of self.now pass.old) (GiveUp ticket)
+            (Some (answer_at close_answer result)) (view_of self.now pass.new) }
     {
         let mut journal = self.lend(rt, pass);
         let value = journal.give_up(pass.number, ticket);
-        let told: Result<At<_>, Infallible> = self.hand_in(rt, pass, journal, Ok(value));
-        match told {
-            Ok(told) => told,
+        let reply: Result<At<_>, Infallible> = self.hand_in(rt, pass, journal, Ok(value));
+        match reply {
+            Ok(reply) => reply,
             Err(never) => match never {},
         }
     }
@@ -210,14 +210,14 @@ impl<C: FolderCore + Drop> LockedFolder<C> {
     pub fn abort<R: Wait>(&self, rt: &R, pass: &mut Pass<C>, commit: Commit) -> At<bool>
         requires pass { IsPassOf self.now pass.old }
         ensures pass { IsPassOf self.now pass.new × (pass.new.number ≡ pass.old.number) }
-        ensures tells { Tells (view_of self.now pass.old) (Abort commit)
-            (Some (told_at close_answer result)) (view_of self.now pass.new) }
+        ensures changes { ChangesAt (view_of self.now pass.old) (Abort commit)
+            (Some (answer_at close_answer result)) (view_of self.now pass.new) }
     {
         let mut journal = self.lend(rt, pass);
         let value = journal.abort(pass.number, commit);
-        let told: Result<At<_>, Infallible> = self.hand_in(rt, pass, journal, Ok(value));
-        match told {
-            Ok(told) => told,
+        let reply: Result<At<_>, Infallible> = self.hand_in(rt, pass, journal, Ok(value));
+        match reply {
+            Ok(reply) => reply,
             Err(never) => match never {},
         }
     }

@@ -25,7 +25,7 @@ impl<C: FolderCore + Drop> LockedFolder<C> {
     {
         let journal = self.lend(rt, pass);
         let answer = journal.verify();
-        let told = self.give_back(rt, pass, journal, answer)?;
-        Ok(told.value)
+        let reply = self.give_back(rt, pass, journal, answer)?;
+        Ok(reply.value)
     }
 }

@@ -8,12 +8,12 @@ ghost use Rattle.folder_calls.specs.Shared.{Closes, Meets};
 ghost use Rattle.folder_shared.specs.declared.shared.LockedFolder.{LockedFolder as Folder};
 ghost use Rattle.folder_shared.specs.Passes.{IsPassOf, IsCountOf, IsFullOf, knows, limit_of, opened_of, opening_of, seen_of, view_of};
 
+use crate::blank::Origin;
 use crate::known::Known;
 use crate::lock::{put, take};
 use crate::mark::marked;
-use crate::root::Origin;
 use crate::rule::{Apart, Blank, Both, Compares, Numbers, OneHistory, Opens, Puts};
-use crate::shared::{LockedFolder, Pass, PassCount, PassesFull, Root, SharedFolder};
+use crate::shared::{BlankSlot, LockedFolder, Pass, PassCount, PassesFull, SharedFolder};
 use crossbeam_channel::bounded_with;
 use folder_calls::Journal;
 use folder_core::FolderCore;
@@ -83,18 +83,18 @@ impl<C: FolderCore + Drop> SharedFolder<C> {
         let Ok(mark) = marked(alloc, &journal) else {
             return Err(journal.into_core());
         };
-        let Ok((root, loan)) = Root::new(alloc, &origin) else {
+        let Ok((blank, loan)) = BlankSlot::new(alloc, &origin) else {
             return Err(journal.into_core());
         };
         put::<C, Opens, R>(rt, &sender, &mut keeper, journal);
-        root.lay(keeper, loan);
+        blank.put_back(keeper, loan);
         let locked = LockedFolder {
             sender,
             receiver,
             mark,
             me,
         };
-        Ok(SharedFolder { locked, root })
+        Ok(SharedFolder { locked, blank })
     }
 
     /// One more pass, which has seen nothing of the history. They are numbered from 1 as they are given out. Returns `Err` only after 2^32 of
@@ -105,9 +105,9 @@ impl<C: FolderCore + Drop> SharedFolder<C> {
             × ((knows pass).memo.passes ≡ pass.number)) }
         ensures full { IfErr result (IsFullOf self.now.locked) }
     {
-        let (mut root, loan) = self.root.lift(rt);
-        let mut token = self.locked.sender.another::<Blank>(&mut root);
-        self.root.lay(root, loan);
+        let (mut blank, loan) = self.blank.take(rt);
+        let mut token = self.locked.sender.another::<Blank>(&mut blank);
+        self.blank.put_back(blank, loan);
         let mut journal = take::<C, R>(rt, &self.locked.receiver, &mut token);
         // A call of the journal, after which it is known that what it holds is a history.
         let _ = journal.len();
@@ -139,7 +139,7 @@ impl<C: FolderCore + Drop> SharedFolder<C> {
             p.number ≤ result.1.count }
         ensures count { IsCountOf self.locked result.1 }
     {
-        let SharedFolder { locked, root: _ } = self;
+        let SharedFolder { locked, blank: _ } = self;
         let LockedFolder {
             sender,
             receiver,

@@ -3,7 +3,7 @@ use bep_messages::Items;
 use folder_calls::{Entry, History};
 
 /// What a token of the lock is about to do.
-pub enum Stage {
+pub enum TokenState {
     /// To put the folder under the lock for the first time.
     New,
     /// To take it.
@@ -14,17 +14,17 @@ pub enum Stage {
     Spent,
 }
 
-/// What a pass has seen.
-pub struct Claim {
+/// The beginning of the history that a pass has seen.
+pub struct PassHistory {
     pub pass: u64,
     pub seen: Items<Entry>,
 }
 
 /// What a token of the lock knows.
 pub struct Known {
-    pub stage: Stage,
+    pub state: TokenState,
     /// The history that it took or put last.
     pub memo: History,
-    /// Those of its passes: none, or one, or several while they are joined.
-    pub claims: Items<Claim>,
+    /// Those of its passes: none, or one, or several while tokens are joined.
+    pub histories: Items<PassHistory>,
 }

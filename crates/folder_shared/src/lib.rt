@@ -4,6 +4,7 @@
 //! (`specs/Rule.antt`) says how these fit together.
 #![tactic(auto)]
 
+mod blank;
 mod changes;
 mod check;
 mod folder;
@@ -12,13 +13,12 @@ mod lock;
 mod mark;
 mod member;
 mod reads;
-mod root;
 mod rule;
 mod shared;
 mod turn;
 
-pub use known::{Claim, Known, Stage};
+pub use blank::{BlankRule, Origin};
+pub use known::{Known, PassHistory, TokenState};
 pub use member::Member;
-pub use root::{Lying, Origin};
 pub use rule::OneHistory;
-pub use shared::{LockedFolder, Pass, PassCount, PassesFull, Root, SharedFolder};
+pub use shared::{BlankSlot, LockedFolder, Pass, PassCount, PassesFull, SharedFolder};

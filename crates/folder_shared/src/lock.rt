@@ -3,7 +3,7 @@ ghost use Rattle.std.specs.Prelude.{◌≡◌, [], ◌∷◌};
 ghost use Rattle.crossbeam_channel.specs.Claims.{view, IsSeatAt};
 ghost use Rattle.crossbeam_channel.specs.Ends.{sends_on, receives_on, ruled_capacity};
 ghost use Rattle.crossbeam_channel.specs.Fifo.{Pushes, Learns};
-ghost use Rattle.folder_shared.specs.declared.known.Stage.TheVariants.{Idle, Holding};
+ghost use Rattle.folder_shared.specs.declared.known.TokenState.TheVariants.{Idle, Holding};
 ghost use Rattle.folder_shared.specs.Rule.{Kept, Taken, PutBack, MayPut};
 
 use crate::known::Known;
@@ -21,7 +21,7 @@ pub(crate) fn take<C: FolderCore + Drop, R: Wait>(
     token: &mut Token<C>,
 ) -> Journal<C>
     requires seat { IsSeatAt (receives_on receiver.now) token.old }
-    requires idle { (view token.old).stage ≡ Idle }
+    requires idle { (view token.old).state ≡ Idle }
     ensures seat { IsSeatAt (receives_on receiver.now) token.new }
     ensures taken { Taken (view token.old) result (view token.new) }
 {

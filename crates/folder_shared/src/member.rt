@@ -9,7 +9,7 @@ ghost use Rattle.folder_shared.specs.Passes.{IsPassOf, view_of};
 use crate::{LockedFolder, Pass, SharedFolder};
 use bep_messages::Items;
 use folder_calls::{
-    At, BeginAnswer, Commit, EnterRefusal, FolderCalls, HistoryFull, NotEntered, ScanRefusal,
+    At, BeginAnswer, Commit, EnterAllocError, EnterRefusal, FolderCalls, HistoryFull, ScanRefusal,
     Ticket,
 };
 use folder_core::{Best, Counts, Finding, FolderCore, Place, ScanAnswer, Stray};
@@ -57,9 +57,9 @@ impl<'a, C: FolderCore + Drop, R: Wait> Member<'a, C, R> {
 }
 
 impl<'a, C: FolderCore + Drop, R: Wait> FolderCalls for Member<'a, C, R> {
-    type Home = LockedFolder<C>;
+    type Folder = LockedFolder<C>;
 
-    ghost home = { λ m. m.folder.now };
+    ghost folder = { λ m. m.folder.now };
 
     ghost view = { λ m. view_of m.folder.now m.pass };
 
@@ -120,7 +120,7 @@ impl<'a, C: FolderCore + Drop, R: Wait> FolderCalls for Member<'a, C, R> {
     fn enter_commit(
         &mut self,
         ticket: Ticket,
-    ) -> Result<At<Result<Commit, EnterRefusal>>, NotEntered> {
+    ) -> Result<At<Result<Commit, EnterRefusal>>, EnterAllocError> {
         self.folder.enter_commit(self.rt, &mut self.pass, ticket)
     }
 

@@ -1,8 +1,8 @@
 //! The reads of a shared folder.
 ghost use Rattle.std.specs.Prelude.{◌≡◌, Some, map, option_copied, option_map};
 ghost use Rattle.folder_core.specs.Reads.{Bests, Best as BestOf, CountAll, FindBlock, Known as KnownOf, Local, LocalSince, Need};
-ghost use Rattle.folder_calls.specs.Calls.{found, told, told_at};
-ghost use Rattle.folder_calls.specs.Shared.{ReadsThere};
+ghost use Rattle.folder_calls.specs.Calls.{best_entry, answered_at, answer_at};
+ghost use Rattle.folder_calls.specs.Shared.{ReadsAt};
 ghost use Rattle.folder_shared.specs.Passes.{IsPassOf, view_of};
 
 use crate::{LockedFolder, Pass};
@@ -26,8 +26,8 @@ impl<C: FolderCore + Drop> LockedFolder<C> {
     ) -> Result<At<Option<Best>>, AllocError>
         requires { IsPassOf self.now pass.old }
         ensures pass { IsPassOf self.now pass.new × (pass.new.number ≡ pass.old.number) }
-        ensures reads { ReadsThere (view_of self.now pass.old) (BestOf name.now)
-            (told (λ b. option_map found b) result) (view_of self.now pass.new) }
+        ensures reads { ReadsAt (view_of self.now pass.old) (BestOf name.now)
+            (answered_at (λ b. option_map best_entry b) result) (view_of self.now pass.new) }
     {
         let journal = self.lend(rt, pass);
         let answer = journal.core().best(name);
@@ -45,8 +45,8 @@ impl<C: FolderCore + Drop> LockedFolder<C> {
     ) -> Result<At<Items<Best>>, AllocError>
         requires { IsPassOf self.now pass.old }
         ensures pass { IsPassOf self.now pass.new × (pass.new.number ≡ pass.old.number) }
-        ensures reads { ReadsThere (view_of self.now pass.old)
-            (Bests (option_copied after.entry) limit) (told (λ page. map found page) result)
+        ensures reads { ReadsAt (view_of self.now pass.old)
+            (Bests (option_copied after.entry) limit) (answered_at (λ page. map best_entry page) result)
             (view_of self.now pass.new) }
     {
         let journal = self.lend(rt, pass);
@@ -63,8 +63,8 @@ impl<C: FolderCore + Drop> LockedFolder<C> {
     ) -> Result<At<Option<Record>>, AllocError>
         requires { IsPassOf self.now pass.old }
         ensures pass { IsPassOf self.now pass.new × (pass.new.number ≡ pass.old.number) }
-        ensures reads { ReadsThere (view_of self.now pass.old) (Local name.now)
-            (told (λ r. r) result) (view_of self.now pass.new) }
+        ensures reads { ReadsAt (view_of self.now pass.old) (Local name.now)
+            (answered_at (λ r. r) result) (view_of self.now pass.new) }
     {
         let journal = self.lend(rt, pass);
         let answer = journal.core().local(name);
@@ -83,8 +83,8 @@ impl<C: FolderCore + Drop> LockedFolder<C> {
     ) -> Result<At<Items<SafeName>>, AllocError>
         requires { IsPassOf self.now pass.old }
         ensures pass { IsPassOf self.now pass.new × (pass.new.number ≡ pass.old.number) }
-        ensures reads { ReadsThere (view_of self.now pass.old)
-            (Need (option_copied after.entry) limit) (told (λ names. names) result)
+        ensures reads { ReadsAt (view_of self.now pass.old)
+            (Need (option_copied after.entry) limit) (answered_at (λ names. names) result)
             (view_of self.now pass.new) }
     {
         let journal = self.lend(rt, pass);
@@ -103,8 +103,8 @@ impl<C: FolderCore + Drop> LockedFolder<C> {
     ) -> Result<At<Items<Record>>, AllocError>
         requires { IsPassOf self.now pass.old }
         ensures pass { IsPassOf self.now pass.new × (pass.new.number ≡ pass.old.number) }
-        ensures reads { ReadsThere (view_of self.now pass.old) (LocalSince sequence limit)
-            (told (λ page. page) result) (view_of self.now pass.new) }
+        ensures reads { ReadsAt (view_of self.now pass.old) (LocalSince sequence limit)
+            (answered_at (λ page. page) result) (view_of self.now pass.new) }
     {
         let journal = self.lend(rt, pass);
         let answer = journal.core().local_since(sequence, limit);
@@ -120,8 +120,8 @@ impl<C: FolderCore + Drop> LockedFolder<C> {
     ) -> Result<At<Option<Place>>, AllocError>
         requires { IsPassOf self.now pass.old }
         ensures pass { IsPassOf self.now pass.new × (pass.new.number ≡ pass.old.number) }
-        ensures reads { ReadsThere (view_of self.now pass.old) (FindBlock hash.now)
-            (told (λ place. place) result) (view_of self.now pass.new) }
+        ensures reads { ReadsAt (view_of self.now pass.old) (FindBlock hash.now)
+            (answered_at (λ place. place) result) (view_of self.now pass.new) }
     {
         let journal = self.lend(rt, pass);
         let answer = journal.core().find_block(hash);
@@ -133,14 +133,14 @@ impl<C: FolderCore + Drop> LockedFolder<C> {
     pub fn known<R: Wait>(&self, rt: &R, pass: &mut Pass<C>, device: DeviceId) -> At<u64>
         requires { IsPassOf self.now pass.old }
         ensures pass { IsPassOf self.now pass.new × (pass.new.number ≡ pass.old.number) }
-        ensures reads { ReadsThere (view_of self.now pass.old) (KnownOf device)
-            (Some (told_at (λ sequence. sequence) result)) (view_of self.now pass.new) }
+        ensures reads { ReadsAt (view_of self.now pass.old) (KnownOf device)
+            (Some (answer_at (λ sequence. sequence) result)) (view_of self.now pass.new) }
     {
         let journal = self.lend(rt, pass);
         let value = journal.core().known(device);
-        let told: Result<At<_>, Infallible> = self.give_back(rt, pass, journal, Ok(value));
-        match told {
-            Ok(told) => told,
+        let reply: Result<At<_>, Infallible> = self.give_back(rt, pass, journal, Ok(value));
+        match reply {
+            Ok(reply) => reply,
             Err(never) => match never {},
         }
     }
@@ -149,14 +149,14 @@ impl<C: FolderCore + Drop> LockedFolder<C> {
     pub fn counts<R: Wait>(&self, rt: &R, pass: &mut Pass<C>) -> At<Counts>
         requires { IsPassOf self.now pass.old }
         ensures pass { IsPassOf self.now pass.new × (pass.new.number ≡ pass.old.number) }
-        ensures reads { ReadsThere (view_of self.now pass.old) CountAll
-            (Some (told_at (λ counts. counts) result)) (view_of self.now pass.new) }
+        ensures reads { ReadsAt (view_of self.now pass.old) CountAll
+            (Some (answer_at (λ counts. counts) result)) (view_of self.now pass.new) }
     {
         let journal = self.lend(rt, pass);
         let value = journal.core().counts();
-        let told: Result<At<_>, Infallible> = self.give_back(rt, pass, journal, Ok(value));
-        match told {
-            Ok(told) => told,
+        let reply: Result<At<_>, Infallible> = self.give_back(rt, pass, journal, Ok(value));
+        match reply {
+            Ok(reply) => reply,
             Err(never) => match never {},
         }
     }

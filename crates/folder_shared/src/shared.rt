@@ -7,9 +7,9 @@ ghost use Rattle.folder_calls.specs.Codes.{coded_history};
 ghost use Rattle.crossbeam_channel.specs.Claims.{IsSeatAt};
 ghost use Rattle.crossbeam_channel.specs.Ends.{sends_on, receives_on};
 
+use crate::blank::{BlankRule, Origin};
 use crate::known::Known;
 use crate::mark::Mark;
-use crate::root::{Lying, Origin};
 use crate::rule::OneHistory;
 use atomic_table::Table;
 use crossbeam_channel::{Pass as ChannelPass, RuledReceiver, RuledSender};
@@ -21,10 +21,10 @@ use sync_record::DeviceId;
 /// A token of the channel that is the lock.
 pub type Token<C> = ChannelPass<Journal<C>, Known>;
 
-/// The place of the token that all others are cut from. A call may have it out.
+/// The place of the blank token, from which that of each pass is cut. A call may have taken it.
 #[derive(Drop)]
-pub struct Root<C: FolderCore + Drop> {
-    pub(crate) table: Table<Option<Token<C>>, Origin<C>, Origin<C>, Lying, Global>,
+pub struct BlankSlot<C: FolderCore + Drop> {
+    pub(crate) table: Table<Option<Token<C>>, Origin<C>, Origin<C>, BlankRule, Global>,
     ghost sized: { (table.shared.table_id.words ≡ 1) × (table.shared.table_id.slots ≡ 1) },
 }
 
@@ -43,9 +43,9 @@ pub struct LockedFolder<C: FolderCore + Drop> {
 #[derive(Drop)]
 pub struct SharedFolder<C: FolderCore + Drop> {
     pub(crate) locked: LockedFolder<C>,
-    pub(crate) root: Root<C>,
-    ghost of: { IsSeatAt (sends_on locked.sender) root.table.shared.key.seat.value } by { Prim.hlevel (props, codes, coded_history, coded_folder) },
-    ghost same: { root.table.shared.key.first.value
+    pub(crate) blank: BlankSlot<C>,
+    ghost of: { IsSeatAt (sends_on locked.sender) blank.table.shared.key.seat.value } by { Prim.hlevel (props, codes, coded_history, coded_folder) },
+    ghost same: { blank.table.shared.key.first.value
         ≡ locked.mark.view } by { Prim.hlevel (props, codes, coded_history, coded_folder) },
 }
 

@@ -3,9 +3,9 @@ ghost use Rattle.std.specs.Prelude.{◌≡◌, ◌≤◌, IfErr, IfOk, Ok, Err};
 ghost use Rattle.folder_calls.specs.declared.history.History.{History};
 ghost use Rattle.folder_core.specs.declared.answer.Answer.{Answer as AnswerOf};
 ghost use Rattle.folder_core.specs.declared.change.Change.{Change as ChangeOf};
-ghost use Rattle.folder_calls.specs.Calls.{told};
-ghost use Rattle.folder_calls.specs.Journals.{Enters, answered};
-ghost use Rattle.folder_calls.specs.Shared.{Tells};
+ghost use Rattle.folder_calls.specs.Calls.{answered_at};
+ghost use Rattle.folder_calls.specs.Journals.{Appends, answered};
+ghost use Rattle.folder_calls.specs.Shared.{ChangesAt};
 ghost use Rattle.folder_shared.specs.declared.shared.Pass.{Pass as PassOf};
 ghost use Rattle.folder_shared.specs.Rule.{IsSame};
 ghost use Rattle.folder_shared.specs.Passes.{IsGivenBack, IsHeld, IsPassOf, IsPutBack, MayPutBack, opened_of, view_of};
@@ -57,13 +57,13 @@ impl<C: FolderCore + Drop> LockedFolder<C> {
     ) -> Result<At<T>, E>
         requires { (before : PassOf C) × (x : History) × (f : T → AnswerOf) × (change : ChangeOf)
             × IsPassOf self.now before × IsHeld self.now before pass.old x
-            × Enters x pass.old.number change (answered f answer) journal }
+            × Appends x pass.old.number change (answered f answer) journal }
         ensures pass { IsPassOf self.now pass.new × (pass.new.number ≡ pass.old.number) }
-        ensures tells { (before : PassOf C) (x : History) (f : T → AnswerOf) (change : ChangeOf) →
+        ensures changes { (before : PassOf C) (x : History) (f : T → AnswerOf) (change : ChangeOf) →
             IsPassOf self.now before → IsHeld self.now before pass.old x →
-            Enters x pass.old.number change (answered f answer) journal →
-            Tells (view_of self.now before) change (told f result) (view_of self.now pass.new) }
-        ensures answer { IfOk result (λ told. answer ≡ Ok told.value) }
+            Appends x pass.old.number change (answered f answer) journal →
+            ChangesAt (view_of self.now before) change (answered_at f result) (view_of self.now pass.new) }
+        ensures answer { IfOk result (λ reply. answer ≡ Ok reply.value) }
         ensures fault { IfErr result (λ fault. answer ≡ Err fault) }
     {
         self.put_back(rt, pass, journal, answer)

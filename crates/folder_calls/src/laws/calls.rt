@@ -7,47 +7,47 @@ ghost use Rattle.folder_core.specs.Reads.{Query, Reply, Reads};
 ghost use Rattle.folder_core.specs.declared.answer.Answer.{Answer};
 ghost use Rattle.folder_core.specs.declared.change.Change.{Change};
 ghost use Rattle.folder_core.specs.declared.change.Change.TheVariants.{Finish, GiveUp, Abort};
-ghost use Rattle.folder_core.specs.declared.token.Token.{Token};
+ghost use Rattle.folder_core.specs.declared.pull_info.PullInfo.{PullInfo};
 ghost use Rattle.sync_record.specs.Records.{FileRecord};
 ghost use Rattle.folder_core.specs.Steps.{MayChange, is_accepted, step};
 ghost use Rattle.folder_calls.specs.declared.at.At.{At};
 ghost use Rattle.folder_calls.specs.declared.entry.Entry.{Entry};
 ghost use Rattle.folder_calls.specs.Histories.{IsLegal, state_after, shared_answer, own_entries};
-ghost use Rattle.folder_calls.specs.Shared.{View, IsLegalView, ReadsThere, Tells, own_entry, seeing};
+ghost use Rattle.folder_calls.specs.Shared.{CallerView, IsLegalView, ReadsAt, ChangesAt, own_entry, seeing};
 
 /// After a call of a folder with a history the caller's history goes on, of the same folder, limit and pass; it is one that the
-/// folder had, and the number that is told is its length. An accepted change is in it once, as the caller's only new entry
+/// folder had, and the number that is returned is its length. An accepted change is in it once, as the caller's only new entry
 /// and after all that it had seen, and its answer is the shared answer there. Any other answer is the shared answer at the
 /// history that the caller then knows, and the call adds no entry. A call that is out of memory changes nothing that the
 /// caller knows.
 pub fn calls_share_one_history()
-    ensures grows { (old new : View) (c : Change) (told : At Answer) → Tells old c (Some told) new →
+    ensures grows { (old new : CallerView) (c : Change) (reply : At Answer) → ChangesAt old c (Some reply) new →
         IsPrefix old.seen new.seen
         × (new.opening ≡ old.opening) × (new.limit ≡ old.limit) × (new.pass ≡ old.pass)
-        × (told.at ≡ length new.seen) × IsLegalView new }
-    ensures entered { (old new : View) (c : Change) (told : At Answer) →
-        Tells old c (Some told) new → is_accepted told.value ≡ true →
+        × (reply.at ≡ length new.seen) × IsLegalView new }
+    ensures entered { (old new : CallerView) (c : Change) (reply : At Answer) →
+        ChangesAt old c (Some reply) new → is_accepted reply.value ≡ true →
         (own_entries old.pass new.seen
-        ≡ own_entries old.pass old.seen ++ own_entry old c told.value ∷ [])
-        × (front : List Entry) × (new.seen ≡ front ++ own_entry old c told.value ∷ [])
-        × IsPrefix old.seen front × (told.value ≡ shared_answer old.limit old.opening front c) }
+        ≡ own_entries old.pass old.seen ++ own_entry old c reply.value ∷ [])
+        × (front : List Entry) × (new.seen ≡ front ++ own_entry old c reply.value ∷ [])
+        × IsPrefix old.seen front × (reply.value ≡ shared_answer old.limit old.opening front c) }
     ensures legal { (passes limit : ℕ) (s : FolderState) (es : List Entry) (e : Entry) →
         IsLegal passes s es →
         1 ≤ e.pass → e.pass ≤ passes → MayChange s.me e.change → is_accepted e.answer ≡ true →
         e.answer ≡ shared_answer limit s es e.change → IsLegal passes s (es ++ e ∷ []) }
-    ensures not_accepted { (old new : View) (c : Change) (told : At Answer) →
-        Tells old c (Some told) new → is_accepted told.value ≡ false →
+    ensures not_accepted { (old new : CallerView) (c : Change) (reply : At Answer) →
+        ChangesAt old c (Some reply) new → is_accepted reply.value ≡ false →
         (own_entries old.pass new.seen ≡ own_entries old.pass old.seen)
-        × (told.value ≡ shared_answer old.limit old.opening new.seen c) }
-    ensures out_of_memory { (old new : View) (c : Change) → Tells old c None new → new ≡ old }
-    ensures read { (old new : View) (q : Query) (told : At (Reply q)) →
-        ReadsThere old q (Some told) new →
+        × (reply.value ≡ shared_answer old.limit old.opening new.seen c) }
+    ensures out_of_memory { (old new : CallerView) (c : Change) → ChangesAt old c None new → new ≡ old }
+    ensures read { (old new : CallerView) (q : Query) (reply : At (Reply q)) →
+        ReadsAt old q (Some reply) new →
         IsPrefix old.seen new.seen
         × (new.opening ≡ old.opening) × (new.limit ≡ old.limit) × (new.pass ≡ old.pass)
-        × (told.at ≡ length new.seen) × IsLegalView new
+        × (reply.at ≡ length new.seen) × IsLegalView new
         × (own_entries old.pass new.seen ≡ own_entries old.pass old.seen)
-        × Reads (state_after old.opening new.seen) q told.value }
-    ensures no_read { (old new : View) (q : Query) → ReadsThere old q None new → new ≡ old }
+        × Reads (state_after old.opening new.seen) q reply.value }
+    ensures no_read { (old new : CallerView) (q : Query) → ReadsAt old q None new → new ≡ old }
 {}
 
 /// A folder that was opened without open pulls shows its caller a history that it had, and every such history leads to a folder and
@@ -55,10 +55,10 @@ pub fn calls_share_one_history()
 pub fn views_are_of_folders()
     ensures opened { (s : FolderState) (limit pass : ℕ) → IsFolder s → len s.pulls ≡ 0 → 1 ≤ pass →
         IsLegalView (record { opening = s; limit = limit; pass = pass; seen = [] }) }
-    ensures legal { (v : View) → IsLegalView v → (len v.opening.pulls ≡ 0)
+    ensures legal { (v : CallerView) → IsLegalView v → (len v.opening.pulls ≡ 0)
         × (passes : ℕ) × (1 ≤ v.pass) × (v.pass ≤ passes) × IsLegal passes v.opening v.seen }
-    ensures folder { (v : View) → IsLegalView v → IsFolder (state_after v.opening v.seen) }
-    ensures ends { (v : View) (t : Token) (assembled : FileRecord) → IsLegalView v →
+    ensures folder { (v : CallerView) → IsLegalView v → IsFolder (state_after v.opening v.seen) }
+    ensures ends { (v : CallerView) (t : PullInfo) (assembled : FileRecord) → IsLegalView v →
         (shared_answer v.limit v.opening v.seen (Finish t assembled)
         ≡ (step (state_after v.opening v.seen) (Finish t assembled)).0)
         × (shared_answer v.limit v.opening v.seen (GiveUp t)
@@ -70,19 +70,19 @@ pub fn views_are_of_folders()
 /// Wherever the history went on without the caller, to one that a folder had, the caller's change may be made there, or be
 /// answered there without being made, and its reads may be answered there.
 pub fn calls_may_be_answered_at_any_point()
-    ensures made { (old : View) (es : List Entry) (c : Change) (a : Answer) → IsPrefix old.seen es →
+    ensures made { (old : CallerView) (es : List Entry) (c : Change) (a : Answer) → IsPrefix old.seen es →
         own_entries old.pass es ≡ own_entries old.pass old.seen → IsLegalView (seeing old es) →
         MayChange old.opening.me c →
         a ≡ shared_answer old.limit old.opening es c → is_accepted a ≡ true →
-        Tells old c (Some (record { at = length es + 1; value = a }))
+        ChangesAt old c (Some (record { at = length es + 1; value = a }))
         (seeing old (es ++ own_entry old c a ∷ [])) }
-    ensures declined { (old : View) (es : List Entry) (c : Change) (a : Answer) →
+    ensures declined { (old : CallerView) (es : List Entry) (c : Change) (a : Answer) →
         IsPrefix old.seen es →
         own_entries old.pass es ≡ own_entries old.pass old.seen → IsLegalView (seeing old es) →
         a ≡ shared_answer old.limit old.opening es c → is_accepted a ≡ false →
-        Tells old c (Some (record { at = length es; value = a })) (seeing old es) }
-    ensures read { (old : View) (es : List Entry) (q : Query) (r : Reply q) → IsPrefix old.seen es →
+        ChangesAt old c (Some (record { at = length es; value = a })) (seeing old es) }
+    ensures read { (old : CallerView) (es : List Entry) (q : Query) (r : Reply q) → IsPrefix old.seen es →
         own_entries old.pass es ≡ own_entries old.pass old.seen → IsLegalView (seeing old es) →
         Reads (state_after old.opening es) q r →
-        ReadsThere old q (Some (record { at = length es; value = r })) (seeing old es) }
+        ReadsAt old q (Some (record { at = length es; value = r })) (seeing old es) }
 {}

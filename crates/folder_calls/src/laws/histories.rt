@@ -6,13 +6,13 @@ ghost use Rattle.folder_core.specs.Announced.{Announcement, best};
 ghost use Rattle.folder_core.specs.States.{FolderState, IsFolder, local};
 ghost use Rattle.folder_calls.specs.declared.entry.Entry.{Entry};
 ghost use Rattle.folder_calls.specs.Histories.{IsLegal, IsReplay, state_after, shared_answer, own_entries, CommitsAreLegal};
-ghost use Rattle.folder_calls.specs.Shared.{View, IsLegalView, seeing};
+ghost use Rattle.folder_calls.specs.Shared.{CallerView, IsLegalView, seeing};
 ghost use Rattle.folder_core.specs.declared.change.Change.{Change};
 ghost use Rattle.folder_core.specs.declared.change.Change.TheVariants.{Finish, GiveUp, Abort};
 ghost use Rattle.folder_core.specs.declared.answer.Answer.TheVariants.{Begun};
 ghost use Rattle.folder_core.specs.declared.answer.Answer.{Answer};
 ghost use Rattle.folder_core.specs.declared.answer.Answer.TheVariants.{HistoryFull};
-ghost use Rattle.folder_core.specs.declared.token.Token.{Token};
+ghost use Rattle.folder_core.specs.declared.pull_info.PullInfo.{PullInfo};
 ghost use Rattle.folder_core.specs.Steps.{MayChange, step, is_accepted};
 
 /// In a legal history each finish ends one pull that was begun over the local record and entered there, and not ended
@@ -21,7 +21,7 @@ ghost use Rattle.folder_core.specs.Steps.{MayChange, step, is_accepted};
 pub fn commits_are_legal()
     ensures finish { CommitsAreLegal }
     ensures begin { (passes : ℕ) (opening : FolderState) (front rest : List Entry) (e : Entry)
-        (t : Token) →
+        (t : PullInfo) →
         IsLegal passes opening (front ++ e ∷ rest) → e.answer ≡ Begun t →
         (t.base ≡ local (state_after opening front) t.name)
         × (b : Announcement) × (best (entries (state_after opening front).announced) t.name
@@ -64,7 +64,7 @@ pub fn histories_keep_room()
     ensures left { (limit : ℕ) (s : FolderState) (es : List Entry) (c : Change) →
         is_accepted (shared_answer limit s es c) ≡ true →
         length es + 1 + len (step (state_after s es) c).1.pulls ≤ limit }
-    ensures ends { (limit : ℕ) (s : FolderState) (es : List Entry) (t : Token)
+    ensures ends { (limit : ℕ) (s : FolderState) (es : List Entry) (t : PullInfo)
         (assembled : FileRecord) →
         length es + len (state_after s es).pulls ≤ limit →
         (shared_answer limit s es (Finish t assembled)
@@ -96,7 +96,7 @@ pub fn histories_may_be_divided()
     ensures room { (s : FolderState) (es fs : List Entry) →
         length es + len (state_after s es).pulls
         ≤ length (es ++ fs) + len (state_after s (es ++ fs)).pulls }
-    ensures view { (v : View) (es fs : List Entry) → IsLegalView (seeing v (es ++ fs)) →
+    ensures view { (v : CallerView) (es fs : List Entry) → IsLegalView (seeing v (es ++ fs)) →
         IsLegalView (seeing v es) }
 {}
 

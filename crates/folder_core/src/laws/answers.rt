@@ -11,14 +11,14 @@ ghost use Rattle.folder_core.specs.declared.answer.Answer.TheVariants.{Begun, En
 ghost use Rattle.folder_core.specs.declared.change.Change.{Change};
 ghost use Rattle.folder_core.specs.declared.change.Change.TheVariants.{ScanFound, ScanGone, BeginPull, EnterCommit, Finish, GiveUp, Abort};
 ghost use Rattle.folder_core.specs.declared.finding.Finding.{Finding};
-ghost use Rattle.folder_core.specs.declared.stage.Stage.TheVariants.{Pulling, Committing};
-ghost use Rattle.folder_core.specs.declared.token.Token.{Token};
+ghost use Rattle.folder_core.specs.declared.pull_stage.PullStage.TheVariants.{Pulling, Committing};
+ghost use Rattle.folder_core.specs.declared.pull_info.PullInfo.{PullInfo};
 ghost use Rattle.folder_core.specs.Steps.{IsFor, found_record, is_accepted, next_version, step};
 
 /// The ticket of a pull that is begun has the name that was asked for, its local record, and as its target the best, which is
 /// valid and needed, and a deletion, a file or a directory. No pull of the name was open, and none has the ticket's number.
 pub fn begun_pulls_are_of_the_name()
-    ensures { (s : FolderState) (n : Name) (t : Token) → (step s (BeginPull n)).0 ≡ Begun t →
+    ensures { (s : FolderState) (n : Name) (t : PullInfo) → (step s (BeginPull n)).0 ≡ Begun t →
         (t.name ≡ n) × (t.base ≡ local s n) × IsTrue (is_valid t.target)
         × ((t.target.deleted ≡ true) ⊎ ((is_file t.target ≡ true) ⊎ (is_directory t.target ≡ true)))
         × ((e : Announcement) × (best (entries s.announced) n ≡ Some e) × (t.target ≡ e.1))
@@ -29,7 +29,7 @@ pub fn begun_pulls_are_of_the_name()
 /// A commit that is entered is its ticket. Its pull was open and not yet entered, the local version was that of its begin, the best
 /// had the target's version and content, and a sequence was left for it.
 pub fn entered_commits_are_their_tickets()
-    ensures { (s : FolderState) (t c : Token) → (step s (EnterCommit t)).0 ≡ Entered c →
+    ensures { (s : FolderState) (t c : PullInfo) → (step s (EnterCommit t)).0 ≡ Entered c →
         (c ≡ t) × (p : Pull) × IsFor s t Pulling p × (local_version s t.name ≡ p.base)
         × ((e : Announcement) × (best (entries s.announced) t.target.name ≡ Some e)
         × (e.1.version ≡ t.target.version) × IsTrue (same_content e.1 t.target))
@@ -53,10 +53,10 @@ pub fn recorded_scans_were_expected()
 
 /// For a ticket or a commit that is stray no such pull is open.
 pub fn stray_pulls_are_not_open()
-    ensures ticket { (s : FolderState) (t : Token) →
+    ensures ticket { (s : FolderState) (t : PullInfo) →
         ((step s (EnterCommit t)).0 ≡ Stray) ⊎ ((step s (GiveUp t)).0 ≡ Stray) → (p : Pull) →
         ¬ (IsFor s t Pulling p) }
-    ensures commit { (s : FolderState) (c : Token) (assembled : FileRecord) →
+    ensures commit { (s : FolderState) (c : PullInfo) (assembled : FileRecord) →
         ((step s (Finish c assembled)).0 ≡ Stray) ⊎ ((step s (Abort c)).0 ≡ Stray) → (p : Pull) →
         ¬ (IsFor s c Committing p) }
 {}
@@ -68,7 +68,7 @@ pub fn open_pulls_stay()
         ((q : Pull) × (get (step s c).1.pulls n ≡ Some q)
         × ((q ≡ p) ⊎ (q ≡ record p { stage = Committing })))
         ⊎ ((get (step s c).1.pulls n ≡ None) × (is_accepted (step s c).0 ≡ true)
-        × ((t : Token) × (t.name ≡ n) × ((c ≡ GiveUp t)
+        × ((t : PullInfo) × (t.name ≡ n) × ((c ≡ GiveUp t)
         ⊎ ((c ≡ Abort t) ⊎ ((r : FileRecord) × (c ≡ Finish t r)))))) }
     ensures numbers { (s : FolderState) (c : Change) → HaveOwnNumbers s →
         HaveOwnNumbers (step s c).1 }

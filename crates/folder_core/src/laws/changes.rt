@@ -17,7 +17,7 @@ ghost use Rattle.folder_core.specs.declared.answer.Answer.TheVariants.{Entered, 
 ghost use Rattle.folder_core.specs.declared.answer.Answer.{Answer};
 ghost use Rattle.folder_core.specs.declared.finding.Finding.{Finding};
 ghost use Rattle.folder_core.specs.declared.finding.FoundContent.TheVariants.{File as FoundFile, Directory as FoundDirectory};
-ghost use Rattle.folder_core.specs.declared.token.Token.{Token};
+ghost use Rattle.folder_core.specs.declared.pull_info.PullInfo.{PullInfo};
 ghost use Rattle.folder_core.specs.Steps.{MayChange, step, is_accepted};
 ghost use Rattle.std.specs.declared.alloc.AllocError.{AllocError};
 
@@ -28,7 +28,7 @@ pub fn other_answers_keep_the_state()
         (step s c).1 ≡ s }
     ensures accepted { (a : Answer) → IsTrue (is_accepted a) ↔
         ((a ≡ Applied) ⊎ ((a ≡ Closed) ⊎ (((k : ℕ) × (a ≡ Recorded k)) ⊎ (((k : ℕ) × (a ≡ Done k))
-        ⊎ (((t : Token) × (a ≡ Begun t)) ⊎ ((t : Token) × (a ≡ Entered t))))))) }
+        ⊎ (((t : PullInfo) × (a ≡ Begun t)) ⊎ ((t : PullInfo) × (a ≡ Entered t))))))) }
 {}
 
 /// An empty folder is a folder, and each change that keeps its caller's conditions leads from a folder to a folder.
@@ -56,11 +56,11 @@ pub fn callers_ensure_no_more()
         f.content ≡ FoundFile size block_size r.blocks →
         MayChange s.me (ScanFound n expected f moment) }
     ensures rest { (s : FolderState) (n : Name) (expected : Option Vector) (moment : ℕ)
-        (t : Token) →
+        (t : PullInfo) →
         MayChange s.me (ScanGone n expected moment) × MayChange s.me (BeginPull n)
         × MayChange s.me (EnterCommit t)
         × MayChange s.me (GiveUp t) × MayChange s.me (Abort t) }
-    ensures finish { (s : FolderState) (t : Token) → IsAssembled t.target →
+    ensures finish { (s : FolderState) (t : PullInfo) → IsAssembled t.target →
         MayChange s.me (Finish t t.target) }
 {}
 
@@ -78,10 +78,10 @@ pub fn changes_leave_the_rest()
         ⊎ (((expected : Option Vector) × (f : Finding) × (moment : ℕ)
         × (c ≡ ScanFound n expected f moment))
         ⊎ (((expected : Option Vector) × (moment : ℕ) × (c ≡ ScanGone n expected moment))
-        ⊎ ((t : Token) × (assembled : FileRecord) × (t.name ≡ n) × (c ≡ Finish t assembled)))) }
+        ⊎ ((t : PullInfo) × (assembled : FileRecord) × (t.name ≡ n) × (c ≡ Finish t assembled)))) }
     ensures pulls { (s : FolderState) (c : Change) (n : Name) →
         (get (step s c).1.pulls n ≡ get s.pulls n)
-        ⊎ ((c ≡ BeginPull n) ⊎ ((t : Token) × (t.name ≡ n) × ((c ≡ EnterCommit t)
+        ⊎ ((c ≡ BeginPull n) ⊎ ((t : PullInfo) × (t.name ≡ n) × ((c ≡ EnterCommit t)
         ⊎ (((assembled : FileRecord) × (c ≡ Finish t assembled))
         ⊎ ((c ≡ GiveUp t) ⊎ (c ≡ Abort t)))))) }
 {}

@@ -10,11 +10,11 @@ ghost use Rattle.sync_record.specs.Contents.{same_content};
 ghost use Rattle.sync_record.specs.Validity.{is_valid};
 ghost use Rattle.folder_core.specs.Announced.{Announcement, best};
 ghost use Rattle.folder_core.specs.States.{FolderState, Pull, IsFolder, local, local_version, max_sequence, need, open_commits};
-ghost use Rattle.folder_core.specs.declared.stage.Stage.TheVariants.{Pulling, Committing};
+ghost use Rattle.folder_core.specs.declared.pull_stage.PullStage.TheVariants.{Pulling, Committing};
 ghost use Rattle.folder_core.specs.declared.change.Change.TheVariants.{BeginPull, EnterCommit, Finish, GiveUp, Abort};
 ghost use Rattle.folder_core.specs.declared.answer.Answer.TheVariants.{Busy, SequenceFull, NotNeeded, Unsupported, Begun};
 ghost use Rattle.folder_core.specs.declared.answer.Answer.TheVariants.{Stray, LocalMoved, Superseded, Entered, Done, Closed};
-ghost use Rattle.folder_core.specs.declared.token.Token.{Token};
+ghost use Rattle.folder_core.specs.declared.pull_info.PullInfo.{PullInfo};
 ghost use Rattle.folder_core.specs.Steps.{IsFor, step, is_copy_due};
 
 /// Needed names strictly rise. A name is needed exactly where it has a best, the local record is absent or of
@@ -42,12 +42,12 @@ pub fn begin_pull_takes_the_needed()
     ensures begun { (s : FolderState) (n : Name) (e : Announcement) →
         get s.pulls n ≡ None → best (entries s.announced) n ≡ Some e → Contains (need s) n →
         (e.1.deleted ≡ true) ⊎ ((is_file e.1 ≡ true) ⊎ (is_directory e.1 ≡ true)) →
-        (t : Token) × ((step s (BeginPull n)).0 ≡ Begun t) × (t.name ≡ n) × (t.base ≡ local s n)
+        (t : PullInfo) × ((step s (BeginPull n)).0 ≡ Begun t) × (t.name ≡ n) × (t.base ≡ local s n)
         × (t.target ≡ e.1)
         × (1 ≤ t.number) × ((m : Name) (p : Pull) → get s.pulls m ≡ Some p → p.number ≢ t.number)
         × ((k : ℕ) → 1 ≤ k → k < t.number → (m : Name) × (p : Pull) × (get s.pulls m ≡ Some p)
         × (p.number ≡ k)) }
-    ensures opened { (s : FolderState) (n : Name) (t : Token) → (step s (BeginPull n)).0 ≡ Begun t →
+    ensures opened { (s : FolderState) (n : Name) (t : PullInfo) → (step s (BeginPull n)).0 ≡ Begun t →
         get (step s (BeginPull n)).1.pulls n ≡ Some (record {
           number = t.number;
           base = option_map (λ r. r.version) t.base;
@@ -60,63 +60,63 @@ pub fn begin_pull_takes_the_needed()
 /// the begin; where the best hasn't the target's version and content; where no sequence is left. Else the pull is
 /// committing.
 pub fn entering_is_tested_in_order()
-    ensures stray { (s : FolderState) (t : Token) →
+    ensures stray { (s : FolderState) (t : PullInfo) →
         ((p : Pull) → ¬ (IsFor s t Pulling p)) →
         (step s (EnterCommit t)).0 ≡ Stray }
-    ensures moved { (s : FolderState) (t : Token) (p : Pull) →
+    ensures moved { (s : FolderState) (t : PullInfo) (p : Pull) →
         IsFor s t Pulling p →
         local_version s t.name ≢ p.base → (step s (EnterCommit t)).0 ≡ LocalMoved }
-    ensures superseded { (s : FolderState) (t : Token) (p : Pull) →
+    ensures superseded { (s : FolderState) (t : PullInfo) (p : Pull) →
         IsFor s t Pulling p →
         local_version s t.name ≡ p.base →
         ((e : Announcement) → best (entries s.announced) t.target.name ≡ Some e →
         e.1.version ≡ t.target.version → same_content e.1 t.target ≡ false) →
         (step s (EnterCommit t)).0 ≡ Superseded }
-    ensures sequence { (s : FolderState) (t : Token) (p : Pull) (e : Announcement) →
+    ensures sequence { (s : FolderState) (t : PullInfo) (p : Pull) (e : Announcement) →
         IsFor s t Pulling p →
         local_version s t.name ≡ p.base → best (entries s.announced) t.target.name ≡ Some e →
         e.1.version ≡ t.target.version → IsTrue (same_content e.1 t.target) →
         max_sequence - s.last ≤ open_commits s → (step s (EnterCommit t)).0 ≡ SequenceFull }
-    ensures entered { (s : FolderState) (t : Token) (p : Pull) (e : Announcement) →
+    ensures entered { (s : FolderState) (t : PullInfo) (p : Pull) (e : Announcement) →
         IsFor s t Pulling p →
         local_version s t.name ≡ p.base → best (entries s.announced) t.target.name ≡ Some e →
         e.1.version ≡ t.target.version → IsTrue (same_content e.1 t.target) →
         open_commits s < max_sequence - s.last → (step s (EnterCommit t)).0 ≡ Entered t }
-    ensures committing { (s : FolderState) (t : Token) (p : Pull) →
+    ensures committing { (s : FolderState) (t : PullInfo) (p : Pull) →
         get s.pulls t.name ≡ Some p → (step s (EnterCommit t)).0 ≡ Entered t →
         get (step s (EnterCommit t)).1.pulls t.name ≡ Some (record p { stage = Committing }) }
 {}
 
 /// A pull ends by a ticket or a commit that is for it, and by no other; and then none of its name is open.
 pub fn pulls_end_by_their_tickets()
-    ensures done { (s : FolderState) (t : Token) (assembled : FileRecord) (p : Pull) →
+    ensures done { (s : FolderState) (t : PullInfo) (assembled : FileRecord) (p : Pull) →
         IsFor s t Committing p →
         (step s (Finish t assembled)).0 ≡ Done (s.last + 1) }
-    ensures no_commit { (s : FolderState) (t : Token) (assembled : FileRecord) →
+    ensures no_commit { (s : FolderState) (t : PullInfo) (assembled : FileRecord) →
         ((p : Pull) → ¬ (IsFor s t Committing p)) →
         (step s (Finish t assembled)).0 ≡ Stray }
-    ensures given_up { (s : FolderState) (t : Token) (p : Pull) →
+    ensures given_up { (s : FolderState) (t : PullInfo) (p : Pull) →
         IsFor s t Pulling p →
         (step s (GiveUp t)).0 ≡ Closed }
-    ensures none_to_give_up { (s : FolderState) (t : Token) →
+    ensures none_to_give_up { (s : FolderState) (t : PullInfo) →
         ((p : Pull) → ¬ (IsFor s t Pulling p)) →
         (step s (GiveUp t)).0 ≡ Stray }
-    ensures aborted { (s : FolderState) (t : Token) (p : Pull) →
+    ensures aborted { (s : FolderState) (t : PullInfo) (p : Pull) →
         IsFor s t Committing p →
         (step s (Abort t)).0 ≡ Closed }
-    ensures none_to_abort { (s : FolderState) (t : Token) →
+    ensures none_to_abort { (s : FolderState) (t : PullInfo) →
         ((p : Pull) → ¬ (IsFor s t Committing p)) →
         (step s (Abort t)).0 ≡ Stray }
-    ensures none_after_giving_up { (s : FolderState) (t : Token) →
+    ensures none_after_giving_up { (s : FolderState) (t : PullInfo) →
         (step s (GiveUp t)).0 ≡ Closed → get (step s (GiveUp t)).1.pulls t.name ≡ None }
-    ensures none_after_abort { (s : FolderState) (t : Token) →
+    ensures none_after_abort { (s : FolderState) (t : PullInfo) →
         (step s (Abort t)).0 ≡ Closed → get (step s (Abort t)).1.pulls t.name ≡ None }
 {}
 
 /// A finish closes the committing pull that its commit is for, and records the valid target with both versions'
 /// counters under the next sequence: the local version is still that of the begin.
 pub fn finish_records_the_target()
-    ensures recorded { (s : FolderState) (c : Token) (assembled : FileRecord) (k : ℕ) →
+    ensures recorded { (s : FolderState) (c : PullInfo) (assembled : FileRecord) (k : ℕ) →
         IsFolder s → (step s (Finish c assembled)).0 ≡ Done k →
         (p : Pull) × (get s.pulls c.name ≡ Some p) × (p.stage ≡ Committing)
         × (p.number ≡ c.number) × (p.target ≡ c.target) × IsTrue (is_valid c.target)
@@ -126,7 +126,7 @@ pub fn finish_records_the_target()
           sequence = k;
         }))
         × (get (step s (Finish c assembled)).1.pulls c.name ≡ None) }
-    ensures others { (s : FolderState) (c : Token) (assembled : FileRecord) (k : ℕ) (m : Name) →
+    ensures others { (s : FolderState) (c : PullInfo) (assembled : FileRecord) (k : ℕ) (m : Name) →
         IsFolder s → (step s (Finish c assembled)).0 ≡ Done k → m ≢ c.name →
         local (step s (Finish c assembled)).1 m ≡ local s m }
 {}

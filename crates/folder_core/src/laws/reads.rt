@@ -13,7 +13,7 @@ ghost use Rattle.sync_record.specs.Contents.{same_content};
 ghost use Rattle.sync_record.specs.Validity.{is_valid};
 ghost use Rattle.folder_core.specs.Announced.{key, bests, IsBest};
 ghost use Rattle.folder_core.specs.States.{FolderState, IsFolder, local, need};
-ghost use Rattle.folder_core.specs.Reads.{Found, with_devices, ArePages, IsCounted, Query, Reply, Reads, Local, Best, Bests, Need, LocalSince, FindBlock, Known, CountAll, max_page_blocks};
+ghost use Rattle.folder_core.specs.Reads.{BestEntry, with_devices, ArePages, IsCounted, Query, Reply, Reads, Local, Best, Bests, Need, LocalSince, FindBlock, Known, CountAll, max_page_blocks};
 
 /// Every query has a reply, and only one, except that a block may be found in several places.
 pub fn queries_have_replies()
@@ -86,38 +86,38 @@ pub fn needed_names_come_in_pages()
 /// a page, there are pages one after the other, each read after the last name of the one before, up to one that isn't full;
 /// and together such pages have the best of each name once, in byte order, with its devices.
 pub fn bests_come_in_pages()
-    ensures rise { (s : FolderState) (after : Option Name) (limit : ℕ) (page : List Found) →
+    ensures rise { (s : FolderState) (after : Option Name) (limit : ℕ) (page : List BestEntry) →
         IsFolder s →
         Reads s (Bests after limit) page →
         IsStrictlySortedBy bytes_cmp (map (λ b. b.0.name) page) × (length page ≤ limit) }
-    ensures only { (s : FolderState) (after : Option Name) (limit : ℕ) (page : List Found)
-        (b : Found) → IsFolder s →
+    ensures only { (s : FolderState) (after : Option Name) (limit : ℕ) (page : List BestEntry)
+        (b : BestEntry) → IsFolder s →
         Reads s (Bests after limit) page → Contains page b →
         Reads s (Best b.0.name) (Some b)
         × ((a : Name) → after ≡ Some a → bytes_cmp b.0.name a ≡ Greater) }
-    ensures all { (s : FolderState) (after : Option Name) (limit : ℕ) (page : List Found) (n : Name)
-        (b : Found) → IsFolder s →
+    ensures all { (s : FolderState) (after : Option Name) (limit : ℕ) (page : List BestEntry) (n : Name)
+        (b : BestEntry) → IsFolder s →
         Reads s (Bests after limit) page → Reads s (Best n) (Some b) →
         ((a : Name) → after ≡ Some a → bytes_cmp n a ≡ Greater) →
         Contains page b
-        ⊎ ((length page ≡ limit) × ((c : Found) → Contains page c → bytes_cmp c.0.name n ≡ Less)) }
+        ⊎ ((length page ≡ limit) × ((c : BestEntry) → Contains page c → bytes_cmp c.0.name n ≡ Less)) }
     ensures end { (s : FolderState) (after : Option Name) (limit : ℕ) (n : Name) → 1 ≤ limit →
         Reads s (Bests after limit) [] → ((a : Name) → after ≡ Some a → bytes_cmp n a ≡ Greater) →
         Reads s (Best n) None }
-    ensures whole { (s : FolderState) (after : Option Name) (limit : ℕ) (page : List Found) →
+    ensures whole { (s : FolderState) (after : Option Name) (limit : ℕ) (page : List BestEntry) →
         IsFolder s →
         IsStrictlySortedBy bytes_cmp (map (λ b. b.0.name) page) → length page ≤ limit →
-        ((b : Found) → Contains page b →
+        ((b : BestEntry) → Contains page b →
         Reads s (Best b.0.name) (Some b)
         × ((a : Name) → after ≡ Some a → bytes_cmp b.0.name a ≡ Greater)) →
-        ((n : Name) (b : Found) → Reads s (Best n) (Some b) →
+        ((n : Name) (b : BestEntry) → Reads s (Best n) (Some b) →
         ((a : Name) → after ≡ Some a → bytes_cmp n a ≡ Greater) →
         Contains page b
-        ⊎ ((length page ≡ limit) × ((c : Found) → Contains page c → bytes_cmp c.0.name n ≡ Less))) →
+        ⊎ ((length page ≡ limit) × ((c : BestEntry) → Contains page c → bytes_cmp c.0.name n ≡ Less))) →
         Reads s (Bests after limit) page }
     ensures pages { (s : FolderState) (limit : ℕ) → IsFolder s → 1 ≤ limit →
-        (pages : List (List Found)) × ArePages s limit None pages }
-    ensures together { (s : FolderState) (limit : ℕ) (pages : List (List Found)) → IsFolder s →
+        (pages : List (List BestEntry)) × ArePages s limit None pages }
+    ensures together { (s : FolderState) (limit : ℕ) (pages : List (List BestEntry)) → IsFolder s →
         ArePages s limit None pages →
         flat_map (λ page. page) pages ≡ map (with_devices (entries s.announced))
         (bests (entries s.announced)) }

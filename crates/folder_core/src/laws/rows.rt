@@ -3,7 +3,7 @@ ghost use Rattle.std.specs.Prelude.{[], ◌∷◌, ◌≡◌, pos, Some, None, f
 ghost use Rattle.std.specs.FinMap.{entries};
 ghost use Rattle.folder_core.specs.Announced.{is_candidate, best};
 ghost use Rattle.folder_core.specs.States.{need};
-ghost use Rattle.folder_core.specs.Reads.{best_found, local_since, places, counts, known, need_page};
+ghost use Rattle.folder_core.specs.Reads.{best_with_devices, local_since, places, counts, known, need_page};
 ghost use Rattle.folder_core.specs.Samples.{Leads, me, p1, p2, p3, x, y, file, recorded, two_files, places_of_abd, counts_of_two, deletion, content, modified, abc, by, folder};
 ghost use Rattle.folder_core.specs.Samples.{ring, deleted_and_live, deleted_alone, modified_by_5_and_7, cut_short, one_version, one_content, invalid_above};
 ghost use Rattle.folder_core.specs.Samples.{nanoseconds_apart, counters_apart, shared_by_two, of_each_kind, counts_of_each_kind};
@@ -29,15 +29,15 @@ pub fn best_in_rows()
         ≡ Some (by p1 (modified 5 (file ((1, 1) ∷ []) 1))) }
     ensures cut { is_candidate (cut_short ∷ []) cut_short ≡ false }
     ensures cut_alone { best (cut_short ∷ []) x ≡ None }
-    ensures contents { best_found (folder one_version 0 []) x
+    ensures contents { best_with_devices (folder one_version 0 []) x
         ≡ Some (content 3 abc (file ((1, 1) ∷ []) 1), p1 ∷ []) }
-    ensures versions { best_found (folder one_content 0 []) x
+    ensures versions { best_with_devices (folder one_content 0 []) x
         ≡ Some (content 3 abc (file ((2, 1) ∷ []) 2), p2 ∷ []) }
     ensures invalid { best invalid_above x ≡ Some (by p2 (file ((1, 1) ∷ []) 1)) }
     ensures nanoseconds { best nanoseconds_apart x
         ≡ Some (by p2 (record (file ((2, 1) ∷ []) 1) { modified_ns = pos 4 })) }
     ensures counters { best counters_apart x ≡ Some (by p2 (file ((1, 2) ∷ []) 1)) }
-    ensures shared { best_found (folder shared_by_two 1 []) x
+    ensures shared { best_with_devices (folder shared_by_two 1 []) x
         ≡ Some (content 3 abc (file ((1, 1) ∷ []) 2), me ∷ p1 ∷ []) }
 {}
 

@@ -10,7 +10,7 @@ ghost use Rattle.folder_core.specs.declared.answer.Answer.{Answer};
 ghost use Rattle.folder_core.specs.declared.answer.Answer.TheVariants.{Begun, Entered, Moved, Recorded};
 ghost use Rattle.folder_core.specs.declared.change.Change.{Change};
 ghost use Rattle.folder_core.specs.declared.change.Change.TheVariants.{Abort, Finish, GiveUp};
-ghost use Rattle.folder_core.specs.declared.token.Token.{Token};
+ghost use Rattle.folder_core.specs.declared.pull_info.PullInfo.{PullInfo};
 
 /// Changes are made in their order, each on the state that those before it leave. If memory runs out on the way, the answers are
 /// those of the first changes, and the state is the one that these leave.
@@ -29,16 +29,16 @@ pub fn changes_are_made_in_order()
 /// A finish, giving up and an abort end a pull, and nothing else does.
 pub fn pulls_end_by_three_changes()
     ensures { (c : Change) → (ends_pull c ≡ true)
-        ↔ (((t : Token) × (r : FileRecord) × (c ≡ Finish t r))
-        ⊎ (((t : Token) × (c ≡ GiveUp t)) ⊎ ((t : Token) × (c ≡ Abort t)))) }
+        ↔ (((t : PullInfo) × (r : FileRecord) × (c ≡ Finish t r))
+        ⊎ (((t : PullInfo) × (c ≡ GiveUp t)) ⊎ ((t : PullInfo) × (c ≡ Abort t)))) }
 {}
 
 /// The answers with which a scan, a begin or an entered commit may have allocated, and those of which a copy may.
 pub fn few_answers_allocate()
     ensures calls { (a : Answer) → (may_allocate a ≡ true)
         ↔ (((k : ℕ) × (a ≡ Recorded k)) ⊎ (((v : Vector) × (a ≡ Moved (Some v)))
-        ⊎ (((t : Token) × (a ≡ Begun t)) ⊎ ((t : Token) × (a ≡ Entered t))))) }
+        ⊎ (((t : PullInfo) × (a ≡ Begun t)) ⊎ ((t : PullInfo) × (a ≡ Entered t))))) }
     ensures copies { (a : Answer) → (copy_allocates a ≡ true)
         ↔ (((v : Vector) × (a ≡ Moved (Some v)))
-        ⊎ (((t : Token) × (a ≡ Begun t)) ⊎ ((t : Token) × (a ≡ Entered t)))) }
+        ⊎ (((t : PullInfo) × (a ≡ Begun t)) ⊎ ((t : PullInfo) × (a ≡ Entered t)))) }
 {}

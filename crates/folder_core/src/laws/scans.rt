@@ -8,7 +8,7 @@ ghost use Rattle.sync_record.specs.Devices.{short_id};
 ghost use Rattle.sync_record.specs.Records.{Name, FileRecord, is_file, is_directory};
 ghost use Rattle.sync_record.specs.Contents.{same_content};
 ghost use Rattle.folder_core.specs.States.{FolderState, Pull, IsFolder, NoCommit, local, local_version, max_sequence, open_commits};
-ghost use Rattle.folder_core.specs.declared.stage.Stage.TheVariants.{Pulling, Committing};
+ghost use Rattle.folder_core.specs.declared.pull_stage.PullStage.TheVariants.{Pulling, Committing};
 ghost use Rattle.folder_core.specs.declared.change.Change.TheVariants.{ScanFound, ScanGone};
 ghost use Rattle.folder_core.specs.declared.answer.Answer.TheVariants.{Busy, Moved, Unchanged, CounterFull, SequenceFull, Recorded};
 ghost use Rattle.folder_core.specs.declared.finding.Finding.{Finding};

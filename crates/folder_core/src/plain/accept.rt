@@ -8,7 +8,7 @@ use super::own::record_from;
 use super::pulls::{best_to_pull, entry_obstacle, has_pull, place_for};
 use super::scan::{is_full, is_gone, is_same, scan_obstacle};
 use super::{PlainFolder, open_commits};
-use crate::{Finding, Stage, Token};
+use crate::{Finding, PullInfo, PullStage};
 use sync_names::SafeName;
 use sync_version::Version;
 
@@ -72,10 +72,10 @@ impl PlainFolder {
 
     /// Whether the ticket's pull would enter its commit. Does not allocate. O(log n + d^2 + k) for n records kept, d devices
     /// that announce the name and k open pulls.
-    pub(super) fn accepts_entry(&self, ticket: &Token) -> bool
+    pub(super) fn accepts_entry(&self, ticket: &PullInfo) -> bool
         ensures { result ≡ is_accepted (step self.now (EnterCommit ticket.now)).0 }
     {
-        let Some(place) = place_for(&self.pulls, ticket, Stage::Pulling) else {
+        let Some(place) = place_for(&self.pulls, ticket, PullStage::Pulling) else {
             return false;
         };
         let pull = &self.pulls[place];
@@ -85,10 +85,10 @@ impl PlainFolder {
         entry_obstacle(pull, group, local, is_full).is_none()
     }
 
-    /// Whether the token is for an open pull that is at this stage. Does not allocate. O(k) for k open pulls.
-    pub(super) fn has_open(&self, token: &Token, stage: Stage) -> bool
-        ensures { result ≡ is_some (pull_of self.now token.now stage) }
+    /// Whether the pull that is meant is open, at this stage. Does not allocate. O(k) for k open pulls.
+    pub(super) fn has_open(&self, info: &PullInfo, stage: PullStage) -> bool
+        ensures { result ≡ is_some (pull_of self.now info.now stage) }
     {
-        place_for(&self.pulls, token, stage).is_some()
+        place_for(&self.pulls, info, stage).is_some()
     }
 }

@@ -10,7 +10,7 @@ use sync_record::{Block, DeviceId, Kind};
 /// Where the device's live files have a block with this digest: in the first of them by name, its first such block. O(n + b)
 /// for n entries, up to that file, and b blocks of the device's files, and the copy of the name. Does not allocate where
 /// there is none.
-pub(super) fn place_of(
+pub(super) fn position_of(
     entries: &[Announcement],
     device: DeviceId,
     hash: &[u8; 32],

@@ -4,18 +4,18 @@ ghost use Rattle.std.specs.List.{insert, list_any, remove};
 ghost use Rattle.std.specs.Result.{result_err};
 ghost use Rattle.folder_core.specs.Calls.{GivesBack, begin_answer, enter_answer};
 ghost use Rattle.folder_core.specs.Plain.{commits, stage_of};
-ghost use Rattle.folder_core.specs.PlainPulls.{begin_refusal, begin_tests_of, best_in, entry_refusal, entry_tests_of, is_best_in, is_for, is_unsupported, place_of, pull_for};
+ghost use Rattle.folder_core.specs.PlainPulls.{begin_refusal, begin_tests_of, best_in, entry_refusal, entry_tests_of, is_best_in, is_for, is_unsupported, position_of, pull_for};
 ghost use Rattle.folder_core.specs.PlainReads.{version_of};
 ghost use Rattle.folder_core.specs.PlainScans.{first_of};
 ghost use Rattle.folder_core.specs.States.{same_local_version, same_stage};
 ghost use Rattle.folder_core.specs.Steps.{committed_record, least_free};
-ghost use Rattle.folder_core.specs.declared.stage.Stage.TheVariants.{Committing};
+ghost use Rattle.folder_core.specs.declared.pull_stage.PullStage.TheVariants.{Committing};
 
 use super::group::best_of;
 use super::need::is_needed;
 use super::own::version_of;
 use super::pull::OpenPull;
-use crate::{Announcement, BeginAnswer, NotEntered, Stage, Ticket, Token};
+use crate::{Announcement, BeginAnswer, EnterFault, PullInfo, PullStage, Ticket};
 use std::alloc::{AllocError, Global};
 use sync_names::SafeName;
 use sync_record::{Kind, Record, same_content};
@@ -29,8 +29,8 @@ pub(super) fn has_pull(pulls: &[OpenPull], name: &SafeName) -> bool
 }
 
 /// How many of the pulls are of a lesser name. O(k) for k open pulls.
-fn place_of(pulls: &[OpenPull], name: &SafeName) -> usize
-    ensures { result ≡ place_of name.now pulls.now }
+fn position_of(pulls: &[OpenPull], name: &SafeName) -> usize
+    ensures { result ≡ position_of name.now pulls.now }
 {
     pulls
         .iter()
@@ -38,57 +38,57 @@ fn place_of(pulls: &[OpenPull], name: &SafeName) -> usize
         .count()
 }
 
-/// The place of the pull that the token is for, if it is at this stage. O(k) for k open pulls.
-pub(super) fn place_for(pulls: &[OpenPull], token: &Token, stage: Stage) -> Option<usize>
-    ensures place { IfSome result (λ i. i ≡ place_of token.now.name pulls.now) }
+/// The place of the pull that is meant, if it is at this stage. O(k) for k open pulls.
+pub(super) fn place_for(pulls: &[OpenPull], info: &PullInfo, stage: PullStage) -> Option<usize>
+    ensures place { IfSome result (λ i. i ≡ position_of info.now.name pulls.now) }
     ensures within { IfSome result (λ i. i < length pulls.now) }
     ensures found { option_and_then (slice_get pulls.now) result
-        ≡ pull_for token.now stage pulls.now }
+        ≡ pull_for info.now stage pulls.now }
 {
-    let place = place_of(pulls, &token.name);
+    let place = position_of(pulls, &info.name);
     let pull = pulls.get(place)?;
-    is_for(pull, token, stage).then_some(place)
+    is_for(pull, info, stage).then_some(place)
 }
 
-fn is_for(pull: &OpenPull, token: &Token, stage: Stage) -> bool
-    ensures { result ≡ is_for token.now stage pull.now }
+fn is_for(pull: &OpenPull, info: &PullInfo, stage: PullStage) -> bool
+    ensures { result ≡ is_for info.now stage pull.now }
 {
-    token.name == *pull.target.name()
-        && pull.number == token.number
+    info.name == *pull.target.name()
+        && pull.number == info.number
         && is_at(pull, stage)
-        && pull.target == token.target
+        && pull.target == info.target
 }
 
 /// Whether the pull is at this stage.
-fn is_at(pull: &OpenPull, stage: Stage) -> bool
+fn is_at(pull: &OpenPull, stage: PullStage) -> bool
     ensures { result ≡ same_stage (stage_of pull.now.ready) stage }
 {
     match stage {
-        Stage::Pulling => pull.ready.is_none(),
-        Stage::Committing => pull.ready.is_some(),
+        PullStage::Pulling => pull.ready.is_none(),
+        PullStage::Committing => pull.ready.is_some(),
     }
 }
 
-/// Takes out the pull that the token is for, if it is at this stage. Does not allocate. O(k) for k open pulls.
-pub(super) fn take(pulls: &mut Vec<OpenPull>, token: &Token, stage: Stage) -> Option<OpenPull>
-    ensures { MatchOption result ((pull_for token.now stage pulls.old.items ≡ None)
+/// Takes out the pull that is meant, if it is at this stage. Does not allocate. O(k) for k open pulls.
+pub(super) fn take(pulls: &mut Vec<OpenPull>, info: &PullInfo, stage: PullStage) -> Option<OpenPull>
+    ensures { MatchOption result ((pull_for info.now stage pulls.old.items ≡ None)
         × (pulls.new.items ≡ pulls.old.items))
-        (λ p. (pull_for token.now stage pulls.old.items ≡ Some p)
-        × (pulls.new.items ≡ remove pulls.old.items (place_of token.now.name pulls.old.items))) }
+        (λ p. (pull_for info.now stage pulls.old.items ≡ Some p)
+        × (pulls.new.items ≡ remove pulls.old.items (position_of info.now.name pulls.old.items))) }
 {
-    let place = place_for(pulls, token, stage)?;
+    let place = place_for(pulls, info, stage)?;
     Some(pulls.remove(place))
 }
 
 /// Takes out the pull that the commit is for, and returns what it announces. Does not allocate. O(k) for k open pulls.
-pub(super) fn take_ready(pulls: &mut Vec<OpenPull>, token: &Token) -> Option<Record>
-    ensures { MatchOption result ((pull_for token.now Committing pulls.old.items ≡ None)
+pub(super) fn take_ready(pulls: &mut Vec<OpenPull>, info: &PullInfo) -> Option<Record>
+    ensures { MatchOption result ((pull_for info.now Committing pulls.old.items ≡ None)
         × (pulls.new.items ≡ pulls.old.items))
-        (λ r. (option_and_then (λ p. p.ready) (pull_for token.now Committing pulls.old.items)
+        (λ r. (option_and_then (λ p. p.ready) (pull_for info.now Committing pulls.old.items)
         ≡ Some r) × (pulls.new.items ≡ remove pulls.old.items
-        (place_of token.now.name pulls.old.items))) }
+        (position_of info.now.name pulls.old.items))) }
 {
-    let OpenPull { ready, .. } = take(pulls, token, Stage::Committing)?;
+    let OpenPull { ready, .. } = take(pulls, info, PullStage::Committing)?;
     ready
 }
 
@@ -98,8 +98,8 @@ pub(super) fn open(
     name: &SafeName,
     base: Option<&Record>,
     target: &Record,
-) -> Result<Token, AllocError>
-    ensures token { IfOk result (λ t. t
+) -> Result<PullInfo, AllocError>
+    ensures info { IfOk result (λ t. t
         ≡ record {
           number = least_free (map (λ p. p.number) pulls.old.items);
           name = name.now;
@@ -107,7 +107,7 @@ pub(super) fn open(
           target = target.now;
         }) }
     ensures opened { OnOk result (pulls.new.items
-        ≡ insert pulls.old.items (place_of target.now.name pulls.old.items)
+        ≡ insert pulls.old.items (position_of target.now.name pulls.old.items)
         (record {
           number = least_free (map (λ p. p.number) pulls.old.items);
           base = option_copied base.entry;
@@ -117,7 +117,7 @@ pub(super) fn open(
     ensures stay { OnErr result (pulls.new.items ≡ pulls.old.items) }
 {
     let number = least_free(pulls);
-    let token = Token {
+    let info = PullInfo {
         number,
         name: name.copy()?,
         base: copy_of(base)?,
@@ -129,9 +129,9 @@ pub(super) fn open(
         target: target.copy()?,
         ready: None,
     };
-    let place = place_of(pulls, target.name());
+    let place = position_of(pulls, target.name());
     pulls.insert(place, pull)?;
-    Ok(token)
+    Ok(info)
 }
 
 /// A copy of the record, if there is one. O(1).
@@ -239,7 +239,7 @@ pub(super) enum EntryObstacle {
     SequenceFull,
 }
 
-/// The first test of the entrance of the pull's commit that holds, in the order of the rules, where these are the entries of
+/// The first test by which the pull's commit is not entered, in the order of the rules, where these are the entries of
 /// its name and this is the local record among them. Does not allocate. O(d^2 + b) for d entries, and b blocks and counters.
 pub(super) fn entry_obstacle(
     pull: &OpenPull,
@@ -263,15 +263,15 @@ pub(super) fn entry_obstacle(
     None
 }
 
-/// What an entrance answers for this reason. The ticket is given back.
-pub(super) fn not_entered(obstacle: EntryObstacle, ticket: Ticket) -> NotEntered
+/// What `enter_commit` answers for this reason. The ticket is given back.
+pub(super) fn not_entered(obstacle: EntryObstacle, ticket: Ticket) -> EnterFault
     ensures told { enter_answer (Err result) ≡ Some (entry_refusal obstacle) }
     ensures given_back { GivesBack ticket result }
 {
     match obstacle {
-        EntryObstacle::LocalMoved => NotEntered::LocalMoved(ticket),
-        EntryObstacle::Superseded => NotEntered::Superseded(ticket),
-        EntryObstacle::SequenceFull => NotEntered::SequenceFull(ticket),
+        EntryObstacle::LocalMoved => EnterFault::LocalMoved(ticket),
+        EntryObstacle::Superseded => EnterFault::Superseded(ticket),
+        EntryObstacle::SequenceFull => EnterFault::SequenceFull(ticket),
     }
 }
 

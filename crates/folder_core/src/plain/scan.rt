@@ -15,7 +15,7 @@ ghost use Rattle.folder_core.specs.Announced.{key, key_cmp};
 ghost use Rattle.folder_core.specs.Plain.{Rises, filed};
 ghost use Rattle.folder_core.specs.PlainScans.{content_record, first_of, deletion_edit, edit_of, has_commit, is_full, is_gone, obstacle_answer, tests_of};
 ghost use Rattle.folder_core.specs.States.{max_sequence};
-ghost use Rattle.folder_core.specs.Steps.{is_found};
+ghost use Rattle.folder_core.specs.Steps.{is_recordable};
 ghost use Rattle.sync_record.specs.Devices.{short_id};
 
 use super::merge::put;
@@ -81,7 +81,7 @@ fn is_counter_full(version: Option<&Version>, id: u64) -> bool
     version.is_some_and(|version| version.counter(id) == u64::MAX)
 }
 
-/// What a scan answers for this reason, where this is the local version. Only a version that is told is copied.
+/// What a scan answers for this reason, where this is the local version. Only the version of a `Moved` is copied.
 pub(super) fn scan_answer(
     obstacle: Obstacle,
     version: Option<&Version>,
@@ -152,7 +152,7 @@ pub(super) fn found_record(
     version: Version,
     id: u64,
 ) -> Result<Record, AllocError>
-    requires { IsTrue (is_found found.now.content) }
+    requires { IsTrue (is_recordable found.now.content) }
     ensures { IfOk result (λ r. r ≡ content_record name.now
         (edit_of version id found.now) found.now.content) }
 {

@@ -2,4 +2,4 @@ use Rattle.std.proofs.Common.{◌≡◌}
 use Rattle.folder_calls_tests.proofs.mixed.works.Given as goal
 
 abbrev pub invariant-loop-number : goal.invariant-loop-number
-invariant-loop-number g l = g.W.FolderCalls.home l.calls ≡ g.W.FolderCalls.home l.initial.calls
+invariant-loop-number g l = g.W.FolderCalls.folder l.calls ≡ g.W.FolderCalls.folder l.initial.calls

@@ -1,19 +1,20 @@
 use Rattle.std.proofs.Common.{◌++◌, refl, sym, ap, subst, ◌∙◌, inr}
-use Rattle.folder_calls.specs.Shared.{Sees}
+use Rattle.folder_calls.specs.Shared.{Sees, now}
 use Rattle.folder_calls_tests.specs.Paging.{Gives}
-use Rattle.folder_calls_tests.proofs.PagesGiven.{gives-nothing, nearer, now, read-bound, read-gives, read-more, read-none, read-rises, read-sees, sees-itself}
+use Rattle.folder_calls_tests.proofs.PagesGiven.{gives-nothing, nearer, read-bound, read-gives, read-more, read-none, read-rises, read-sees}
+use Rattle.folder_calls_tests.proofs.Pulls.{sees-itself}
 use Rattle.folder_calls_tests.proofs.pages.give_pages.Goals as goal
 
 pub loop-page-init : goal.loop-page-init
 loop-page-init g c = record {
-  home = refl;
+  folder = refl;
   sees = sees-itself (g.W.FolderCalls.view c.args.calls.now);
   gives = gives-nothing (now (g.W.FolderCalls.view c.args.calls.now)) c.args.cursor.now c.args.given.now.items;
   bound = inr refl;
 }
 
-pub returns-in_err-page-clause-home : goal.returns-in_err-page-clause-home
-returns-in_err-page-clause-home g c = c.in_err-page.ensures.home ∙ c.loop-page.invariant.home
+pub returns-in_err-page-clause-folder : goal.returns-in_err-page-clause-folder
+returns-in_err-page-clause-folder g c = c.in_err-page.ensures.folder ∙ c.loop-page.invariant.folder
 
 pub returns-in_err-page-clause-sees : goal.returns-in_err-page-clause-sees
 returns-in_err-page-clause-sees g c = subst (Sees (g.W.FolderCalls.view c.args.calls.now)) (sym c.in_err-page.ensures.reads) c.loop-page.invariant.sees
@@ -22,8 +23,8 @@ pub returns-in_err-page-clause-gives : goal.returns-in_err-page-clause-gives
 returns-in_err-page-clause-gives g c =
     subst (λ v. Gives (now v) c.args.cursor.now c.loop-page.cursor c.args.given.now.items c.loop-page.given.items) (sym c.in_err-page.ensures.reads) c.loop-page.invariant.gives
 
-pub returns-in_default-clause-home : goal.returns-in_default-clause-home
-returns-in_default-clause-home g c = c.in_ok-page.ensures.home ∙ c.loop-page.invariant.home
+pub returns-in_default-clause-folder : goal.returns-in_default-clause-folder
+returns-in_default-clause-folder g c = c.in_ok-page.ensures.folder ∙ c.loop-page.invariant.folder
 
 pub returns-in_default-clause-sees : goal.returns-in_default-clause-sees
 returns-in_default-clause-sees g c =
@@ -38,8 +39,8 @@ returns-in_default-clause-all g c = λ done.
     read-none _ _ _ _ _ _ _ _ c.loop-page.invariant.sees c.loop-page.invariant.gives c.loop-page.invariant.bound _ c.in_ok-page.ensures.reads
     c.requires c.as_slice.result.now c.as_slice.ensures c.in_default.ensures.value
 
-pub returns-in_err-append-clause-home : goal.returns-in_err-append-clause-home
-returns-in_err-append-clause-home g c = c.in_ok-page.ensures.home ∙ c.loop-page.invariant.home
+pub returns-in_err-append-clause-folder : goal.returns-in_err-append-clause-folder
+returns-in_err-append-clause-folder g c = c.in_ok-page.ensures.folder ∙ c.loop-page.invariant.folder
 
 pub returns-in_err-append-clause-sees : goal.returns-in_err-append-clause-sees
 returns-in_err-append-clause-sees g c =
@@ -59,7 +60,7 @@ loop-page-smaller g c =
 
 pub loop-page-preserved : goal.loop-page-preserved
 loop-page-preserved g c = record {
-  home = c.in_ok-page.ensures.home ∙ c.loop-page.invariant.home;
+  folder = c.in_ok-page.ensures.folder ∙ c.loop-page.invariant.folder;
   sees = read-sees _ _ _ _ _ _ _ _ c.loop-page.invariant.sees c.loop-page.invariant.gives c.loop-page.invariant.bound _ c.in_ok-page.ensures.reads;
   gives = read-more _ _ _ _ _ _ _ _ c.loop-page.invariant.sees c.loop-page.invariant.gives c.loop-page.invariant.bound _ c.in_ok-page.ensures.reads
       c.as_slice.result.now c.as_slice.ensures c.in-Some.last.now c.in-Some.ensures.value c.sequence-next.result c.sequence-next.ensures.value

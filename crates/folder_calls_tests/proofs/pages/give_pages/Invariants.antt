@@ -2,12 +2,12 @@ use Rattle.std.proofs.Common.{◌≡◌, ◌-◌, ◌≤◌, ◌⊎◌}
 use Rattle.std.specs.Prelude.{◌^◌}
 use Rattle.folder_calls.specs.Shared.{Sees}
 use Rattle.folder_calls_tests.specs.Paging.{Gives}
-use Rattle.folder_calls_tests.proofs.PagesGiven.{now}
+use Rattle.folder_calls.specs.Shared.{now}
 use Rattle.folder_calls_tests.proofs.pages.give_pages.Given as goal
 
 abbrev pub invariant-loop-page : goal.invariant-loop-page
 invariant-loop-page g l = record {
-  home : g.W.FolderCalls.home l.calls ≡ g.W.FolderCalls.home l.initial.calls;
+  folder : g.W.FolderCalls.folder l.calls ≡ g.W.FolderCalls.folder l.initial.calls;
   sees : Sees (g.W.FolderCalls.view l.initial.calls) (g.W.FolderCalls.view l.calls);
   gives : Gives (now (g.W.FolderCalls.view l.calls)) l.initial.cursor l.cursor l.initial.given.items l.given.items;
   bound : (l.cursor ≤ (now (g.W.FolderCalls.view l.calls)).last) ⊎ (l.cursor ≡ l.initial.cursor);

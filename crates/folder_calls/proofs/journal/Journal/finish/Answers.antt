@@ -10,8 +10,8 @@ overflow_sub-self g c =
     (c.requires.assembled, subst IsAssembled c.assembled.view_is c.assembled.invariant) _ _ (made-as _ (ap (λ t. Finish t c.args.assembled) (c.commit.invariant ∙ c.commit.view_is)) c.in_ok-sequence.ensures)
     refl refl refl
 
-pub enter-requires : goal.enter-requires
-enter-requires g c = record {
+pub append-requires : goal.append-requires
+append-requires g c = record {
   room =
       ended-room _ c.args.self.now c.self.view_is _ _ _ c.self.invariant c.args.pass c.requires.pass (Finish c.args.commit c.args.assembled)
       (c.requires.assembled, subst IsAssembled c.assembled.view_is c.assembled.invariant) _ _ (made-as _ (ap (λ t. Finish t c.args.assembled) (c.commit.invariant ∙ c.commit.view_is)) c.in_ok-sequence.ensures)
@@ -23,8 +23,8 @@ invariant_of-self-2 g c =
     ended-journal _ c.args.self.now c.self.view_is _ _ _ c.self.invariant c.args.pass c.requires.pass (Finish c.args.commit c.args.assembled)
     (c.requires.assembled, subst IsAssembled c.assembled.view_is c.assembled.invariant) _ _ (made-as _ (ap (λ t. Finish t c.args.assembled) (c.commit.invariant ∙ c.commit.view_is)) c.in_ok-sequence.ensures)
     refl refl refl
-    c.enter.new.entries.items (pushed-as _ c.enter.ensures.items refl (ap (λ t. Finish t c.args.assembled) c.commit.view_is) refl)
-    _ c.enter.ensures.capacity
+    c.append.new.entries.items (pushed-as _ c.append.ensures.items refl (ap (λ t. Finish t c.args.assembled) c.commit.view_is) refl)
+    _ c.append.ensures.capacity
 
 pub invariant_of-self : goal.invariant_of-self
 invariant_of-self g c =
@@ -32,16 +32,16 @@ invariant_of-self g c =
     (c.requires.assembled, subst IsAssembled c.assembled.view_is c.assembled.invariant) _ _ (made-as _ (ap (λ t. Finish t c.args.assembled) (c.commit.invariant ∙ c.commit.view_is)) c.in_err-sequence.ensures)
     refl
 
-pub returns-clause-enters : goal.returns-clause-enters
-returns-clause-enters g c =
+pub returns-clause-appends : goal.returns-clause-appends
+returns-clause-appends g c =
     ended-enters _ c.args.self.now c.self.view_is _ _ _ c.self.invariant c.args.pass c.requires.pass (Finish c.args.commit c.args.assembled)
     (c.requires.assembled, subst IsAssembled c.assembled.view_is c.assembled.invariant) _ _ (made-as _ (ap (λ t. Finish t c.args.assembled) (c.commit.invariant ∙ c.commit.view_is)) c.in_ok-sequence.ensures)
     refl refl refl
-    c.enter.new.entries.items (pushed-as _ c.enter.ensures.items refl (ap (λ t. Finish t c.args.assembled) c.commit.view_is) refl)
+    c.append.new.entries.items (pushed-as _ c.append.ensures.items refl (ap (λ t. Finish t c.args.assembled) c.commit.view_is) refl)
 
 pub returns-clause-history : goal.returns-clause-history
 returns-clause-history g c =
     ended-history _ c.args.self.now c.self.view_is _ _ _ c.self.invariant c.args.pass c.requires.pass (Finish c.args.commit c.args.assembled)
     (c.requires.assembled, subst IsAssembled c.assembled.view_is c.assembled.invariant) _ _ (made-as _ (ap (λ t. Finish t c.args.assembled) (c.commit.invariant ∙ c.commit.view_is)) c.in_ok-sequence.ensures)
     refl refl refl
-    c.enter.new.entries.items (pushed-as _ c.enter.ensures.items refl (ap (λ t. Finish t c.args.assembled) c.commit.view_is) refl)
+    c.append.new.entries.items (pushed-as _ c.append.ensures.items refl (ap (λ t. Finish t c.args.assembled) c.commit.view_is) refl)

@@ -11,8 +11,8 @@ overflow_sub-self g c =
     tt _ _ (made-as _ (ap GiveUp (c.ticket.invariant ∙ c.ticket.view_is)) c.give_up-is_closed.ensures)
     (ap (λ b. is_accepted (close_answer b)) c.if-is_closed.true) refl refl
 
-pub enter-requires : goal.enter-requires
-enter-requires g c = record {
+pub append-requires : goal.append-requires
+append-requires g c = record {
   room =
       ended-room _ c.args.self.now c.self.view_is _ _ _ c.self.invariant c.args.pass c.requires.pass (GiveUp c.args.ticket)
       tt _ _ (made-as _ (ap GiveUp (c.ticket.invariant ∙ c.ticket.view_is)) c.give_up-is_closed.ensures)
@@ -24,8 +24,8 @@ invariant_of-self g c =
     ended-journal _ c.args.self.now c.self.view_is _ _ _ c.self.invariant c.args.pass c.requires.pass (GiveUp c.args.ticket)
     tt _ _ (made-as _ (ap GiveUp (c.ticket.invariant ∙ c.ticket.view_is)) c.give_up-is_closed.ensures)
     (ap (λ b. is_accepted (close_answer b)) c.if-is_closed.true) refl refl
-    c.enter.new.entries.items (pushed-as _ c.enter.ensures.items refl (ap GiveUp c.ticket.view_is) (sym (ap close_answer c.if-is_closed.true)))
-    _ c.enter.ensures.capacity
+    c.append.new.entries.items (pushed-as _ c.append.ensures.items refl (ap GiveUp c.ticket.view_is) (sym (ap close_answer c.if-is_closed.true)))
+    _ c.append.ensures.capacity
 
 pub invariant_of-self-else-is_closed : goal.invariant_of-self-else-is_closed
 invariant_of-self-else-is_closed g c =
@@ -33,16 +33,16 @@ invariant_of-self-else-is_closed g c =
     tt _ _ (made-as _ (ap GiveUp (c.ticket.invariant ∙ c.ticket.view_is)) c.give_up-is_closed.ensures)
     (ap (λ b. is_accepted (close_answer b)) c.if-is_closed.false)
 
-pub returns-then-is_closed-clause-enters : goal.returns-then-is_closed-clause-enters
-returns-then-is_closed-clause-enters g c =
+pub returns-then-is_closed-clause-appends : goal.returns-then-is_closed-clause-appends
+returns-then-is_closed-clause-appends g c =
     ended-enters _ c.args.self.now c.self.view_is _ _ _ c.self.invariant c.args.pass c.requires.pass (GiveUp c.args.ticket)
     tt _ _ (made-as _ (ap GiveUp (c.ticket.invariant ∙ c.ticket.view_is)) c.give_up-is_closed.ensures)
     (ap (λ b. is_accepted (close_answer b)) c.if-is_closed.true) refl refl
-    c.enter.new.entries.items (pushed-as _ c.enter.ensures.items refl (ap GiveUp c.ticket.view_is) (sym (ap close_answer c.if-is_closed.true)))
+    c.append.new.entries.items (pushed-as _ c.append.ensures.items refl (ap GiveUp c.ticket.view_is) (sym (ap close_answer c.if-is_closed.true)))
 
 pub returns-then-is_closed-clause-history : goal.returns-then-is_closed-clause-history
 returns-then-is_closed-clause-history g c =
     ended-history _ c.args.self.now c.self.view_is _ _ _ c.self.invariant c.args.pass c.requires.pass (GiveUp c.args.ticket)
     tt _ _ (made-as _ (ap GiveUp (c.ticket.invariant ∙ c.ticket.view_is)) c.give_up-is_closed.ensures)
     (ap (λ b. is_accepted (close_answer b)) c.if-is_closed.true) refl refl
-    c.enter.new.entries.items (pushed-as _ c.enter.ensures.items refl (ap GiveUp c.ticket.view_is) (sym (ap close_answer c.if-is_closed.true)))
+    c.append.new.entries.items (pushed-as _ c.append.ensures.items refl (ap GiveUp c.ticket.view_is) (sym (ap close_answer c.if-is_closed.true)))

@@ -1,8 +1,8 @@
-use Rattle.folder_calls.proofs.HistoryAnswers.{asked-adds, asked-on, tells-asks}
+use Rattle.folder_calls.proofs.HistoryAnswers.{asked-adds, asked-on, change-gets}
 use Rattle.folder_calls.proofs.laws.workers.changes_are_asked_in_order.Goals as goal
 
 pub returns-clause-one : goal.returns-clause-one
-returns-clause-one c = tells-asks
+returns-clause-one c = change-gets
 
 pub returns-clause-together : goal.returns-clause-together
 returns-clause-together c = asked-on

@@ -1,13 +1,13 @@
 use Rattle.folder_core.specs.Reads.{CountAll}
-use Rattle.folder_calls.proofs.AloneCalls.{count-done, count-tells}
+use Rattle.folder_calls.proofs.LoneCalls.{count-done, count-replies}
 use Rattle.folder_calls.proofs.lone.LoneFolderCalls.counts.Goals as goal
 
 pub returns-clause-reads : goal.returns-clause-reads
 returns-clause-reads g c =
-    count-tells c.args.self.now _ _ c.self.view_is c.self.invariant c.go_on.ensures.goes_on c.go_on.ensures.seen c.core.ensures.core CountAll _
+    count-replies c.args.self.now _ _ c.self.view_is c.self.invariant c.go_on.ensures.goes_on c.go_on.ensures.seen c.core.ensures.core CountAll _
     c.counts-value.ensures _ c.len-self-inside.ensures.len
 
-pub returns-clause-alone : goal.returns-clause-alone
-returns-clause-alone g c =
+pub returns-clause-planned : goal.returns-clause-planned
+returns-clause-planned g c =
     count-done c.args.self.now _ _ c.self.view_is c.self.invariant c.go_on.ensures.goes_on c.go_on.ensures.seen c.core.ensures.core CountAll _
     c.counts-value.ensures _ c.len-self-inside.ensures.len

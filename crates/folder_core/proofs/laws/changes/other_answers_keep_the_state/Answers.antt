@@ -2,14 +2,14 @@ use Rattle.std.proofs.Common.{◌≡◌, ℕ, false, true, refl, sym, ap, ◌⊎
 use Rattle.std.proofs.lemmas.Bool.{true≢false}
 use Rattle.folder_core.specs.declared.answer.Answer.{Answer}
 use Rattle.folder_core.specs.declared.answer.Answer.TheVariants.{Busy, Unchanged, CounterFull, SequenceFull, HistoryFull, NotNeeded, Unsupported, Stray, LocalMoved, Superseded, Applied, Closed, Moved, Recorded, Done, Begun, Entered}
-use Rattle.folder_core.specs.declared.token.Token.{Token}
+use Rattle.folder_core.specs.declared.pull_info.PullInfo.{PullInfo}
 use Rattle.folder_core.specs.Steps.{is_accepted}
 use Rattle.folder_core.proofs.ChangeKept.{step-keeps}
 use Rattle.folder_core.proofs.laws.changes.other_answers_keep_the_state.Goals as goal
 
 abbrev Made : Answer → Type 0
 Made a =
-    (a ≡ Applied) ⊎ ((a ≡ Closed) ⊎ (((k : ℕ) × (a ≡ Recorded k)) ⊎ (((k : ℕ) × (a ≡ Done k)) ⊎ (((t : Token) × (a ≡ Begun t)) ⊎ ((t : Token) × (a ≡ Entered t))))))
+    (a ≡ Applied) ⊎ ((a ≡ Closed) ⊎ (((k : ℕ) × (a ≡ Recorded k)) ⊎ (((k : ℕ) × (a ≡ Done k)) ⊎ (((t : PullInfo) × (a ≡ Begun t)) ⊎ ((t : PullInfo) × (a ≡ Entered t))))))
 
 unmade : {P : Type 0} → false ≡ true → P
 unmade e = absurd (true≢false (sym e))

@@ -4,7 +4,7 @@ use Rattle.std.specs.List.Sorted.{IsStrictlySortedBy}
 use Rattle.std.specs.declared.cmp.Ordering.TheVariants.{Less}
 use Rattle.std.proofs.lemmas.List.{length-take}
 use Rattle.sync_record.specs.Devices.{bytes_cmp}
-use Rattle.folder_core.specs.Reads.{Found, bests_after}
+use Rattle.folder_core.specs.Reads.{BestEntry, bests_after}
 use Rattle.folder_core.proofs.BestPages.{bests_after-none, bests-page_end, bests-page_has, bests-page_of, bests-page_rises, pages-together}
 use Rattle.folder_core.proofs.ReadWhole.{bests-whole, some-pages}
 use Rattle.folder_core.proofs.laws.reads.bests_come_in_pages.Goals as goal
@@ -12,15 +12,15 @@ use Rattle.folder_core.proofs.laws.reads.bests_come_in_pages.Goals as goal
 pub returns-clause-rise : goal.returns-clause-rise
 returns-clause-rise c = λ s after limit page folder e.
     let cut = length-take limit (bests_after s after) in
-    subst (λ (bs : List Found). IsStrictlySortedBy bytes_cmp (map (λ b. b.0.name) bs) × (length bs ≤ limit)) (sym e) (bests-page_rises s folder.named after limit, omega arith)
+    subst (λ (bs : List BestEntry). IsStrictlySortedBy bytes_cmp (map (λ b. b.0.name) bs) × (length bs ≤ limit)) (sym e) (bests-page_rises s folder.named after limit, omega arith)
 
 pub returns-clause-only : goal.returns-clause-only
 returns-clause-only c = λ s after limit page b folder e listed.
-    bests-page_of s folder.named after limit b (subst (λ (bs : List Found). Contains bs b) e listed)
+    bests-page_of s folder.named after limit b (subst (λ (bs : List BestEntry). Contains bs b) e listed)
 
 pub returns-clause-all : goal.returns-clause-all
 returns-clause-all c = λ s after limit page n b folder e best after_it.
-    subst (λ (bs : List Found). Contains bs b ⊎ ((length bs ≡ limit) × ((d : Found) → Contains bs d → bytes_cmp d.0.name n ≡ Less))) (sym e)
+    subst (λ (bs : List BestEntry). Contains bs b ⊎ ((length bs ≡ limit) × ((d : BestEntry) → Contains bs d → bytes_cmp d.0.name n ≡ Less))) (sym e)
     (bests-page_has s after n after_it folder.named limit b best)
 
 pub returns-clause-end : goal.returns-clause-end

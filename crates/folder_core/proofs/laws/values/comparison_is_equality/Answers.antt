@@ -1,4 +1,4 @@
-use Rattle.folder_core.proofs.Same.{announcements, answers, bests, changes, counts, findings, places, tokens}
+use Rattle.folder_core.proofs.Same.{announcements, answers, bests, changes, counts, findings, places, infos}
 use Rattle.folder_core.proofs.laws.values.comparison_is_equality.Goals as goal
 
 pub returns-clause-changes : goal.returns-clause-changes
@@ -7,8 +7,8 @@ returns-clause-changes c = changes
 pub returns-clause-answers : goal.returns-clause-answers
 returns-clause-answers c = answers
 
-pub returns-clause-tokens : goal.returns-clause-tokens
-returns-clause-tokens c = tokens
+pub returns-clause-infos : goal.returns-clause-infos
+returns-clause-infos c = infos
 
 pub returns-clause-findings : goal.returns-clause-findings
 returns-clause-findings c = findings

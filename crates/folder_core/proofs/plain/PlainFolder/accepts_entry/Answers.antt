@@ -1,6 +1,6 @@
 use Rattle.std.proofs.Common.{◌≡◌, ◌-◌, ap, sym, ◌∙◌}
 use Rattle.std.specs.Prelude.{filter, nat_le}
-use Rattle.folder_core.specs.declared.stage.Stage.TheVariants.{Pulling}
+use Rattle.folder_core.specs.declared.pull_stage.PullStage.TheVariants.{Pulling}
 use Rattle.folder_core.specs.Plain.{commits}
 use Rattle.folder_core.specs.PlainPulls.{pull_for}
 use Rattle.folder_core.specs.PlainScans.{first_of}

@@ -1,6 +1,6 @@
 use Rattle.std.proofs.Common.{ap, sym, ◌∙◌}
 use Rattle.folder_core.specs.Calls.{close_answer}
-use Rattle.folder_core.specs.declared.stage.Stage.TheVariants.{Committing}
+use Rattle.folder_core.specs.declared.pull_stage.PullStage.TheVariants.{Committing}
 use Rattle.folder_core.specs.Plain.{folder_of, pulls_of}
 use Rattle.folder_core.specs.declared.change.Change.TheVariants.{Abort}
 use Rattle.folder_core.proofs.ChangeFolders.{step-folder}
@@ -9,11 +9,11 @@ use Rattle.folder_core.proofs.plain.PlainFolderFolderCore.abort.Goals as goal
 
 pub invariant_of-self : goal.invariant_of-self
 invariant_of-self c =
-    close-plain c.self.inside.me c.self.inside.entries.items _ c.self.inside.last c.self.inside.pulls.items _ c.self.invariant c.commit.inside.token Committing c.take.result c.take.ensures
-    (step-folder (folder_of c.self.inside.me c.self.inside.entries.items c.self.inside.last (pulls_of c.self.inside.pulls.items)) (Abort c.commit.inside.token) c.self.invariant.folder tt)
+    close-plain c.self.inside.me c.self.inside.entries.items _ c.self.inside.last c.self.inside.pulls.items _ c.self.invariant c.commit.inside.info Committing c.take.result c.take.ensures
+    (step-folder (folder_of c.self.inside.me c.self.inside.entries.items c.self.inside.last (pulls_of c.self.inside.pulls.items)) (Abort c.commit.inside.info) c.self.invariant.folder tt)
 
 pub returns : goal.returns
 returns c =
     rw (← c.self.view_is) (rw (← c.commit.view_is) (
-    close-step c.self.inside.me c.self.inside.entries.items _ c.self.inside.last c.self.inside.pulls.items _ c.self.invariant c.commit.inside.token Committing c.take.result c.take.ensures
+    close-step c.self.inside.me c.self.inside.entries.items _ c.self.inside.last c.self.inside.pulls.items _ c.self.invariant c.commit.inside.info Committing c.take.result c.take.ensures
     ∙ ap (λ b. (close_answer b, folder_of c.self.inside.me c.self.inside.entries.items c.self.inside.last (pulls_of c.take.new.pulls.items))) (sym c.is_some.ensures)))

@@ -17,8 +17,8 @@ returns-in-Err-clause-change c =
     let told = c.in-Err.ensures.refused ∙ ap first_of (tests-are f.me f.entries.items _ f.last f.pulls.items c.self.invariant n _ _ _ group own busy) in
     rw (← c.self.view_is) (rw c.begin_refused.ensures (begin-refused f.me f.entries.items _ f.last f.pulls.items c.self.invariant n c.in-Err.obstacle told))
 
-pub returns-in_err-token-clause-refused : goal.returns-in_err-token-clause-refused
-returns-in_err-token-clause-refused c =
+pub returns-in_err-info-clause-refused : goal.returns-in_err-info-clause-refused
+returns-in_err-info-clause-refused c =
     let f = c.self.inside in
     let n = c.args.name.now in
     let group : c.entries_of-announced.result.now ≡ filter (is_named n) f.entries.items = c.entries_of-announced.ensures ∙ ap (filter (is_named n)) c.as_slice.ensures.value in
@@ -37,7 +37,7 @@ invariant_of-self-2 c =
     let busy = c.has_pull-is_open.ensures ∙ ap (is_open n) c.deref.ensures.value in
     let told = c.in-Ok.ensures.refused ∙ ap first_of (tests-are f.me f.entries.items _ f.last f.pulls.items c.self.invariant n _ _ _ group own busy) in
     let best = ap best_in (sym group) ∙ c.in-Ok.ensures.best in
-    begin-plain f.me f.entries.items _ f.last f.pulls.items c.self.invariant n c.in-Ok.best.now best told _ own c.open.new.pulls.items c.in_ok-token.ensures.opened
+    begin-plain f.me f.entries.items _ f.last f.pulls.items c.self.invariant n c.in-Ok.best.now best told _ own c.open.new.pulls.items c.in_ok-info.ensures.opened
 
 pub returns-clause-change : goal.returns-clause-change
 returns-clause-change c =
@@ -48,4 +48,4 @@ returns-clause-change c =
     let busy = c.has_pull-is_open.ensures ∙ ap (is_open n) c.deref.ensures.value in
     let told = c.in-Ok.ensures.refused ∙ ap first_of (tests-are f.me f.entries.items _ f.last f.pulls.items c.self.invariant n _ _ _ group own busy) in
     let best = ap best_in (sym group) ∙ c.in-Ok.ensures.best in
-    rw (← c.self.view_is) (begin-begun f.me f.entries.items _ f.last f.pulls.items c.self.invariant n c.in-Ok.best.now best told _ own c.open.new.pulls.items c.in_ok-token.ensures.opened c.in_ok-token.token c.in_ok-token.ensures.token)
+    rw (← c.self.view_is) (begin-begun f.me f.entries.items _ f.last f.pulls.items c.self.invariant n c.in-Ok.best.now best told _ own c.open.new.pulls.items c.in_ok-info.ensures.opened c.in_ok-info.info c.in_ok-info.ensures.info)

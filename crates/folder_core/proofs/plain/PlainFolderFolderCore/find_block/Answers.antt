@@ -10,9 +10,9 @@ use Rattle.folder_core.proofs.plain.PlainFolderFolderCore.find_block.Goals as go
 pub returns-clause-found : goal.returns-clause-found
 returns-clause-found c =
     let all = ap (places_from c.self.inside.me c.args.hash.now) c.as_slice.ensures.value ∙ places_are c.self.inside.me c.args.hash.now _ c.self.inside.last (pulls_of c.self.inside.pulls.items) c.self.invariant.rises in
-    rw (← c.self.view_is) (ok_then c.place_of.result (λ o found. subst (λ (ps : List Place). MatchOption o (ps ≡ []) (λ p. Contains ps p)) all found) c.place_of.ensures.found)
+    rw (← c.self.view_is) (ok_then c.position_of.result (λ o found. subst (λ (ps : List Place). MatchOption o (ps ≡ []) (λ p. Contains ps p)) all found) c.position_of.ensures.found)
 
 pub returns-clause-none : goal.returns-clause-none
 returns-clause-none c =
     let all = ap (places_from c.self.inside.me c.args.hash.now) c.as_slice.ensures.value ∙ places_are c.self.inside.me c.args.hash.now _ c.self.inside.last (pulls_of c.self.inside.pulls.items) c.self.invariant.rises in
-    rw (← c.self.view_is) (λ none. c.place_of.ensures.none (all ∙ none))
+    rw (← c.self.view_is) (λ none. c.position_of.ensures.none (all ∙ none))

@@ -7,12 +7,12 @@ use Rattle.std.proofs.lemmas.List.Sums.{prefix_len-le-length}
 use Rattle.std.proofs.lemmas.Option.{none-some}
 use Rattle.folder_core.specs.declared.best.Best.{Best}
 use Rattle.folder_core.specs.Plain.{group_best, listed_bests}
-use Rattle.folder_core.specs.Reads.{Found}
+use Rattle.folder_core.specs.Reads.{BestEntry}
 use Rattle.folder_core.proofs.PlainFound.{first_step, page_more, page_not_empty, page_same}
 use Rattle.folder_core.proofs.PlainGroup.{is_named}
 use Rattle.folder_core.proofs.plain.group.bests_of.Goals as goal
 
-abbrev shown : Best → Found
+abbrev shown : Best → BestEntry
 shown b = (b.record, b.devices)
 
 pub split_at-requires : goal.split_at-requires

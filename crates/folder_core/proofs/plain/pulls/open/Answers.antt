@@ -8,4 +8,4 @@ use Rattle.folder_core.proofs.plain.pulls.open.Goals as goal
 pub insert-requires : goal.insert-requires
 insert-requires c =
     let least = prefix_len-le-length (λ (p : OpenPull). is_lt (bytes_cmp p.target.name c.name.result.now)) c.deref-2.result.now in
-    omega (arith, least, c.place_of-place.ensures, c.deref-2.ensures.len)
+    omega (arith, least, c.position_of-place.ensures, c.deref-2.ensures.len)

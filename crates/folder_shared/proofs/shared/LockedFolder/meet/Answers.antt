@@ -13,13 +13,13 @@ pub another-blank-requires-clause-rule : goal.another-blank-requires-clause-rule
 another-blank-requires-clause-rule g c = blanks _ _ c.requires.one.idle
 
 pub absorb-requires-clause-rule : goal.absorb-requires-clause-rule
-absorb-requires-clause-rule g c = joins _ _ _ _ (ap (λ (v : Known). v.stage) c.another-blank.ensures.rule.0 ∙ c.requires.one.idle) (ap (λ (t : Token History Known). (view t).stage) c.replace-token.ensures.value ∙ c.requires.other.idle)
+absorb-requires-clause-rule g c = joins _ _ _ _ (ap (λ (v : Known). v.state) c.another-blank.ensures.rule.0 ∙ c.requires.one.idle) (ap (λ (t : Token History Known). (view t).state) c.replace-token.ensures.value ∙ c.requires.other.idle)
 
 pub learn_as-requires-clause-rule : goal.learn_as-requires-clause-rule
-learn_as-requires-clause-rule g c = compares _ _ (ap (λ (v : Known). v.stage) c.absorb.ensures.rule)
+learn_as-requires-clause-rule g c = compares _ _ (ap (λ (v : Known). v.state) c.absorb.ensures.rule)
 
 pub another-requires-clause-rule : goal.another-requires-clause-rule
-another-requires-clause-rule g c = parts _ _ (ap (λ (v : Known). v.stage) (c.learn_as.ensures.channel.2 ∙ c.absorb.ensures.rule))
+another-requires-clause-rule g c = parts _ _ (ap (λ (v : Known). v.state) (c.learn_as.ensures.channel.2 ∙ c.absorb.ensures.rule))
 
 abbrev one-now : (g : _) (c : goal.After-other-1 g) → Pass g.row.C.Denot
 one-now g c = record { number = c.args.one.now.number; seen = c.max-seen.result; token = c.another.new.pass }

@@ -13,7 +13,7 @@ loop-pass-init g c =
       seat = p.seat;
       idle = p.idle;
       memo = p.same;
-      joined = (c.in-Some.last ∷ [], c.in-Some.ensures.items, p.claims);
+      joined = (c.in-Some.last ∷ [], c.in-Some.ensures.items, p.histories);
     }
 
 pub absorb-requires-clause-channel : goal.absorb-requires-clause-channel
@@ -29,9 +29,9 @@ pub loop-pass-preserved : goal.loop-pass-preserved
 loop-pass-preserved g c = let i = c.loop-pass.invariant in let j = i.joined in
     let p : IsPassOf c.args.self.locked c.in-Some-pop.pass = c.requires.passes (length c.pop-in-loop-pass.new.self.items) c.in-Some-pop.pass (at_back c.args.passes.items c.loop-pass.passes.items c.pop-in-loop-pass.new.self.items j.0 c.in-Some-pop.pass j.1 c.in-Some-pop.ensures.items) in record {
       seat = c.absorb.ensures.channel.0;
-      idle = ap (λ (v : Known). v.stage) c.absorb.ensures.rule;
+      idle = ap (λ (v : Known). v.state) c.absorb.ensures.rule;
       memo = (ap (λ (v : Known). v.memo.opening) c.absorb.ensures.rule ∙ i.memo.0, ap (λ (v : Known). v.memo.limit) c.absorb.ensures.rule ∙ i.memo.1);
-      joined = (c.in-Some-pop.pass ∷ j.0, back_more c.args.passes.items c.loop-pass.passes.items c.pop-in-loop-pass.new.self.items j.0 c.in-Some-pop.pass j.1 c.in-Some-pop.ensures.items, ap (λ (v : Known). v.claims) c.absorb.ensures.rule ∙ (λ k. j.2 k ++ p.claims k));
+      joined = (c.in-Some-pop.pass ∷ j.0, back_more c.args.passes.items c.loop-pass.passes.items c.pop-in-loop-pass.new.self.items j.0 c.in-Some-pop.pass j.1 c.in-Some-pop.ensures.items, ap (λ (v : Known). v.histories) c.absorb.ensures.rule ∙ (λ k. j.2 k ++ p.histories k));
     }
 
 pub returns-clause-closes : goal.returns-clause-closes
@@ -47,7 +47,7 @@ returns-clause-given g c = let i = c.loop-pass.invariant in let j = i.joined in 
 pub returns-clause-count : goal.returns-clause-count
 returns-clause-count g c = let i = c.loop-pass.invariant in let t = c.take-journal.ensures.taken in record {
   seat = search (c.take-journal.ensures.seat, rules);
-  holds = ap (λ (v : Known). v.stage) t.after;
+  holds = ap (λ (v : Known). v.state) t.after;
   same = (ap (λ (v : Known). v.memo.opening) t.after ∙ t.same.0 ∙ i.memo.0, ap (λ (v : Known). v.memo.limit) t.after ∙ t.same.1 ∙ i.memo.1);
   count = ap (λ (v : Known). v.memo.passes) t.after ∙ sym c.passes-count.ensures;
 }

@@ -1,7 +1,7 @@
 use Rattle.std.proofs.Common.{rules, Some, ap, sym, ◌∙◌, ◌∷◌}
 use Rattle.atomic_table.specs.Table.{rest}
-use Rattle.folder_shared.proofs.Roots.{seizes}
-use Rattle.folder_shared.proofs.shared.Root.lift.Goals as goal
+use Rattle.folder_shared.proofs.Blanks.{seizes}
+use Rattle.folder_shared.proofs.shared.BlankSlot.take.Goals as goal
 
 pub swap_new_seat-found-requires : goal.swap_new_seat-found-requires
 swap_new_seat-found-requires g c = (search rules, seizes _ _ c.args.self.now.table.shared.key)

@@ -1,6 +1,6 @@
 use Rattle.std.proofs.Common.{rules, refl, arith}
-use Rattle.folder_shared.proofs.Roots.{seizes}
-use Rattle.folder_shared.proofs.shared.Root.new.Goals as goal
+use Rattle.folder_shared.proofs.Blanks.{seizes}
+use Rattle.folder_shared.proofs.shared.BlankSlot.new.Goals as goal
 
 pub vacant-requires : goal.vacant-requires
 vacant-requires g c = (refl, (λ e. absurd (omega arith)), λ _. refl)

@@ -1,7 +1,7 @@
-use crate::{History, Outside};
+use crate::{History, Plan};
 
 /// What a [`Lone`](crate::Lone) keeps, as contracts see it; no value of it is made.
-pub struct Alone {
+pub struct LoneState {
     /// The folder's history. The caller is pass 1, and whoever makes what is planned is pass 2.
     pub history: History,
     /// How many of the entries the caller has seen.
@@ -10,12 +10,4 @@ pub struct Alone {
     pub plan: Option<Plan>,
     /// Whether a change of another caller was ever planned.
     pub planned: bool,
-}
-
-/// A change that another caller is to make.
-#[derive(Debug, Drop)]
-pub struct Plan {
-    /// Before which call from now on: 1 is the next.
-    pub call: u64,
-    pub change: Outside,
 }

@@ -3,7 +3,7 @@ use Rattle.std.specs.Prelude.{Contains}
 use Rattle.folder_core.specs.PlainReads.{place, places_from}
 use Rattle.folder_core.proofs.PlainPlaces.{none_more, place_here}
 use Rattle.folder_core.proofs.ListTests.{contains_in, in_contains, In}
-use Rattle.folder_core.proofs.plain.find.place_of.Goals as goal
+use Rattle.folder_core.proofs.plain.find.position_of.Goals as goal
 
 pub returns-in_err-name-clause-none : goal.returns-in_err-name-clause-none
 returns-in_err-name-clause-none c = λ none.

@@ -6,7 +6,7 @@ use sync_record::Record;
 
 /// What is said of an open pull: by the ticket of one that began, and by the commit of one that was entered.
 #[derive(Debug, PartialEq, Eq, Drop)]
-pub struct Token {
+pub struct PullInfo {
     /// Its number; no two open pulls of a folder have the same one.
     pub number: u64,
     pub name: SafeName,
@@ -16,17 +16,17 @@ pub struct Token {
     pub target: Record,
 }
 
-impl Token {
-    /// The same token once more. Returns `Err` only if out of memory. O(n) time and memory for n bytes of the name; the
+impl PullInfo {
+    /// The same once more. Returns `Err` only if out of memory. O(n) time and memory for n bytes of the name; the
     /// records share their memory.
-    pub fn copy(&self) -> Result<Token, AllocError>
-        ensures { IfOk result (λ token. token ≡ self.now) }
+    pub fn copy(&self) -> Result<PullInfo, AllocError>
+        ensures { IfOk result (λ info. info ≡ self.now) }
     {
         let base = match &self.base {
             Some(record) => Some(record.copy()?),
             None => None,
         };
-        Ok(Token {
+        Ok(PullInfo {
             number: self.number,
             name: self.name.copy()?,
             base,

@@ -1,11 +1,11 @@
--- Each step on the root's place keeps its rule.
+-- Each step on the slot of the blank token keeps its rule.
 use Rattle.std.proofs.Common.{◌≡◌, ℕ, List, [], ◌∷◌, get_or, sym, refl, ◌∙◌, subst, arith, Option, Some, None, length-set, get_or-set_same}
 use mathlib.Core.Logic.{dite}
 use mathlib.Core.Option.{some}
 use native.Mathlib.Decide.{ℕ_discrete}
 use Rattle.atomic_table.specs.Table.{Me, keeps, takes, gives, Allows, Arrives}
 use Rattle.atomic_table.proofs.Lists.{set_here}
-use Rattle.folder_shared.specs.Root.{Guarded, Seized}
+use Rattle.folder_shared.specs.Blank.{Guarded, Seized}
 
 module _ {T V : Type 0} (fits : T → Type 0) where
   pub frees : (id : ℕ) (m : Me (Option T) V) (v : V) (value : T) (more : List (ℕ × Option T)) → m ≡ (v, (0, Some value) ∷ more) → fits value

@@ -1,9 +1,0 @@
-use Rattle.std.proofs.Common.{rules, subst, sym}
-use Rattle.atomic_table.specs.Table.{Allows}
-use Rattle.folder_shared.specs.Root.{Guarded, IsRootOf}
-use Rattle.folder_shared.proofs.Roots.{frees}
-use Rattle.folder_shared.proofs.shared.Root.lay.Goals as goal
-
-pub store-requires : goal.store-requires
-store-requires g c = let fits = IsRootOf c.args.self.now.table.shared.key in let seat = c.exchange.new.seat in
-    (search rules, search rules, subst (λ n. Allows (Guarded fits) n seat.id seat.me 0 (λ _. 0) (λ _ _. Unit {0})) (sym c.args.self.now.sized.1) (frees fits _ _ _ _ _ c.exchange.ensures.3 c.requires.root))
