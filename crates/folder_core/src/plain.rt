@@ -359,7 +359,7 @@ impl FolderCore for PlainFolder {
     }
 
     /// O(n + b) for n records kept, up to the file that is found, and b blocks of the local files up to it, and the copy of
-    /// the name. Of several places it returns the first by name. It does not allocate where there is none.
+    /// the name. It does not allocate where there is none.
     fn find_block(&self, hash: &[u8; 32]) -> Result<Option<Place>, AllocError>
         ensures found { IfOk result (λ place. IsSomePlace self.now hash.now place) }
         ensures none { places self.now hash.now ≡ [] → IsOk result }
