@@ -13,7 +13,7 @@ use Rattle.folder_calls.specs.Histories.{shared_step}
 abbrev pub shared_row : ℕ → ℕ → FolderState → List Change → Row
 shared_row limit entries s [] = []
 shared_row limit entries s (c ∷ cs) =
-    (c, shared_step limit entries s c)
+    (c, (shared_step limit entries s c).0, (shared_step limit entries s c).1)
     ∷ shared_row limit (if is_accepted (shared_step limit entries s c).0 then entries + 1 else entries) (shared_step limit entries s c).1 cs
 
 -- the row's changes give its answers and its states
