@@ -44,7 +44,7 @@ module _ (old new : CallerView) (c : Change) (a : Answer) where
 
   module _ (m : Makes old new c a) where
     made-seen : new.seen ≡ m.point.seen ++ e ∷ []
-    made-seen = ap (λ (v : CallerView). v.seen) m.entered
+    made-seen = ap (λ (v : CallerView). v.seen) m.appended
 
     made-longer : IsPrefix old.seen new.seen
     made-longer =
@@ -54,7 +54,7 @@ module _ (old new : CallerView) (c : Change) (a : Answer) where
     made-one : OfOneCaller old new
     made-one =
         let s = sees-one old m.point m.sees in
-        (ap (λ (v : CallerView). v.opening) m.entered ∙ s.0, ap (λ (v : CallerView). v.limit) m.entered ∙ s.1, ap (λ (v : CallerView). v.pass) m.entered ∙ s.2)
+        (ap (λ (v : CallerView). v.opening) m.appended ∙ s.0, ap (λ (v : CallerView). v.limit) m.appended ∙ s.1, ap (λ (v : CallerView). v.pass) m.appended ∙ s.2)
 
     made-once : own_entries old.pass new.seen ≡ own_entries old.pass old.seen ++ e ∷ []
     made-once = ap (own_entries old.pass) made-seen ∙ own-push old.pass m.point.seen e refl ∙ ap (λ xs. xs ++ e ∷ []) m.sees.own

@@ -29,7 +29,7 @@ new_history s limit passes = record { opening = s; entries = []; limit = limit; 
 abbrev pub with_entry : History → ℕ → Change → Answer → History
 with_entry h pass change answer = record h { entries = h.entries ++ (record { pass = pass; change = change; answer = answer }) ∷ [] }
 
--- A change of a pass gets the shared answer, and is entered if it is accepted. Without an answer it is out of memory, and nothing
+-- A change of a pass gets the shared answer, and is appended if it is accepted. Without an answer it is out of memory, and nothing
 -- changed.
 abbrev pub Appends : History → ℕ → Change → Option Answer → History → Type 0
 Appends old pass change None new = new ≡ old
@@ -42,7 +42,7 @@ abbrev pub answered : {X E : Type 0} → (X → Answer) → Result X E → Optio
 answered f (Ok x) = Some (f x)
 answered f (Err fault) = None
 
--- the entries after a change of a pass, which is entered if it is accepted
+-- the entries after a change of a pass, which is appended if it is accepted
 abbrev pub appended : List Entry → ℕ → Change → Option Answer → List Entry
 appended es pass change None = es
 appended es pass change (Some answer) =

@@ -52,7 +52,7 @@ pub record Makes (old new : CallerView) (change : Change) (answer : Answer) : Ty
   pub point : CallerView
   pub sees : Sees old point
   pub answer_is : answer ≡ shared_answer old.limit old.opening point.seen change
-  pub entered : new ≡ seeing point (point.seen ++ own_entry old change answer ∷ [])
+  pub appended : new ≡ seeing point (point.seen ++ own_entry old change answer ∷ [])
 
 -- the change was not made, by the answer at the point that the caller then knows
 pub record Declines (old new : CallerView) (change : Change) (answer : Answer) : Type 0 where

@@ -101,8 +101,8 @@ pub trait FolderCalls {
             (view self.new) };
 
     /// Begins to pull the best of a name, and answers the first of these that applies: `Busy` if a pull of the name is
-    /// open, `NotNeeded` if there is no best or the local record is as good, and `Unsupported` if the best is live and
-    /// neither a file nor a directory. Otherwise the pull is open, under the least positive number that no open pull has, and
+    /// open, `NotNeeded` if there is no best, if the local record is as good or if the best is deleted and there is no local record,
+    /// and `Unsupported` if the best is live and neither a file nor a directory. Otherwise the pull is open, under the least positive number that no open pull has, and
     /// the ticket has the name.
     fn begin_pull(
         &mut self,

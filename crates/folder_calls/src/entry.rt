@@ -17,7 +17,7 @@ pub struct Entry {
 
 impl Entry {
     /// The same entry once more. Returns `Err` only if out of memory, and never if the change is `Forget` or an index without
-    /// records, and the answer is without a version and a token. O(n) time and memory for the size n of the change and the answer.
+    /// records, and the answer says nothing of a version or a pull. O(n) time and memory for the size n of the change and the answer.
     pub fn copy(&self) -> Result<Entry, AllocError>
         ensures same { IfOk result (λ entry. entry ≡ self.now) }
         ensures forget { (d : Identity) → self.now.change ≡ Forget d →

@@ -515,7 +515,7 @@ fn begin<C: FolderCore>(
 {
     match core.begin_pull(name)? {
         folder_core::BeginAnswer::Begun(inner) => {
-            let Ok((copy, info)) = two_tokens(&inner) else {
+            let Ok((copy, info)) = two_infos(&inner) else {
                 let _ = core.give_up(inner);
                 return Err(AllocError);
             };
@@ -634,14 +634,14 @@ fn two_copies(info: &PullInfo) -> Result<(PullInfo, PullInfo), AllocError>
     Ok((info.copy()?, info.copy()?))
 }
 
-fn two_tokens(ticket: &folder_core::Ticket) -> Result<(PullInfo, PullInfo), AllocError>
+fn two_infos(ticket: &folder_core::Ticket) -> Result<(PullInfo, PullInfo), AllocError>
     ensures { IfOk result (λ infos. (infos.0 ≡ ticket.now) × (infos.1 ≡ ticket.now)) }
 {
-    let info = token_of(ticket)?;
+    let info = info_of(ticket)?;
     Ok((info.copy()?, info))
 }
 
-fn token_of(ticket: &folder_core::Ticket) -> Result<PullInfo, AllocError>
+fn info_of(ticket: &folder_core::Ticket) -> Result<PullInfo, AllocError>
     ensures { IfOk result (λ info. info ≡ ticket.now) }
 {
     let base = match ticket.base() {

@@ -111,7 +111,7 @@ impl Commit {
 pub enum BeginAnswer {
     /// The pull is open.
     Begun(Ticket),
-    /// There is no best, or the local record is as good.
+    /// There is no best, the local record is as good, or the best is deleted and there is no local record.
     NotNeeded,
     /// A pull of the name is open already.
     Busy,

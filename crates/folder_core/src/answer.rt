@@ -19,7 +19,7 @@ pub enum Answer {
     SequenceFull,
     /// The history has no room, except for what ends the open pulls.
     HistoryFull,
-    /// There is no best, or the local record is as good.
+    /// There is no best, the local record is as good, or the best is deleted and there is no local record.
     NotNeeded,
     /// The best is neither a file nor a directory.
     Unsupported,

@@ -127,8 +127,8 @@ impl<C: FolderCore + Drop> LockedFolder<C> {
     }
 
     /// Begins to pull the best of a name, and answers the first of these that applies: `Busy` if a pull of the name is
-    /// open, `NotNeeded` if there is no best or the local record is as good, and `Unsupported` if the best is live and
-    /// neither a file nor a directory. Otherwise the pull is open, under the least positive number that no open pull has.
+    /// open, `NotNeeded` if there is no best, if the local record is as good or if the best is deleted and there is no local record,
+    /// and `Unsupported` if the best is live and neither a file nor a directory. Otherwise the pull is open, under the least positive number that no open pull has.
     pub fn begin_pull<R: Wait>(
         &self,
         rt: &R,

@@ -18,7 +18,7 @@ impl<C: FolderCore> TableRule<Option<()>, Journal<C>, Journal<C>> for Unruled {
     ghost first = { λ journal. journal };
 }
 
-/// A mark of this history. Allocates nothing that it keeps.
+/// A mark of this history. It keeps no memory; it needs some while it is made.
 pub(crate) fn marked<C: FolderCore + Drop>(
     alloc: Global,
     journal: &Journal<C>,

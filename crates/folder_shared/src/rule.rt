@@ -1,4 +1,4 @@
-//! The rule of the lock, and what its steps tell.
+//! The rule of the lock, and what is learned of its steps.
 use crate::known::Known;
 use crossbeam_channel::protocol::{Join, Lesson, Outcome, Protocol, Split};
 use folder_calls::Journal;

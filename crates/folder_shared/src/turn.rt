@@ -46,7 +46,7 @@ impl<C: FolderCore + Drop> LockedFolder<C> {
         self.put_back(rt, pass, journal, answer)
     }
 
-    // Puts the folder back after a change of the pass, which is entered if it was accepted. The pass has then seen the history,
+    // Puts the folder back after a change of the pass, which is appended if it was accepted. The pass has then seen the history,
     // with that entry, if there is an answer.
     pub(crate) fn hand_in<R: Wait, T, E>(
         &self,

@@ -1,4 +1,4 @@
-//! What calls of a folder with a history tell their caller.
+//! What calls of a folder with a history return to their caller.
 ghost use Rattle.std.specs.Prelude.{[], ◌∷◌, ◌++◌, ◌≡◌, ◌≤◌, ◌+◌, ℕ, length, List, Some, None, false, true};
 ghost use Rattle.std.specs.FinMap.{len};
 ghost use mathlib.Core.List.{IsPrefix};
