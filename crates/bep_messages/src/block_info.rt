@@ -1,6 +1,7 @@
-ghost use Rattle.std.specs.Prelude.{refl};
+ghost use Rattle.std.specs.Prelude.{◌≤◌, length, refl};
 ghost use Rattle.bep_messages.specs.Protocol.{block_info_table};
 ghost use Rattle.bep_messages.specs.Structs.{block_info_parts, block_info};
+ghost use Rattle.bep_messages.specs.declared.octets.TheConstants.{DIGEST_LEN};
 ghost use Rattle.bep_messages.specs.Wholes.{block_info_whole};
 
 use crate::fault::MessageFault;
@@ -59,6 +60,8 @@ impl ProtoMessage for BlockInfo {
 }
 
 impl Copied for BlockInfo {
+    ghost needs_no_memory = { λ m. length m.hash ≤ DIGEST_LEN };
+
     fn copy(&self) -> Result<BlockInfo, AllocError> {
         fields!(copy_fields BlockInfo, self)
     }

@@ -1,4 +1,4 @@
-ghost use Rattle.std.specs.Prelude.{refl};
+ghost use Rattle.std.specs.Prelude.{◌≡◌, [], refl};
 ghost use Rattle.bep_messages.specs.Protocol.{close_table};
 ghost use Rattle.bep_messages.specs.Structs.{close_parts, close};
 ghost use Rattle.bep_messages.specs.Wholes.{close_whole};
@@ -53,6 +53,8 @@ impl ProtoMessage for Close {
 }
 
 impl Copied for Close {
+    ghost needs_no_memory = { λ m. m.reason ≡ [] };
+
     fn copy(&self) -> Result<Close, AllocError> {
         fields!(copy_fields Close, self)
     }

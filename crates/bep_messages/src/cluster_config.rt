@@ -1,4 +1,4 @@
-ghost use Rattle.std.specs.Prelude.{refl};
+ghost use Rattle.std.specs.Prelude.{◌≡◌, [], refl};
 ghost use Rattle.bep_messages.specs.Protocol.{cluster_config_table};
 ghost use Rattle.bep_messages.specs.Structs.{cluster_config_parts, cluster_config};
 ghost use Rattle.bep_messages.specs.Wholes.{cluster_config_whole};
@@ -52,6 +52,8 @@ impl ProtoMessage for ClusterConfig {
 }
 
 impl Copied for ClusterConfig {
+    ghost needs_no_memory = { λ m. m.folders ≡ [] };
+
     fn copy(&self) -> Result<ClusterConfig, AllocError> {
         fields!(copy_fields ClusterConfig, self)
     }

@@ -1,4 +1,4 @@
-ghost use Rattle.std.specs.Prelude.{refl};
+ghost use Rattle.std.specs.Prelude.{⊤, refl};
 ghost use Rattle.bep_messages.specs.Protocol.{counter_table};
 ghost use Rattle.bep_messages.specs.Structs.{counter_parts, counter};
 ghost use Rattle.bep_messages.specs.Wholes.{counter_whole};
@@ -54,6 +54,8 @@ impl ProtoMessage for Counter {
 }
 
 impl Copied for Counter {
+    ghost needs_no_memory = { λ _. ⊤ };
+
     fn copy(&self) -> Result<Counter, AllocError> {
         fields!(copy_fields Counter, self)
     }

@@ -1,4 +1,4 @@
-ghost use Rattle.std.specs.Prelude.{refl};
+ghost use Rattle.std.specs.Prelude.{◌≡◌, [], refl};
 ghost use Rattle.bep_messages.specs.Protocol.{device_table};
 ghost use Rattle.bep_messages.specs.Structs.{device_parts, device};
 ghost use Rattle.bep_messages.specs.Wholes.{device_whole};
@@ -73,6 +73,8 @@ impl ProtoMessage for Device {
 }
 
 impl Copied for Device {
+    ghost needs_no_memory = { λ m. (m.id ≡ []) × (m.name ≡ []) × (m.addresses ≡ []) × (m.cert_name ≡ []) };
+
     fn copy(&self) -> Result<Device, AllocError> {
         fields!(copy_fields Device, self)
     }

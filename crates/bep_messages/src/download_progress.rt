@@ -1,4 +1,4 @@
-ghost use Rattle.std.specs.Prelude.{refl};
+ghost use Rattle.std.specs.Prelude.{⊤, refl};
 ghost use Rattle.bep_messages.specs.Protocol.{download_progress_table};
 ghost use Rattle.bep_messages.specs.Structs.{download_progress_parts, download_progress};
 ghost use Rattle.bep_messages.specs.Wholes.{download_progress_whole};
@@ -48,6 +48,8 @@ impl ProtoMessage for DownloadProgress {
 }
 
 impl Copied for DownloadProgress {
+    ghost needs_no_memory = { λ _. ⊤ };
+
     fn copy(&self) -> Result<DownloadProgress, AllocError> {
         fields!(copy_fields DownloadProgress, self)
     }

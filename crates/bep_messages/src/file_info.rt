@@ -1,4 +1,4 @@
-ghost use Rattle.std.specs.Prelude.{refl};
+ghost use Rattle.std.specs.Prelude.{◌≡◌, [], refl};
 ghost use Rattle.bep_messages.specs.Protocol.{file_info_table};
 ghost use Rattle.bep_messages.specs.Structs.{file_info_parts, file_info};
 ghost use Rattle.bep_messages.specs.Wholes.{file_info_whole};
@@ -94,6 +94,8 @@ impl ProtoMessage for FileInfo {
 }
 
 impl Copied for FileInfo {
+    ghost needs_no_memory = { λ m. (m.name ≡ []) × (m.version.counters ≡ []) × (m.blocks ≡ []) × (m.symlink_target ≡ []) };
+
     fn copy(&self) -> Result<FileInfo, AllocError> {
         fields!(copy_fields FileInfo, self)
     }

@@ -1,4 +1,4 @@
-ghost use Rattle.std.specs.Prelude.{refl};
+ghost use Rattle.std.specs.Prelude.{◌≡◌, [], refl};
 ghost use Rattle.bep_messages.specs.Protocol.{folder_table};
 ghost use Rattle.bep_messages.specs.Structs.{folder_parts, folder};
 ghost use Rattle.bep_messages.specs.Wholes.{folder_whole};
@@ -68,6 +68,8 @@ impl ProtoMessage for Folder {
 }
 
 impl Copied for Folder {
+    ghost needs_no_memory = { λ m. (m.id ≡ []) × (m.label ≡ []) × (m.devices ≡ []) };
+
     fn copy(&self) -> Result<Folder, AllocError> {
         fields!(copy_fields Folder, self)
     }

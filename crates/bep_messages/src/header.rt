@@ -1,4 +1,4 @@
-ghost use Rattle.std.specs.Prelude.{refl};
+ghost use Rattle.std.specs.Prelude.{⊤, refl};
 ghost use Rattle.bep_messages.specs.Protocol.{header_table};
 ghost use Rattle.bep_messages.specs.Structs.{header_parts, header};
 ghost use Rattle.bep_messages.specs.Wholes.{header_whole};
@@ -56,6 +56,8 @@ impl ProtoMessage for Header {
 }
 
 impl Copied for Header {
+    ghost needs_no_memory = { λ _. ⊤ };
+
     fn copy(&self) -> Result<Header, AllocError> {
         fields!(copy_fields Header, self)
     }

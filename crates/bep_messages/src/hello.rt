@@ -1,4 +1,4 @@
-ghost use Rattle.std.specs.Prelude.{refl};
+ghost use Rattle.std.specs.Prelude.{◌≡◌, [], refl};
 ghost use Rattle.bep_messages.specs.Protocol.{hello_table};
 ghost use Rattle.bep_messages.specs.Structs.{hello_parts, hello};
 ghost use Rattle.bep_messages.specs.Wholes.{hello_whole};
@@ -58,6 +58,8 @@ impl ProtoMessage for Hello {
 }
 
 impl Copied for Hello {
+    ghost needs_no_memory = { λ m. (m.device_name ≡ []) × (m.client_name ≡ []) × (m.client_version ≡ []) };
+
     fn copy(&self) -> Result<Hello, AllocError> {
         fields!(copy_fields Hello, self)
     }

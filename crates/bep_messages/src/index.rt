@@ -1,4 +1,4 @@
-ghost use Rattle.std.specs.Prelude.{refl};
+ghost use Rattle.std.specs.Prelude.{◌≡◌, [], refl};
 ghost use Rattle.bep_messages.specs.Protocol.{index_table};
 ghost use Rattle.bep_messages.specs.Structs.{index_parts, index};
 ghost use Rattle.bep_messages.specs.Wholes.{index_whole};
@@ -56,6 +56,8 @@ impl ProtoMessage for Index {
 }
 
 impl Copied for Index {
+    ghost needs_no_memory = { λ m. (m.folder ≡ []) × (m.files ≡ []) };
+
     fn copy(&self) -> Result<Index, AllocError> {
         fields!(copy_fields Index, self)
     }

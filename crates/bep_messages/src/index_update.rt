@@ -1,4 +1,4 @@
-ghost use Rattle.std.specs.Prelude.{refl};
+ghost use Rattle.std.specs.Prelude.{◌≡◌, [], refl};
 ghost use Rattle.bep_messages.specs.Protocol.{index_update_table};
 ghost use Rattle.bep_messages.specs.Structs.{index_update_parts, index_update};
 ghost use Rattle.bep_messages.specs.Wholes.{index_update_whole};
@@ -56,6 +56,8 @@ impl ProtoMessage for IndexUpdate {
 }
 
 impl Copied for IndexUpdate {
+    ghost needs_no_memory = { λ m. (m.folder ≡ []) × (m.files ≡ []) };
+
     fn copy(&self) -> Result<IndexUpdate, AllocError> {
         fields!(copy_fields IndexUpdate, self)
     }

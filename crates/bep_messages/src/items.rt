@@ -1,4 +1,4 @@
-ghost use Rattle.std.specs.Prelude.{◌≡◌, [], ◌∷◌, ◌++◌, IfOk, OnOk, OnErr};
+ghost use Rattle.std.specs.Prelude.{◌≡◌, [], ◌∷◌, ◌++◌, IfOk, IsOk, OnOk, OnErr};
 
 use std::alloc::{AllocError, Global};
 use std::marker::Model;
@@ -64,16 +64,21 @@ impl<T: Drop> Items<T> {
 
 /// What can be copied, unless allocation fails.
 pub trait Copied: Drop {
-    /// An equal value of its own. Fails only if allocation fails.
+    /// Which values are copied without memory of their own, as an empty list is: copying these does not allocate.
+    ghost needs_no_memory: { Self → Type 0 };
+
+    /// An equal value of its own. Fails only if allocation fails, and never for a value that needs no memory.
     fn copy(&self) -> Result<Self, AllocError>
-        ensures { IfOk result (λ x. x ≡ self.now) };
+        ensures value { IfOk result (λ x. x ≡ self.now) }
+        ensures memory { needs_no_memory self.now → IsOk result };
 }
 
 impl<T: Copy> Items<T> {
-    /// The same list once more, of elements that are copied as they are. Returns `Err` if it could not be allocated.
-    /// O(n) time and memory.
+    /// The same list once more, of elements that are copied as they are. Returns `Err` if it could not be allocated,
+    /// and never for the empty list. O(n) time and memory.
     pub fn to_items(&self) -> Result<Items<T>, AllocError>
-        ensures { IfOk result (λ items. items ≡ self.now) }
+        ensures value { IfOk result (λ items. items ≡ self.now) }
+        ensures empty { self.now ≡ [] → IsOk result }
     {
         let mut items = Vec::with_capacity(*self.items.allocator(), self.items.len())?;
         items.extend_from_slice(&self.items)?;
@@ -82,6 +87,8 @@ impl<T: Copy> Items<T> {
 }
 
 impl<T: Copied> Copied for Items<T> {
+    ghost needs_no_memory = { λ items. items ≡ [] };
+
     fn copy(&self) -> Result<Self, AllocError> {
         let mut items = Vec::with_capacity(*self.items.allocator(), self.items.len())?;
         for item in &self.items {

@@ -1,4 +1,5 @@
 ghost use Rattle.std.specs.Prelude.{◌≡◌, ◌≤◌, [], length, IfOk, IsOk};
+ghost use Rattle.bep_messages.specs.declared.octets.TheConstants.{DIGEST_LEN};
 
 use crate::items::Copied;
 use smallvec::SmallVec;
@@ -66,6 +67,8 @@ impl Octets {
 }
 
 impl Copied for Octets {
+    ghost needs_no_memory = { λ bytes. bytes ≡ [] };
+
     fn copy(&self) -> Result<Octets, AllocError> {
         Octets::from_slice(*self.bytes.allocator(), self.bytes.as_slice())
     }
@@ -118,6 +121,8 @@ impl ShortOctets {
 }
 
 impl Copied for ShortOctets {
+    ghost needs_no_memory = { λ bytes. length bytes ≤ DIGEST_LEN };
+
     fn copy(&self) -> Result<ShortOctets, AllocError> {
         ShortOctets::from_slice(*self.bytes.allocator(), self.bytes.as_slice())
     }

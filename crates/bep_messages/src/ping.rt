@@ -1,4 +1,4 @@
-ghost use Rattle.std.specs.Prelude.{refl};
+ghost use Rattle.std.specs.Prelude.{⊤, refl};
 ghost use Rattle.bep_messages.specs.Protocol.{ping_table};
 ghost use Rattle.bep_messages.specs.Structs.{ping_parts, ping};
 ghost use Rattle.bep_messages.specs.Wholes.{ping_whole};
@@ -48,6 +48,8 @@ impl ProtoMessage for Ping {
 }
 
 impl Copied for Ping {
+    ghost needs_no_memory = { λ _. ⊤ };
+
     fn copy(&self) -> Result<Ping, AllocError> {
         fields!(copy_fields Ping, self)
     }

@@ -1,6 +1,7 @@
-ghost use Rattle.std.specs.Prelude.{refl};
+ghost use Rattle.std.specs.Prelude.{◌≡◌, ◌≤◌, [], length, refl};
 ghost use Rattle.bep_messages.specs.Protocol.{request_table};
 ghost use Rattle.bep_messages.specs.Structs.{request_parts, request};
+ghost use Rattle.bep_messages.specs.declared.octets.TheConstants.{DIGEST_LEN};
 ghost use Rattle.bep_messages.specs.Wholes.{request_whole};
 
 use crate::fault::MessageFault;
@@ -70,6 +71,8 @@ impl ProtoMessage for Request {
 }
 
 impl Copied for Request {
+    ghost needs_no_memory = { λ m. (m.folder ≡ []) × (m.name ≡ []) × (length m.hash ≤ DIGEST_LEN) };
+
     fn copy(&self) -> Result<Request, AllocError> {
         fields!(copy_fields Request, self)
     }

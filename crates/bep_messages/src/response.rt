@@ -1,4 +1,4 @@
-ghost use Rattle.std.specs.Prelude.{refl};
+ghost use Rattle.std.specs.Prelude.{◌≡◌, [], refl};
 ghost use Rattle.bep_messages.specs.Protocol.{response_table};
 ghost use Rattle.bep_messages.specs.Structs.{response_parts, response};
 ghost use Rattle.bep_messages.specs.Wholes.{response_whole};
@@ -59,6 +59,8 @@ impl ProtoMessage for Response {
 }
 
 impl Copied for Response {
+    ghost needs_no_memory = { λ m. m.payload ≡ [] };
+
     fn copy(&self) -> Result<Response, AllocError> {
         fields!(copy_fields Response, self)
     }

@@ -67,6 +67,8 @@ impl Text {
 }
 
 impl Copied for Text {
+    ghost needs_no_memory = { λ text. text ≡ [] };
+
     fn copy(&self) -> Result<Text, AllocError> {
         Text::from_str(*self.text.allocator(), self.text.as_str())
     }

@@ -1,4 +1,4 @@
-ghost use Rattle.std.specs.Prelude.{refl};
+ghost use Rattle.std.specs.Prelude.{◌≡◌, [], refl};
 ghost use Rattle.bep_messages.specs.Protocol.{vector_table};
 ghost use Rattle.bep_messages.specs.Structs.{vector_parts, vector};
 ghost use Rattle.bep_messages.specs.Wholes.{vector_whole};
@@ -52,6 +52,8 @@ impl ProtoMessage for Vector {
 }
 
 impl Copied for Vector {
+    ghost needs_no_memory = { λ m. m.counters ≡ [] };
+
     fn copy(&self) -> Result<Vector, AllocError> {
         fields!(copy_fields Vector, self)
     }

@@ -10,7 +10,7 @@ use Rattle.sync_record.specs.Devices.{bytes_cmp}
 use Rattle.sync_record.specs.Records.{Name, FileRecord}
 use Rattle.folder_core.specs.declared.pull_stage.PullStage.{PullStage}
 use Rattle.folder_core.specs.declared.pull_stage.PullStage.TheVariants.{Pulling, Committing}
-use Rattle.folder_core.specs.Announced.{Announcement, best}
+use Rattle.folder_core.specs.Announced.{KeyedRecord, best}
 use Rattle.folder_core.specs.States.{FolderState, Pull, is_committing, local, same_stage, IsFolder}
 use Rattle.folder_core.specs.declared.answer.Answer.{Answer}
 use Rattle.folder_core.specs.declared.answer.Answer.TheVariants.{Begun, Entered, Recorded, Applied, Closed, Done}
@@ -134,7 +134,7 @@ module _ (s : FolderState) (front : List Entry) (e : Entry) (accepted : is_accep
         let kept = remove_split bytes_total exact_names s.pulls m n q g in
         left a x quiet idle asked is n q (ends n ∙ other_name m n kept.0) kept.1
 
-    begun_by : (b : Announcement) (m : Name) → e.change ≡ BeginPull m → is_some (get s.pulls m) ≡ false → Begun (next_ticket s m b.1) ≡ e.answer → Traced (with_pull s (next_ticket s m b.1) Pulling)
+    begun_by : (b : KeyedRecord) (m : Name) → e.change ≡ BeginPull m → is_some (get s.pulls m) ≡ false → Begun (next_ticket s m b.1) ≡ e.answer → Traced (with_pull s (next_ticket s m b.1) Pulling)
     begun_by b m asked free is n q g = by (insert_split bytes_total exact_names s.pulls m n p q g)
       where
         p : Pull
@@ -211,7 +211,7 @@ module _ (s : FolderState) (front : List Entry) (e : Entry) (accepted : is_accep
 -- a pull is begun over the local record, for the best
 abbrev pub BeginsWell : FolderState → PullInfo → Type 0
 BeginsWell s t =
-    (t.base ≡ local s t.name) × (e : Announcement) × (best (entries s.announced) t.name ≡ Some e) × (t.target ≡ e.1)
+    (t.base ≡ local s t.name) × (e : KeyedRecord) × (best (entries s.announced) t.name ≡ Some e) × (t.target ≡ e.1)
 
 abbrev begins : Answer → Bool
 begins (Begun t) = true

@@ -8,7 +8,7 @@ use Rattle.sync_version.specs.Versions.{Dominates}
 use Rattle.sync_record.specs.Devices.{Identity}
 use Rattle.sync_record.specs.Records.{FileRecord, Name}
 use Rattle.sync_record.specs.Validity.{is_valid}
-use Rattle.folder_core.specs.Announced.{Announced, Announcement, best, key}
+use Rattle.folder_core.specs.Announced.{Announced, KeyedRecord, best, key}
 use Rattle.folder_core.specs.Reads.{Best, BestEntry, with_devices}
 use Rattle.folder_core.specs.States.{FolderState}
 use Rattle.folder_core.specs.Steps.{is_accepted, step}
@@ -35,7 +35,7 @@ headline-best old new n reply found d r reads is announced valid = by (best (ent
     a : Announced
     a = (state_after old.opening new.seen).announced
 
-    by : (b : Option Announcement) → best (entries a) n ≡ b → option_map (with_devices (entries a)) b ≡ Some found → ¬ (Dominates r.version found.0.version)
+    by : (b : Option KeyedRecord) → best (entries a) n ≡ b → option_map (with_devices (entries a)) b ≡ Some found → ¬ (Dominates r.version found.0.version)
     by None is e = absurd (none-some found e)
     by (Some b) is e = let same : with_devices (entries a) b ≡ found = cc in
         subst (λ (f : BestEntry). ¬ (Dominates r.version f.0.version)) same (best-undominated a n b d r is announced valid)

@@ -80,6 +80,12 @@ module _ (opening : FolderState) (limit passes : ℕ) (callers : List CallerView
   pub close-folder : IsFolder opening → IsFolder end × (len end.pulls ≤ limit)
   close-folder folder = (subst IsFolder (sym c.state_is) (legal-folder passes opening c.history folder c.legal), let r = c.room in omega arith)
 
+pub close-all : (opening : FolderState) (limit : ℕ) (callers : List CallerView) (end : FolderState) → Closes opening limit (length callers) callers end
+    → (v : CallerView) × Contains callers v × (end ≡ state_after v.opening v.seen)
+close-all opening limit callers end c =
+    let w = c.whole refl in
+    (w.0, w.1, c.state_is ∙ ap (λ s. state_after s c.history) (sym (c.each w.0 w.1).0) ∙ ap (state_after w.0.opening) (sym w.2))
+
 only-one : (v u : CallerView) → Contains (v ∷ []) u → u ≡ v
 only-one v u there = by there.0 there.1 there.2
   where

@@ -56,7 +56,7 @@ its-ticket s = step-cases s (λ c d. IsTicket (ticket_of c) d.0) (record {
 })
 
 -- two copies of the ticket are copies of the commit
-pub commit-copies : (s after : FolderState) (t one two : PullInfo) (r : Result PullInfo EnterAllocError) → one ≡ t → two ≡ t
+pub commit-copies : (s after : FolderState) (t one two : PullInfo) (r : Result PullInfo EnterFault) → one ≡ t → two ≡ t
     → Changes s (EnterCommit t) (enter_answer r) after → IfOk r (λ commit. (commit ≡ one) × (commit ≡ two))
 commit-copies s after t one two (Ok commit) e f made =
     let same : commit ≡ t = sym (subst (λ (d : Answer × FolderState). IsTicket (Some t) d.0) made (its-ticket s (EnterCommit t))) in

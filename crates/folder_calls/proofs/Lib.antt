@@ -6,8 +6,9 @@ pub mod HistoryShared
 pub mod HistoryAnswers
 pub mod HistoryMeetings
 pub mod HistoryHeadline
+pub mod HistoryWords
 pub mod JournalPulls
 pub mod JournalSteps
-pub mod LoneStatesCalls
+pub mod LoneCalls
 pub mod Rows
 pub mod Same

@@ -65,7 +65,8 @@ pub trait FolderCalls {
     ) -> Result<At<Result<ScanAnswer, ScanRefusal>>, AllocError>
         ensures folder { folder self.new ≡ folder self.old }
         ensures changes { ChangesAt (view self.old)
-            (ScanGone name.now (option_copied expected.entry) moment) (answered_at scan_value result)
+            (ScanGone name.now (option_copied expected.entry) moment)
+            (answered_at scan_value result)
             (view self.new) };
 
     /// The device announces these records and no others; of several under one name the last counts.
@@ -76,7 +77,8 @@ pub trait FolderCalls {
     ) -> Result<At<Result<(), HistoryFull>>, AllocError>
         requires { device ≢ (view self.old).opening.me }
         ensures folder { folder self.new ≡ folder self.old }
-        ensures changes { ChangesAt (view self.old) (IndexFull device records) (answered_at index_value result)
+        ensures changes { ChangesAt (view self.old) (IndexFull device records)
+            (answered_at index_value result)
             (view self.new) };
 
     /// The device announces these records too; of several under one name the last counts.
@@ -87,7 +89,8 @@ pub trait FolderCalls {
     ) -> Result<At<Result<(), HistoryFull>>, AllocError>
         requires { device ≢ (view self.old).opening.me }
         ensures folder { folder self.new ≡ folder self.old }
-        ensures changes { ChangesAt (view self.old) (IndexMore device records) (answered_at index_value result)
+        ensures changes { ChangesAt (view self.old) (IndexMore device records)
+            (answered_at index_value result)
             (view self.new) };
 
     /// The device announces nothing.
@@ -106,7 +109,8 @@ pub trait FolderCalls {
         name: &SafeName,
     ) -> Result<At<Result<BeginAnswer, HistoryFull>>, AllocError>
         ensures folder { folder self.new ≡ folder self.old }
-        ensures changes { ChangesAt (view self.old) (BeginPull name.now) (answered_at begin_value result)
+        ensures changes { ChangesAt (view self.old) (BeginPull name.now)
+            (answered_at begin_value result)
             (view self.new) };
 
     /// Enters the commit of a pull, and fails with the first of these that applies: `Stray`, `LocalMoved`, `Superseded`,
@@ -117,7 +121,8 @@ pub trait FolderCalls {
         ticket: Ticket,
     ) -> Result<At<Result<Commit, EnterRefusal>>, EnterAllocError>
         ensures folder { folder self.new ≡ folder self.old }
-        ensures changes { ChangesAt (view self.old) (EnterCommit ticket) (answered_at enter_value result)
+        ensures changes { ChangesAt (view self.old) (EnterCommit ticket)
+            (answered_at enter_value result)
             (view self.new) }
         ensures given_back { IfOk result (λ reply. IfErr reply.value (GivesBack ticket)) }
         ensures out_of_memory { IfErr result (λ refused. refused.0 ≡ ticket) };
@@ -135,14 +140,16 @@ pub trait FolderCalls {
     /// allocate.
     fn give_up(&mut self, ticket: Ticket) -> At<bool>
         ensures folder { folder self.new ≡ folder self.old }
-        ensures changes { ChangesAt (view self.old) (GiveUp ticket) (Some (answer_at close_answer result))
+        ensures changes { ChangesAt (view self.old) (GiveUp ticket)
+            (Some (answer_at close_answer result))
             (view self.new) };
 
     /// Closes a pull whose commit was entered; the local record stays. Returns `false` if the commit is stray; then
     /// nothing changes. Does not allocate.
     fn abort(&mut self, commit: Commit) -> At<bool>
         ensures folder { folder self.new ≡ folder self.old }
-        ensures changes { ChangesAt (view self.old) (Abort commit) (Some (answer_at close_answer result))
+        ensures changes { ChangesAt (view self.old) (Abort commit)
+            (Some (answer_at close_answer result))
             (view self.new) };
 
     /// A copy of the best record of a name, and the devices whose valid record of the name has its version and its

@@ -206,7 +206,8 @@ impl<C: FolderCore> Journal<C> {
         append_scan(&mut self.entries, pass, change, answer)
     }
 
-    /// [`FolderCore::index_full`] for a pass. The history keeps the records too; they share their memory.
+    /// [`FolderCore::index_full`] for a pass. The history keeps the records too; they share their memory. A full history is never
+    /// out of memory.
     pub fn index_full(
         &mut self,
         pass: u64,
@@ -218,6 +219,8 @@ impl<C: FolderCore> Journal<C> {
         ensures appends { Appends self.old pass (IndexFull device records)
             (answered index_value result) self.new }
         ensures history { IsHistory self.new }
+        ensures full { self.old.limit < length self.old.entries + len (end self.old).pulls + 1 →
+            IsOk result }
     {
         if !self.has_room(1) {
             return Ok(Err(HistoryFull));
@@ -232,7 +235,8 @@ impl<C: FolderCore> Journal<C> {
         Ok(Ok(()))
     }
 
-    /// [`FolderCore::index_more`] for a pass. The history keeps the records too; they share their memory.
+    /// [`FolderCore::index_more`] for a pass. The history keeps the records too; they share their memory. A full history is never
+    /// out of memory.
     pub fn index_more(
         &mut self,
         pass: u64,
@@ -244,6 +248,8 @@ impl<C: FolderCore> Journal<C> {
         ensures appends { Appends self.old pass (IndexMore device records)
             (answered index_value result) self.new }
         ensures history { IsHistory self.new }
+        ensures full { self.old.limit < length self.old.entries + len (end self.old).pulls + 1 →
+            IsOk result }
     {
         if !self.has_room(1) {
             return Ok(Err(HistoryFull));
@@ -258,7 +264,7 @@ impl<C: FolderCore> Journal<C> {
         Ok(Ok(()))
     }
 
-    /// [`FolderCore::forget`] for a pass.
+    /// [`FolderCore::forget`] for a pass. A full history is never out of memory.
     pub fn forget(
         &mut self,
         pass: u64,
@@ -269,6 +275,8 @@ impl<C: FolderCore> Journal<C> {
         ensures appends { Appends self.old pass (Forget device)
             (answered index_value result) self.new }
         ensures history { IsHistory self.new }
+        ensures full { self.old.limit < length self.old.entries + len (end self.old).pulls + 1 →
+            IsOk result }
     {
         if !self.has_room(1) {
             return Ok(Err(HistoryFull));
@@ -391,7 +399,8 @@ impl<C: FolderCore> Journal<C> {
     /// [`FolderCore::abort`] for a pass. Does not allocate.
     pub fn abort(&mut self, pass: u64, commit: Commit) -> bool
         requires pass { (1 ≤ pass) × (pass ≤ self.old.passes) }
-        ensures appends { Appends self.old pass (Abort commit) (Some (close_answer result)) self.new }
+        ensures appends { Appends self.old pass (Abort commit) (Some (close_answer result))
+            self.new }
         ensures history { IsHistory self.new }
     {
         let Commit { inner, info } = commit;

@@ -5,6 +5,8 @@ mod calls;
 mod headline;
 mod histories;
 mod meetings;
+mod planned;
+mod pulls;
 mod rows;
 mod values;
 mod workers;
@@ -21,6 +23,12 @@ pub use histories::{
     legal_histories_grow, local_records_go_on, own_entries_are_those_of_the_pass,
 };
 pub use meetings::{callers_who_meet_know_the_longer_history, closing_keeps_what_callers_saw};
+pub use planned::{
+    calls_without_a_plan_are_the_callers, planned_changes_are_made_before_their_call,
+};
+pub use pulls::{
+    entries_of_pulls_are_of_their_name, pulls_end_over_what_they_began_on, tickets_come_back,
+};
 pub use rows::histories_in_rows;
 pub use values::comparison_is_equality;
 pub use workers::{

@@ -130,7 +130,8 @@ impl<C: FolderCore> FolderCalls for Lone<C> {
     ) -> Result<At<Result<ScanAnswer, ScanRefusal>>, AllocError>
         ensures folder { self.new.planned ≡ self.old.planned }
         ensures changes { ChangesAt (seen_by self.old)
-            (ScanGone name.now (option_copied expected.entry) moment) (answered_at scan_value result)
+            (ScanGone name.now (option_copied expected.entry) moment)
+            (answered_at scan_value result)
             (seen_by self.new) }
         ensures planned { ChangesAfterPlan self.old
             (ScanGone name.now (option_copied expected.entry) moment)
@@ -178,9 +179,11 @@ impl<C: FolderCore> FolderCalls for Lone<C> {
     fn forget(&mut self, device: DeviceId) -> Result<At<Result<(), HistoryFull>>, AllocError>
         requires { device ≢ (seen_by self.old).opening.me }
         ensures folder { self.new.planned ≡ self.old.planned }
-        ensures changes { ChangesAt (seen_by self.old) (Forget device) (answered_at index_value result)
+        ensures changes { ChangesAt (seen_by self.old) (Forget device)
+            (answered_at index_value result)
             (seen_by self.new) }
-        ensures planned { ChangesAfterPlan self.old (Forget device) (answered_at index_value result) self.new }
+        ensures planned { ChangesAfterPlan self.old (Forget device)
+            (answered_at index_value result) self.new }
     {
         self.go_on();
         let answer = self.journal.forget(1, device);
@@ -192,7 +195,8 @@ impl<C: FolderCore> FolderCalls for Lone<C> {
         name: &SafeName,
     ) -> Result<At<Result<BeginAnswer, HistoryFull>>, AllocError>
         ensures folder { self.new.planned ≡ self.old.planned }
-        ensures changes { ChangesAt (seen_by self.old) (BeginPull name.now) (answered_at begin_value result)
+        ensures changes { ChangesAt (seen_by self.old) (BeginPull name.now)
+            (answered_at begin_value result)
             (seen_by self.new) }
         ensures planned { ChangesAfterPlan self.old (BeginPull name.now)
             (answered_at begin_value result) self.new }
@@ -207,7 +211,8 @@ impl<C: FolderCore> FolderCalls for Lone<C> {
         ticket: Ticket,
     ) -> Result<At<Result<Commit, EnterRefusal>>, EnterAllocError>
         ensures folder { self.new.planned ≡ self.old.planned }
-        ensures changes { ChangesAt (seen_by self.old) (EnterCommit ticket) (answered_at enter_value result)
+        ensures changes { ChangesAt (seen_by self.old) (EnterCommit ticket)
+            (answered_at enter_value result)
             (seen_by self.new) }
         ensures planned { ChangesAfterPlan self.old (EnterCommit ticket)
             (answered_at enter_value result) self.new }
@@ -254,7 +259,8 @@ impl<C: FolderCore> FolderCalls for Lone<C> {
 
     fn abort(&mut self, commit: Commit) -> At<bool>
         ensures folder { self.new.planned ≡ self.old.planned }
-        ensures changes { ChangesAt (seen_by self.old) (Abort commit) (Some (answer_at close_answer result))
+        ensures changes { ChangesAt (seen_by self.old) (Abort commit)
+            (Some (answer_at close_answer result))
             (seen_by self.new) }
         ensures planned { ChangesAfterPlan self.old (Abort commit)
             (Some (answer_at close_answer result)) self.new }
@@ -300,7 +306,8 @@ impl<C: FolderCore> FolderCalls for Lone<C> {
         ensures folder { self.new.planned ≡ self.old.planned }
         ensures reads { ReadsAt (seen_by self.old) (Local name.now) (answered_at (λ r. r) result)
             (seen_by self.new) }
-        ensures planned { ReadsAfterPlan self.old (Local name.now) (answered_at (λ r. r) result) self.new }
+        ensures planned { ReadsAfterPlan self.old (Local name.now) (answered_at (λ r. r) result)
+            self.new }
     {
         self.go_on();
         let answer = self.journal.core().local(name);

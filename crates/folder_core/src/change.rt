@@ -1,7 +1,7 @@
-ghost use Rattle.std.specs.Prelude.{◌≡◌, ◌↔◌, IfOk, IsOk, IsTrue};
+ghost use Rattle.std.specs.Prelude.{◌≡◌, ◌↔◌, [], IfOk, IsOk, IsTrue};
 ghost use Rattle.sync_record.specs.Devices.{Identity};
 ghost use Rattle.folder_core.specs.Steps.{MayChange};
-ghost use Rattle.folder_core.specs.declared.change.Change.TheVariants.{Forget};
+ghost use Rattle.folder_core.specs.declared.change.Change.TheVariants.{Forget, IndexFull, IndexMore};
 
 use crate::copies::copied_version;
 use crate::{Finding, PullInfo};
@@ -89,11 +89,13 @@ impl Change {
         }
     }
 
-    /// The same change once more. Returns `Err` only if out of memory, and never for `Forget`. O(n) time and memory for n bytes
-    /// of the name, counters, blocks and records; the records share their memory.
+    /// The same change once more. Returns `Err` only if out of memory, and never for `Forget` or an index without records.
+    /// O(n) time and memory for n bytes of the name, counters, blocks and records; the records share their memory.
     pub fn copy(&self) -> Result<Change, AllocError>
         ensures same { IfOk result (λ change. change ≡ self.now) }
         ensures forget { (d : Identity) → self.now ≡ Forget d → IsOk result }
+        ensures no_records_full { (d : Identity) → self.now ≡ IndexFull d [] → IsOk result }
+        ensures no_records_more { (d : Identity) → self.now ≡ IndexMore d [] → IsOk result }
     {
         Ok(match self {
             Change::ScanFound {

@@ -1,6 +1,6 @@
-ghost use Rattle.std.specs.Prelude.{◌≡◌, IfOk, IsOk};
+ghost use Rattle.std.specs.Prelude.{◌≡◌, ℕ, [], IfOk, IsOk};
 ghost use Rattle.folder_core.specs.Steps.{is_recordable};
-ghost use Rattle.folder_core.specs.declared.finding.FoundContent.TheVariants.{Directory};
+ghost use Rattle.folder_core.specs.declared.finding.FoundContent.TheVariants.{Directory, File};
 
 use bep_messages::Items;
 use std::alloc::AllocError;
@@ -50,11 +50,12 @@ impl FoundContent {
         }
     }
 
-    /// The same content once more. Returns `Err` only if out of memory, and never for a directory. O(n) time and memory for
-    /// n blocks.
+    /// The same content once more. Returns `Err` only if out of memory, and never for a directory or a file without blocks.
+    /// O(n) time and memory for n blocks.
     pub fn copy(&self) -> Result<FoundContent, AllocError>
         ensures same { IfOk result (λ content. content ≡ self.now) }
         ensures directory { self.now ≡ Directory → IsOk result }
+        ensures no_blocks { (size block_size : ℕ) → self.now ≡ File size block_size [] → IsOk result }
     {
         Ok(match self {
             FoundContent::Directory => FoundContent::Directory,
@@ -72,11 +73,13 @@ impl FoundContent {
 }
 
 impl Finding {
-    /// The same finding once more. Returns `Err` only if out of memory, and never for a directory. O(n) time and memory for
-    /// n blocks.
+    /// The same finding once more. Returns `Err` only if out of memory, and never for a directory or a file without blocks.
+    /// O(n) time and memory for n blocks.
     pub fn copy(&self) -> Result<Finding, AllocError>
         ensures same { IfOk result (λ finding. finding ≡ self.now) }
         ensures directory { self.now.content ≡ Directory → IsOk result }
+        ensures no_blocks { (size block_size : ℕ) →
+            self.now.content ≡ File size block_size [] → IsOk result }
     {
         Ok(Finding {
             content: self.content.copy()?,

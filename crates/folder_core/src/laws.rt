@@ -16,7 +16,7 @@ mod values;
 pub use announced::{forget_removes, index_full_replaces, index_more_adds, indexes_in_any_order};
 pub use answers::{
     begun_pulls_are_of_the_name, entered_commits_are_their_tickets, open_pulls_stay,
-    recorded_scans_were_expected, stray_pulls_are_not_open,
+    recorded_scans_were_expected, stray_pulls_are_not_open, tickets_come_back,
 };
 pub use best::{
     best_in_any_order, best_is_preferred, bests_are_listed_once_in_order, devices_have_the_best,

@@ -1,12 +1,13 @@
 //! A folder as one list in order.
-ghost use Rattle.std.specs.Prelude.{◌≡◌, ◌≢◌, ◌↔◌, ◌+◌, ◌<◌, ◌≤◌, [], false, IfErr, IfOk, IsOk, IsSome, IsTrue, None, Some, filter, map, option_copied, option_map, vec_len, vec_capacity};
+ghost use Rattle.std.specs.Prelude.{◌≡◌, ◌≢◌, ◌↔◌, ◌+◌, ◌<◌, ◌≤◌, ℕ, [], false, pos, IfErr, IfOk, IsOk, IsSome, IsTrue, None, Some, filter, map, option_copied, option_map, vec_len, vec_capacity};
 ghost use Rattle.std.specs.FinMap.{empty, entries};
+ghost use Rattle.std.specs.List.{list_all};
 ghost use Rattle.folder_core.specs.Calls.{Changes, GivesBack, index_answer, may_allocate, scan_answer, begin_answer, enter_answer, finish_answer, close_answer};
 ghost use Rattle.folder_core.specs.Reads.{IsSomePlace, best_with_devices, bests_page, counts, known, local_since, need_page, places};
 ghost use Rattle.folder_core.specs.Plain.{Rises, commits, filed};
 ghost use Rattle.folder_core.specs.PlainReads.{is_from};
 ghost use Rattle.sync_record.specs.Infos.{is_natural};
-ghost use Rattle.folder_core.specs.PlainRestores.{given};
+ghost use Rattle.folder_core.specs.PlainRestores.{given, is_numbered};
 ghost use Rattle.folder_core.specs.Restores.{MayRestore, restored_folder};
 ghost use Rattle.folder_core.specs.declared.restore_fault.RestoreFault.TheVariants.{BadRecords};
 ghost use Rattle.folder_core.specs.States.{empty_folder, local};
@@ -359,7 +360,7 @@ impl FolderCore for PlainFolder {
     }
 
     /// O(n + b) for n records kept, up to the file that is found, and b blocks of the local files up to it, and the copy of
-    /// the name. Of several places it returns the first by name. It does not allocate where there is none.
+    /// the name. It does not allocate where there is none.
     fn find_block(&self, hash: &[u8; 32]) -> Result<Option<Place>, AllocError>
         ensures found { IfOk result (λ place. IsSomePlace self.now hash.now place) }
         ensures none { places self.now hash.now ≡ [] → IsOk result }
@@ -437,7 +438,8 @@ impl PlainFolder {
     /// The folder of this device that has these records and no open pull; `last` is the last sequence that it gave, 0 if none.
     /// Fails with `BadRecords` where there is no such folder: if `last` is negative, a device has two records of a name, or
     /// this device's records are not all valid, with distinct sequences from 1 to `last`. Fails with `OutOfMemory` only if
-    /// there are records and `last` is not negative, and never where the records are in order and none is this device's.
+    /// there are records and `last` is not negative, and never where the records are in order and none is this device's, or one
+    /// of this device is not valid or not of a sequence from 1 to `last`.
     ///
     /// O(n log n) for n records; none is copied. Records that are in order, as [`records`](PlainFolder::records) lends them,
     /// are not sorted.
@@ -455,6 +457,9 @@ impl PlainFolder {
         ensures none { records ≡ [] → IfErr result (λ fault. fault ≡ BadRecords) }
         ensures negative { is_natural last ≡ false → IfErr result (λ fault. fault ≡ BadRecords) }
         ensures in_order { Rises records → filter (is_from me) records ≡ [] →
+            IfErr result (λ fault. fault ≡ BadRecords) }
+        ensures numbered { (n : ℕ) → last ≡ pos n → Rises records →
+            list_all (λ e. is_numbered n e.record) (filter (is_from me) records) ≡ false →
             IfErr result (λ fault. fault ≡ BadRecords) }
     {
         let Ok(last) = u64::try_from(last) else {

@@ -60,7 +60,8 @@ impl<C: FolderCore + Drop> LockedFolder<C> {
         requires pass { IsPassOf self.now pass.old }
         ensures pass { IsPassOf self.now pass.new × (pass.new.number ≡ pass.old.number) }
         ensures changes { ChangesAt (view_of self.now pass.old)
-            (ScanGone name.now (option_copied expected.entry) moment) (answered_at scan_value result)
+            (ScanGone name.now (option_copied expected.entry) moment)
+            (answered_at scan_value result)
             (view_of self.now pass.new) }
     {
         let mut journal = self.lend(rt, pass);
@@ -116,7 +117,8 @@ impl<C: FolderCore + Drop> LockedFolder<C> {
         requires pass { IsPassOf self.now pass.old }
         requires device { device ≢ (opening_of self.now).me }
         ensures pass { IsPassOf self.now pass.new × (pass.new.number ≡ pass.old.number) }
-        ensures changes { ChangesAt (view_of self.now pass.old) (Forget device) (answered_at index_value result)
+        ensures changes { ChangesAt (view_of self.now pass.old) (Forget device)
+            (answered_at index_value result)
             (view_of self.now pass.new) }
     {
         let mut journal = self.lend(rt, pass);

@@ -46,7 +46,8 @@ impl<C: FolderCore + Drop> LockedFolder<C> {
         requires { IsPassOf self.now pass.old }
         ensures pass { IsPassOf self.now pass.new × (pass.new.number ≡ pass.old.number) }
         ensures reads { ReadsAt (view_of self.now pass.old)
-            (Bests (option_copied after.entry) limit) (answered_at (λ page. map best_entry page) result)
+            (Bests (option_copied after.entry) limit)
+            (answered_at (λ page. map best_entry page) result)
             (view_of self.now pass.new) }
     {
         let journal = self.lend(rt, pass);

@@ -62,7 +62,8 @@ impl<C: FolderCore + Drop> LockedFolder<C> {
         ensures changes { (before : PassOf C) (x : History) (f : T → AnswerOf) (change : ChangeOf) →
             IsPassOf self.now before → IsHeld self.now before pass.old x →
             Appends x pass.old.number change (answered f answer) journal →
-            ChangesAt (view_of self.now before) change (answered_at f result) (view_of self.now pass.new) }
+            ChangesAt (view_of self.now before) change (answered_at f result)
+            (view_of self.now pass.new) }
         ensures answer { IfOk result (λ reply. answer ≡ Ok reply.value) }
         ensures fault { IfErr result (λ fault. answer ≡ Err fault) }
     {

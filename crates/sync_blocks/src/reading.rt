@@ -1,5 +1,5 @@
 ghost use Rattle.std.specs.Prelude.{◌≡◌, ◌+◌, ◌*◌, ◌^◌, ◌<◌, ◌≤◌, ◌++◌, ◌∷◌, ℕ, List, [], min, length};
-ghost use Rattle.std.specs.Prelude.{Err, IfErr, IfOk, IfSome, OnOk};
+ghost use Rattle.std.specs.Prelude.{Err, IfErr, IfOk, IfSome, IsOk, OnOk};
 ghost use Rattle.std.specs.Io.KnownBytes.{Consumes, IsAtEnd};
 ghost use Rattle.sync_blocks.specs.BlockList.{block_at, block_list};
 ghost use Rattle.sync_blocks.specs.Groups.{blocks_from, group_bytes};
@@ -22,7 +22,8 @@ const MAX_GROUP_BYTES: u64 = 64 * 1024 * 1024;
 /// Fails with `Short` if the reader has fewer bytes, which are then all taken; with `Long` if it has more, and then
 /// `size + 1` bytes are taken; with `Read` if a read fails, though an interrupted one is tried again; and with
 /// `OutOfMemory` if the buffer or the list could not be allocated. After the last two the reader has given some of its
-/// bytes.
+/// bytes. An empty file needs no buffer: where `size` is 0 and the reader has bytes, it fails with `Long` or `Read`, and
+/// does not allocate.
 ///
 /// As many whole blocks as fit 64 MiB, and at least one, are read at once, and hashed in a few threads for each
 /// processor; one block is hashed in this thread. O(size) time; memory for the list, and one buffer for the bytes
@@ -44,6 +45,7 @@ pub fn blocks_of<R: Read>(
     ensures short { result ≡ Err ReadFault.Short → IsAtEnd (R.remaining reader.new) }
     ensures long { result ≡ Err ReadFault.Long →
         (bytes : List ℕ) × Consumes (R.remaining reader.old) (R.remaining reader.new) bytes × (length bytes ≡ size + 1) }
+    ensures memory { size ≡ 0 → result ≡ Err ReadFault.OutOfMemory → IsAtEnd (R.remaining reader.old) }
     ensures taken { TakesFront (R.remaining reader.old) (R.remaining reader.new) }
 {
     let mut list = read_groups(rt, alloc, reader, size, block_size)?;
@@ -68,7 +70,7 @@ fn push_empty_block(blocks: &mut Vec<Block>) -> Result<(), AllocError>
     Ok(())
 }
 
-// The blocks of the next `size` bytes; no block of no bytes.
+// The blocks of the next `size` bytes; no block of no bytes, for which it neither reads nor allocates.
 fn read_groups<R: Read>(
     rt: &(impl Threads + Sync),
     alloc: Global,
@@ -79,11 +81,15 @@ fn read_groups<R: Read>(
     requires { 1 ≤ block_size }
     ensures read { IfOk result (λ v. (bytes : List ℕ) × Consumes (R.remaining reader.old) (R.remaining reader.new) bytes
         × (length bytes ≡ size) × (v.items ≡ blocks_from 0 bytes block_size)) }
+    ensures none { size ≡ 0 → IsOk result }
     ensures refused { IfErr result (λ fault. TellsEarly fault (R.remaining reader.old) size) }
     ensures short { result ≡ Err ReadFault.Short → IsAtEnd (R.remaining reader.new) }
     ensures taken { TakesFront (R.remaining reader.old) (R.remaining reader.new) }
 {
     let mut blocks = Vec::new(alloc);
+    if size == 0 {
+        return Ok(blocks);
+    }
     let mut bytes = vec![in alloc; 0u8; buffer_len(size, block_size)]?;
     let buffer = bytes.as_mut_slice();
     let mut done = 0;

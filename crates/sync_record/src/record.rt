@@ -177,6 +177,9 @@ impl Record {
 }
 
 impl Copied for Record {
+    // Each copy is counted, and the count may be at its greatest.
+    ghost needs_no_memory = { λ _. ⊥ };
+
     fn copy(&self) -> Result<Record, AllocError> {
         Record::copy(self)
     }

@@ -21,7 +21,8 @@ ghost use Rattle.folder_calls.specs.Shared.{CallerView, IsLegalView, ReadsAt, Ch
 /// history that the caller then knows, and the call adds no entry. A call that is out of memory changes nothing that the
 /// caller knows.
 pub fn calls_share_one_history()
-    ensures grows { (old new : CallerView) (c : Change) (reply : At Answer) → ChangesAt old c (Some reply) new →
+    ensures grows { (old new : CallerView) (c : Change) (reply : At Answer) →
+        ChangesAt old c (Some reply) new →
         IsPrefix old.seen new.seen
         × (new.opening ≡ old.opening) × (new.limit ≡ old.limit) × (new.pass ≡ old.pass)
         × (reply.at ≡ length new.seen) × IsLegalView new }
@@ -39,7 +40,8 @@ pub fn calls_share_one_history()
         ChangesAt old c (Some reply) new → is_accepted reply.value ≡ false →
         (own_entries old.pass new.seen ≡ own_entries old.pass old.seen)
         × (reply.value ≡ shared_answer old.limit old.opening new.seen c) }
-    ensures out_of_memory { (old new : CallerView) (c : Change) → ChangesAt old c None new → new ≡ old }
+    ensures out_of_memory { (old new : CallerView) (c : Change) → ChangesAt old c None new →
+        new ≡ old }
     ensures read { (old new : CallerView) (q : Query) (reply : At (Reply q)) →
         ReadsAt old q (Some reply) new →
         IsPrefix old.seen new.seen
@@ -70,7 +72,8 @@ pub fn views_are_of_folders()
 /// Wherever the history went on without the caller, to one that a folder had, the caller's change may be made there, or be
 /// answered there without being made, and its reads may be answered there.
 pub fn calls_may_be_answered_at_any_point()
-    ensures made { (old : CallerView) (es : List Entry) (c : Change) (a : Answer) → IsPrefix old.seen es →
+    ensures made { (old : CallerView) (es : List Entry) (c : Change) (a : Answer) →
+        IsPrefix old.seen es →
         own_entries old.pass es ≡ own_entries old.pass old.seen → IsLegalView (seeing old es) →
         MayChange old.opening.me c →
         a ≡ shared_answer old.limit old.opening es c → is_accepted a ≡ true →
@@ -81,7 +84,8 @@ pub fn calls_may_be_answered_at_any_point()
         own_entries old.pass es ≡ own_entries old.pass old.seen → IsLegalView (seeing old es) →
         a ≡ shared_answer old.limit old.opening es c → is_accepted a ≡ false →
         ChangesAt old c (Some (record { at = length es; value = a })) (seeing old es) }
-    ensures read { (old : CallerView) (es : List Entry) (q : Query) (r : Reply q) → IsPrefix old.seen es →
+    ensures read { (old : CallerView) (es : List Entry) (q : Query) (r : Reply q) →
+        IsPrefix old.seen es →
         own_entries old.pass es ≡ own_entries old.pass old.seen → IsLegalView (seeing old es) →
         Reads (state_after old.opening es) q r →
         ReadsAt old q (Some (record { at = length es; value = r })) (seeing old es) }

@@ -21,7 +21,8 @@ ghost use Rattle.folder_calls.specs.Shared.{Meets, ReadsAt, ChangesAt, CallerVie
 /// No valid version that a device announces dominates the best that a read returns, at the point of the history that the caller then
 /// knows.
 pub fn no_announced_version_dominates_the_best()
-    ensures { (old new : CallerView) (n : Name) (reply : At (Option BestEntry)) (found : BestEntry) (d : Identity)
+    ensures { (old new : CallerView) (n : Name) (reply : At (Option BestEntry)) (found : BestEntry)
+        (d : Identity)
         (r : FileRecord) →
         ReadsAt old (Best n) (Some reply) new → reply.value ≡ Some found →
         get (state_after old.opening new.seen).announced (key n d) ≡ Some r → IsTrue (is_valid r) →
@@ -42,7 +43,8 @@ pub fn each_sequence_is_the_next()
 /// A finish ends a pull over the local version on which it began, which is the local one still, with its target, of each of whose
 /// blocks some bytes have the size and the digest.
 pub fn finishes_end_pulls()
-    ensures { (old new : CallerView) (commit : PullInfo) (assembled : FileRecord) (reply : At Answer)
+    ensures { (old new : CallerView) (commit : PullInfo) (assembled : FileRecord)
+        (reply : At Answer)
         (k : ℕ) →
         ChangesAt old (Finish commit assembled) (Some reply) new → reply.value ≡ Done k →
         (front : List Entry) × IsPrefix old.seen front

@@ -2,7 +2,7 @@
 ghost use Rattle.std.specs.Prelude.{[], ◌∷◌, ◌++◌, ◌≡◌, ◌≢◌, ◌↔◌, ◌⊎◌, ◌<◌, ◌≤◌, ◌+◌, ℕ, length, List, Some, None, IsTrue, true, false};
 ghost use Rattle.std.specs.FinMap.{entries, len};
 ghost use Rattle.sync_record.specs.Records.{FileRecord, Name};
-ghost use Rattle.folder_core.specs.Announced.{Announcement, best};
+ghost use Rattle.folder_core.specs.Announced.{KeyedRecord, best};
 ghost use Rattle.folder_core.specs.States.{FolderState, IsFolder, local};
 ghost use Rattle.folder_calls.specs.declared.entry.Entry.{Entry};
 ghost use Rattle.folder_calls.specs.Histories.{IsLegal, IsReplay, state_after, shared_answer, own_entries, CommitsAreLegal};
@@ -24,7 +24,7 @@ pub fn commits_are_legal()
         (t : PullInfo) →
         IsLegal passes opening (front ++ e ∷ rest) → e.answer ≡ Begun t →
         (t.base ≡ local (state_after opening front) t.name)
-        × (b : Announcement) × (best (entries (state_after opening front).announced) t.name
+        × (b : KeyedRecord) × (best (entries (state_after opening front).announced) t.name
         ≡ Some b) × (t.target ≡ b.1) }
 {}
 

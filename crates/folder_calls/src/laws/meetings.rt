@@ -28,7 +28,8 @@ pub fn callers_who_meet_know_the_longer_history()
 {}
 
 /// A folder is closed in a state that follows from what each of the callers had seen, by entries that are not its own, and is a
-/// folder with room for what ends its open pulls. A caller that has the only pass had seen all. A folder may be closed after
+/// folder with room for what ends its open pulls. A caller that has the only pass had seen all, and if
+/// these are as many callers as passes, one of them had. A folder may be closed after
 /// any legal history that goes on from what its callers had seen.
 pub fn closing_keeps_what_callers_saw()
     ensures follows { (opening : FolderState) (limit passes : ℕ) (callers : List CallerView)
@@ -42,6 +43,10 @@ pub fn closing_keeps_what_callers_saw()
         × (len end.pulls ≤ limit) }
     ensures only { (opening : FolderState) (limit : ℕ) (v : CallerView) (end : FolderState) →
         Closes opening limit 1 (v ∷ []) end → end ≡ state_after v.opening v.seen }
+    ensures all { (opening : FolderState) (limit : ℕ) (callers : List CallerView)
+        (end : FolderState) →
+        Closes opening limit (length callers) callers end →
+        (v : CallerView) × Contains callers v × (end ≡ state_after v.opening v.seen) }
     ensures may { (passes : ℕ) (v : CallerView) (es : List Entry) → IsPrefix v.seen es →
         own_entries v.pass es ≡ own_entries v.pass v.seen →
         IsLegal passes v.opening es → length es + len (state_after v.opening es).pulls ≤ v.limit →

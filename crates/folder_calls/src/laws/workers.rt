@@ -52,6 +52,7 @@ pub fn answers_are_those_of_the_folder()
 pub fn tickets_are_those_that_were_asked_for()
     ensures begun { (old new : CallerView) (n : Name) (t : PullInfo) →
         Gets old (BeginPull n) (Begun t) new → t.name ≡ n }
-    ensures entered { (old new : CallerView) (t c : PullInfo) → Gets old (EnterCommit t) (Entered c) new →
+    ensures entered { (old new : CallerView) (t c : PullInfo) → Gets old (EnterCommit t)
+        (Entered c) new →
         c ≡ t }
 {}

@@ -1,16 +1,18 @@
 //! What an answer says of the state in which a change was asked for, and what becomes of an open pull.
-ghost use Rattle.std.specs.Prelude.{◌≡◌, ◌≢◌, ◌⊎◌, ◌<◌, ◌≤◌, ◌-◌, ℕ, Option, Some, None, IsTrue, true, false, Contains};
+ghost use Rattle.std.specs.Prelude.{◌≡◌, ◌≢◌, ◌⊎◌, ◌↔◌, ◌<◌, ◌≤◌, ◌-◌, ℕ, Option, Some, None, IsTrue, true, false, Contains};
 ghost use Rattle.std.specs.FinMap.{get, entries};
 ghost use Rattle.sync_version.specs.Versions.{Vector};
 ghost use Rattle.sync_record.specs.Contents.{same_content};
 ghost use Rattle.sync_record.specs.Records.{Name, FileRecord, is_file, is_directory};
 ghost use Rattle.sync_record.specs.Validity.{is_valid};
-ghost use Rattle.folder_core.specs.Announced.{Announcement, best};
+ghost use Rattle.folder_core.specs.Announced.{KeyedRecord, best};
+ghost use Rattle.folder_core.specs.Calls.{GivesBack};
 ghost use Rattle.folder_core.specs.States.{FolderState, HaveOwnNumbers, NoCommit, Pull, local, local_version, max_sequence, need, open_commits};
 ghost use Rattle.folder_core.specs.declared.answer.Answer.TheVariants.{Begun, Entered, Recorded, Stray};
 ghost use Rattle.folder_core.specs.declared.change.Change.{Change};
 ghost use Rattle.folder_core.specs.declared.change.Change.TheVariants.{ScanFound, ScanGone, BeginPull, EnterCommit, Finish, GiveUp, Abort};
 ghost use Rattle.folder_core.specs.declared.finding.Finding.{Finding};
+ghost use Rattle.folder_core.specs.declared.pull.EnterFault.TheVariants.{LocalMoved, OutOfMemory, SequenceFull, Superseded};
 ghost use Rattle.folder_core.specs.declared.pull_stage.PullStage.TheVariants.{Pulling, Committing};
 ghost use Rattle.folder_core.specs.declared.pull_info.PullInfo.{PullInfo};
 ghost use Rattle.folder_core.specs.Steps.{IsFor, found_record, is_accepted, next_version, step};
@@ -21,7 +23,7 @@ pub fn begun_pulls_are_of_the_name()
     ensures { (s : FolderState) (n : Name) (t : PullInfo) → (step s (BeginPull n)).0 ≡ Begun t →
         (t.name ≡ n) × (t.base ≡ local s n) × IsTrue (is_valid t.target)
         × ((t.target.deleted ≡ true) ⊎ ((is_file t.target ≡ true) ⊎ (is_directory t.target ≡ true)))
-        × ((e : Announcement) × (best (entries s.announced) n ≡ Some e) × (t.target ≡ e.1))
+        × ((e : KeyedRecord) × (best (entries s.announced) n ≡ Some e) × (t.target ≡ e.1))
         × Contains (need s) n × (get s.pulls n ≡ None)
         × (1 ≤ t.number) × ((m : Name) (p : Pull) → get s.pulls m ≡ Some p → p.number ≢ t.number) }
 {}
@@ -31,7 +33,7 @@ pub fn begun_pulls_are_of_the_name()
 pub fn entered_commits_are_their_tickets()
     ensures { (s : FolderState) (t c : PullInfo) → (step s (EnterCommit t)).0 ≡ Entered c →
         (c ≡ t) × (p : Pull) × IsFor s t Pulling p × (local_version s t.name ≡ p.base)
-        × ((e : Announcement) × (best (entries s.announced) t.target.name ≡ Some e)
+        × ((e : KeyedRecord) × (best (entries s.announced) t.target.name ≡ Some e)
         × (e.1.version ≡ t.target.version) × IsTrue (same_content e.1 t.target))
         × (open_commits s < max_sequence - s.last) }
 {}
@@ -72,4 +74,16 @@ pub fn open_pulls_stay()
         ⊎ ((c ≡ Abort t) ⊎ ((r : FileRecord) × (c ≡ Finish t r)))))) }
     ensures numbers { (s : FolderState) (c : Change) → HaveOwnNumbers s →
         HaveOwnNumbers (step s c).1 }
+{}
+
+/// Where a commit is not entered, the ticket that comes back is the one that was given.
+pub fn tickets_come_back()
+    ensures local_moved { (given back : PullInfo) →
+        GivesBack given (LocalMoved back) ↔ (back ≡ given) }
+    ensures superseded { (given back : PullInfo) →
+        GivesBack given (Superseded back) ↔ (back ≡ given) }
+    ensures sequence_full { (given back : PullInfo) →
+        GivesBack given (SequenceFull back) ↔ (back ≡ given) }
+    ensures out_of_memory { (given back : PullInfo) →
+        GivesBack given (OutOfMemory back) ↔ (back ≡ given) }
 {}

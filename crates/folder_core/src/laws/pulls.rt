@@ -8,7 +8,7 @@ ghost use Rattle.sync_record.specs.Devices.{bytes_cmp};
 ghost use Rattle.sync_record.specs.Records.{Name, FileRecord, is_file, is_directory};
 ghost use Rattle.sync_record.specs.Contents.{same_content};
 ghost use Rattle.sync_record.specs.Validity.{is_valid};
-ghost use Rattle.folder_core.specs.Announced.{Announcement, best};
+ghost use Rattle.folder_core.specs.Announced.{KeyedRecord, best};
 ghost use Rattle.folder_core.specs.States.{FolderState, Pull, IsFolder, local, local_version, max_sequence, need, open_commits};
 ghost use Rattle.folder_core.specs.declared.pull_stage.PullStage.TheVariants.{Pulling, Committing};
 ghost use Rattle.folder_core.specs.declared.change.Change.TheVariants.{BeginPull, EnterCommit, Finish, GiveUp, Abort};
@@ -22,7 +22,7 @@ ghost use Rattle.folder_core.specs.Steps.{IsFor, step, is_copy_due};
 pub fn need_is_the_rule()
     ensures rises { (s : FolderState) → IsStrictlySortedBy bytes_cmp (need s) }
     ensures rule { (s : FolderState) (n : Name) → Contains (need s) n ↔
-        ((e : Announcement) × (best (entries s.announced) n ≡ Some e)
+        ((e : KeyedRecord) × (best (entries s.announced) n ≡ Some e)
         × ((r : FileRecord) → local s n ≡ Some r → r.version ≢ e.1.version)
         × ¬ (IsTrue e.1.deleted × (local s n ≡ None))) }
 {}
@@ -35,11 +35,11 @@ pub fn begin_pull_takes_the_needed()
         (step s (BeginPull n)).0 ≡ Busy }
     ensures not_needed { (s : FolderState) (n : Name) →
         get s.pulls n ≡ None → ¬ (Contains (need s) n) → (step s (BeginPull n)).0 ≡ NotNeeded }
-    ensures unsupported { (s : FolderState) (n : Name) (e : Announcement) →
+    ensures unsupported { (s : FolderState) (n : Name) (e : KeyedRecord) →
         get s.pulls n ≡ None → best (entries s.announced) n ≡ Some e → Contains (need s) n →
         e.1.deleted ≡ false → is_file e.1 ≡ false → is_directory e.1 ≡ false →
         (step s (BeginPull n)).0 ≡ Unsupported }
-    ensures begun { (s : FolderState) (n : Name) (e : Announcement) →
+    ensures begun { (s : FolderState) (n : Name) (e : KeyedRecord) →
         get s.pulls n ≡ None → best (entries s.announced) n ≡ Some e → Contains (need s) n →
         (e.1.deleted ≡ true) ⊎ ((is_file e.1 ≡ true) ⊎ (is_directory e.1 ≡ true)) →
         (t : PullInfo) × ((step s (BeginPull n)).0 ≡ Begun t) × (t.name ≡ n) × (t.base ≡ local s n)
@@ -47,7 +47,8 @@ pub fn begin_pull_takes_the_needed()
         × (1 ≤ t.number) × ((m : Name) (p : Pull) → get s.pulls m ≡ Some p → p.number ≢ t.number)
         × ((k : ℕ) → 1 ≤ k → k < t.number → (m : Name) × (p : Pull) × (get s.pulls m ≡ Some p)
         × (p.number ≡ k)) }
-    ensures opened { (s : FolderState) (n : Name) (t : PullInfo) → (step s (BeginPull n)).0 ≡ Begun t →
+    ensures opened { (s : FolderState) (n : Name) (t : PullInfo) →
+        (step s (BeginPull n)).0 ≡ Begun t →
         get (step s (BeginPull n)).1.pulls n ≡ Some (record {
           number = t.number;
           base = option_map (λ r. r.version) t.base;
@@ -69,15 +70,15 @@ pub fn entering_is_tested_in_order()
     ensures superseded { (s : FolderState) (t : PullInfo) (p : Pull) →
         IsFor s t Pulling p →
         local_version s t.name ≡ p.base →
-        ((e : Announcement) → best (entries s.announced) t.target.name ≡ Some e →
+        ((e : KeyedRecord) → best (entries s.announced) t.target.name ≡ Some e →
         e.1.version ≡ t.target.version → same_content e.1 t.target ≡ false) →
         (step s (EnterCommit t)).0 ≡ Superseded }
-    ensures sequence { (s : FolderState) (t : PullInfo) (p : Pull) (e : Announcement) →
+    ensures sequence { (s : FolderState) (t : PullInfo) (p : Pull) (e : KeyedRecord) →
         IsFor s t Pulling p →
         local_version s t.name ≡ p.base → best (entries s.announced) t.target.name ≡ Some e →
         e.1.version ≡ t.target.version → IsTrue (same_content e.1 t.target) →
         max_sequence - s.last ≤ open_commits s → (step s (EnterCommit t)).0 ≡ SequenceFull }
-    ensures entered { (s : FolderState) (t : PullInfo) (p : Pull) (e : Announcement) →
+    ensures entered { (s : FolderState) (t : PullInfo) (p : Pull) (e : KeyedRecord) →
         IsFor s t Pulling p →
         local_version s t.name ≡ p.base → best (entries s.announced) t.target.name ≡ Some e →
         e.1.version ≡ t.target.version → IsTrue (same_content e.1 t.target) →

@@ -95,12 +95,14 @@ pub fn bests_come_in_pages()
         Reads s (Bests after limit) page → Contains page b →
         Reads s (Best b.0.name) (Some b)
         × ((a : Name) → after ≡ Some a → bytes_cmp b.0.name a ≡ Greater) }
-    ensures all { (s : FolderState) (after : Option Name) (limit : ℕ) (page : List BestEntry) (n : Name)
+    ensures all { (s : FolderState) (after : Option Name) (limit : ℕ) (page : List BestEntry)
+        (n : Name)
         (b : BestEntry) → IsFolder s →
         Reads s (Bests after limit) page → Reads s (Best n) (Some b) →
         ((a : Name) → after ≡ Some a → bytes_cmp n a ≡ Greater) →
         Contains page b
-        ⊎ ((length page ≡ limit) × ((c : BestEntry) → Contains page c → bytes_cmp c.0.name n ≡ Less)) }
+        ⊎ ((length page ≡ limit) × ((c : BestEntry) → Contains page c →
+        bytes_cmp c.0.name n ≡ Less)) }
     ensures end { (s : FolderState) (after : Option Name) (limit : ℕ) (n : Name) → 1 ≤ limit →
         Reads s (Bests after limit) [] → ((a : Name) → after ≡ Some a → bytes_cmp n a ≡ Greater) →
         Reads s (Best n) None }
@@ -113,7 +115,8 @@ pub fn bests_come_in_pages()
         ((n : Name) (b : BestEntry) → Reads s (Best n) (Some b) →
         ((a : Name) → after ≡ Some a → bytes_cmp n a ≡ Greater) →
         Contains page b
-        ⊎ ((length page ≡ limit) × ((c : BestEntry) → Contains page c → bytes_cmp c.0.name n ≡ Less))) →
+        ⊎ ((length page ≡ limit) × ((c : BestEntry) → Contains page c →
+        bytes_cmp c.0.name n ≡ Less))) →
         Reads s (Bests after limit) page }
     ensures pages { (s : FolderState) (limit : ℕ) → IsFolder s → 1 ≤ limit →
         (pages : List (List BestEntry)) × ArePages s limit None pages }

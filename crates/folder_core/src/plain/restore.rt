@@ -1,5 +1,5 @@
 //! What a folder is restored from.
-ghost use Rattle.std.specs.Prelude.{◌≡◌, ◌≢◌, ◌↔◌, [], AllPairs, IfErr, IfOk, IsOk, IsTrue, filter, map};
+ghost use Rattle.std.specs.Prelude.{◌≡◌, ◌≢◌, ◌↔◌, [], false, AllPairs, IfErr, IfOk, IsOk, IsTrue, filter, map};
 ghost use Rattle.std.specs.FinMap.{is_sorted};
 ghost use Rattle.std.specs.List.{list_all};
 ghost use Rattle.std.specs.List.Sorted.{IsPermutation};
@@ -52,7 +52,8 @@ fn order(a: &Announcement, b: &Announcement) -> Ordering
 }
 
 /// Whether the device's records are valid, with distinct sequences from 1 to the last. O(n + k log k) for n entries, k of
-/// them the device's. It does not allocate where none is.
+/// them the device's. It does not allocate where none is, nor where one is not valid or not of a sequence from 1 to the
+/// last.
 pub(super) fn are_numbered(
     alloc: Global,
     entries: &[Announcement],
@@ -62,6 +63,8 @@ pub(super) fn are_numbered(
     ensures numbered { IfOk result
         (λ b. IsTrue b ↔ AreNumbered last (filter (is_from device) entries.now)) }
     ensures none { filter (is_from device) entries.now ≡ [] → IsOk result }
+    ensures each { list_all (λ e. is_numbered last e.record)
+        (filter (is_from device) entries.now) ≡ false → IsOk result }
 {
     if entry_from(entries, device).is_none() {
         return Ok(true);

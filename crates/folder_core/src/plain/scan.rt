@@ -193,9 +193,11 @@ pub(super) fn gone_record(
     })
 }
 
+/// The blocks in a list of their own. Does not allocate where there are none.
 fn copied_blocks(alloc: Global, blocks: &[Block]) -> Result<Items<Block>, AllocError>
     ensures value { IfOk result (λ copied. copied ≡ blocks.now) }
     ensures digests { IfOk result (λ copied. All (λ b. length b.hash ≡ 32) copied) }
+    ensures none { blocks.now ≡ [] → IsOk result }
 {
     let mut copied = Vec::with_capacity(alloc, blocks.len())?;
     for block in blocks {

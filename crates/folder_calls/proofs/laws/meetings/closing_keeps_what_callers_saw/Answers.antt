@@ -1,4 +1,4 @@
-use Rattle.folder_calls.proofs.HistoryMeetings.{close-folder, close-follows, close-only, may-close}
+use Rattle.folder_calls.proofs.HistoryMeetings.{close-all, close-folder, close-follows, close-only, may-close}
 use Rattle.folder_calls.proofs.laws.meetings.closing_keeps_what_callers_saw.Goals as goal
 
 pub returns-clause-follows : goal.returns-clause-follows
@@ -12,3 +12,6 @@ returns-clause-only c = close-only
 
 pub returns-clause-may : goal.returns-clause-may
 returns-clause-may c = may-close
+
+pub returns-clause-all : goal.returns-clause-all
+returns-clause-all c = close-all

@@ -1,12 +1,13 @@
 use Rattle.std.proofs.Common.{◌≡◌, ◌<◌, ◌≤◌, ◌^◌, List, length, map, ap, sym, subst, ◌∙◌, rules, vec_capacity}
 use Rattle.std.proofs.lemmas.Bool.{true≢false}
 use Rattle.std.specs.Prelude.{pos, filter}
+use Rattle.std.specs.List.{list_all}
 use Rattle.std.specs.List.Sorted.{IsPermutation}
 use Rattle.folder_core.specs.declared.plain.pull.OpenPull.{OpenPull}
 use Rattle.folder_core.specs.declared.restore_fault.RestoreFault.TheVariants.{BadRecords}
 use Rattle.folder_core.specs.Plain.{IsPlain, Rises, folder_of, pulls_of}
 use Rattle.folder_core.specs.PlainReads.{is_from}
-use Rattle.folder_core.specs.PlainRestores.{AreNumbered, IsOnce, given}
+use Rattle.folder_core.specs.PlainRestores.{AreNumbered, IsOnce, given, is_numbered}
 use Rattle.folder_core.specs.Restores.{MayRestore, restored_folder}
 use Rattle.folder_core.proofs.PlainRestore.{may-restore, none-permuted, numbered, once-given, plain-restored, same-folder}
 use Rattle.folder_core.proofs.plain.PlainFolder.restore.Goals as goal
@@ -25,6 +26,19 @@ pub returns-in_err-are_numbered-clause-in_order : goal.returns-in_err-are_number
 returns-in_err-are_numbered-clause-in_order c = λ rises none.
     let entries = c.in_ok-entries.ensures.kept (subst Rises (sym c.into_vec.ensures) rises) ∙ c.into_vec.ensures in
     absurd (true≢false (sym (c.in_err-are_numbered.ensures.none (ap (filter (is_from c.args.me)) (c.as_slice.ensures.value ∙ entries) ∙ none))))
+
+pub returns-in_err-entries-clause-numbered : goal.returns-in_err-entries-clause-numbered
+returns-in_err-entries-clause-numbered c = λ n last_is rises bad.
+    absurd (true≢false (sym (c.in_err-entries.ensures.in_order (subst Rises (sym c.into_vec.ensures) rises))))
+
+pub returns-in_err-are_numbered-clause-numbered : goal.returns-in_err-are_numbered-clause-numbered
+returns-in_err-are_numbered-clause-numbered c = λ n is rises bad.
+    let entries = c.in_ok-entries.ensures.kept (subst Rises (sym c.into_vec.ensures) rises) ∙ c.into_vec.ensures in
+    let last_is : c.args.last ≡ pos c.in-Ok.last = search rules in
+    let numbers : pos c.in-Ok.last ≡ pos n = sym last_is ∙ is in
+    let same : c.in-Ok.last ≡ n = cc in
+    absurd (true≢false (sym (c.in_err-are_numbered.ensures.each
+    ((λ i. list_all (λ e. is_numbered (same i) e.record) (filter (is_from c.args.me) ((c.as_slice.ensures.value ∙ entries) i))) ∙ bad))))
 
 pub returns-in_err-are_numbered-clause-none : goal.returns-in_err-are_numbered-clause-none
 returns-in_err-are_numbered-clause-none c = λ none.
