@@ -1,8 +1,6 @@
-//! Frames made by hand from the protocol's rules. Each allocation may fail once: then the same call is
-//! made again, and the stream is read to its end.
+//! Frames made by hand from the protocol's rules. Each call is made once: out of memory ends a test.
 use crate::{
-    Frame, FrameFault, FrameReader, FrameStream, Message, WriteFault, frames_of, write_frame,
-    write_hello,
+    Frame, FrameFault, FrameReader, Message, WriteFault, frames_of, write_frame, write_hello,
 };
 use bep_messages::{Hello, Text};
 use std::alloc::{AllocError, Global};
@@ -33,14 +31,6 @@ fn push_piece(pieces: &mut Vec<Vec<u8>>, alloc: Global, piece: &[u8]) -> Result<
     Ok(())
 }
 
-/// The stream's frames, by a second call where the first is out of memory.
-fn frames_again(alloc: Global, pieces: &[Vec<u8>], due: bool) -> Result<FrameStream, AllocError> {
-    match frames_of(alloc, pieces, due) {
-        Err(_) => frames_of(alloc, pieces, due),
-        answer => answer,
-    }
-}
-
 fn expect_pieces(
     rt: &impl Abort,
     alloc: Global,
@@ -49,7 +39,7 @@ fn expect_pieces(
     kinds: &[i32],
     end: Result<usize, FrameFault>,
 ) -> Result<(), Fail> {
-    let stream = frames_again(alloc, pieces, due)?;
+    let stream = frames_of(alloc, pieces, due)?;
     assert_eq!(rt; stream.end, end);
     assert_eq!(rt; stream.frames.len(), kinds.len());
     for (frame, expected) in stream.frames.iter().zip(kinds) {
@@ -152,20 +142,15 @@ fn faults_as_soon_as_they_show(rt: HostRuntime) -> Result<(), Fail> {
 #[test]
 fn a_fault_stays(rt: HostRuntime) -> Result<(), Fail> {
     let mut reader = FrameReader::after_hello(rt.alloc());
-    if reader.feed(&[0, 4, 8, 6, 0x10]).is_err() {
-        assert_eq!(rt; reader.rest(), 0);
-        reader.feed(&[0, 4, 8, 6, 0x10])?;
-    }
+    reader.feed(&[0, 4, 8, 6, 0x10])?;
     assert!(rt; reader.next().is_none());
     assert_eq!(rt; reader.rest(), 5);
     reader.feed(&[1])?;
     for _ in 0..3u8 {
-        assert!(rt;
-            matches!(
-                reader.next(),
-                Some(Err(FrameFault::Compressed | FrameFault::OutOfMemory))
-            )
-        );
+        match reader.next() {
+            Some(Err(fault)) => assert_eq!(rt; fault, FrameFault::Compressed),
+            _ => panic!(rt; "no fault"),
+        }
         reader.feed(&[0, 0, 0, 0, 0, 0])?;
         assert_eq!(rt; reader.rest(), 6);
     }
@@ -176,14 +161,11 @@ fn a_fault_stays(rt: HostRuntime) -> Result<(), Fail> {
 fn expect_written(rt: &impl Abort, alloc: Global, bytes: &[u8]) -> Result<(), Fail> {
     let mut pieces = Vec::new(alloc);
     push_piece(&mut pieces, alloc, bytes)?;
-    let stream = frames_again(alloc, pieces.as_slice(), false)?;
+    let stream = frames_of(alloc, pieces.as_slice(), false)?;
     let mut out = Vec::from_slice(alloc, &[7])?;
     for frame in stream.frames.iter() {
         if let Frame::Message(message) = frame {
-            if write_frame(message, &mut out).is_err() {
-                assert_eq!(rt; out.as_slice(), [7].as_slice());
-                write_frame(message, &mut out).map_err(|_| AllocError)?;
-            }
+            write_frame(message, &mut out)?;
         }
     }
     assert_eq!(rt; out.get(1..), Some(bytes));
@@ -224,25 +206,16 @@ fn hellos_written(rt: HostRuntime) -> Result<(), Fail> {
     let alloc = rt.alloc();
     let mut out = Vec::new(alloc);
     let small = hello_of(alloc, 1)?;
-    if write_hello(&small, &mut out).is_err() {
-        assert!(rt; out.is_empty());
-        write_hello(&small, &mut out).map_err(|_| AllocError)?;
-    }
+    write_hello(&small, &mut out)?;
     let expected = [0x2E, 0xA7, 0xD9, 0x0B, 0x00, 0x03, 0x0A, 0x01, 0x61];
     assert_eq!(rt; out.as_slice(), expected.as_slice());
     out.clear();
     let most = hello_of(alloc, 65_531)?;
-    if write_hello(&most, &mut out).is_err() {
-        write_hello(&most, &mut out).map_err(|_| AllocError)?;
-    }
+    write_hello(&most, &mut out)?;
     assert_eq!(rt; out.len(), 65_541);
     assert_eq!(rt; out.get(4..6), Some([0xFF, 0xFF].as_slice()));
     let over = hello_of(alloc, 65_532)?;
-    let mut written = write_hello(&over, &mut out);
-    if written == Err(WriteFault::OutOfMemory) {
-        written = write_hello(&over, &mut out);
-    }
-    assert_eq!(rt; written, Err(WriteFault::TooLong));
+    assert_eq!(rt; write_hello(&over, &mut out), Err(WriteFault::TooLong));
     assert_eq!(rt; out.len(), 65_541);
     Ok(())
 }

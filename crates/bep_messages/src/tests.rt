@@ -1,5 +1,4 @@
-//! Bytes made by hand from the protocol's tables. Each allocation may fail once (`tools/refusals`):
-//! then the same call is made again.
+//! Bytes made by hand from the protocol's tables. Each call is made once: out of memory ends a test.
 use crate::{
     BlockInfo, Close, ClusterConfig, Copied, Counter, Device, DownloadProgress, FileInfo, Folder,
     Header, Hello, Index, IndexUpdate, MessageFault, Ping, ProtoMessage, Request, Response, Text,
@@ -9,27 +8,15 @@ use bep_wire::WireFault;
 use std::process::Abort;
 use std::test::Fail;
 
-fn decode<M: ProtoMessage>(rt: &impl AllocGlobal, bytes: &[u8]) -> Result<M, MessageFault> {
-    match M::decode(rt.alloc(), bytes) {
-        Err(MessageFault::OutOfMemory) => M::decode(rt.alloc(), bytes),
-        answer => answer,
-    }
-}
-
-/// Encodes after a byte that is there already; a failed allocation must have left that byte alone.
+/// Encodes after a byte that is there already.
 fn expect_form<R: Abort + AllocGlobal, M: ProtoMessage>(
     rt: &R,
     message: &M,
     form: &[u8],
 ) -> Result<(), Fail> {
     let mut out = Vec::new(rt.alloc());
-    if out.push(7).is_err() {
-        out.push(7)?;
-    }
-    if message.encode(&mut out).is_err() {
-        expect_octets(rt, out.as_slice(), &[7]);
-        message.encode(&mut out)?;
-    }
+    out.push(7)?;
+    message.encode(&mut out)?;
     let (front, written) = out.as_slice().split_at(out.len().min(1));
     expect_octets(rt, front, &[7]);
     expect_octets(rt, written, form);
@@ -42,13 +29,9 @@ fn written_as<R: Abort + AllocGlobal, M: ProtoMessage + Copied>(
     bytes: &[u8],
     form: &[u8],
 ) -> Result<M, Fail> {
-    let message: M = decode(rt, bytes)?;
+    let message = M::decode(rt.alloc(), bytes)?;
     expect_form(rt, &message, form)?;
-    let copy = match message.copy() {
-        Err(_) => message.copy()?,
-        Ok(copy) => copy,
-    };
-    expect_form(rt, &copy, form)?;
+    expect_form(rt, &message.copy()?, form)?;
     Ok(message)
 }
 
@@ -83,10 +66,10 @@ fn expect_fault<M: ProtoMessage, R: Abort + AllocGlobal>(
     bytes: &[u8],
     fault: MessageFault,
 ) {
-    assert!(rt;
-        matches!(decode::<M>(rt, bytes), Err(found) if found == fault),
-        "{bytes:?}"
-    );
+    match M::decode(rt.alloc(), bytes) {
+        Err(found) => assert_eq!(rt; found, fault, "{bytes:?}"),
+        Ok(_) => panic!(rt; "a message of {bytes:?}"),
+    }
 }
 
 const ALL_ONES: [u8; 10] = [0xff, 0xff, 0xff, 0xff, 0xff, 0xff, 0xff, 0xff, 0xff, 0x01];
@@ -411,10 +394,6 @@ fn expect_name<R: Abort + AllocGlobal>(
     name: &str,
 ) -> Result<(), Fail> {
     assert_eq!(rt; fault.number(), number);
-    let shown = match fault.to_string(rt.alloc()) {
-        Err(_) => fault.to_string(rt.alloc())?,
-        Ok(shown) => shown,
-    };
-    assert_eq!(rt; shown.as_str(), name);
+    assert_eq!(rt; fault.to_string(rt.alloc())?.as_str(), name);
     Ok(())
 }

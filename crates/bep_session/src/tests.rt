@@ -1,5 +1,5 @@
-//! Sessions over frames made by hand from the protocol's rules, and over streams of a real peer. Where memory runs out in `feed`,
-//! the session must have ended; any other call that fails so is made again.
+//! Sessions over frames made by hand from the protocol's rules, and over streams of a real peer. Each call is made once: out of
+//! memory ends a test, and if it was in `feed`, the session must have ended.
 mod asks;
 mod docs;
 mod graves;

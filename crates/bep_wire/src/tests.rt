@@ -1,5 +1,5 @@
 //! Values from outside: the published examples of the encoding, and bytes made by hand from its rules.
-//! Each allocation may fail once (`tools/refusals`): then the same call is made again.
+//! Each call is made once: out of memory ends a test.
 use crate::{
     Field, FieldsFault, MAX_FIELD_NUMBER, Value, WireFault, next_field, put_bytes, put_varint,
     read_fields,
@@ -14,14 +14,6 @@ fn field(number: u32, value: Value, start: usize, end: usize) -> Field {
         value,
         start,
         end,
-    }
-}
-
-/// Reads all fields, again if an allocation failed.
-fn fields_of(alloc: Global, source: &[u8]) -> Result<Vec<Field>, FieldsFault> {
-    match read_fields(alloc, source) {
-        Err(FieldsFault::OutOfMemory) => read_fields(alloc, source),
-        answer => answer,
     }
 }
 
@@ -41,7 +33,7 @@ fn expect_fault(rt: &impl Abort, source: &[u8], fault: WireFault) {
 fn expect_only(rt: &impl Abort, alloc: Global, source: &[u8], expected: Field) -> Result<(), Fail> {
     expect_field(rt, source, 0, expected);
     assert_eq!(rt; next_field(source, source.len()), Ok(None));
-    let all = fields_of(alloc, source)?;
+    let all = read_fields(alloc, source)?;
     assert_eq!(rt; all.as_slice(), [expected].as_slice());
     for len in 1..source.len() {
         if let Some(cut) = source.get(..len) {
@@ -51,24 +43,11 @@ fn expect_only(rt: &impl Abort, alloc: Global, source: &[u8], expected: Field) -
     Ok(())
 }
 
-/// Appends a varint to `old`, again if an allocation failed, which must have left it as it was.
-fn put_again(rt: &impl Abort, out: &mut Vec<u8>, old: &[u8], value: u64) -> Result<(), Fail> {
-    if put_varint(out, value).is_err() {
-        assert_eq!(rt;
-            out.as_slice(),
-            old,
-            "a failed allocation changed the vector"
-        );
-        put_varint(out, value)?;
-    }
-    Ok(())
-}
-
 #[test]
 fn rows_of_the_wire(rt: HostRuntime) -> Result<(), Fail> {
     let alloc = rt.alloc();
     assert_eq!(rt; next_field(&[], 0), Ok(None));
-    assert_eq!(rt; fields_of(alloc, &[])?.len(), 0);
+    assert_eq!(rt; read_fields(alloc, &[])?.len(), 0);
     let field = field(1, Value::Varint(300), 1, 3);
     expect_only(&rt, alloc, &[0x08, 0xac, 0x02], field)?;
     expect_fault(&rt, &[0x08], WireFault::Truncated);
@@ -134,7 +113,7 @@ fn several_fields(rt: HostRuntime) -> Result<(), Fail> {
         field(1, Value::Varint(128), 11, 13),
     ];
     assert_eq!(rt;
-        fields_of(rt.alloc(), &source)?.as_slice(),
+        read_fields(rt.alloc(), &source)?.as_slice(),
         fields.as_slice()
     );
     expect_field(&rt, &source, 5, fields[2]);
@@ -142,7 +121,7 @@ fn several_fields(rt: HostRuntime) -> Result<(), Fail> {
     assert_eq!(rt; next_field(&source, 14), Ok(None));
     assert_eq!(rt; next_field(&source, usize::MAX), Ok(None));
     // The first fault is after two fields.
-    let fault = fields_of(rt.alloc(), &[0x08, 0x01, 0x12, 0x00, 0x0b, 0x08]).err();
+    let fault = read_fields(rt.alloc(), &[0x08, 0x01, 0x12, 0x00, 0x0b, 0x08]).err();
     assert_eq!(rt; fault, Some(FieldsFault::Wire(WireFault::Group)));
     Ok(())
 }
@@ -158,9 +137,9 @@ fn varints_at_their_borders(rt: HostRuntime) -> Result<(), Fail> {
             let more = if last == 0x01 { len } else { len - 1 };
             let mut text = Vec::new(rt.alloc());
             for byte in front.iter().take(more) {
-                push_again(&mut text, *byte)?;
+                text.push(*byte)?;
             }
-            push_again(&mut text, last)?;
+            text.push(last)?;
             expect_varint(&rt, text.as_slice(), value)?;
         }
     }
@@ -180,21 +159,14 @@ fn varints_at_their_borders(rt: HostRuntime) -> Result<(), Fail> {
     Ok(())
 }
 
-fn push_again(text: &mut Vec<u8>, byte: u8) -> Result<(), Fail> {
-    if text.push(byte).is_err() {
-        text.push(byte)?;
-    }
-    Ok(())
-}
-
 /// The text is written for the value, and read as it, also after another field's bytes.
 fn expect_varint<R: Abort + AllocGlobal>(rt: &R, text: &[u8], value: u64) -> Result<(), Fail> {
     let mut out = Vec::new(rt.alloc());
-    put_again(rt, &mut out, &[], value)?;
+    put_varint(&mut out, value)?;
     assert_eq!(rt; out.as_slice(), text, "the varint of {value}");
     let mut source = Vec::new(rt.alloc());
-    push_again(&mut source, 0x08)?;
-    put_again(rt, &mut source, &[0x08], value)?;
+    source.push(0x08)?;
+    put_varint(&mut source, value)?;
     let end = source.len();
     expect_only(
         rt,
@@ -216,16 +188,9 @@ fn fields_of_bytes(rt: HostRuntime) -> Result<(), Fail> {
     for (number, len, head) in heads {
         let bytes = many.get(..len).ok_or("fewer bytes")?;
         let mut out = Vec::new(rt.alloc());
-        put_again(&rt, &mut out, &[], 7)?;
+        out.push(7)?;
         if number > 0 && number <= MAX_FIELD_NUMBER {
-            if put_bytes(&mut out, number, bytes).is_err() {
-                assert_eq!(rt;
-                    out.as_slice(),
-                    [7].as_slice(),
-                    "a failed allocation changed the vector"
-                );
-                put_bytes(&mut out, number, bytes)?;
-            }
+            put_bytes(&mut out, number, bytes)?;
         }
         let (front, written) = out.as_slice().split_at(out.len().min(1));
         let (got_head, got_bytes) = written.split_at(written.len().min(head.len()));
@@ -247,11 +212,7 @@ fn faults_have_names_and_numbers(rt: HostRuntime) -> Result<(), Fail> {
     ];
     for (fault, number, name) in faults {
         assert_eq!(rt; fault.number(), number);
-        let shown = match fault.to_string(rt.alloc()) {
-            Err(_) => fault.to_string(rt.alloc())?,
-            Ok(shown) => shown,
-        };
-        assert_eq!(rt; shown.as_str(), name);
+        assert_eq!(rt; fault.to_string(rt.alloc())?.as_str(), name);
     }
     Ok(())
 }

@@ -1,12 +1,12 @@
-//! Whole streams and their listings: worked rows, captured streams of a real peer, streams in pieces, and reads, writes
-//! and allocations that fail. Where an allocation fails, a front of the listing was written, and the stream is read again.
+//! Whole streams and their listings: worked rows, captured streams of a real peer, streams in pieces, and reads and writes
+//! that fail. Each stream is read once. Where an allocation fails, a front of the listing was written, and the test ends.
 mod captured;
 mod failing;
 mod rows;
 mod runs;
 
 use crate::best::best;
-use crate::ending::{Ending, Failure};
+use crate::ending::Ending;
 use crate::received::own_device;
 use folder_core::PlainFolder;
 use std::alloc::{AllocError, Global};
@@ -138,17 +138,10 @@ fn run(
     fails_at: u64,
     listing: &str,
 ) -> Result<(Ending, usize), AllocError> {
-    let mut ending = Ending::Failed(Failure::OutOfMemory);
-    let mut count = 0;
-    for _ in 0..2 {
-        if ending == Ending::Failed(Failure::OutOfMemory) {
-            let mut sink = Sink::new(rt.alloc(), step, fails_at)?;
-            ending = list(rt.alloc(), "f", &mut { source }, &mut sink);
-            count = sink.written.len();
-            assert!(rt; listing.as_bytes().starts_with(sink.written.as_slice()));
-        }
-    }
-    Ok((ending, count))
+    let mut sink = Sink::new(rt.alloc(), step, fails_at)?;
+    let ending = list(rt.alloc(), "f", &mut { source }, &mut sink);
+    assert!(rt; listing.as_bytes().starts_with(sink.written.as_slice()));
+    Ok((ending, sink.written.len()))
 }
 
 /// Reads a stream from memory, into memory, and compares what it wrote and how it ended.
@@ -160,12 +153,11 @@ fn lists(
     ending: Ending,
 ) -> Result<(), AllocError> {
     let mut written = Vec::with_capacity(rt.alloc(), MOST)?;
-    let mut answer = list(rt.alloc(), folder, &mut { stream }, &mut written);
-    if answer == Ending::Failed(Failure::OutOfMemory) {
-        assert!(rt; listing.as_bytes().starts_with(written.as_slice()));
-        written.clear();
-        answer = list(rt.alloc(), folder, &mut { stream }, &mut written);
-    }
+    let answer = list(rt.alloc(), folder, &mut { stream }, &mut written);
+    assert!(rt;
+        listing.as_bytes().starts_with(written.as_slice()),
+        "{listing}"
+    );
     assert_eq!(rt; answer, ending, "{listing}");
     assert_eq!(rt; written.as_slice(), listing.as_bytes(), "{listing}");
     Ok(())

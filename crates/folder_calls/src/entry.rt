@@ -1,4 +1,7 @@
-ghost use Rattle.std.specs.Prelude.{◌≡◌, IfOk};
+ghost use Rattle.std.specs.Prelude.{◌≡◌, [], false, IfOk, IsOk};
+ghost use Rattle.sync_record.specs.Devices.{Identity};
+ghost use Rattle.folder_core.specs.Calls.{copy_allocates};
+ghost use Rattle.folder_core.specs.declared.change.Change.TheVariants.{Forget, IndexFull, IndexMore};
 
 use folder_core::{Answer, Change};
 use std::alloc::AllocError;
@@ -13,10 +16,16 @@ pub struct Entry {
 }
 
 impl Entry {
-    /// The same entry once more. Returns `Err` only if out of memory. O(n) time and memory for the size n of the change and the
-    /// answer.
+    /// The same entry once more. Returns `Err` only if out of memory, and never if the change is `Forget` or an index without
+    /// records, and the answer is without a version and a token. O(n) time and memory for the size n of the change and the answer.
     pub fn copy(&self) -> Result<Entry, AllocError>
-        ensures { IfOk result (λ entry. entry ≡ self.now) }
+        ensures same { IfOk result (λ entry. entry ≡ self.now) }
+        ensures forget { (d : Identity) → self.now.change ≡ Forget d →
+            copy_allocates self.now.answer ≡ false → IsOk result }
+        ensures no_records_full { (d : Identity) → self.now.change ≡ IndexFull d [] →
+            copy_allocates self.now.answer ≡ false → IsOk result }
+        ensures no_records_more { (d : Identity) → self.now.change ≡ IndexMore d [] →
+            copy_allocates self.now.answer ≡ false → IsOk result }
     {
         Ok(Entry {
             pass: self.pass,

@@ -111,7 +111,7 @@ fn accepts_no_unsupported_best(rt: HostRuntime) {
     begins(&rt, &mut folder, "x", "NotNeeded", false);
 }
 
-/// Asks whether the change is accepted, makes it, and compares both answers. After out of memory it is made again.
+/// Asks whether the change is accepted, makes it, and compares both answers.
 fn makes(
     rt: &(impl AllocGlobal + Abort),
     folder: &mut PlainFolder,
@@ -121,14 +121,10 @@ fn makes(
 ) -> Answer {
     let me = folder.me();
     let before = copied(rt, folder);
-    let again = change.copy().expect(rt, "a copy");
-    assert!(rt; change.is_allowed(me) && again.is_allowed(me));
+    assert!(rt; change.is_allowed(me));
     assert!(rt; folder.accepts(&change) == is_accepted, "{wanted}");
     assert!(rt; folder.same_state(&before));
-    let answer = match make(folder, change) {
-        Err(_) => make(folder, again).expect(rt, "an answer"),
-        Ok(answer) => answer,
-    };
+    let answer = make(folder, change).expect(rt, "an answer");
     assert!(rt; name_of(&answer) == wanted, "{answer:?} for {wanted}");
     answer
 }

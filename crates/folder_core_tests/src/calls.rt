@@ -1,4 +1,4 @@
-//! The calls of a folder. Each that fails, because it is out of memory, must leave the folder as it was, and is made again.
+//! The calls of a folder, each made once: out of memory ends the test.
 ghost use Rattle.std.specs.Prelude.{◌≡◌, ◌&&◌};
 ghost use Rattle.sync_record.specs.Records.{is_live_file};
 ghost use Rattle.sync_record.specs.Validity.{is_valid};
@@ -32,18 +32,11 @@ pub(crate) fn try_restore(
     rows: &[Announced],
     last: i64,
 ) -> Result<PlainFolder, RestoreFault> {
-    let first = PlainFolder::restore(rt.alloc(), device(9), announcements(rt, rows), last);
-    if !matches!(&first, Err(RestoreFault::OutOfMemory)) {
-        return first;
-    }
     PlainFolder::restore(rt.alloc(), device(9), announcements(rt, rows), last)
 }
 
 pub(crate) fn copied(rt: &impl Abort, folder: &PlainFolder) -> PlainFolder {
-    match folder.plain_copy() {
-        Err(_) => folder.plain_copy().expect(rt, "a copy"),
-        Ok(copy) => copy,
-    }
+    folder.plain_copy().expect(rt, "a copy")
 }
 
 /// The device announces these records too.
@@ -55,13 +48,9 @@ pub(crate) fn more(
 ) {
     let peer = device(number);
     assert!(rt; peer != folder.me());
-    let before = copied(rt, folder);
-    if folder.index_more(peer, records(rt, rows)).is_err() {
-        assert!(rt; folder.same_state(&before));
-        folder
-            .index_more(peer, records(rt, rows))
-            .expect(rt, "more records");
-    }
+    folder
+        .index_more(peer, records(rt, rows))
+        .expect(rt, "more records");
 }
 
 /// The device announces these records and no others.
@@ -73,24 +62,16 @@ pub(crate) fn full(
 ) {
     let peer = device(number);
     assert!(rt; peer != folder.me());
-    let before = copied(rt, folder);
-    if folder.index_full(peer, records(rt, rows)).is_err() {
-        assert!(rt; folder.same_state(&before));
-        folder
-            .index_full(peer, records(rt, rows))
-            .expect(rt, "all records");
-    }
+    folder
+        .index_full(peer, records(rt, rows))
+        .expect(rt, "all records");
 }
 
 /// The device announces nothing.
 pub(crate) fn forgets(rt: &(impl AllocGlobal + Abort), folder: &mut PlainFolder, number: u8) {
     let peer = device(number);
     assert!(rt; peer != folder.me());
-    let before = copied(rt, folder);
-    if folder.forget(peer).is_err() {
-        assert!(rt; folder.same_state(&before));
-        folder.forget(peer).expect(rt, "a forgotten device");
-    }
+    folder.forget(peer).expect(rt, "a forgotten device");
 }
 
 /// Records what was found at moment 0, and compares the answer.
@@ -105,12 +86,7 @@ pub(crate) fn finds(
     let name = name(rt, text);
     let expected = expected.map(|counters| version(rt, counters));
     assert!(rt; found.content.is_recordable());
-    let before = copied(rt, folder);
-    let mut answer = folder.scan_found(&name, expected.as_ref(), found, moment(rt, 0));
-    if matches!(&answer, Err(ScanFault::OutOfMemory)) {
-        assert!(rt; folder.same_state(&before));
-        answer = folder.scan_found(&name, expected.as_ref(), found, moment(rt, 0));
-    }
+    let answer = folder.scan_found(&name, expected.as_ref(), found, moment(rt, 0));
     answers(rt, answer, wanted);
 }
 
@@ -124,12 +100,7 @@ pub(crate) fn loses(
 ) {
     let name = name(rt, text);
     let expected = expected.map(|counters| version(rt, counters));
-    let before = copied(rt, folder);
-    let mut answer = folder.scan_gone(&name, expected.as_ref(), moment(rt, 0));
-    if matches!(&answer, Err(ScanFault::OutOfMemory)) {
-        assert!(rt; folder.same_state(&before));
-        answer = folder.scan_gone(&name, expected.as_ref(), moment(rt, 0));
-    }
+    let answer = folder.scan_gone(&name, expected.as_ref(), moment(rt, 0));
     answers(rt, answer, wanted);
 }
 
@@ -153,15 +124,7 @@ fn try_begin(
     text: &str,
 ) -> Result<Ticket, &'static str> {
     let name = name(rt, text);
-    let before = copied(rt, folder);
-    let answer = match folder.begin_pull(&name) {
-        Err(_) => {
-            assert!(rt; folder.same_state(&before));
-            folder.begin_pull(&name).expect(rt, "a pull")
-        }
-        Ok(answer) => answer,
-    };
-    match answer {
+    match folder.begin_pull(&name).expect(rt, "a pull") {
         BeginAnswer::Begun(ticket) => Ok(ticket),
         BeginAnswer::NotNeeded => Err("NotNeeded"),
         BeginAnswer::Busy => Err("Busy"),
@@ -199,25 +162,8 @@ pub(crate) fn begins_none(
     }
 }
 
-pub(crate) fn try_enter(
-    rt: &impl Abort,
-    folder: &mut PlainFolder,
-    ticket: Ticket,
-) -> Result<Commit, EnterFault> {
-    let number = ticket.number();
-    let before = copied(rt, folder);
-    match folder.enter_commit(ticket) {
-        Err(EnterFault::OutOfMemory(ticket)) => {
-            assert!(rt; folder.same_state(&before));
-            assert_eq!(rt; ticket.number(), number);
-            folder.enter_commit(ticket)
-        }
-        answer => answer,
-    }
-}
-
 pub(crate) fn enters(rt: &impl Abort, folder: &mut PlainFolder, ticket: Ticket) -> Commit {
-    match try_enter(rt, folder, ticket) {
+    match folder.enter_commit(ticket) {
         Ok(commit) => commit,
         Err(fault) => panic!(rt; "{fault:?}"),
     }
@@ -261,10 +207,7 @@ pub(crate) fn best(
     text: &str,
 ) -> Option<Best> {
     let name = name(rt, text);
-    match folder.best(&name) {
-        Err(_) => folder.best(&name).expect(rt, "a best"),
-        Ok(best) => best,
-    }
+    folder.best(&name).expect(rt, "a best")
 }
 
 pub(crate) fn bests(
@@ -274,10 +217,7 @@ pub(crate) fn bests(
     limit: usize,
 ) -> Items<Best> {
     let after = after.map(|text| name(rt, text));
-    match folder.bests(after.as_ref(), limit) {
-        Err(_) => folder.bests(after.as_ref(), limit).expect(rt, "a page"),
-        Ok(page) => page,
-    }
+    folder.bests(after.as_ref(), limit).expect(rt, "a page")
 }
 
 pub(crate) fn local(
@@ -286,10 +226,7 @@ pub(crate) fn local(
     text: &str,
 ) -> Option<Record> {
     let name = name(rt, text);
-    match folder.local(&name) {
-        Err(_) => folder.local(&name).expect(rt, "a local record"),
-        Ok(local) => local,
-    }
+    folder.local(&name).expect(rt, "a local record")
 }
 
 pub(crate) fn need(
@@ -299,10 +236,7 @@ pub(crate) fn need(
     limit: usize,
 ) -> Items<SafeName> {
     let after = after.map(|text| name(rt, text));
-    match folder.need(after.as_ref(), limit) {
-        Err(_) => folder.need(after.as_ref(), limit).expect(rt, "a page"),
-        Ok(page) => page,
-    }
+    folder.need(after.as_ref(), limit).expect(rt, "a page")
 }
 
 pub(crate) fn local_since(
@@ -311,19 +245,12 @@ pub(crate) fn local_since(
     sequence: u64,
     limit: usize,
 ) -> Items<Record> {
-    match folder.local_since(sequence, limit) {
-        Err(_) => folder.local_since(sequence, limit).expect(rt, "a page"),
-        Ok(page) => page,
-    }
+    folder.local_since(sequence, limit).expect(rt, "a page")
 }
 
 /// A place of a block whose digest is this byte 32 times.
 pub(crate) fn find_block(rt: &impl Abort, folder: &PlainFolder, byte: u8) -> Option<Place> {
-    let hash = [byte; 32];
-    match folder.find_block(&hash) {
-        Err(_) => folder.find_block(&hash).expect(rt, "a place"),
-        Ok(place) => place,
-    }
+    folder.find_block(&[byte; 32]).expect(rt, "a place")
 }
 
 /// The device itself has this record of the name.

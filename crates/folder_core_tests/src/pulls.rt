@@ -1,7 +1,6 @@
 //! Pulls, from their begin to their end.
 use crate::calls::{
     assembled, begins, begins_none, copied, enters, finishes, folder, full, has_local, more,
-    try_enter,
 };
 use crate::rows::{Row, file};
 use folder_core::{EnterFault, FolderCore, PlainFolder, Stray, Ticket};
@@ -59,7 +58,7 @@ fn gives_superseded_tickets_back(rt: HostRuntime) {
     more(&rt, &mut folder, 1, &[file("x", &[(1, 1)], 1)]);
     let ticket = begins(&rt, &mut folder, "x", 1);
     more(&rt, &mut folder, 2, &[file("x", &[(1, 2)], 2)]);
-    match try_enter(&rt, &mut folder, ticket) {
+    match folder.enter_commit(ticket) {
         Err(EnterFault::Superseded(ticket)) => gives_up(&rt, &mut folder, ticket),
         other => panic!(rt; "{other:?}"),
     }

@@ -3,7 +3,7 @@ ghost use Rattle.std.specs.Prelude.{All, IsTrue};
 ghost use Rattle.folder_core.specs.Steps.{MayChange};
 
 use crate::calls::{
-    assembled, begins, copied, enters, finds, finishes, folder, forgets, full, loses, more,
+    assembled, begins, enters, finds, finishes, folder, forgets, full, loses, more,
 };
 use crate::rows::{Row, device, directory, moment, name, record, records, version};
 use bep_messages::Items;
@@ -37,27 +37,19 @@ fn makes_changes_one_after_the_other(rt: HostRuntime) {
 }
 
 #[test]
-fn keeps_the_answers_when_memory_runs_out(rt: HostRuntime) {
+fn makes_all_changes_in_a_row(rt: HostRuntime) {
     let mut folder = folder(&rt);
-    let steps = steps(&rt);
-    let answers = makes_all(&rt, &mut folder, steps.as_slice());
-    let made = answers.as_slice().len();
-    for (answer, (_, wanted)) in answers.as_slice().iter().zip(steps.as_slice()) {
-        assert_eq!(rt; answer, wanted);
-    }
-    // What was not made is made one by one.
-    for (change, wanted) in steps.as_slice().iter().skip(made) {
-        makes(&rt, &mut folder, change, wanted);
-    }
+    makes_all(&rt, &mut folder, steps(&rt).as_slice());
     assert!(rt; folder.same_state(&changed(&rt)));
 }
 
-/// Makes all changes in a row, and returns the answers of those that were made.
+/// Makes all changes in a row, and compares their answers. Out of memory it compares those of the changes that were made, and what these
+/// leave, and ends the test.
 fn makes_all(
     rt: &(impl AllocGlobal + Abort),
     folder: &mut PlainFolder,
     steps: &[(Change, Answer)],
-) -> Items<Answer> {
+) {
     let mut changes = Items::new(rt.alloc());
     for (change, _) in steps {
         let copy = change.copy().expect(rt, "a copy");
@@ -67,10 +59,35 @@ fn makes_all(
     match make_all(rt.alloc(), folder, changes) {
         Ok(answers) => {
             assert_eq!(rt; answers.as_slice().len(), steps.len());
-            answers
+            answers_these(rt, answers.as_slice(), steps);
         }
-        Err(Partway { answers }) => answers,
+        Err(Partway { answers }) => {
+            answers_these(rt, answers.as_slice(), steps);
+            leaves_these(rt, folder, answers.as_slice().len(), steps);
+            panic!(rt; "OutOfMemory")
+        }
     }
+}
+
+/// The answers are those of the first changes.
+fn answers_these(rt: &impl Abort, answers: &[Answer], steps: &[(Change, Answer)]) {
+    for (answer, (_, wanted)) in answers.iter().zip(steps) {
+        assert_eq!(rt; answer, wanted);
+    }
+}
+
+/// The folder is as the first so many changes leave an empty one.
+fn leaves_these(
+    rt: &(impl AllocGlobal + Abort),
+    left: &PlainFolder,
+    made: usize,
+    steps: &[(Change, Answer)],
+) {
+    let mut folder = folder(rt);
+    for (change, wanted) in steps.iter().take(made) {
+        makes(rt, &mut folder, change, wanted);
+    }
+    assert!(rt; folder.same_state(left));
 }
 
 /// The folder after the calls of the same changes.
@@ -198,25 +215,16 @@ fn token(rt: &(impl AllocGlobal + Abort), target: Row) -> PullInfo {
     }
 }
 
-/// Makes the change, and compares the answer. After out of memory the folder must be as it was, and it is made again.
+/// Makes the change, and compares the answer.
 fn makes(
     rt: &(impl AllocGlobal + Abort),
     folder: &mut PlainFolder,
     change: &Change,
     wanted: &Answer,
 ) {
-    let me = folder.me();
-    let before = copied(rt, folder);
-    let first = change.copy().expect(rt, "a copy");
-    let again = change.copy().expect(rt, "a copy");
-    assert!(rt; first.is_allowed(me) && again.is_allowed(me));
-    let answer = match make(folder, first) {
-        Err(_) => {
-            assert!(rt; folder.same_state(&before));
-            make(folder, again).expect(rt, "an answer")
-        }
-        Ok(answer) => answer,
-    };
+    let change = change.copy().expect(rt, "a copy");
+    assert!(rt; change.is_allowed(folder.me()));
+    let answer = make(folder, change).expect(rt, "an answer");
     assert_eq!(rt; &answer, wanted);
 }
 

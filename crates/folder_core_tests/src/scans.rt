@@ -1,7 +1,7 @@
 //! Scans, alone and beside open pulls.
 use crate::calls::{
     begins, begins_none, copied, enters, find_block, finds, finishes, folder, has_local, local,
-    local_since, loses, more, restored, try_enter,
+    local_since, loses, more, restored,
 };
 use crate::rows::{ME, OF_NOTHING, device, directory, file, found_file, name, version};
 use folder_core::{Answer, Counts, EnterFault, FolderCore, Place, PlainFolder};
@@ -79,7 +79,7 @@ fn scanned_in_a_pull(rt: &(impl AllocGlobal + Abort), modified_s: i64) -> PlainF
     let ticket = begins(rt, &mut folder, "x", 1);
     let found = directory(modified_s);
     finds(rt, &mut folder, "x", None, &found, &Answer::Recorded(1));
-    match try_enter(rt, &mut folder, ticket) {
+    match folder.enter_commit(ticket) {
         Err(EnterFault::LocalMoved(ticket)) => assert!(rt; folder.give_up(ticket)),
         other => panic!(rt; "{other:?}"),
     }
@@ -135,7 +135,7 @@ fn keeps_a_sequence_for_each_commit(rt: HostRuntime) {
     let commit = enters(&rt, &mut folder, ticket);
     let full = Answer::SequenceFull;
     finds(&rt, &mut folder, "y", None, &directory(1), &full);
-    match try_enter(&rt, &mut folder, second) {
+    match folder.enter_commit(second) {
         Err(EnterFault::SequenceFull(ticket)) => assert!(rt; folder.give_up(ticket)),
         other => panic!(rt; "{other:?}"),
     }

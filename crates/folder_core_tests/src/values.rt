@@ -12,10 +12,7 @@ fn copies_answers(rt: HostRuntime) {
     let answers = answers(&rt);
     let answers = answers.as_slice();
     for (at, answer) in answers.iter().enumerate() {
-        let copy = match answer.copy() {
-            Err(_) => answer.copy().expect(&rt, "a copy"),
-            Ok(copy) => copy,
-        };
+        let copy = answer.copy().expect(&rt, "a copy");
         for (other_at, other) in answers.iter().enumerate() {
             assert_eq!(rt; copy == *other, at == other_at, "{copy:?} and {other:?}");
         }
@@ -27,10 +24,7 @@ fn copies_changes(rt: HostRuntime) {
     let changes = changes(&rt);
     let changes = changes.as_slice();
     for (at, change) in changes.iter().enumerate() {
-        let copy = match change.copy() {
-            Err(_) => change.copy().expect(&rt, "a copy"),
-            Ok(copy) => copy,
-        };
+        let copy = change.copy().expect(&rt, "a copy");
         for (other_at, other) in changes.iter().enumerate() {
             assert_eq!(rt; copy == *other, at == other_at, "{copy:?} and {other:?}");
         }
@@ -45,10 +39,7 @@ fn copies_places(rt: HostRuntime) {
         place(&rt, "x", 3, 3),
         place(&rt, "x", 0, 4),
     ];
-    let copy = match places[0].copy() {
-        Err(_) => places[0].copy().expect(&rt, "a copy"),
-        Ok(copy) => copy,
-    };
+    let copy = places[0].copy().expect(&rt, "a copy");
     for (at, place) in places.iter().enumerate() {
         assert_eq!(rt; copy == *place, at == 0, "{place:?}");
     }
@@ -57,10 +48,7 @@ fn copies_places(rt: HostRuntime) {
 #[test]
 fn copies_bests(rt: HostRuntime) {
     let bests = [best(&rt, 1, 2), best(&rt, 2, 2), best(&rt, 1, 3)];
-    let copy = match bests[0].copy() {
-        Err(_) => bests[0].copy().expect(&rt, "a copy"),
-        Ok(copy) => copy,
-    };
+    let copy = bests[0].copy().expect(&rt, "a copy");
     for (at, best) in bests.iter().enumerate() {
         assert_eq!(rt; copy == *best, at == 0, "{best:?}");
     }

@@ -1,5 +1,5 @@
-//! Borders of the sizes, worked block lists, readers in small pieces, and reads and allocations that fail. The digests
-//! are those of Python's `hashlib`.
+//! Borders of the sizes, worked block lists, readers in small pieces, and reads that fail. The digests are those of Python's
+//! `hashlib`. Each call is made once: out of memory ends a test.
 use super::{
     Block, MAX_BLOCK_SIZE, MIN_BLOCK_SIZE, ReadFault, block_size_for, blocks_of, is_block_size,
     tiles,
@@ -89,7 +89,7 @@ fn in_steps(bytes: &'static [u8], step: usize) -> Source {
 
 type Listed = Result<Vec<Block>, ReadFault>;
 
-// The block list of the source's bytes; a failed allocation is tried once more.
+// The block list of the source's bytes.
 fn listed(
     rt: &(impl Threads + Sync),
     alloc: Global,
@@ -97,23 +97,13 @@ fn listed(
     size: u64,
     block_size: u32,
 ) -> Listed {
-    let block_size = block_size.max(1);
-    match blocks_of(rt, alloc, &mut { source }, size, block_size) {
-        Err(ReadFault::OutOfMemory) => blocks_of(rt, alloc, &mut { source }, size, block_size),
-        answer => answer,
-    }
+    blocks_of(rt, alloc, &mut { source }, size, block_size.max(1))
 }
 
-// The block list of so many zero bytes, likewise.
+// The block list of so many zero bytes.
 fn zeros(rt: &(impl Threads + Sync), alloc: Global, size: u64, block_size: u32) -> Listed {
-    let block_size = block_size.max(1);
     let mut reader = io::repeat(0).take(size);
-    match blocks_of(rt, alloc, &mut reader, size, block_size) {
-        Err(ReadFault::OutOfMemory) => {
-            blocks_of(rt, alloc, &mut io::repeat(0).take(size), size, block_size)
-        }
-        answer => answer,
-    }
+    blocks_of(rt, alloc, &mut reader, size, block_size.max(1))
 }
 
 fn block(offset: u64, size: u32, hash: [u8; 32]) -> Block {
@@ -311,10 +301,7 @@ fn names_faults(rt: HostRuntime) -> Result<(), AllocError> {
         (ReadFault::Read, "Read"),
         (ReadFault::OutOfMemory, "OutOfMemory"),
     ] {
-        let shown = fault
-            .to_string(rt.alloc())
-            .or_else(|_| fault.to_string(rt.alloc()))?;
-        assert_eq!(rt; shown.as_str(), name);
+        assert_eq!(rt; fault.to_string(rt.alloc())?.as_str(), name);
     }
     Ok(())
 }

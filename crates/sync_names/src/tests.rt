@@ -1,7 +1,6 @@
 //! Names that are accepted, rejected and made. The dates are those of Python's `datetime`, the base32
-//! texts those of its `base64`.
+//! texts those of its `base64`. Each call is made once: out of memory ends a test.
 use crate::{NameFault, SafeName, TempName, conflict_name, is_internal, is_temporary, temp_name};
-use std::alloc::Global;
 use std::process::Abort;
 use std::test::Fail;
 use sync_version::Moment;
@@ -33,12 +32,10 @@ fn rejects_names(rt: HostRuntime) -> Result<(), Fail> {
         ("x/.syncthing.a.tmp", NameFault::Internal, 25, "Internal"),
     ];
     for (text, fault, number, name) in table {
-        assert_eq!(rt; tried(rt.alloc(), text), Err(fault), "of {text:?}");
+        let refused = SafeName::parse(rt.alloc(), text).map(|_| ());
+        assert_eq!(rt; refused, Err(fault), "of {text:?}");
         assert_eq!(rt; fault.number(), number, "of {text:?}");
-        let Ok(shown) = fault.to_string(rt.alloc()) else {
-            return Ok(());
-        };
-        assert_eq!(rt; shown.as_str(), name, "of {text:?}");
+        assert_eq!(rt; fault.to_string(rt.alloc())?.as_str(), name, "of {text:?}");
     }
     assert_eq!(rt; NameFault::OutOfMemory.number(), 33);
     Ok(())
@@ -62,11 +59,9 @@ fn accepts_names(rt: HostRuntime) -> Result<(), Fail> {
     ];
     for text in table {
         assert!(rt; !is_internal(text), "of {text:?}");
-        let Some(name) = parsed(&rt, rt.alloc(), text) else {
-            return Ok(());
-        };
+        let name = SafeName::parse(rt.alloc(), text)?;
         assert_eq!(rt; name.as_str(), text);
-        let copied = kept(&rt, &name);
+        let copied = name.copy()?;
         assert_eq!(rt; copied.as_str(), text);
         assert!(rt; copied == name, "of {text:?}");
     }
@@ -91,11 +86,8 @@ fn orders_names_by_bytes(rt: HostRuntime) -> Result<(), Fail> {
         ("z", "\u{e9}"),
     ];
     for (low, high) in table {
-        let low = SafeName::parse(rt.alloc(), low);
-        let high = SafeName::parse(rt.alloc(), high);
-        let (Ok(low), Ok(high)) = (low, high) else {
-            return Ok(());
-        };
+        let low = SafeName::parse(rt.alloc(), low)?;
+        let high = SafeName::parse(rt.alloc(), high)?;
         assert!(rt; low < high);
         assert!(rt; low != high);
         assert!(rt; low.cmp(&high).is_lt());
@@ -181,18 +173,14 @@ fn makes_conflict_names(rt: HostRuntime) -> Result<(), Fail> {
     ];
     for (text, seconds, modified_by, want) in table {
         let moment = Moment::new(seconds).expect(&rt, "a moment");
-        let Some(name) = parsed(&rt, rt.alloc(), text) else {
-            return Ok(());
-        };
-        let made = conflict(&rt, &name, moment, modified_by);
+        let name = SafeName::parse(rt.alloc(), text)?;
+        let made = conflict_name(&name, moment, modified_by)?;
         assert_eq!(rt; name.as_str(), text);
-        assert_eq!(rt; made.expect(&rt, "a safe name").as_str(), want);
+        assert_eq!(rt; made.as_str(), want);
     }
     let moment = Moment::new(0).expect(&rt, "a moment");
-    let Some(name) = parsed(&rt, rt.alloc(), ".syncthing.tmp") else {
-        return Ok(());
-    };
-    let refused = conflict(&rt, &name, moment, 0).map(|_| ());
+    let name = SafeName::parse(rt.alloc(), ".syncthing.tmp")?;
+    let refused = conflict_name(&name, moment, 0).map(|_| ());
     assert_eq!(rt; refused, Err(NameFault::Internal));
     Ok(())
 }
@@ -205,11 +193,7 @@ fn makes_temporary_names(rt: HostRuntime) -> Result<(), Fail> {
         ("x/y/\u{e9}", "x/y/.syncthing.\u{e9}.tmp"),
     ];
     for (text, want) in table {
-        let Some(name) = parsed(&rt, rt.alloc(), text) else {
-            return Ok(());
-        };
-        let made = temporary(&rt, &name);
-        assert_eq!(rt; name.as_str(), text);
+        let made = temporary(&rt, text);
         assert_eq!(rt; made.as_str(), want);
         assert!(rt; is_internal(made.as_str()), "of {text:?}");
     }
@@ -230,44 +214,8 @@ fn knows_components_of_temporary_files(rt: HostRuntime) {
     }
 }
 
-/// What `parse` returns; a failed allocation is tried once more.
-fn tried(alloc: Global, text: &str) -> Result<(), NameFault> {
-    match SafeName::parse(alloc, text) {
-        Err(NameFault::OutOfMemory) => SafeName::parse(alloc, text).map(|_| ()),
-        other => other.map(|_| ()),
-    }
-}
-
-/// The name with this text; a failed allocation is tried once more.
-fn parsed(rt: &impl Abort, alloc: Global, text: &str) -> Option<SafeName> {
-    match SafeName::parse(alloc, text) {
-        Err(NameFault::OutOfMemory) => SafeName::parse(alloc, text).ok(),
-        other => Some(other.expect(rt, "a safe name")),
-    }
-}
-
-fn kept(rt: &impl Abort, name: &SafeName) -> SafeName {
-    match name.copy() {
-        Ok(copied) => copied,
-        Err(_) => name.copy().expect(rt, "a copy"),
-    }
-}
-
-fn conflict(
-    rt: &impl Abort,
-    name: &SafeName,
-    moment: Moment,
-    modified_by: u64,
-) -> Result<SafeName, NameFault> {
-    match conflict_name(name, moment, modified_by) {
-        Err(NameFault::OutOfMemory) => conflict_name(name, moment, modified_by),
-        other => other,
-    }
-}
-
-fn temporary(rt: &impl Abort, name: &SafeName) -> TempName {
-    match temp_name(name) {
-        Ok(made) => made,
-        Err(_) => temp_name(name).expect(rt, "a temporary name"),
-    }
+/// The temporary name of the name with this text.
+fn temporary(rt: &(impl AllocGlobal + Abort), text: &str) -> TempName {
+    let name = SafeName::parse(rt.alloc(), text).expect(rt, "a safe name");
+    temp_name(&name).expect(rt, "a temporary name")
 }

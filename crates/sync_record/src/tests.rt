@@ -1,6 +1,5 @@
 //! Records of messages, ranked and put together. The messages are bytes by the protocol's table of FileInfo; digests are
-//! FIPS 180-4's example and that of `sha256sum`. Each allocation may fail once (`tools/refusals`): then the call is
-//! made again.
+//! FIPS 180-4's example and that of `sha256sum`. Each call is made once: out of memory ends a test.
 use crate::file::describes_file;
 use crate::{
     Assembled, Assembly, Block, DeviceId, Edit, Kind, Put, Record, SafeName, preferred,
@@ -56,19 +55,12 @@ fn message(alloc: Global, fields: &[u8], blocks: &[(&[u8], &[u8])]) -> Result<Ve
     Ok(bytes)
 }
 
-fn read_once(alloc: Global, fields: &[u8], blocks: &[(&[u8], &[u8])]) -> Result<Record, NameFault> {
+/// The record of a message with these fields and blocks.
+fn read(alloc: Global, fields: &[u8], blocks: &[(&[u8], &[u8])]) -> Result<Record, NameFault> {
     let bytes = message(alloc, fields, blocks)?;
     match FileInfo::decode(alloc, &bytes) {
         Ok(info) => Record::from_info(alloc, info),
         Err(_) => Err(NameFault::OutOfMemory),
-    }
-}
-
-/// The record of a message with these fields and blocks; a failed allocation is tried once more.
-fn read(alloc: Global, fields: &[u8], blocks: &[(&[u8], &[u8])]) -> Result<Record, NameFault> {
-    match read_once(alloc, fields, blocks) {
-        Err(NameFault::OutOfMemory) => read_once(alloc, fields, blocks),
-        other => other,
     }
 }
 
@@ -191,14 +183,10 @@ fn a_record_is_given_a_sequence(rt: HostRuntime) -> Result<(), Fail> {
     Ok(())
 }
 
-/// The written form of a record's message; a failed allocation is tried once more.
+/// The written form of a record's message.
 fn written(alloc: Global, record: &Record) -> Result<Vec<u8>, AllocError> {
-    let info = match record.to_info() {
-        Err(_) => record.to_info()?,
-        Ok(info) => info,
-    };
     let mut bytes = Vec::new(alloc);
-    info.encode(&mut bytes)?;
+    record.to_info()?.encode(&mut bytes)?;
     Ok(bytes)
 }
 
@@ -339,18 +327,11 @@ fn edit(alloc: Global) -> Result<Edit, AllocError> {
     })
 }
 
-fn directory_once(alloc: Global) -> Result<Record, NameFault> {
-    let name = SafeName::parse(alloc, "d")?;
-    Ok(Record::directory(alloc, name, edit(alloc)?)?)
-}
-
 #[test]
 fn a_directory_is_announced(rt: HostRuntime) -> Result<(), Fail> {
     let alloc = rt.alloc();
-    let made = match directory_once(alloc) {
-        Err(_) => directory_once(alloc)?,
-        Ok(made) => made,
-    };
+    let name = SafeName::parse(alloc, "d")?;
+    let made = Record::directory(alloc, name, edit(alloc)?)?;
     let want = [
         0x0a, 1, b'd', 0x10, 1, 0x28, 5, 0x40, 1, 0x4a, 6, 0x0a, 4, 0x08, 7, 0x10, 2, 0x58, 6,
         0x60, 7, 0x68, 0x80, 0x80, 0x08,
@@ -360,7 +341,7 @@ fn a_directory_is_announced(rt: HostRuntime) -> Result<(), Fail> {
 }
 
 /// A file of the 3 bytes "abc", of block size 262,144.
-fn file_once(alloc: Global) -> Result<Option<Record>, NameFault> {
+fn file(alloc: Global) -> Result<Option<Record>, NameFault> {
     let name = SafeName::parse(alloc, "f")?;
     let block = Block {
         offset: 0,
@@ -379,11 +360,7 @@ fn file_once(alloc: Global) -> Result<Option<Record>, NameFault> {
 #[test]
 fn a_file_is_announced(rt: HostRuntime) -> Result<(), Fail> {
     let alloc = rt.alloc();
-    let made = match file_once(alloc) {
-        Err(_) => file_once(alloc)?,
-        Ok(made) => made,
-    };
-    let made = made.expect(&rt, "the block makes up the file");
+    let made = file(alloc)?.expect(&rt, "the block makes up the file");
     let fields = [
         0x0a, 1, b'f', 0x18, 3, 0x28, 5, 0x40, 1, 0x4a, 6, 0x0a, 4, 0x08, 7, 0x10, 2, 0x58, 6,
         0x60, 7, 0x68, 0x80, 0x80, 0x10,
@@ -402,10 +379,7 @@ fn a_deletion_is_announced(rt: HostRuntime) -> Result<(), Fail> {
         0x01, 0x38, 1, 0x50, 9, 0x60, 4, 0x68, 0x80, 0x80, 0x10, 0x8a, 1, 1, 1,
     ];
     let record = read(alloc, &fields, &[(THREE, &ABC)])?;
-    let deletion = match record.deletion(edit(alloc)?) {
-        Err(_) => record.deletion(edit(alloc)?)?,
-        Ok(deletion) => deletion,
-    };
+    let deletion = record.deletion(edit(alloc)?)?;
     let want = [
         0x28, 5, 0x30, 1, 0x40, 1, 0x4a, 6, 0x0a, 4, 0x08, 7, 0x10, 2, 0x50, 9, 0x58, 6, 0x60, 7,
         0x68, 0x80, 0x80, 0x10, 0x8a, 1, 1, 1,
@@ -419,10 +393,7 @@ fn a_deletion_is_announced(rt: HostRuntime) -> Result<(), Fail> {
 fn a_record_is_given_a_version(rt: HostRuntime) -> Result<(), Fail> {
     let alloc = rt.alloc();
     let record = read(alloc, FIELDS, &[(THREE, &ABC)])?;
-    let given = match record.with_version(edit(alloc)?.version) {
-        Err(_) => record.with_version(edit(alloc)?.version)?,
-        Ok(given) => given,
-    };
+    let given = record.with_version(edit(alloc)?.version)?;
     assert_eq!(rt; given.version().counters(), [(7, 2)].as_slice());
     assert_eq!(rt; record.version().counters(), [(1, 3), (2, 7)].as_slice());
     let back = given.with_version(record.version().copy()?)?;
@@ -487,18 +458,13 @@ fn the_first_difference_decides(rt: HostRuntime) -> Result<(), Fail> {
     Ok(())
 }
 
-/// A file of these blocks that is put together; a failed allocation is tried once more.
-fn begun(alloc: Global, fields: &[u8], blocks: &[(&[u8], &[u8])]) -> Option<Assembly> {
-    for _ in 0..2u8 {
-        let target = read(alloc, fields, blocks).ok()?;
-        if !target.is_valid() || target.is_deleted() || target.kind() != Kind::File {
-            return None;
-        }
-        if let Ok(assembly) = Assembly::new(alloc, target) {
-            return Some(assembly);
-        }
+/// A file of these blocks that is put together.
+fn begun(alloc: Global, fields: &[u8], blocks: &[(&[u8], &[u8])]) -> Result<Assembly, Fail> {
+    let target = read(alloc, fields, blocks)?;
+    if !target.is_valid() || target.is_deleted() || target.kind() != Kind::File {
+        return Err(Fail::from("no valid live file"));
     }
-    None
+    Ok(Assembly::new(alloc, target)?)
 }
 
 /// What the put of bytes comes to; `None` where there is no such block.
@@ -517,8 +483,7 @@ fn finished(assembly: Assembly) -> Result<Record, Assembly> {
 
 #[test]
 fn a_file_is_done_when_each_block_is_put(rt: HostRuntime) -> Result<(), Fail> {
-    let begun = begun(rt.alloc(), &[0x18, 3], &[(THREE, &ABC)]);
-    let mut assembly = begun.expect(&rt, "a valid live file");
+    let mut assembly = begun(rt.alloc(), &[0x18, 3], &[(THREE, &ABC)])?;
     assert_eq!(rt; try_put(&mut assembly, 0, b"abd"), Some(Put::WrongHash));
     assert_eq!(rt; try_put(&mut assembly, 0, b"ab"), Some(Put::WrongSize));
     let mut assembly = finished(assembly).err().expect(&rt, "a block was not put");
@@ -532,8 +497,7 @@ fn a_file_is_done_when_each_block_is_put(rt: HostRuntime) -> Result<(), Fail> {
 #[test]
 fn blocks_are_put_in_any_order(rt: HostRuntime) -> Result<(), Fail> {
     let blocks: [(&[u8], &[u8]); 2] = [(FULL, &ZEROS), (THREE_AFTER, &ABC)];
-    let begun = begun(rt.alloc(), &[0x18, 0x83, 0x80, 0x08], &blocks);
-    let mut assembly = begun.expect(&rt, "a valid live file");
+    let mut assembly = begun(rt.alloc(), &[0x18, 0x83, 0x80, 0x08], &blocks)?;
     assert_eq!(rt; try_put(&mut assembly, 1, b"abc"), Some(Put::Ok));
     assert_eq!(rt; try_put(&mut assembly, 0, b"abc"), Some(Put::WrongSize));
     let mut assembly = finished(assembly).err().expect(&rt, "a block was not put");
@@ -544,7 +508,7 @@ fn blocks_are_put_in_any_order(rt: HostRuntime) -> Result<(), Fail> {
 
 #[test]
 fn an_empty_file_is_done_at_once(rt: HostRuntime) -> Result<(), Fail> {
-    let assembly = begun(rt.alloc(), &[], &[]).expect(&rt, "a valid live file");
+    let assembly = begun(rt.alloc(), &[], &[])?;
     assert!(rt; finished(assembly).is_ok());
     Ok(())
 }
@@ -575,11 +539,7 @@ fn devices_are_read_and_shown(rt: HostRuntime) -> Result<(), Fail> {
     let device = DeviceId::from_hex(text).expect(&rt, "64 digits");
     assert_eq!(rt; device.short_id(), 0x0001_0203_0405_0607);
     assert!(rt; DeviceId::from_hex(upper) == Some(device));
-    let shown = match device.to_hex(rt.alloc()) {
-        Err(_) => device.to_hex(rt.alloc())?,
-        Ok(shown) => shown,
-    };
-    assert_eq!(rt; shown.as_str(), text);
+    assert_eq!(rt; device.to_hex(rt.alloc())?.as_str(), text);
     for refused in ["", "00", "g"] {
         assert!(rt; DeviceId::from_hex(refused).is_none());
     }

@@ -1,15 +1,11 @@
-//! Worked examples from outside, and allocations that fail.
+//! Worked examples from outside. Each call is made once: out of memory ends a test.
 use super::{Moment, RaiseFault, Relation, Version};
 use std::alloc::AllocError;
 
 type Pairs<'a> = &'a [(u64, u64)];
 
-// The version with these counters; a failed allocation is tried once more.
 fn version(rt: &HostRuntime, counters: &[(u64, u64)]) -> Result<Version, AllocError> {
-    Version::from_counters(rt.alloc(), counters).or_else(|_| Version::from_counters(
-        rt.alloc(),
-        counters,
-    ))
+    Version::from_counters(rt.alloc(), counters)
 }
 
 #[test]
@@ -76,9 +72,9 @@ fn merges_and_copies(rt: HostRuntime) -> Result<(), AllocError> {
     ];
     for (first, second, wanted) in rows {
         let (a, b) = (version(&rt, first)?, version(&rt, second)?);
-        let merged = a.merge(&b).or_else(|_| a.merge(&b))?;
+        let merged = a.merge(&b)?;
         assert_eq!(rt; merged.counters(), wanted);
-        let copy = merged.copy().or_else(|_| merged.copy())?;
+        let copy = merged.copy()?;
         assert_eq!(rt; copy.counters(), wanted);
         assert_eq!(rt; a.counters(), first);
         assert_eq!(rt; b.counters(), second);
@@ -102,10 +98,7 @@ fn raises(rt: HostRuntime) -> Result<(), AllocError> {
     for (given, id, seconds, wanted) in rows {
         let moment = Moment::new(seconds).expect(&rt, "a moment");
         let old = version(&rt, given)?;
-        let mut answer = old.raised(id, moment);
-        if let Err(RaiseFault::OutOfMemory) = answer {
-            answer = old.raised(id, moment);
-        }
+        let answer = old.raised(id, moment);
         match (&answer, wanted) {
             (Ok(raised), Ok(wanted)) => assert_eq!(rt; raised.counters(), wanted),
             (Err(fault), Err(wanted)) => assert_eq!(rt; *fault, wanted),
@@ -137,9 +130,7 @@ fn numbers_faults(rt: HostRuntime) -> Result<(), AllocError> {
         (RaiseFault::OutOfMemory, 33, "OutOfMemory"),
     ] {
         assert_eq!(rt; fault.number(), number);
-        let shown = format!(in rt.alloc(); "{fault}").or_else(|_| format!(in rt.alloc();
-            "{fault}"
-        ))?;
+        let shown = format!(in rt.alloc(); "{fault}")?;
         assert_eq!(rt; shown.as_str(), name);
     }
     Ok(())

@@ -10,11 +10,7 @@ fn expect_asks(rt: &impl Abort, session: &mut Session, expected: &[i32]) {
 }
 
 fn expect_booked(rt: &impl Abort, session: &mut Session, id: i32, expected: bool) {
-    let booked = match session.book(id) {
-        Err(_) => session.book(id),
-        answer => answer,
-    };
-    assert_eq!(rt; booked, Ok(expected));
+    assert_eq!(rt; session.book(id), Ok(expected));
 }
 
 #[test]

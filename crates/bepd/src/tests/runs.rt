@@ -16,14 +16,14 @@ fn words(alloc: Global, line: &str) -> io::Result<Vec<String>> {
     Ok(words)
 }
 
-/// Runs the line on the bytes. `None` where memory ran out.
+/// Runs the line on the bytes, and returns the status. Out of memory must be reported, and ends the test.
 fn status(
     rt: &(impl AllocGlobal + Abort),
     line: &str,
     mut bytes: &[u8],
     output: &str,
     errors: &str,
-) -> Result<Option<u8>, AllocError> {
+) -> Result<u8, AllocError> {
     let mut written = Vec::with_capacity(rt.alloc(), MOST)?;
     let mut reported = Vec::with_capacity(rt.alloc(), MOST)?;
     let words = words(rt.alloc(), line);
@@ -34,7 +34,7 @@ fn status(
             b"fault 33 OutOfMemory\n".as_slice(),
             "{line}"
         );
-        return Ok(None);
+        return Err(AllocError);
     }
     assert!(rt; outcome.reported.is_ok(), "{line}");
     assert!(rt; written.as_slice().starts_with(output.as_bytes()), "{line}");
@@ -44,7 +44,7 @@ fn status(
         "{line}"
     );
     assert_eq!(rt; reported.is_empty(), errors.is_empty(), "{line}");
-    Ok(Some(outcome.status))
+    Ok(outcome.status)
 }
 
 #[test]
@@ -63,10 +63,7 @@ fn runs_lines(rt: HostRuntime) -> Result<(), Fail> {
         ("bepd --version", 0, "bepd 0.1.0\n", "", 0),
     ] {
         let input = &bytes.as_slice()[..count.min(bytes.len())];
-        let answer = status(&rt, line, input, output, errors)?;
-        if let Some(status) = answer {
-            assert_eq!(rt; status, wanted, "{line}");
-        }
+        assert_eq!(rt; status(&rt, line, input, output, errors)?, wanted, "{line}");
     }
     Ok(())
 }
@@ -79,10 +76,11 @@ fn reports_help_that_cannot_be_written(rt: HostRuntime) -> Result<(), AllocError
         let words = words(rt.alloc(), "bepd --version");
         let mut input: &[u8] = &[];
         let outcome = run(rt.alloc(), &words, &mut input, &mut sink, &mut reported);
-        if outcome.status != 4 {
-            assert_eq!(rt; outcome.status, 5);
-            assert_eq!(rt; reported.as_slice(), b"fault read or write\n".as_slice());
+        if outcome.status == 4 {
+            return Err(AllocError);
         }
+        assert_eq!(rt; outcome.status, 5);
+        assert_eq!(rt; reported.as_slice(), b"fault read or write\n".as_slice());
     }
     Ok(())
 }

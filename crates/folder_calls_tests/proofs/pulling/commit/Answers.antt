@@ -16,21 +16,21 @@ pub finish-requires : goal.finish-requires
 finish-requires g c =
     c.requires
     ∙ ap (λ (t : PullInfo). t.target)
-        (sym (c.tickets_are_those_that_were_asked_for.ensures.entered _ _ c.args.ticket c.in-Ok-entered.commit
-        (gets _ _ (EnterCommit c.args.ticket) _ (Entered c.in-Ok-entered.commit) c.in-Ok.ensures.changes (ap enter_value c.in-Ok-entered.is))))
+    (sym (c.tickets_are_those_that_were_asked_for.ensures.entered _ _ c.args.ticket c.in-Ok-entered.commit
+    (gets _ _ (EnterCommit c.args.ticket) _ (Entered c.in-Ok-entered.commit) c.in-Ok.ensures.changes (ap enter_value c.in-Ok-entered.is))))
 
 pub returns-in-Ok-value-clause-ends : goal.returns-in-Ok-value-clause-ends
 returns-in-Ok-value-clause-ends g c =
     done-ends _ _ _ c.args.ticket c.in-Ok-entered.commit _ c.in-Ok.ensures.changes (ap enter_value c.in-Ok-entered.is)
     (c.tickets_are_those_that_were_asked_for.ensures.entered _ _ c.args.ticket c.in-Ok-entered.commit
-        (gets _ _ (EnterCommit c.args.ticket) _ (Entered c.in-Ok-entered.commit) c.in-Ok.ensures.changes (ap enter_value c.in-Ok-entered.is)))
+    (gets _ _ (EnterCommit c.args.ticket) _ (Entered c.in-Ok-entered.commit) c.in-Ok.ensures.changes (ap enter_value c.in-Ok-entered.is)))
     c.args.assembled c.requires _ c.finish.ensures.changes c.in-Ok-value.sequence (ap finish_answer c.in-Ok-value.is)
 
 pub returns-in-Ok-entered-clause-ends : goal.returns-in-Ok-entered-clause-ends
 returns-in-Ok-entered-clause-ends g c =
     stray-ends _ _ _ c.args.ticket c.in-Ok-entered.commit _ c.in-Ok.ensures.changes (ap enter_value c.in-Ok-entered.is)
     (c.tickets_are_those_that_were_asked_for.ensures.entered _ _ c.args.ticket c.in-Ok-entered.commit
-        (gets _ _ (EnterCommit c.args.ticket) _ (Entered c.in-Ok-entered.commit) c.in-Ok.ensures.changes (ap enter_value c.in-Ok-entered.is)))
+    (gets _ _ (EnterCommit c.args.ticket) _ (Entered c.in-Ok-entered.commit) c.in-Ok.ensures.changes (ap enter_value c.in-Ok-entered.is)))
     c.args.assembled c.requires _ c.finish.ensures.changes (ap finish_answer c.in-Err-value.is)
 
 pub returns-in-Err-Stray-clause-ends : goal.returns-in-Err-Stray-clause-ends

@@ -17,7 +17,7 @@ invariant_of-self-2 g c =
     let more = c.in_ok-make_room.ensures.room refl in
     let same = c.append.ensures.capacity in
     journal-after _ c.args.self.now c.self.view_is _ _ _ c.self.invariant c.args.pass c.requires.pass (IndexMore c.args.device c.args.records) c.requires.device Applied _ made refl room
-    c.append.new.entries.items (pushed-as _ c.append.ensures.items c.make_room.ensures.items (ap (IndexMore c.args.device) c.in_ok-copy.ensures) refl)
+    c.append.new.entries.items (pushed-as _ c.append.ensures.items c.make_room.ensures.items (ap (IndexMore c.args.device) c.in_ok-copy.ensures.value) refl)
     c.self.inside.pulls _ refl (omega arith)
 
 pub returns-clause-history : goal.returns-clause-history
@@ -25,4 +25,4 @@ returns-clause-history g c =
     let made = c.in_ok-index_more.ensures in
     let room = found-room _ c.args.self.now c.self.view_is _ _ _ c.self.invariant c.args.pass c.requires.pass (IndexMore c.args.device c.args.records) c.requires.device Applied _ made refl (sym c.has_room.ensures ∙ c.if-not-has_room.false) refl in
     history-after _ c.args.self.now c.self.view_is _ _ _ c.self.invariant c.args.pass c.requires.pass (IndexMore c.args.device c.args.records) c.requires.device Applied _ made refl room
-    c.append.new.entries.items (pushed-as _ c.append.ensures.items c.make_room.ensures.items (ap (IndexMore c.args.device) c.in_ok-copy.ensures) refl)
+    c.append.new.entries.items (pushed-as _ c.append.ensures.items c.make_room.ensures.items (ap (IndexMore c.args.device) c.in_ok-copy.ensures.value) refl)
