@@ -138,7 +138,7 @@ module _ (old : CallerView) (es : List Entry) (longer : IsPrefix old.seen es) (o
   made-there c a may is accepted = record {
     point = sym (length-push es (own_entry old c a));
     legal = subst (λ b. IsLegalView (seeing old (es ++ own_entry old c b ∷ []))) (sym is) (view-push (seeing old es) c view may (ap is_accepted (sym is) ∙ accepted));
-    answered = made old (seeing old (es ++ own_entry old c a ∷ [])) c a (record { point = seeing old es; sees = saw; answer_is = is; entered = refl }) accepted;
+    answered = made old (seeing old (es ++ own_entry old c a ∷ [])) c a (record { point = seeing old es; sees = saw; answer_is = is; appended = refl }) accepted;
   }
 
   pub declined-there : (c : Change) (a : Answer) → a ≡ shared_answer old.limit old.opening es c → is_accepted a ≡ false
