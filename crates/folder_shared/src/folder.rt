@@ -53,8 +53,9 @@ impl<C: FolderCore + Drop> Pass<C> {
 }
 
 impl<C: FolderCore + Drop> SharedFolder<C> {
-    /// The folder with an empty history, which takes as many entries as its limit. Returns `Err` with the folder only if memory
-    /// is out. O(n) time and memory for n records, which share their memory.
+    /// The folder with an empty history, which takes as many entries as its limit. The limit counts entries and not bytes: until
+    /// the folder is closed each change stays in memory with its records, also those that others have replaced since. Returns
+    /// `Err` with the folder only if memory is out. O(n) time and memory for n records, which share their memory.
     pub fn open<R: Wait>(
         rt: &R,
         alloc: Global,
