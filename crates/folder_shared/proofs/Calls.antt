@@ -97,7 +97,7 @@ there old now x y change answer entered same sees is legal = record {
       point = seeing old x.entries;
       sees = sees;
       answer_is = at;
-      entered = is ∙ ap (λ (h : History). seeing old h.entries) grown;
+      appended = is ∙ ap (λ (h : History). seeing old h.entries) grown;
     }
     by false tested grown = let same : now ≡ seeing old x.entries = is ∙ ap (λ (h : History). seeing old h.entries) grown in record {
       sees = subst (Sees old) (sym same) sees;
