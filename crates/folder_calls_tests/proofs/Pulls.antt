@@ -1,6 +1,6 @@
 -- What the calls of a worker come to, one after the other.
 use Rattle.std.proofs.Common.{◌≡◌, ℕ, Bool, false, List, [], ◌∷◌, refl, sym, ap, subst, ◌∙◌, ◌⊎◌, inl, inr, append-nil}
-use Rattle.std.specs.Prelude.{Option, Some, option_map}
+use Rattle.std.specs.Prelude.{IfErr, IfOk, Option, Some, Result, Ok, Err, option_map}
 use Rattle.sync_version.specs.Versions.{Vector}
 use Rattle.sync_record.specs.Assemblies.{Assembling, with_put}
 use Rattle.sync_record.specs.Records.{FileRecord, Name}
@@ -104,6 +104,14 @@ module _ (old middle new : CallerView) (n : Name) (t : PullInfo) (begun : Gets o
   pub begun-breaks : GivesUp middle t pulled.GivenUp new ⊎ GivesUp middle t pulled.Stray new → Breaks old n new
   begun-breaks (inl g) = inr (t, Closed, inl refl, (middle, begun, (new, g, refl)))
   begun-breaks (inr g) = inr (t, Stray, inr refl, (middle, begun, (new, g, refl)))
+
+pub ok-through : {X E : Type 0} (P Q : X → Type 0) → ((x : X) → P x → Q x) → (r : Result X E) → IfOk r P → IfOk r Q
+ok-through P Q f (Ok x) p = f x p
+ok-through P Q f (Err e) p = tt
+
+pub err-through : {X E : Type 0} (P Q : Type 0) → (P → Q) → (r : Result X E) → IfErr r (λ _. P) → IfErr r (λ _. Q)
+err-through P Q f (Ok x) p = tt
+err-through P Q f (Err e) p = f p
 
 pub target-put : (p : Put) (i : ℕ) (a : Assembling) → (with_put p i a).target ≡ a.target
 target-put WellPut i a = refl
