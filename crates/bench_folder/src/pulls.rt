@@ -6,7 +6,7 @@ ghost use Rattle.sync_record.specs.Validity.{is_valid};
 use crate::pages::{measure_local, measure_need};
 use crate::{empty_folder, tell};
 use bep_messages::Items;
-use folder_core::{BeginAnswer, Commit, FolderCore, EnterFault, PlainFolder, Ticket};
+use folder_core::{BeginAnswer, Commit, EnterFault, FolderCore, PlainFolder, Ticket};
 use std::alloc::{AllocError, Global};
 use std::io;
 use std::rt::Clock;

@@ -3,8 +3,8 @@ ghost use Rattle.std.specs.Prelude.{◌≡◌};
 
 use bep_messages::Items;
 use folder_core::{
-    BeginAnswer, Best, Change, Commit, Counts, EnterAllocError, Finding, FolderCore, Place,
-    PlainFolder, ScanAnswer, ScanFault, Stray, Ticket,
+    BeginAnswer, Best, Change, Commit, Counts, EnterFault, Finding, FolderCore, Place, PlainFolder,
+    ScanAnswer, ScanFault, Stray, Ticket,
 };
 use std::alloc::AllocError;
 use std::cell::Cell;
@@ -71,7 +71,7 @@ impl FolderCore for CopiedOnce {
         self.folder.begin_pull(name)
     }
 
-    fn enter_commit(&mut self, ticket: Ticket) -> Result<Commit, EnterAllocError> {
+    fn enter_commit(&mut self, ticket: Ticket) -> Result<Commit, EnterFault> {
         self.folder.enter_commit(ticket)
     }
 
