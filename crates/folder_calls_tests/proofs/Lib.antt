@@ -1,2 +1,2 @@
-pub mod Pulls
+pub mod WorkersCalls
 pub mod PagesGiven

@@ -24,7 +24,7 @@ use Rattle.folder_calls.specs.Histories.{IsLegal, own_entries, state_after}
 use Rattle.folder_calls.specs.Shared.{CallerView, IsLegalView, ReadsAt, Sees, now, seeing}
 use Rattle.folder_calls.proofs.HistoryEntries.{legal-folder}
 use Rattle.folder_calls.proofs.HistoryFronts.{history-on, legal-divided, state-divided}
-use Rattle.folder_calls_tests.proofs.Pulls.{sees-itself}
+use Rattle.folder_calls_tests.proofs.WorkersCalls.{sees-itself}
 use Rattle.folder_calls_tests.specs.Paging.{Gives, IsUpTo, Rise}
 
 -- ---- what is seen on the way

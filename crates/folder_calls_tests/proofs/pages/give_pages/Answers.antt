@@ -2,7 +2,7 @@ use Rattle.std.proofs.Common.{◌++◌, refl, sym, ap, subst, ◌∙◌, inr}
 use Rattle.folder_calls.specs.Shared.{Sees, now}
 use Rattle.folder_calls_tests.specs.Paging.{Gives}
 use Rattle.folder_calls_tests.proofs.PagesGiven.{gives-nothing, nearer, read-bound, read-gives, read-more, read-none, read-rises, read-sees}
-use Rattle.folder_calls_tests.proofs.Pulls.{sees-itself}
+use Rattle.folder_calls_tests.proofs.WorkersCalls.{sees-itself}
 use Rattle.folder_calls_tests.proofs.pages.give_pages.Goals as goal
 
 pub loop-page-init : goal.loop-page-init

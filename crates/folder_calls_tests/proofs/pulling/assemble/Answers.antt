@@ -1,7 +1,7 @@
 use Rattle.std.proofs.Common.{length, ap, ◌∙◌, arith}
 use Rattle.sync_record.specs.Assemblies.{Assembling}
 use Rattle.sync_record.specs.Records.{FileRecord}
-use Rattle.folder_calls_tests.proofs.Pulls.{target-put}
+use Rattle.folder_calls_tests.proofs.WorkersCalls.{target-put}
 use Rattle.folder_calls_tests.proofs.pulling.assemble.Goals as goal
 
 pub loop-index-init : goal.loop-index-init

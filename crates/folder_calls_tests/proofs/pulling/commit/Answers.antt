@@ -5,7 +5,7 @@ use Rattle.folder_core.specs.declared.answer.Answer.TheVariants.{Entered, Histor
 use Rattle.folder_core.specs.declared.change.Change.TheVariants.{EnterCommit}
 use Rattle.folder_core.specs.declared.pull_info.PullInfo.{PullInfo}
 use Rattle.folder_calls.specs.Calls.{GivesBack, enter_value}
-use Rattle.folder_calls_tests.proofs.Pulls.{done-ends, gets, kept-gives, refused-ends, stray-ends}
+use Rattle.folder_calls_tests.proofs.WorkersCalls.{done-ends, gets, kept-gives, refused-ends, stray-ends}
 use Rattle.folder_calls_tests.proofs.pulling.commit.Goals as goal
 
 pub returns-in-Err-clause-out_of_memory : goal.returns-in-Err-clause-out_of_memory

@@ -1,7 +1,7 @@
 use Rattle.std.proofs.Common.{ap}
 use Rattle.folder_core.specs.Calls.{close_answer}
 use Rattle.folder_core.specs.declared.answer.Answer.TheVariants.{Closed, Stray}
-use Rattle.folder_calls_tests.proofs.Pulls.{gets}
+use Rattle.folder_calls_tests.proofs.WorkersCalls.{gets}
 use Rattle.folder_calls_tests.proofs.pulling.give_up.Goals as goal
 
 pub returns-then-give_up-clause-gives_up : goal.returns-then-give_up-clause-gives_up

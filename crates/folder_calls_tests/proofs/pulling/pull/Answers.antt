@@ -1,5 +1,5 @@
 use Rattle.std.proofs.Common.{refl}
-use Rattle.folder_calls_tests.proofs.Pulls.{given_up-ends, kept-gives}
+use Rattle.folder_calls_tests.proofs.WorkersCalls.{given_up-ends, kept-gives}
 use Rattle.folder_calls_tests.proofs.pulling.pull.Goals as goal
 
 pub returns-in-Ok-None-clause-ends : goal.returns-in-Ok-None-clause-ends

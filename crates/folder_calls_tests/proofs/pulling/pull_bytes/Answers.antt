@@ -2,7 +2,7 @@ use Rattle.std.proofs.Common.{Ok, ap, ◌∙◌}
 use Rattle.folder_core.specs.declared.answer.Answer.TheVariants.{Begun}
 use Rattle.folder_core.specs.declared.change.Change.TheVariants.{BeginPull}
 use Rattle.folder_calls.specs.Calls.{begin_value}
-use Rattle.folder_calls_tests.proofs.Pulls.{begun-breaks, begun-comes, err-through, gets, ok-through}
+use Rattle.folder_calls_tests.proofs.WorkersCalls.{begun-breaks, begun-comes, err-through, gets, ok-through}
 use Rattle.folder_calls_tests.proofs.pulling.pull_bytes.Goals as goal
 
 pub returns-in-Ok-Begun-clause-comes : goal.returns-in-Ok-Begun-clause-comes

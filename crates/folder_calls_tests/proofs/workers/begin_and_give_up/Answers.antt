@@ -3,7 +3,7 @@ use Rattle.folder_core.specs.Calls.{close_answer}
 use Rattle.folder_core.specs.declared.answer.Answer.TheVariants.{Begun}
 use Rattle.folder_core.specs.declared.change.Change.TheVariants.{BeginPull, GiveUp}
 use Rattle.folder_calls.specs.Calls.{begin_value}
-use Rattle.folder_calls_tests.proofs.Pulls.{gets}
+use Rattle.folder_calls_tests.proofs.WorkersCalls.{gets}
 use Rattle.folder_calls_tests.proofs.workers.begin_and_give_up.Goals as goal
 
 pub returns-in-Ok-Begun-clause-tried : goal.returns-in-Ok-Begun-clause-tried

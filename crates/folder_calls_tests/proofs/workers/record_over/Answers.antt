@@ -1,4 +1,4 @@
-use Rattle.folder_calls_tests.proofs.Pulls.{over}
+use Rattle.folder_calls_tests.proofs.WorkersCalls.{over}
 use Rattle.folder_calls_tests.proofs.workers.record_over.Goals as goal
 
 pub returns-clause-over : goal.returns-clause-over
