@@ -83,11 +83,11 @@ impl<R: Files> DirStore<R> {
 }
 
 impl<R: Files> FileStore for DirStore<R> {
-    ghost use Rattle.std.specs.Prelude.{⊤, None};
+    ghost use Rattle.std.specs.Prelude.{⊤, None, false};
     ghost use Rattle.file_dir.specs.Dir.{dir_faults};
     ghost use Rattle.file_store.specs.Stores.{empty_tree};
 
-    ghost keeps = { ⊥ };
+    ghost keeps = { false };
 
     ghost fails = { λ s. ⊤ };
 

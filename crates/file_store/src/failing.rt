@@ -69,7 +69,7 @@ impl<S: FileStore> FileStore for FailingStore<S> {
 
     ghost gives = { λ old call result new. FailsOne old new result (λ answer.
         S.gives (wrapped old) call answer (wrapped new)
-        × (S.keeps → Does (S.fails (wrapped old)) (S.tree (wrapped old)) call answer (S.tree (wrapped new)))) };
+        × (S.keeps ≡ true → Does (S.fails (wrapped old)) (S.tree (wrapped old)) call answer (S.tree (wrapped new)))) };
 
     fn faults(&self) -> u64 {
         // That the wrapped store has a tree is known only after a call of it.
@@ -204,7 +204,7 @@ fn is_due(left: &mut Option<u64>) -> bool
 fn fail<S: FileStore>(inner: &S, faults: &mut u64) -> StoreRefusal
     ensures refusal { result ≡ StoreFault }
     ensures counted { faults.new ≡ min (faults.old + 1) (2 ^ 64 - 1) }
-    ensures tree { S.keeps → IsTree (S.tree inner.now) }
+    ensures tree { S.keeps ≡ true → IsTree (S.tree inner.now) }
 {
     let _ = inner.faults();
     fault(faults)

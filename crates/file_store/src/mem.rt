@@ -44,10 +44,10 @@ impl MemStore {
 }
 
 impl FileStore for MemStore {
-    ghost use Rattle.std.specs.Prelude.{⊤};
+    ghost use Rattle.std.specs.Prelude.{true};
     ghost use Rattle.file_store.specs.Stores.{MemGives, mem_faults, mem_tree};
 
-    ghost keeps = { ⊤ };
+    ghost keeps = { true };
 
     ghost fails = { λ _. ⊥ };
 
