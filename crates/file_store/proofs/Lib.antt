@@ -2,6 +2,7 @@ pub mod WriteLemmas
 pub mod ParentLemmas
 pub mod BetweenLemmas
 pub mod PutLemmas
+pub mod ReadLemmas
 pub mod ListingLemmas
 pub mod TreeLemmas
 pub mod MemLemmas

@@ -8,6 +8,7 @@
 mod changes;
 mod content;
 mod failing;
+mod gate;
 pub mod laws;
 mod listing;
 mod mem;
@@ -15,13 +16,16 @@ mod missing;
 mod name_map;
 mod node;
 mod parents;
+mod reading;
 mod refusal;
 mod store;
 
 pub use content::Content;
 pub use failing::{FailingStore, FailureTime};
+pub use gate::{Gate, GatePlace, OpenGate};
 pub use mem::MemStore;
 pub use name_map::NameMap;
 pub use node::{Kind, Listed, Listing, Node, Stat};
+pub use reading::read_full;
 pub use refusal::StoreRefusal;
 pub use store::FileStore;

@@ -19,7 +19,8 @@ use Rattle.sync_blocks.specs.Groups.{placed_block, blocks_from}
 use Rattle.sync_blocks.specs.Tiling.{tiles, tiles_from}
 use Rattle.sync_blocks.proofs.Groups.{count_is, matched}
 
-no_blocks : (s : ℕ) → 0 < s → div_ceil 0 s ≡ 0
+-- no bytes have no blocks
+pub no_blocks : (s : ℕ) → 0 < s → div_ceil 0 s ≡ 0
 no_blocks s some = count_is 0 s 0 some (omega arith) (omega arith)
 
 some_block : (size s : ℕ) → 0 < s → 0 < size → 1 ≤ div_ceil size s

@@ -7,9 +7,12 @@ use sha2::{Digest, Sha256};
 use std::alloc::{AllocError, Global};
 use std::thread::Threads;
 
-/// Adds the blocks of bytes that begin at `first` in the file, in order. More than one are hashed in parallel. Allocates
-/// for the blocks, and as much again while it runs.
-pub(crate) fn push_blocks(
+/// Adds the blocks of bytes that begin at `first` in the file, in order, each except the last of `block_size` bytes; of no bytes
+/// none. If these are the blocks of the next part of a file, all parts before it have to be of whole blocks.
+///
+/// More than one block are hashed in a few threads for each processor, and one in this thread. Fails if out of memory. O(n) time;
+/// memory for the blocks, and as much again while it runs.
+pub fn push_blocks(
     rt: &(impl Threads + Sync),
     alloc: Global,
     first: u64,

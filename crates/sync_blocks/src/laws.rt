@@ -1,10 +1,11 @@
 //! What the definitions say, as contracts of functions that do nothing.
-ghost use Rattle.std.specs.Prelude.{◌≡◌, ◌↔◌, ℕ, ◌+◌, ◌-◌, ◌*◌, ◌<◌, ◌≤◌, min, All, List, [], ◌∷◌, Some, None};
+ghost use Rattle.std.specs.Prelude.{◌≡◌, ◌↔◌, ℕ, ◌+◌, ◌-◌, ◌*◌, ◌<◌, ◌≤◌, ◌++◌, min, All, List, [], ◌∷◌, Some, None};
 ghost use Rattle.std.specs.Prelude.{IsTrue, drop, flat_map, length, slice_get, take};
 ghost use Rattle.std.specs.List.{range_with_len};
 ghost use Rattle.sha2.specs.Sha256.{sha256};
 ghost use Rattle.sync_blocks.specs.declared.block.Block.{Block};
 ghost use Rattle.sync_blocks.specs.BlockList.{block_count, block_list, cut};
+ghost use Rattle.sync_blocks.specs.Groups.{blocks_from, group_bytes};
 ghost use Rattle.sync_blocks.specs.Tiling.{Tiles, same_block, tiles};
 
 /// The test of a tiling is exact, and no block of a tiling ends past the size.
@@ -31,6 +32,18 @@ pub fn block_list_is_by_cuts()
         block_list [] block_size ≡ record { offset = 0; size = 0; hash = sha256 [] } ∷ [] }
     ensures joined { (bytes : List ℕ) (block_size : ℕ) → 1 ≤ block_size →
         flat_map (cut bytes block_size) (range_with_len 0 (block_count (length bytes) block_size)) ≡ bytes }
+{}
+
+/// The blocks of a file's parts, one after the other, are those of the file, if all parts but the last are of whole blocks; and those
+/// of all its bytes are its block list, unless the file is empty.
+pub fn parts_make_the_block_list()
+    ensures none { (first block_size : ℕ) → 1 ≤ block_size → blocks_from first [] block_size ≡ [] }
+    ensures joined { (first : ℕ) (front back : List ℕ) (block_size count : ℕ) → 1 ≤ block_size →
+        length front ≡ count * block_size → blocks_from first (front ++ back) block_size
+        ≡ blocks_from first front block_size ++ blocks_from (first + length front) back block_size }
+    ensures whole { (bytes : List ℕ) (block_size : ℕ) → 1 ≤ block_size → 1 ≤ length bytes →
+        blocks_from 0 bytes block_size ≡ block_list bytes block_size }
+    ensures group { (block_size : ℕ) → (count : ℕ) × (group_bytes block_size ≡ count * block_size) }
 {}
 
 /// The block list of bytes tiles them.

@@ -15,6 +15,7 @@ mod tiling;
 pub use block::Block;
 pub use fault::ReadFault;
 pub use filling::fill;
-pub use reading::blocks_of;
+pub use hashing::push_blocks;
+pub use reading::{blocks_of, group_len};
 pub use size::{MAX_BLOCK_SIZE, MIN_BLOCK_SIZE, block_size_for, is_block_size};
 pub use tiling::tiles;

@@ -8,7 +8,6 @@ ghost use Rattle.sync_blocks.specs.Reading.{TakesFront, Tells, TellsEarly};
 use crate::filling::fill;
 use crate::hashing::push_blocks;
 use crate::{Block, ReadFault};
-use sha2::{Digest, Sha256};
 use std::alloc::{AllocError, Global};
 use std::io::Read;
 use std::thread::Threads;
@@ -62,11 +61,7 @@ pub fn blocks_of<R: Read>(
 fn push_empty_block(blocks: &mut Vec<Block>) -> Result<(), AllocError>
     ensures { (block_size : ℕ) → OnOk result (blocks.new.items ≡ blocks.old.items ++ block_at [] block_size 0 ∷ []) }
 {
-    blocks.push(Block {
-        offset: 0,
-        size: 0,
-        hash: Sha256::digest(&[]),
-    })?;
+    blocks.push(Block::of_empty_file())?;
     Ok(())
 }
 
@@ -90,7 +85,7 @@ fn read_groups<R: Read>(
     if size == 0 {
         return Ok(blocks);
     }
-    let mut bytes = vec![in alloc; 0u8; buffer_len(size, block_size)]?;
+    let mut bytes = vec![in alloc; 0u8; group_len(size, block_size)]?;
     let buffer = bytes.as_mut_slice();
     let mut done = 0;
     while done < size {
@@ -109,8 +104,9 @@ fn read_groups<R: Read>(
     Ok(blocks)
 }
 
-// How many bytes are read at once: no more than the file has.
-fn buffer_len(size: u64, block_size: u32) -> usize
+/// How many bytes of a file of `size` bytes are read at once: as many whole blocks as fit 64 MiB, at least one, but no more
+/// bytes than the file has. Does not allocate. O(1).
+pub fn group_len(size: u64, block_size: u32) -> usize
     requires { 1 ≤ block_size }
     ensures { result ≡ min size (group_bytes block_size) }
 {
