@@ -1,0 +1,66 @@
+-- The scan of all names: those of the store, and then those that the folder has and the store has not (own rule).
+use Rattle.std.specs.Prelude.{◌≡◌, ⊥, ℕ, List, [], ◌∷◌, Contains, ◌⊎◌, Option, Some, None, MatchOption, Result, Ok, Err, IsTrue, fold}
+use Rattle.sync_record.specs.Records.{FileRecord, Name, is_live}
+use Rattle.folder_core.specs.States.{FolderState, local}
+use Rattle.folder_calls.specs.Shared.{CallerView, Sees, now}
+use Rattle.file_store.specs.Listings.{AreAscending}
+use Rattle.file_store.specs.Refusals.{IsPlain}
+use Rattle.file_store.specs.declared.refusal.StoreRefusal.{StoreRefusal}
+use Rattle.sync_scan.specs.Scans.{Scans}
+use Rattle.sync_scan.specs.Stops.{counted, empty_sum, stop_by, stop_of}
+use Rattle.sync_scan.specs.declared.scanned.Look.{Look}
+use Rattle.sync_scan.specs.declared.scanned.Scanned.{Scanned}
+use Rattle.sync_scan.specs.declared.sum.ScanStop.{ScanStop}
+use Rattle.sync_scan.specs.declared.sum.ScanStop.TheVariants.{OutOfMemory}
+use Rattle.sync_scan.specs.declared.sum.ScanSum.{ScanSum}
+
+-- a name that was scanned, and what that came to
+abbrev pub Tried : Type 0
+Tried = Name × Result Scanned StoreRefusal
+
+-- the scan of one name, or a refusal of the store, after which nothing was asked of the folder
+abbrev pub ScansOne : CallerView → Name → ℕ → (Option FileRecord → Look → Type 0) → Result Scanned StoreRefusal → CallerView → Type 0
+ScansOne old n moment may (Ok scanned) new = Scans old n moment may scanned new
+ScansOne old n moment may (Err refusal) new = Sees old new
+
+-- these names were scanned, one after another
+abbrev pub ScansEach : CallerView → ℕ → (Name → Option FileRecord → Look → Type 0) → List Tried → CallerView → Type 0
+ScansEach old moment may [] new = Sees old new
+ScansEach old moment may (t ∷ ts) new =
+    (next : CallerView) × ScansOne old t.0 moment (may t.0) t.1 next × ScansEach next moment may ts new
+
+-- the names in their order, all of them, or those up to the first that stops the scan
+abbrev pub GoesOver : List Name → List Tried → Option ScanStop → Type 0
+GoesOver [] [] stopped = stopped ≡ None
+GoesOver (n ∷ ns) [] stopped = ⊥
+GoesOver [] (t ∷ ts) stopped = ⊥
+GoesOver (n ∷ ns) (t ∷ ts) stopped =
+    (t.0 ≡ n) × MatchOption (stop_of t.1) (GoesOver ns ts stopped) (λ stop. (ts ≡ []) × (stopped ≡ Some stop))
+
+-- what was counted of them
+abbrev pub sum_after : ScanSum → List Tried → ScanSum
+sum_after sum tried = fold (λ s (t : Tried). counted s t.1) sum tried
+
+-- The names that are not listed and of which the folder has a live local record: in byte order, each once. Each had one at a
+-- point that the caller had seen.
+pub record AreMissing (old point : CallerView) (listed names : List Name) : Type 0 where
+  pub order : AreAscending names
+  pub apart : (n : Name) → Contains names n → Contains listed n → ⊥
+  pub had : (n : Name) → Contains names n → (before : CallerView) × (r : FileRecord) × Sees old before × (local (now before) n ≡ Some r) × IsTrue (is_live r)
+  pub all : (n : Name) (r : FileRecord) → local (now point) n ≡ Some r → IsTrue (is_live r) → Contains listed n ⊎ Contains names n
+
+-- What the scan of all names comes to. What a listing may be is handed in, and what may be found at a name by its local record.
+pub data ScansAll (IsListed : List Name → Type 0) (may : Name → Option FileRecord → Look → Type 0) (old : CallerView) (moment : ℕ) (sum : ScanSum) (new : CallerView) : Type 0 where
+  -- the names are not listed
+  not_listed : (refusal : StoreRefusal) → new ≡ old → sum ≡ record empty_sum { stopped = Some (stop_by refusal) } → ScansAll IsListed may old moment sum new
+  -- the scan of a listed name stops it
+  stopped : (listed : List Name) (tried : List Tried) (stop : ScanStop) → IsListed listed → ScansEach old moment may tried new
+      → GoesOver listed tried (Some stop) → sum ≡ sum_after empty_sum tried → ScansAll IsListed may old moment sum new
+  -- memory is out while the other local names are looked for
+  not_read : (listed : List Name) (tried : List Tried) → IsListed listed → ScansEach old moment may tried new
+      → GoesOver listed tried None → sum ≡ record (sum_after empty_sum tried) { stopped = Some OutOfMemory } → ScansAll IsListed may old moment sum new
+  -- all, or those up to one that is not listed
+  scanned : (listed missing : List Name) (tried later : List Tried) (done point : CallerView) (stop : Option ScanStop) → IsListed listed
+      → ScansEach old moment may tried done → GoesOver listed tried None → Sees done point → AreMissing done point listed missing
+      → ScansEach point moment may later new → GoesOver missing later stop → sum ≡ sum_after (sum_after empty_sum tried) later
+      → ScansAll IsListed may old moment sum new

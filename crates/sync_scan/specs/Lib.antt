@@ -1,0 +1,4 @@
+pub mod Looks
+pub mod Scans
+pub mod Stops
+pub mod AllNames

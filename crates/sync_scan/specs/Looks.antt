@@ -1,0 +1,101 @@
+-- What a scan finds at a name (own rule; the blocks by Block Exchange Protocol v1, "Fields of the FileInfo message").
+use Rattle.std.specs.Prelude.{◌≡◌, ◌⊎◌, ◌≤◌, ◌^◌, ℕ, ℤ, pos, negsuc, ⊤, Bool, false, ◌&&◌, ◌||◌, ◌==◌, nat_lt, if◌then◌else◌, List, [], length, Option, Some, None, IsTrue}
+use Rattle.std.specs.Ordering.{int_eq}
+use Rattle.std.specs.Cmp.Lexicographic.{pointwise}
+use Rattle.sync_blocks.specs.declared.block.Block.{Block}
+use Rattle.sync_blocks.specs.BlockList.{block_list}
+use Rattle.sync_blocks.specs.Sizes.{block_size_for, is_block_size}
+use Rattle.sync_blocks.specs.Tiling.{same_block}
+use Rattle.sync_record.specs.Records.{FileRecord, is_live_file}
+use Rattle.folder_core.specs.declared.finding.Finding.{Finding}
+use Rattle.folder_core.specs.declared.finding.FoundContent.TheVariants as content
+use Rattle.folder_core.specs.Steps.{is_recordable}
+use Rattle.file_store.specs.Names.{Name}
+use Rattle.file_store.specs.Trees.{Tree}
+use Rattle.file_store.specs.declared.node.Node.{Node}
+use Rattle.file_store.specs.declared.node.Node.TheVariants.{Directory, File}
+use Rattle.sync_scan.specs.declared.scanned.Look.{Look}
+use Rattle.sync_scan.specs.declared.scanned.Look.TheVariants.{Found, Gone, Skipped, Changing}
+
+-- the most bytes of a file that is recorded
+abbrev pub max_file_size : ℕ
+max_file_size = 2 ^ 46
+
+abbrev pub blocks_in : Option FileRecord → List Block
+blocks_in None = []
+blocks_in (Some r) = r.blocks
+
+-- the block size that a message has, if files may have it
+abbrev pub block_size_in : ℤ → Option ℕ
+block_size_in (pos n) = if is_block_size n then Some n else None
+block_size_in (negsuc n) = None
+
+-- the block size of the local record, if that is of a live file of this size
+abbrev pub recorded_block_size : Option FileRecord → ℕ → Option ℕ
+recorded_block_size None size = None
+recorded_block_size (Some r) size = if is_live_file r && int_eq r.size (pos size) then block_size_in r.block_size else None
+
+-- blocks of a file of this size that are those of the local record; empty files are the same whatever their blocks
+abbrev pub are_recorded : Option FileRecord → ℕ → List Block → Bool
+are_recorded local size blocks = (size == 0) || pointwise same_block (blocks_in local) blocks
+
+-- the recorded block size if the blocks of that size are the recorded ones, and else that of new files
+abbrev pub chosen_block_size : Option FileRecord → List ℕ → Option ℕ → ℕ
+chosen_block_size local bytes None = block_size_for (length bytes)
+chosen_block_size local bytes (Some size) =
+    if are_recorded local (length bytes) (block_list bytes size) then size else block_size_for (length bytes)
+
+-- The block size by which a file's bytes are cut: that of its local record, if the content is then the recorded one, and else that
+-- of new files.
+abbrev pub block_size_of : Option FileRecord → List ℕ → ℕ
+block_size_of local bytes = chosen_block_size local bytes (recorded_block_size local (length bytes))
+
+-- a file with its blocks of this size
+abbrev pub file_finding : ℕ → List ℕ → ℕ → Finding
+file_finding block_size bytes modified = record {
+  content = content.File (length bytes) block_size (block_list bytes block_size);
+  modified_s = pos modified;
+  modified_ns = pos 0;
+}
+
+abbrev pub directory_finding : Finding
+directory_finding = record { content = content.Directory; modified_s = pos 0; modified_ns = pos 0 }
+
+-- a file with too many bytes is skipped
+abbrev pub look_of_file : Option FileRecord → List ℕ → ℕ → Look
+look_of_file local bytes modified =
+    if nat_lt max_file_size (length bytes) then Skipped else Found (file_finding (block_size_of local bytes) bytes modified)
+
+-- what is found where this is at the name
+abbrev pub look_of : Option FileRecord → Option Node → Look
+look_of local None = Gone
+look_of local (Some Directory) = Found directory_finding
+look_of local (Some (File bytes modified)) = look_of_file local bytes modified
+
+-- A file that was read of any store: these bytes, cut by the block size of new files or by that which the local record leads to.
+pub record IsRead (local : Option FileRecord) (found : Finding) : Type 0 where
+  pub bytes : List ℕ
+  pub block_size : ℕ
+  pub modified : ℕ
+  pub within : length bytes ≤ max_file_size
+  pub chosen : (block_size ≡ block_size_for (length bytes)) ⊎ (block_size ≡ block_size_of local bytes)
+  pub is : found ≡ file_finding block_size bytes modified
+
+-- what any store may lead to: a directory, or a file whose bytes were read
+abbrev pub IsFound : Option FileRecord → Look → Type 0
+IsFound local (Found found) = (found ≡ directory_finding) ⊎ IsRead local found
+IsFound local Gone = ⊤
+IsFound local Skipped = ⊤
+IsFound local Changing = ⊤
+
+-- what is found can be recorded
+abbrev pub IsRecordable : Look → Type 0
+IsRecordable (Found found) = IsTrue (is_recordable found.content)
+IsRecordable Gone = ⊤
+IsRecordable Skipped = ⊤
+IsRecordable Changing = ⊤
+
+-- What may be found at a name, by its local record: what may be found of any store, and if the store keeps what is written, what
+-- is there.
+abbrev pub MayFind : Type 0 → Tree → Name → Option FileRecord → Look → Type 0
+MayFind keeps tree n local look = IsFound local look × (keeps → look ≡ look_of local (tree.names n))

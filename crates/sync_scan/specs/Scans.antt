@@ -1,0 +1,32 @@
+-- What the scan of a name asks of the folder (own rule).
+use Rattle.std.specs.Prelude.{◌≡◌, ℕ, Option, Result, Ok, Err}
+use Rattle.sync_version.specs.Versions.{Vector}
+use Rattle.sync_record.specs.Records.{FileRecord, Name}
+use Rattle.folder_core.specs.States.{local, local_version}
+use Rattle.folder_core.specs.declared.change.Change.TheVariants.{ScanFound, ScanGone}
+use Rattle.folder_calls.specs.Calls.{scan_value}
+use Rattle.folder_calls.specs.Shared.{CallerView, Gets, Sees, now}
+use Rattle.sync_scan.specs.declared.scanned.Look.{Look}
+use Rattle.sync_scan.specs.declared.scanned.Look.TheVariants as look
+use Rattle.sync_scan.specs.declared.scanned.Scanned.{Scanned}
+use Rattle.sync_scan.specs.declared.scanned.Scanned.TheVariants as scanned
+
+-- What was found is recorded over the expected version by one change, which got this answer; where nothing is recorded, none is
+-- asked for.
+abbrev pub AsksFor : CallerView → Name → Option Vector → ℕ → Look → Scanned → CallerView → Type 0
+AsksFor old n expected moment (look.Found found) (scanned.Answered answer) new =
+    Gets old (ScanFound n expected found moment) (scan_value answer) new
+AsksFor old n expected moment look.Gone (scanned.Answered answer) new =
+    Gets old (ScanGone n expected moment) (scan_value answer) new
+AsksFor old n expected moment look.Skipped scanned.Skipped new = new ≡ old
+AsksFor old n expected moment look.Changing scanned.Changing new = new ≡ old
+AsksFor old n expected moment _ _ new = ⊥
+
+-- The local record was read first. Over its version, what was then found was recorded by one change, which got this answer. What
+-- may be found, by that record, is handed in.
+pub record Scans (old : CallerView) (n : Name) (moment : ℕ) (may : Option FileRecord → Look → Type 0) (result : Scanned) (new : CallerView) : Type 0 where
+  pub read : CallerView
+  pub sees : Sees old read
+  pub found : Look
+  pub may_be : may (local (now read) n) found
+  pub asks : AsksFor read n (local_version (now read) n) moment found result new

@@ -1,0 +1,177 @@
+//! The scan of all names.
+ghost use Rattle.std.specs.Prelude.{◌≡◌, [], IsTrue, List, None, false, map, true};
+ghost use Rattle.file_store.specs.Listings.{AreAscending, IsListing};
+ghost use Rattle.file_store.specs.declared.node.Listing.{Listing};
+ghost use Rattle.sync_scan.specs.AllNames.{GoesOver, ScansAll, ScansEach, Tried, sum_after};
+ghost use Rattle.sync_scan.specs.Looks.{MayFind};
+ghost use Rattle.sync_scan.specs.Stops.{empty_sum};
+
+use crate::missing::missing_names;
+use crate::name::scan_one;
+use crate::sum::stop_by;
+use crate::{Progress, ScanStop, ScanSum, Scanned};
+use file_store::{FileStore, Gate, Listed};
+use folder_calls::FolderCalls;
+use std::alloc::{AllocError, Global};
+use std::collections::BTreeSet;
+use std::thread::Threads;
+use sync_names::SafeName;
+use sync_version::Moment;
+
+/// Scans all names of the store, in byte order, and then those of which the folder has a live local record and that the store
+/// does not list, in byte order.
+///
+/// What stands below a directory that could not be read is skipped: it is not recorded as deleted. `SequenceFull`,
+/// `HistoryFull`, out of memory and a store that cannot list its names stop the scan; what was recorded before stays. Anything
+/// else but `Recorded` and `Unchanged` counts as other.
+///
+/// One buffer of at most 64 MiB, or one block, serves all files. O(n log n) for n names, and the time to read all files.
+pub fn scan_all<S: FileStore, W: FolderCalls, G: Gate, P: Progress>(
+    rt: &(impl Threads + Sync),
+    alloc: Global,
+    store: &mut S,
+    calls: &mut W,
+    gate: &G,
+    moment: Moment,
+    progress: &mut P,
+) -> ScanSum
+    ensures folder { W.folder calls.new ≡ W.folder calls.old }
+    ensures scans { ScansAll
+        (λ names. (listing : Listing) × (names ≡ map (λ e. e.name) listing.entries.items)
+        × AreAscending names
+        × (S.keeps ≡ true → IsListing (S.tree store.old).names listing))
+        (MayFind (IsTrue S.keeps) (S.tree store.old)) (W.view calls.old) moment result (W.view calls.new) }
+    ensures kept { S.keeps ≡ true → S.tree store.new ≡ S.tree store.old }
+{
+    let listing = match store.list() {
+        Ok(listing) => listing,
+        Err(refusal) => return ScanSum::new().stopped_by(stop_by(refusal)),
+    };
+    let mut buffer = Vec::new(alloc);
+    let sum = scan_listed(
+        rt,
+        alloc,
+        store,
+        calls,
+        gate,
+        &listing.entries,
+        moment,
+        &mut buffer,
+        progress,
+    );
+    if sum.stopped.is_some() {
+        return sum;
+    }
+    match missing_names(alloc, calls, gate, &listing.entries) {
+        Ok(names) => scan_missing(
+            rt,
+            alloc,
+            store,
+            calls,
+            gate,
+            &names,
+            &listing.unread,
+            moment,
+            &mut buffer,
+            progress,
+            sum,
+        ),
+        Err(AllocError) => sum.stopped_by(ScanStop::OutOfMemory),
+    }
+}
+
+// Scans the listed names in their order, up to one that stops the scan.
+fn scan_listed<S: FileStore, W: FolderCalls, G: Gate, P: Progress>(
+    rt: &(impl Threads + Sync),
+    alloc: Global,
+    store: &mut S,
+    calls: &mut W,
+    gate: &G,
+    entries: &[Listed],
+    moment: Moment,
+    buffer: &mut Vec<u8>,
+    progress: &mut P,
+) -> ScanSum
+    ensures folder { W.folder calls.new ≡ W.folder calls.old }
+    ensures scans { (tried : List Tried)
+        × ScansEach (W.view calls.old) moment (MayFind (IsTrue S.keeps) (S.tree store.old)) tried (W.view calls.new)
+        × GoesOver (map (λ e. e.name) entries.now) tried result.stopped
+        × (result ≡ sum_after empty_sum tried) }
+    ensures kept { S.keeps ≡ true → S.tree store.new ≡ S.tree store.old }
+{
+    let mut sum = ScanSum::new();
+    for (index, entry) in entries.iter().enumerate() {
+        let scanned = scan_one(
+            rt,
+            alloc,
+            store,
+            calls,
+            gate,
+            &entry.name,
+            moment,
+            buffer,
+            progress,
+        );
+        sum.count(&scanned);
+        progress.scanned(index as u64 + 1, entries.len() as u64);
+        if sum.stopped.is_some() {
+            return sum;
+        }
+    }
+    sum
+}
+
+// Scans the names that are not listed in their order, up to one that stops the scan. What stands below an unread directory is skipped.
+fn scan_missing<S: FileStore, W: FolderCalls, G: Gate, P: Progress>(
+    rt: &(impl Threads + Sync),
+    alloc: Global,
+    store: &mut S,
+    calls: &mut W,
+    gate: &G,
+    names: &BTreeSet<SafeName>,
+    unread: &[SafeName],
+    moment: Moment,
+    buffer: &mut Vec<u8>,
+    progress: &mut P,
+    sum: ScanSum,
+) -> ScanSum
+    requires { S.keeps ≡ true → unread.now ≡ [] }
+    ensures folder { W.folder calls.new ≡ W.folder calls.old }
+    ensures scans { sum.stopped ≡ None → (tried : List Tried)
+        × ScansEach (W.view calls.old) moment (MayFind (IsTrue S.keeps) (S.tree store.old)) tried (W.view calls.new)
+        × GoesOver names.now.keys tried result.stopped
+        × (result ≡ sum_after sum tried) }
+    ensures kept { S.keeps ≡ true → S.tree store.new ≡ S.tree store.old }
+{
+    let mut sum = sum;
+    for name in names {
+        let scanned = if is_below_any(unread, name) {
+            Ok(Scanned::Skipped)
+        } else {
+            scan_one(
+                rt, alloc, store, calls, gate, name, moment, buffer, progress,
+            )
+        };
+        sum.count(&scanned);
+        if sum.stopped.is_some() {
+            return sum;
+        }
+    }
+    sum
+}
+
+// Whether the name is below one of the directories.
+fn is_below_any(directories: &[SafeName], name: &SafeName) -> bool
+    ensures { directories.now ≡ [] → result ≡ false }
+{
+    directories
+        .iter()
+        .any(|directory| is_below(directory, name))
+}
+
+fn is_below(directory: &SafeName, name: &SafeName) -> bool {
+    match name.as_str().strip_prefix(directory.as_str()) {
+        Some(rest) => rest.starts_with('/'),
+        None => false,
+    }
+}

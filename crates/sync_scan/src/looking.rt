@@ -1,0 +1,186 @@
+//! What is found at a name of a store.
+ghost use Rattle.std.specs.Prelude.{◌≡◌, ◌≢◌, ◌≤◌, ◌<◌, ◌^◌, IfErr, IfOk, IfSome, Ok, length, option_copied, true, List, ℕ};
+ghost use Rattle.file_store.specs.Refusals.{IsPlain, count_after};
+ghost use Rattle.file_store.specs.Trees.{bytes_of};
+ghost use Rattle.sync_blocks.specs.BlockList.{block_list};
+ghost use Rattle.sync_blocks.specs.Sizes.{is_block_size};
+ghost use Rattle.sync_scan.specs.Looks.{IsFound, are_recorded, file_finding, look_of, look_of_file, recorded_block_size};
+
+use crate::hashing::blocks_of_file;
+use crate::{Look, Progress};
+use bep_messages::Items;
+use file_store::{FileStore, Gate, Stat, StoreRefusal};
+use folder_core::{Finding, FoundContent};
+use std::alloc::{AllocError, Global};
+use std::thread::Threads;
+use sync_blocks::{Block, block_size_for, is_block_size};
+use sync_names::{NameFault, SafeName};
+use sync_record::{Kind, Record};
+use sync_version::Moment;
+
+/// The most bytes of a file that is recorded: 64 TiB.
+pub const MAX_FILE_SIZE: u64 = 1 << 46;
+
+/// What is at a name, of which the folder has this local record.
+///
+/// A file is read whole. It is cut by the block size of the local record, if that is of a live file of as many bytes, and only
+/// where the blocks then differ by that of new files. A name at which nothing is because something that is neither a directory nor
+/// a file is in a parent's place is skipped.
+pub(crate) fn look_at<S: FileStore, G: Gate, P: Progress>(
+    rt: &(impl Threads + Sync),
+    alloc: Global,
+    store: &mut S,
+    gate: &G,
+    name: &SafeName,
+    local: Option<&Record>,
+    buffer: &mut Vec<u8>,
+    progress: &mut P,
+) -> Result<Look, StoreRefusal>
+    ensures looks { S.keeps ≡ true → IfOk result (λ look.
+        look ≡ look_of (option_copied local.entry) ((S.tree store.old).names name.now)) }
+    ensures found { IfOk result (IsFound (option_copied local.entry)) }
+    ensures kept { S.keeps ≡ true → S.tree store.new ≡ S.tree store.old }
+    ensures refusals { IfErr result IsPlain }
+    ensures counted { S.fault_count store.new ≡ count_after result (S.fault_count store.old) }
+{
+    match store.stat(name)? {
+        Stat::Missing => {
+            if is_below_other(alloc, store, name)? {
+                Ok(Look::Skipped)
+            } else {
+                Ok(Look::Gone)
+            }
+        }
+        Stat::Directory => Ok(Look::Found(Finding {
+            content: FoundContent::Directory,
+            modified_s: 0,
+            modified_ns: 0,
+        })),
+        Stat::File(size, modified) => look_at_file(
+            rt, alloc, store, gate, name, local, size, modified, buffer, progress,
+        ),
+        Stat::Other => Ok(Look::Skipped),
+    }
+}
+
+// A file of this size, unless it has too many bytes.
+fn look_at_file<S: FileStore, G: Gate, P: Progress>(
+    rt: &(impl Threads + Sync),
+    alloc: Global,
+    store: &mut S,
+    gate: &G,
+    name: &SafeName,
+    local: Option<&Record>,
+    size: u64,
+    modified: Moment,
+    buffer: &mut Vec<u8>,
+    progress: &mut P,
+) -> Result<Look, StoreRefusal>
+    ensures looks { S.keeps ≡ true → length (bytes_of ((S.tree store.old).names name.now)) ≡ size →
+        IfOk result (λ look. look ≡ look_of_file (option_copied local.entry)
+        (bytes_of ((S.tree store.old).names name.now)) modified) }
+    ensures found { IfOk result (IsFound (option_copied local.entry)) }
+    ensures kept { S.keeps ≡ true → S.tree store.new ≡ S.tree store.old }
+    ensures refusals { IfErr result IsPlain }
+    ensures counted { S.fault_count store.new ≡ count_after result (S.fault_count store.old) }
+{
+    if size > MAX_FILE_SIZE {
+        return Ok(Look::Skipped);
+    }
+    let own = block_size_for(size);
+    if let Some(recorded) = recorded_block_size(local, size) {
+        let Some(blocks) = blocks_of_file(
+            rt, alloc, store, gate, name, size, recorded, buffer, progress,
+        )?
+        else {
+            return Ok(Look::Changing);
+        };
+        if recorded == own || are_recorded(local, size, &blocks) {
+            return Ok(found_file(size, recorded, blocks, modified));
+        }
+    }
+    let Some(blocks) = blocks_of_file(rt, alloc, store, gate, name, size, own, buffer, progress)?
+    else {
+        return Ok(Look::Changing);
+    };
+    Ok(found_file(size, own, blocks, modified))
+}
+
+fn found_file(size: u64, block_size: u32, blocks: Vec<Block>, modified: Moment) -> Look
+    requires { size ≤ 2 ^ 46 }
+    ensures { (bytes : List ℕ) → length bytes ≡ size → blocks.items ≡ block_list bytes block_size →
+        result ≡ Look.Found (file_finding block_size bytes modified) }
+{
+    Look::Found(Finding {
+        content: FoundContent::File {
+            size,
+            block_size,
+            blocks: Items::from_vec(blocks),
+        },
+        modified_s: modified.seconds() as i64,
+        modified_ns: 0,
+    })
+}
+
+// The block size of the local record, if that is of a live file of this size.
+fn recorded_block_size(local: Option<&Record>, size: u64) -> Option<u32>
+    requires { size ≤ 2 ^ 46 }
+    ensures value { result ≡ recorded_block_size (option_copied local.entry) size }
+    ensures is { IfSome result (λ n. is_block_size n ≡ true) }
+{
+    let record = local?;
+    if record.is_deleted() || record.kind() != Kind::File || record.size() != size as i64 {
+        return None;
+    }
+    let block_size = u32::try_from(record.block_size()).ok()?;
+    if is_block_size(block_size) {
+        Some(block_size)
+    } else {
+        None
+    }
+}
+
+// Whether a file of this size with these blocks is as the local record says. Empty files are the same.
+fn are_recorded(local: Option<&Record>, size: u64, blocks: &[Block]) -> bool
+    ensures { result ≡ are_recorded (option_copied local.entry) size blocks.now }
+{
+    match local {
+        Some(record) => size == 0 || record.blocks() == blocks,
+        None => size == 0 || blocks.is_empty(),
+    }
+}
+
+// Whether something that is neither a directory nor a file is in the place of a parent of the name. A parent of which no name is
+// safe is not asked for.
+fn is_below_other<S: FileStore>(
+    alloc: Global,
+    store: &mut S,
+    name: &SafeName,
+) -> Result<bool, StoreRefusal>
+    ensures none { S.keeps ≡ true → result ≢ Ok true }
+    ensures kept { S.keeps ≡ true → S.tree store.new ≡ S.tree store.old }
+    ensures refusals { IfErr result IsPlain }
+    ensures counted { S.fault_count store.new ≡ count_after result (S.fault_count store.old) }
+{
+    let mut rest = name.as_str();
+    while let Some(slash) = rest.rfind('/') {
+        rest = rest.split_at(slash).0;
+        if is_other(alloc, store, rest)? {
+            return Ok(true);
+        }
+    }
+    Ok(false)
+}
+
+fn is_other<S: FileStore>(alloc: Global, store: &mut S, text: &str) -> Result<bool, StoreRefusal>
+    ensures none { S.keeps ≡ true → result ≢ Ok true }
+    ensures kept { S.keeps ≡ true → S.tree store.new ≡ S.tree store.old }
+    ensures refusals { IfErr result IsPlain }
+    ensures counted { S.fault_count store.new ≡ count_after result (S.fault_count store.old) }
+{
+    match SafeName::parse(alloc, text) {
+        Ok(parent) => Ok(store.stat(&parent)? == Stat::Other),
+        Err(NameFault::OutOfMemory) => Err(StoreRefusal::OutOfMemory),
+        Err(_) => Ok(false),
+    }
+}
