@@ -1,3 +1,5 @@
 pub mod PartsLemmas
 pub mod RecordLemmas
 pub mod ScanLemmas
+pub mod MissingLemmas
+pub mod PageLemmas

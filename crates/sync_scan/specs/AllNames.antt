@@ -1,5 +1,5 @@
 -- The scan of all names: those of the store, and then those that the folder has and the store has not (own rule).
-use Rattle.std.specs.Prelude.{◌≡◌, ⊥, ℕ, List, [], ◌∷◌, Contains, ◌⊎◌, Option, Some, None, MatchOption, Result, Ok, Err, IsTrue, fold}
+use Rattle.std.specs.Prelude.{◌≡◌, ℕ, List, [], ◌∷◌, Contains, ◌⊎◌, Option, Some, None, MatchOption, Result, Ok, Err, IsTrue, fold}
 use Rattle.sync_record.specs.Records.{FileRecord, Name, is_live}
 use Rattle.folder_core.specs.States.{FolderState, local}
 use Rattle.folder_calls.specs.Shared.{CallerView, Sees, now}
@@ -40,6 +40,13 @@ GoesOver (n ∷ ns) (t ∷ ts) stopped =
 -- what was counted of them
 abbrev pub sum_after : ScanSum → List Tried → ScanSum
 sum_after sum tried = fold (λ s (t : Tried). counted s t.1) sum tried
+
+-- To some names those of records were added that are live and not listed.
+pub record AddsMissing (listed : List Name) (records : List FileRecord) (old new : List Name) : Type 0 where
+  pub kept : (n : Name) → Contains old n → Contains new n
+  pub added : (r : FileRecord) → Contains records r → IsTrue (is_live r) → Contains listed r.name ⊎ Contains new r.name
+  pub only : (n : Name) → Contains new n →
+      Contains old n ⊎ ((r : FileRecord) × Contains records r × (r.name ≡ n) × IsTrue (is_live r) × (Contains listed n → ⊥))
 
 -- The names that are not listed and of which the folder has a live local record: in byte order, each once. Each had one at a
 -- point that the caller had seen.

@@ -1,11 +1,17 @@
 //! The names that the folder has and the store has not.
-ghost use Rattle.std.specs.Prelude.{◌≡◌, IfErr, IfOk, map};
+ghost use Rattle.std.specs.Prelude.{◌≡◌, ◌↔◌, [], ◌∷◌, Contains, IfOk, IsTrue, OnOk, map};
+ghost use Rattle.std.specs.Cmp.Lexicographic.{slice_cmp};
+ghost use Rattle.std.specs.Ordering.{nat_cmp};
+ghost use Rattle.file_store.specs.Listings.{AreAscending};
 ghost use Rattle.folder_calls.specs.Shared.{Sees};
-ghost use Rattle.sync_scan.specs.AllNames.{AreMissing};
+ghost use Rattle.sync_scan.specs.AllNames.{AddsMissing, AreMissing};
 
 use file_store::{Gate, GatePlace, Listed};
 use folder_calls::FolderCalls;
+use folder_calls::laws::{histories_may_be_divided, local_records_go_on, views_are_of_folders};
+use folder_core::laws::local_records_come_in_pages;
 use std::alloc::{AllocError, Global};
+use std::cmp::Ordering;
 use std::collections::BTreeSet;
 use sync_names::SafeName;
 use sync_record::Record;
@@ -21,11 +27,16 @@ pub(crate) fn missing_names<W: FolderCalls, G: Gate>(
     gate: &G,
     entries: &[Listed],
 ) -> Result<BTreeSet<SafeName>, AllocError>
+    requires { AreAscending (map (λ e. e.name) entries.now) }
     ensures folder { W.folder calls.new ≡ W.folder calls.old }
     ensures sees { Sees (W.view calls.old) (W.view calls.new) }
     ensures missing { IfOk result (λ names. AreMissing (W.view calls.old) (W.view calls.new)
         (map (λ e. e.name) entries.now) names.keys) }
 {
+    views_are_of_folders();
+    histories_may_be_divided();
+    local_records_go_on();
+    local_records_come_in_pages();
     let mut names = BTreeSet::new(alloc);
     let mut cursor = 0;
     loop {
@@ -44,21 +55,48 @@ fn add_missing(
     names: &mut BTreeSet<SafeName>,
     entries: &[Listed],
     records: &[Record],
-) -> Result<(), AllocError> {
+) -> Result<(), AllocError>
+    requires { AreAscending (map (λ e. e.name) entries.now) }
+    ensures adds { OnOk result (AddsMissing (map (λ e. e.name) entries.now) records.now
+        names.old.keys names.new.keys) }
+    ensures order { AreAscending names.old.keys → OnOk result (AreAscending names.new.keys) }
+{
     for record in records {
-        if !record.is_deleted() && !is_listed(entries, record.name()) {
-            match names.insert(record.name().copy()?) {
-                Ok(_) => {}
-                Err(failed) => return Err(AllocError::from(failed)),
-            }
-        }
+        add_one(names, entries, record)?;
     }
     Ok(())
 }
 
+// Adds the name of a record, if it is live and not listed.
+fn add_one(
+    names: &mut BTreeSet<SafeName>,
+    entries: &[Listed],
+    record: &Record,
+) -> Result<(), AllocError>
+    requires { AreAscending (map (λ e. e.name) entries.now) }
+    ensures adds { OnOk result (AddsMissing (map (λ e. e.name) entries.now) («record».now ∷ [])
+        names.old.keys names.new.keys) }
+    ensures order { AreAscending names.old.keys → OnOk result (AreAscending names.new.keys) }
+{
+    if record.is_deleted() || is_listed(entries, record.name()) {
+        return Ok(());
+    }
+    match names.insert(record.name().copy()?) {
+        Ok(_) => Ok(()),
+        Err(failed) => Err(AllocError::from(failed)),
+    }
+}
+
 // Whether a name is listed, by the order of the listing. O(log n).
-fn is_listed(entries: &[Listed], name: &SafeName) -> bool {
+fn is_listed(entries: &[Listed], name: &SafeName) -> bool
+    requires { AreAscending (map (λ e. e.name) entries.now) }
+    ensures { IsTrue result ↔ Contains (map (λ e. e.name) entries.now) name.now }
+{
     entries
-        .binary_search_by(|entry| entry.name.cmp(name))
+        .binary_search_by(
+            |entry: &Listed| -> Ordering
+                ensures { result ≡ slice_cmp nat_cmp entry.entry.now.name name.entry.now }
+            { entry.name.cmp(name) },
+        )
         .is_ok()
 }
