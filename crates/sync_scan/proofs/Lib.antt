@@ -3,3 +3,4 @@ pub mod RecordLemmas
 pub mod ScanLemmas
 pub mod MissingLemmas
 pub mod PageLemmas
+pub mod EachLemmas

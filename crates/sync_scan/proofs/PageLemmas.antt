@@ -1,6 +1,6 @@
 -- The local names that are collected page by page.
 use Rattle.std.proofs.Common.{◌≡◌, ℕ, ◌+◌, ◌-◌, ◌<◌, ◌≤◌, List, [], ◌∷◌, ◌++◌, length, Bool, true, false, Option, Some, None, refl, sym, ap, subst, ◌∙◌, ◌⊎◌, inl, inr, arith}
-use Rattle.std.specs.Prelude.{Contains, IsTrue, nat_le, slice_get, sum_by, ◌↔◌}
+use Rattle.std.specs.Prelude.{Contains, IfOk, IsTrue, Result, Ok, Err, nat_le, slice_get, sum_by, ◌↔◌}
 use Rattle.std.proofs.lemmas.Bool.{leb-false, leb-true}
 use Rattle.std.proofs.lemmas.Option.{get_or_from_slice_get, none-some, slice_get-get_or, slice_get_within}
 use Rattle.sync_record.specs.Records.{FileRecord, Name, is_live}
@@ -183,3 +183,9 @@ module _ (laws : Laws) (old a b : CallerView) (listed names : List Name) (cursor
 
 pub nearer : (a b : ℕ) → a < b → b < 9223372036854775808 → 9223372036854775808 - b < 9223372036854775808 - a
 nearer a b lt fits = omega arith
+
+-- what holds of a list holds of the vector with its items
+pub ok-through : {E V : Type 0} (P : List Name → Type 0) (items : V → List Name) (names : List Name) (r : Result V E) → IfOk r (λ v. items v ≡ names) → P names
+    → IfOk r (λ v. P (items v))
+ok-through P items names (Ok v) same p = subst P (sym same) p
+ok-through P items names (Err e) same p = tt

@@ -1,19 +1,18 @@
 //! The scan of all names.
-ghost use Rattle.std.specs.Prelude.{◌≡◌, [], IsTrue, List, None, false, map, true};
+ghost use Rattle.std.specs.Prelude.{◌≡◌, [], IsTrue, List, None, Result, false, map, true};
 ghost use Rattle.file_store.specs.Listings.{AreAscending, IsListing};
 ghost use Rattle.file_store.specs.declared.node.Listing.{Listing};
-ghost use Rattle.sync_scan.specs.AllNames.{GoesOver, ScansAll, ScansEach, Tried, sum_after};
+ghost use Rattle.sync_scan.specs.AllNames.{GoesOver, ScansAll, ScansEach, ScansOne, Tried, sum_after};
 ghost use Rattle.sync_scan.specs.Looks.{MayFind};
-ghost use Rattle.sync_scan.specs.Stops.{empty_sum};
+ghost use Rattle.sync_scan.specs.Stops.{counted, empty_sum};
 
 use crate::missing::missing_names;
 use crate::name::scan_one;
 use crate::sum::stop_by;
 use crate::{Progress, ScanStop, ScanSum, Scanned};
-use file_store::{FileStore, Gate, Listed};
+use file_store::{FileStore, Gate, Listed, StoreRefusal};
 use folder_calls::FolderCalls;
 use std::alloc::{AllocError, Global};
-use std::collections::BTreeSet;
 use std::thread::Threads;
 use sync_names::SafeName;
 use sync_version::Moment;
@@ -93,26 +92,27 @@ fn scan_listed<S: FileStore, W: FolderCalls, G: Gate, P: Progress>(
     progress: &mut P,
 ) -> ScanSum
     ensures folder { W.folder calls.new ≡ W.folder calls.old }
-    ensures scans { (tried : List Tried)
-        × ScansEach (W.view calls.old) moment (MayFind (IsTrue S.keeps) (S.tree store.old)) tried (W.view calls.new)
+    ensures scans { (tried : List Tried) × ScansEach (W.view calls.old) moment
+        (MayFind (IsTrue S.keeps) (S.tree store.old)) tried (W.view calls.new)
         × GoesOver (map (λ e. e.name) entries.now) tried result.stopped
         × (result ≡ sum_after empty_sum tried) }
     ensures kept { S.keeps ≡ true → S.tree store.new ≡ S.tree store.old }
 {
     let mut sum = ScanSum::new();
     for (index, entry) in entries.iter().enumerate() {
-        let scanned = scan_one(
+        scan_next(
             rt,
             alloc,
             store,
             calls,
             gate,
             &entry.name,
+            false,
             moment,
             buffer,
             progress,
+            &mut sum,
         );
-        sum.count(&scanned);
         progress.scanned(index as u64 + 1, entries.len() as u64);
         if sum.stopped.is_some() {
             return sum;
@@ -121,43 +121,72 @@ fn scan_listed<S: FileStore, W: FolderCalls, G: Gate, P: Progress>(
     sum
 }
 
-// Scans the names that are not listed in their order, up to one that stops the scan. What stands below an unread directory is skipped.
+// Scans the names that are not listed in their order, up to one that stops the scan. What stands below an unread directory is
+// skipped.
 fn scan_missing<S: FileStore, W: FolderCalls, G: Gate, P: Progress>(
     rt: &(impl Threads + Sync),
     alloc: Global,
     store: &mut S,
     calls: &mut W,
     gate: &G,
-    names: &BTreeSet<SafeName>,
+    names: &[SafeName],
     unread: &[SafeName],
     moment: Moment,
     buffer: &mut Vec<u8>,
     progress: &mut P,
     sum: ScanSum,
 ) -> ScanSum
-    requires { S.keeps ≡ true → unread.now ≡ [] }
+    requires listed { S.keeps ≡ true → unread.now ≡ [] }
+    requires goes_on { sum.stopped ≡ None }
     ensures folder { W.folder calls.new ≡ W.folder calls.old }
-    ensures scans { sum.stopped ≡ None → (tried : List Tried)
-        × ScansEach (W.view calls.old) moment (MayFind (IsTrue S.keeps) (S.tree store.old)) tried (W.view calls.new)
-        × GoesOver names.now.keys tried result.stopped
+    ensures scans { (tried : List Tried) × ScansEach (W.view calls.old) moment
+        (MayFind (IsTrue S.keeps) (S.tree store.old)) tried (W.view calls.new)
+        × GoesOver names.now tried result.stopped
         × (result ≡ sum_after sum tried) }
     ensures kept { S.keeps ≡ true → S.tree store.new ≡ S.tree store.old }
 {
     let mut sum = sum;
     for name in names {
-        let scanned = if is_below_any(unread, name) {
-            Ok(Scanned::Skipped)
-        } else {
-            scan_one(
-                rt, alloc, store, calls, gate, name, moment, buffer, progress,
-            )
-        };
-        sum.count(&scanned);
+        let is_skipped = is_below_any(unread, name);
+        scan_next(
+            rt, alloc, store, calls, gate, name, is_skipped, moment, buffer, progress, &mut sum,
+        );
         if sum.stopped.is_some() {
             return sum;
         }
     }
     sum
+}
+
+// Scans a name, unless it is skipped, and counts what that came to.
+fn scan_next<S: FileStore, W: FolderCalls, G: Gate, P: Progress>(
+    rt: &(impl Threads + Sync),
+    alloc: Global,
+    store: &mut S,
+    calls: &mut W,
+    gate: &G,
+    name: &SafeName,
+    is_skipped: bool,
+    moment: Moment,
+    buffer: &mut Vec<u8>,
+    progress: &mut P,
+    sum: &mut ScanSum,
+)
+    requires { S.keeps ≡ true → is_skipped ≡ false }
+    ensures folder { W.folder calls.new ≡ W.folder calls.old }
+    ensures scans { (r : Result Scanned StoreRefusal) × ScansOne (W.view calls.old) name.now moment
+        (MayFind (IsTrue S.keeps) (S.tree store.old) name.now) r (W.view calls.new)
+        × (sum.new ≡ counted sum.old r) }
+    ensures kept { S.keeps ≡ true → S.tree store.new ≡ S.tree store.old }
+{
+    if is_skipped {
+        sum.count(&Ok(Scanned::Skipped));
+        return;
+    }
+    let scanned = scan_one(
+        rt, alloc, store, calls, gate, name, moment, buffer, progress,
+    );
+    sum.count(&scanned);
 }
 
 // Whether the name is below one of the directories.

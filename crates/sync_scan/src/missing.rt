@@ -26,12 +26,12 @@ pub(crate) fn missing_names<W: FolderCalls, G: Gate>(
     calls: &mut W,
     gate: &G,
     entries: &[Listed],
-) -> Result<BTreeSet<SafeName>, AllocError>
+) -> Result<Vec<SafeName>, AllocError>
     requires { AreAscending (map (λ e. e.name) entries.now) }
     ensures folder { W.folder calls.new ≡ W.folder calls.old }
     ensures sees { Sees (W.view calls.old) (W.view calls.new) }
     ensures missing { IfOk result (λ names. AreMissing (W.view calls.old) (W.view calls.new)
-        (map (λ e. e.name) entries.now) names.keys) }
+        (map (λ e. e.name) entries.now) names.items) }
 {
     views_are_of_folders();
     histories_may_be_divided();
@@ -43,11 +43,18 @@ pub(crate) fn missing_names<W: FolderCalls, G: Gate>(
         gate.at(GatePlace::FolderCall);
         let page = calls.local_since(cursor, PAGE_RECORDS)?.value;
         let Some(last) = page.as_slice().last() else {
-            return Ok(names);
+            return in_order(alloc, names);
         };
         cursor = last.sequence();
         add_missing(&mut names, entries, page.as_slice())?;
     }
+}
+
+// The names of a set in their order.
+fn in_order(alloc: Global, names: BTreeSet<SafeName>) -> Result<Vec<SafeName>, AllocError>
+    ensures { IfOk result (λ list. list.items ≡ names.keys) }
+{
+    names.into_iter().collect(alloc)
 }
 
 // Adds the names of the live records that are not listed.

@@ -1,7 +1,7 @@
 use Rattle.std.proofs.Common.{◌≡◌, ◌∙◌, map, sym, subst, arith}
 use Rattle.file_store.specs.declared.node.Listed.{Listed}
-use Rattle.sync_scan.specs.AllNames.{AddsMissing}
-use Rattle.sync_scan.proofs.PageLemmas.{Laws, collected-all, collected-none, collected-page, nearer, rises}
+use Rattle.sync_scan.specs.AllNames.{AddsMissing, AreMissing}
+use Rattle.sync_scan.proofs.PageLemmas.{Laws, collected-all, collected-none, collected-page, nearer, ok-through, rises}
 use Rattle.sync_scan.proofs.missing.missing_names.Goals as goal
 
 pub returns-in_default-clause-missing : goal.returns-in_default-clause-missing
@@ -15,8 +15,10 @@ returns-in_default-clause-missing g c =
       only = c.local_records_come_in_pages.ensures.only;
       all = c.local_records_come_in_pages.ensures.all;
     } in
-    collected-all laws _ _ _ _ _ _ _ c.loop-names.invariant.collected _ c.in_ok-page.ensures.reads (omega arith) c.as_slice.result.now c.as_slice.ensures
-    c.in_default.ensures.value c.loop-names.invariant.order
+    let listed = map (λ (e : Listed). e.name) c.args.entries.now in
+    ok-through (AreMissing (g.W.FolderCalls.view c.args.calls.now) (g.W.FolderCalls.view c.local_since.new.self) listed) (λ v. v.items) c.loop-names.names.keys c.in_order.result c.in_order.ensures
+    (collected-all laws _ _ _ _ _ _ _ c.loop-names.invariant.collected _ c.in_ok-page.ensures.reads (omega arith) c.as_slice.result.now c.as_slice.ensures
+    c.in_default.ensures.value c.loop-names.invariant.order)
 
 pub loop-names-smaller : goal.loop-names-smaller
 loop-names-smaller g c =

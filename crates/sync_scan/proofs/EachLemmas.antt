@@ -1,0 +1,182 @@
+-- Names that are scanned one after another.
+use Rattle.std.proofs.Common.{◌≡◌, ℕ, suc, ◌<◌, length, take, drop, get_or, drop-cons, List, [], ◌∷◌, ◌++◌, Bool, true, false, Option, Some, None, refl, sym, ap, subst, ◌∙◌}
+use Rattle.std.specs.Prelude.{MatchOption, Result, Ok, Err, is_some}
+use Rattle.std.proofs.lemmas.List.{take-append-drop}
+use Rattle.sync_record.specs.Records.{FileRecord, Name}
+use Rattle.folder_core.specs.declared.scan.ScanAnswer.TheVariants.{Recorded, Unchanged, Moved, Busy}
+use Rattle.folder_core.specs.States.{local}
+use Rattle.folder_calls.specs.Shared.{CallerView, Sees, now}
+use Rattle.folder_calls.specs.declared.refusal.ScanRefusal.TheVariants.{CounterFull, SequenceFull, HistoryFull}
+use Rattle.file_store.specs.Trees.{Tree}
+use Rattle.file_store.specs.declared.refusal.StoreRefusal.{StoreRefusal}
+use Rattle.file_store.specs.declared.refusal.StoreRefusal.TheVariants.{StoreFault, NotEmpty, BadParent, OutOfMemory}
+use Rattle.sync_scan.specs.AllNames.{GoesOver, ScansEach, ScansOne, Tried, sum_after}
+use Rattle.sync_scan.specs.Looks.{MayFind, look_of}
+use Rattle.sync_scan.specs.Scans.{Scans}
+use Rattle.sync_scan.specs.Stops.{counted, stop_of}
+use Rattle.sync_scan.specs.declared.scanned.Look.{Look}
+use Rattle.sync_scan.specs.declared.scanned.Look.TheVariants as look
+use Rattle.sync_scan.specs.declared.scanned.Scanned.{Scanned}
+use Rattle.sync_scan.specs.declared.scanned.Scanned.TheVariants.{Answered, Skipped, Changing}
+use Rattle.sync_scan.specs.declared.sum.ScanStop.{ScanStop}
+use Rattle.sync_scan.specs.declared.sum.ScanSum.{ScanSum}
+use Rattle.sync_scan.proofs.ScanLemmas.{sees-itself, sees-on}
+
+-- a name that is skipped is not looked at
+pub skipped : (v : CallerView) (n : Name) (moment : ℕ) (keeps : Type 0) (tree : Tree) → (keeps → ⊥) → ScansOne v n moment (MayFind keeps tree n) (Ok Skipped) v
+skipped v n moment keeps tree never = record {
+  read = v;
+  sees = sees-itself v;
+  found = look.Skipped;
+  may_be = (tt, λ k. absurd (never k));
+  asks = refl;
+}
+
+-- the store's tree is as it was
+pub one-moved : (old new : CallerView) (n : Name) (moment : ℕ) (keeps : Type 0) (t u : Tree) (r : Result Scanned StoreRefusal) → (keeps → t ≡ u)
+    → ScansOne old n moment (MayFind keeps t n) r new → ScansOne old n moment (MayFind keeps u n) r new
+one-moved old new n moment keeps t u (Ok s) same scans = record {
+  read = scans.read;
+  sees = scans.sees;
+  found = scans.found;
+  may_be = (scans.may_be.0, λ k. scans.may_be.1 k ∙ ap (λ (x : Tree). look_of (local (now scans.read) n) (x.names n)) (same k));
+  asks = scans.asks;
+}
+one-moved old new n moment keeps t u (Err e) same sees = sees
+
+module _ (moment : ℕ) (may : Name → Option FileRecord → Look → Type 0) where
+  after-seen : (a b c : CallerView) (n : Name) (r : Result Scanned StoreRefusal) → Sees a b → ScansOne b n moment (may n) r c → ScansOne a n moment (may n) r c
+  after-seen a b c n (Ok s) sees scans = record {
+    read = scans.read;
+    sees = sees-on a b scans.read sees scans.sees;
+    found = scans.found;
+    may_be = scans.may_be;
+    asks = scans.asks;
+  }
+  after-seen a b c n (Err e) sees later = sees-on a b c sees later
+
+  -- one name more was scanned
+  pub each-more : (tried : List Tried) (a b c : CallerView) (n : Name) (r : Result Scanned StoreRefusal) → ScansEach a moment may tried b
+      → ScansOne b n moment (may n) r c → ScansEach a moment may (tried ++ (n, r) ∷ []) c
+  each-more [] a b c n r sees one = (c, after-seen a b c n r sees one, sees-itself c)
+  each-more (t ∷ ts) a b c n r each one = (each.0, each.1, each-more ts each.0 b c n r each.2 one)
+
+-- one name more was gone over, which does not stop the scan, or does
+pub over-more : (ns : List Name) (tried : List Tried) (n : Name) (r : Result Scanned StoreRefusal) → GoesOver ns tried None → stop_of r ≡ None
+    → GoesOver (ns ++ n ∷ []) (tried ++ (n, r) ∷ []) None
+over-more [] [] n r over on = (refl, subst (λ o. MatchOption o (◌≡◌ {A = Option ScanStop} None None) (λ stop. (◌≡◌ {A = List Tried} [] []) × (None ≡ Some stop))) (sym on) refl)
+over-more [] (t ∷ ts) n r over on = absurd over
+over-more (m ∷ ms) [] n r over on = absurd over
+over-more (m ∷ ms) (t ∷ ts) n r (same, next) on = (same, by (λ over. over-more ms ts n r over on) (stop_of t.1) next)
+  where
+    by : (GoesOver ms ts None → GoesOver (ms ++ n ∷ []) (ts ++ (n, r) ∷ []) None) → (o : Option ScanStop)
+        → MatchOption o (GoesOver ms ts None) (λ stop. (ts ≡ []) × (None ≡ Some stop))
+        → MatchOption o (GoesOver (ms ++ n ∷ []) (ts ++ (n, r) ∷ []) None) (λ stop. (ts ++ (n, r) ∷ [] ≡ []) × (None ≡ Some stop))
+    by later None over = later over
+    by later (Some s) (e, f) = absurd (cc)
+
+pub over-stop : (ns rest : List Name) (tried : List Tried) (n : Name) (r : Result Scanned StoreRefusal) (s : ScanStop) → GoesOver ns tried None → stop_of r ≡ Some s
+    → GoesOver (ns ++ n ∷ rest) (tried ++ (n, r) ∷ []) (Some s)
+over-stop [] rest [] n r s over on = (refl, subst (λ o. MatchOption o (GoesOver rest [] (Some s)) (λ stop. (◌≡◌ {A = List Tried} [] []) × (Some s ≡ Some stop))) (sym on) (refl, refl))
+over-stop [] rest (t ∷ ts) n r s over on = absurd over
+over-stop (m ∷ ms) rest [] n r s over on = absurd over
+over-stop (m ∷ ms) rest (t ∷ ts) n r s (same, next) on = (same, by (λ over. over-stop ms rest ts n r s over on) (stop_of t.1) next)
+  where
+    by : (GoesOver ms ts None → GoesOver (ms ++ n ∷ rest) (ts ++ (n, r) ∷ []) (Some s)) → (o : Option ScanStop)
+        → MatchOption o (GoesOver ms ts None) (λ stop. (ts ≡ []) × (None ≡ Some stop))
+        → MatchOption o (GoesOver (ms ++ n ∷ rest) (ts ++ (n, r) ∷ []) (Some s)) (λ stop. (ts ++ (n, r) ∷ [] ≡ []) × (Some s ≡ Some stop))
+    by later None over = later over
+    by later (Some z) (e, f) = absurd (cc)
+
+-- one name more was counted
+pub sum-more : (tried : List Tried) (sum : ScanSum) (n : Name) (r : Result Scanned StoreRefusal) → sum_after sum (tried ++ (n, r) ∷ []) ≡ counted (sum_after sum tried) r
+sum-more [] sum n r = refl
+sum-more (t ∷ ts) sum n r = sum-more ts (counted sum t.1) n r
+
+-- a count says what stops the scan
+pub counted-stop : (sum : ScanSum) (r : Result Scanned StoreRefusal) → sum.stopped ≡ None → (counted sum r).stopped ≡ stop_of r
+counted-stop sum (Ok (Answered (Ok (Recorded k)))) on = on
+counted-stop sum (Ok (Answered (Ok Unchanged))) on = on
+counted-stop sum (Ok (Answered (Ok (Moved now)))) on = on
+counted-stop sum (Ok (Answered (Ok Busy))) on = on
+counted-stop sum (Ok (Answered (Err CounterFull))) on = on
+counted-stop sum (Ok (Answered (Err SequenceFull))) on = refl
+counted-stop sum (Ok (Answered (Err HistoryFull))) on = refl
+counted-stop sum (Ok Skipped) on = on
+counted-stop sum (Ok Changing) on = on
+counted-stop sum (Err StoreFault) on = on
+counted-stop sum (Err NotEmpty) on = on
+counted-stop sum (Err BadParent) on = on
+counted-stop sum (Err OutOfMemory) on = refl
+
+-- all the names that were scanned, where the store's tree is as it was
+pub each-moved : (tried : List Tried) (old new : CallerView) (moment : ℕ) (keeps : Type 0) (t u : Tree) → (keeps → t ≡ u)
+    → ScansEach old moment (MayFind keeps t) tried new → ScansEach old moment (MayFind keeps u) tried new
+each-moved [] old new moment keeps t u same sees = sees
+each-moved (x ∷ xs) old new moment keeps t u same each =
+    (each.0, one-moved old each.0 x.0 moment keeps t u x.1 same each.1, each-moved xs each.0 new moment keeps t u same each.2)
+
+-- some names were gone over, none of which stops the scan, and counted
+abbrev pub Goes : CallerView → ℕ → (Name → Option FileRecord → Look → Type 0) → List Name → ScanSum → ScanSum → CallerView → Type 0
+Goes old moment may ns first sum new = (tried : List Tried) × ScansEach old moment may tried new × GoesOver ns tried None × (sum ≡ sum_after first tried)
+
+-- the same of all of them, or those up to one that stops it
+abbrev pub Ends : CallerView → ℕ → (Name → Option FileRecord → Look → Type 0) → List Name → ScanSum → ScanSum → CallerView → Type 0
+Ends old moment may ns first sum new = (tried : List Tried) × ScansEach old moment may tried new × GoesOver ns tried sum.stopped × (sum ≡ sum_after first tried)
+
+-- the scan of a name, and its count
+abbrev pub Next : CallerView → ℕ → (Name → Option FileRecord → Look → Type 0) → Name → ScanSum → ScanSum → CallerView → Type 0
+Next old moment may n sum more new = (r : Result Scanned StoreRefusal) × ScansOne old n moment (may n) r new × (more ≡ counted sum r)
+
+module _ (old v w : CallerView) (moment : ℕ) (may : Name → Option FileRecord → Look → Type 0) (ns : List Name) (n : Name) (first sum more : ScanSum)
+    (goes : Goes old moment may ns first sum v) (next : Next v moment may n sum more w) (on : sum.stopped ≡ None) where
+  stop-is : more.stopped ≡ stop_of next.0
+  stop-is = ap (λ (s : ScanSum). s.stopped) next.2 ∙ counted-stop sum next.0 on
+
+  counts : more ≡ sum_after first (goes.0 ++ (n, next.0) ∷ [])
+  counts = next.2 ∙ ap (λ s. counted s next.0) goes.3 ∙ sym (sum-more goes.0 first n next.0)
+
+  pub goes-on : more.stopped ≡ None → Goes old moment may (ns ++ n ∷ []) first more w
+  goes-on off = (
+    goes.0 ++ (n, next.0) ∷ [],
+    each-more moment may goes.0 old v w n next.0 goes.1 next.1,
+    over-more ns goes.0 n next.0 goes.2 (sym stop-is ∙ off),
+    counts,
+  )
+
+  pub ends : (rest : List Name) → is_some more.stopped ≡ true → Ends old moment may (ns ++ n ∷ rest) first more w
+  ends rest some = by more.stopped refl some
+    where
+      by : (o : Option ScanStop) → more.stopped ≡ o → is_some o ≡ true → Ends old moment may (ns ++ n ∷ rest) first more w
+      by None e some = absurd (cc)
+      by (Some s) e some = (
+        goes.0 ++ (n, next.0) ∷ [],
+        each-more moment may goes.0 old v w n next.0 goes.1 next.1,
+        subst (GoesOver (ns ++ n ∷ rest) (goes.0 ++ (n, next.0) ∷ [])) (sym e) (over-stop ns rest goes.0 n next.0 s goes.2 (sym stop-is ∙ e)),
+        counts,
+      )
+
+pub next-moved : (old new : CallerView) (n : Name) (moment : ℕ) (keeps : Type 0) (t u : Tree) (sum more : ScanSum) → (keeps → t ≡ u)
+    → Next old moment (MayFind keeps t) n sum more new → Next old moment (MayFind keeps u) n sum more new
+next-moved old new n moment keeps t u sum more same (r, one, e) = (r, one-moved old new n moment keeps t u r same one, e)
+
+pub goes-nowhere : (v : CallerView) (moment : ℕ) (may : Name → Option FileRecord → Look → Type 0) (sum : ScanSum) → Goes v moment may [] sum sum v
+goes-nowhere v moment may sum = ([], sees-itself v, refl, refl)
+
+-- a list up to an element, with it and the rest
+pub divided-at : {X : Type 0} (xs : List X) (i : ℕ) (d : X) → i < length xs → xs ≡ take i xs ++ get_or xs i d ∷ drop (suc i) xs
+divided-at xs i d lt = sym (take-append-drop i xs) ∙ ap (λ l. take i xs ++ l) (drop-cons xs i d lt)
+
+pub is-some : {X : Type 0} (o : Option X) → is_some o ≡ true → (x : X) × (o ≡ Some x)
+is-some None e = absurd (cc)
+is-some (Some x) e = (x, refl)
+
+pub is-none : {X : Type 0} (o : Option X) → is_some o ≡ false → o ≡ None
+is-none None e = refl
+is-none (Some x) e = absurd (cc)
+
+-- the caller saw the history go on after the names were scanned
+pub each-seen : (tried : List Tried) (moment : ℕ) (may : Name → Option FileRecord → Look → Type 0) (a b c : CallerView) → ScansEach a moment may tried b → Sees b c
+    → ScansEach a moment may tried c
+each-seen [] moment may a b c first later = sees-on a b c first later
+each-seen (t ∷ ts) moment may a b c each later = (each.0, each.1, each-seen ts moment may each.0 b c each.2 later)
