@@ -1,5 +1,5 @@
 -- Names that are scanned one after another.
-use Rattle.std.proofs.Common.{◌≡◌, ℕ, suc, ◌<◌, length, take, drop, get_or, drop-cons, List, [], ◌∷◌, ◌++◌, Bool, true, false, Option, Some, None, refl, sym, ap, subst, ◌∙◌}
+use Rattle.std.proofs.Common.{◌≡◌, ℕ, suc, ◌<◌, length, take, drop, get_or, drop-cons, List, [], ◌∷◌, ◌++◌, true, false, Option, Some, None, refl, sym, ap, subst, ◌∙◌}
 use Rattle.std.specs.Prelude.{MatchOption, Result, Ok, Err, is_some}
 use Rattle.std.proofs.lemmas.List.{take-append-drop}
 use Rattle.sync_record.specs.Records.{FileRecord, Name}
@@ -12,7 +12,6 @@ use Rattle.file_store.specs.declared.refusal.StoreRefusal.{StoreRefusal}
 use Rattle.file_store.specs.declared.refusal.StoreRefusal.TheVariants.{StoreFault, NotEmpty, BadParent, OutOfMemory}
 use Rattle.sync_scan.specs.AllNames.{GoesOver, ScansEach, ScansOne, Tried, sum_after}
 use Rattle.sync_scan.specs.Looks.{MayFind, look_of}
-use Rattle.sync_scan.specs.Scans.{Scans}
 use Rattle.sync_scan.specs.Stops.{counted, stop_of}
 use Rattle.sync_scan.specs.declared.scanned.Look.{Look}
 use Rattle.sync_scan.specs.declared.scanned.Look.TheVariants as look

@@ -1,7 +1,7 @@
 -- A file that is read and hashed in parts of whole blocks.
 use Rattle.std.proofs.Common.{◌≡◌, ◌≢◌, ℕ, ◌+◌, ◌-◌, ◌*◌, ◌<◌, ◌≤◌, List, [], ◌∷◌, ◌++◌, length, take, drop, min, arith, refl, sym, ap, ◌∙◌, ◌⊎◌, inl, inr, ⊎_elim}
 use Rattle.std.proofs.lemmas.Bool.{cases_lt}
-use Rattle.std.proofs.lemmas.List.{length-append, length-drop, length-take, take_all}
+use Rattle.std.proofs.lemmas.List.{length-drop, length-take, take_all}
 use Rattle.std.proofs.Math.Seq.{take-add}
 use Rattle.sync_blocks.specs.declared.block.Block.{Block}
 use Rattle.sync_blocks.specs.BlockList.{block_list}

@@ -1,5 +1,5 @@
 -- What is found can be recorded.
-use Rattle.std.proofs.Common.{◌≡◌, ℕ, zero, suc, ◌*◌, ◌<◌, ◌≤◌, List, [], ◌∷◌, length, Option, Some, None, Bool, true, false, refl, sym, ap, subst, ◌∙◌, ◌⊎◌, inl, inr, arith}
+use Rattle.std.proofs.Common.{◌≡◌, ℕ, zero, suc, ◌*◌, ◌≤◌, List, [], ◌∷◌, length, Option, Some, None, Bool, true, false, refl, sym, ap, subst, ◌∙◌, ◌⊎◌, inl, inr, arith}
 use Rattle.std.specs.Prelude.{◌^◌, ◌&&◌, ℤ, pos, negsuc, IsTrue, find, if◌then◌else◌, nat_lt, unwrap_or}
 use Rattle.std.specs.List.{AllByRecursion}
 use Rattle.std.specs.Ordering.{int_eq}
@@ -10,7 +10,7 @@ use Rattle.sync_blocks.specs.Tiling.{tiles}
 use Rattle.sync_record.specs.Records.{FileRecord, is_live_file}
 use Rattle.folder_core.specs.declared.finding.Finding.{Finding}
 use Rattle.folder_core.specs.Steps.{is_recordable}
-use Rattle.sync_scan.specs.Looks.{IsFound, IsRead, IsRecordable, are_recorded, block_size_in, block_size_of, chosen_block_size, directory_finding, recorded_block_size}
+use Rattle.sync_scan.specs.Looks.{IsFound, IsRecordable, are_recorded, block_size_in, block_size_of, chosen_block_size, recorded_block_size}
 use Rattle.sync_scan.specs.declared.scanned.Look.{Look}
 use Rattle.sync_scan.specs.declared.scanned.Look.TheVariants.{Found, Gone, Skipped, Changing}
 

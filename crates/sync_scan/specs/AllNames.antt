@@ -1,10 +1,9 @@
 -- The scan of all names: those of the store, and then those that the folder has and the store has not (own rule).
 use Rattle.std.specs.Prelude.{◌≡◌, ℕ, List, [], ◌∷◌, Contains, ◌⊎◌, Option, Some, None, MatchOption, Result, Ok, Err, IsTrue, fold}
 use Rattle.sync_record.specs.Records.{FileRecord, Name, is_live}
-use Rattle.folder_core.specs.States.{FolderState, local}
+use Rattle.folder_core.specs.States.{local}
 use Rattle.folder_calls.specs.Shared.{CallerView, Sees, now}
 use Rattle.file_store.specs.Listings.{AreAscending}
-use Rattle.file_store.specs.Refusals.{IsPlain}
 use Rattle.file_store.specs.declared.refusal.StoreRefusal.{StoreRefusal}
 use Rattle.sync_scan.specs.Scans.{Scans}
 use Rattle.sync_scan.specs.Stops.{counted, empty_sum, stop_by, stop_of}

@@ -1,5 +1,5 @@
 -- What the scan of a name asks of the folder (own rule).
-use Rattle.std.specs.Prelude.{◌≡◌, ℕ, Option, Result, Ok, Err}
+use Rattle.std.specs.Prelude.{◌≡◌, ℕ, Option}
 use Rattle.sync_version.specs.Versions.{Vector}
 use Rattle.sync_record.specs.Records.{FileRecord, Name}
 use Rattle.folder_core.specs.States.{local, local_version}

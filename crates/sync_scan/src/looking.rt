@@ -9,7 +9,7 @@ ghost use Rattle.sync_scan.specs.Looks.{IsFound, are_recorded, file_finding, loo
 use crate::hashing::blocks_of_file;
 use crate::{Look, Progress};
 use bep_messages::Items;
-use file_store::{FileStore, Gate, Stat, StoreRefusal};
+use file_store::{FileStore, Gate, GatePlace, Stat, StoreRefusal};
 use folder_core::{Finding, FoundContent};
 use std::alloc::{AllocError, Global};
 use std::thread::Threads;
@@ -43,9 +43,10 @@ pub(crate) fn look_at<S: FileStore, G: Gate, P: Progress>(
     ensures refusals { IfErr result IsPlain }
     ensures counted { S.fault_count store.new ≡ count_after result (S.fault_count store.old) }
 {
+    gate.at(GatePlace::StoreRead);
     match store.stat(name)? {
         Stat::Missing => {
-            if is_below_other(alloc, store, name)? {
+            if is_below_other(alloc, store, gate, name)? {
                 Ok(Look::Skipped)
             } else {
                 Ok(Look::Gone)
@@ -152,9 +153,10 @@ fn are_recorded(local: Option<&Record>, size: u64, blocks: &[Block]) -> bool
 
 // Whether something that is neither a directory nor a file is in the place of a parent of the name. A parent of which no name is
 // safe is not asked for.
-fn is_below_other<S: FileStore>(
+fn is_below_other<S: FileStore, G: Gate>(
     alloc: Global,
     store: &mut S,
+    gate: &G,
     name: &SafeName,
 ) -> Result<bool, StoreRefusal>
     ensures none { S.keeps ≡ true → result ≢ Ok true }
@@ -165,21 +167,29 @@ fn is_below_other<S: FileStore>(
     let mut rest = name.as_str();
     while let Some(slash) = rest.rfind('/') {
         rest = rest.split_at(slash).0;
-        if is_other(alloc, store, rest)? {
+        if is_other(alloc, store, gate, rest)? {
             return Ok(true);
         }
     }
     Ok(false)
 }
 
-fn is_other<S: FileStore>(alloc: Global, store: &mut S, text: &str) -> Result<bool, StoreRefusal>
+fn is_other<S: FileStore, G: Gate>(
+    alloc: Global,
+    store: &mut S,
+    gate: &G,
+    text: &str,
+) -> Result<bool, StoreRefusal>
     ensures none { S.keeps ≡ true → result ≢ Ok true }
     ensures kept { S.keeps ≡ true → S.tree store.new ≡ S.tree store.old }
     ensures refusals { IfErr result IsPlain }
     ensures counted { S.fault_count store.new ≡ count_after result (S.fault_count store.old) }
 {
     match SafeName::parse(alloc, text) {
-        Ok(parent) => Ok(store.stat(&parent)? == Stat::Other),
+        Ok(parent) => {
+            gate.at(GatePlace::StoreRead);
+            Ok(store.stat(&parent)? == Stat::Other)
+        }
         Err(NameFault::OutOfMemory) => Err(StoreRefusal::OutOfMemory),
         Err(_) => Ok(false),
     }

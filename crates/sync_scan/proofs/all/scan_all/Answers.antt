@@ -1,4 +1,4 @@
-use Rattle.std.proofs.Common.{◌≡◌, ◌∙◌, None, Some, map, refl, sym, ap, subst}
+use Rattle.std.proofs.Common.{◌∙◌, Some, map, refl, sym, ap, subst}
 use Rattle.std.specs.Prelude.{IsTrue}
 use Rattle.file_store.specs.Listings.{AreAscending}
 use Rattle.file_store.specs.declared.node.Listed.{Listed}

@@ -1,4 +1,3 @@
-use Rattle.std.proofs.Common.{◌≡◌, true, false, sym}
 use Rattle.std.specs.Prelude.{IsTrue, Ok}
 use Rattle.sync_scan.specs.declared.scanned.Scanned.TheVariants.{Skipped}
 use Rattle.sync_scan.proofs.EachLemmas.{skipped}

@@ -1,4 +1,4 @@
-use Rattle.std.proofs.Common.{◌≡◌, ◌+◌, ◌-◌, ◌<◌, ◌≤◌, ◌++◌, ◌∙◌, Global, Vec, length, take, drop, ap, rules, arith, length-take-le}
+use Rattle.std.proofs.Common.{◌≡◌, ◌+◌, ◌++◌, ◌∙◌, Global, Vec, length, take, ap, rules, arith, length-take-le}
 use Rattle.std.proofs.lemmas.List.{length-append}
 use Rattle.file_store.specs.Trees.{bytes_of}
 use Rattle.sync_scan.proofs.PartsLemmas.{is-part, is-shorter, is-whole, list-of-none, more-blocks, more-bytes, stays-whole}

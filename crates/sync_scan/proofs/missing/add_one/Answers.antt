@@ -1,4 +1,4 @@
-use Rattle.std.proofs.Common.{◌≡◌, ◌∙◌, Bool, true, false, ap, sym, subst}
+use Rattle.std.proofs.Common.{◌≡◌, ◌∙◌, true, ap, sym, subst}
 use Rattle.std.specs.Prelude.{Contains, IsTrue, map, not}
 use Rattle.std.specs.BTreeSet.{Updates}
 use Rattle.file_store.specs.declared.node.Listed.{Listed}

@@ -1,4 +1,4 @@
-use Rattle.std.proofs.Common.{◌≡◌, rules, ap, sym, subst}
+use Rattle.std.proofs.Common.{rules, sym, subst}
 use Rattle.std.specs.Prelude.{Contains, IsTrue, map, ◌↔◌}
 use Rattle.std.proofs.lemmas.Fn.{always_returns_same}
 use Rattle.file_store.specs.declared.node.Listed.{Listed}

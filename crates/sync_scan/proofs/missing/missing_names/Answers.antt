@@ -1,7 +1,7 @@
-use Rattle.std.proofs.Common.{◌≡◌, ◌∙◌, map, sym, subst, arith}
+use Rattle.std.proofs.Common.{◌∙◌, map, sym, subst, arith}
 use Rattle.file_store.specs.declared.node.Listed.{Listed}
 use Rattle.sync_scan.specs.AllNames.{AddsMissing, AreMissing}
-use Rattle.sync_scan.proofs.PageLemmas.{Laws, collected-all, collected-none, collected-page, nearer, ok-through, rises}
+use Rattle.sync_scan.proofs.PageLemmas.{Laws, collected-all, collected-page, nearer, ok-through, rises}
 use Rattle.sync_scan.proofs.missing.missing_names.Goals as goal
 
 pub returns-in_default-clause-missing : goal.returns-in_default-clause-missing

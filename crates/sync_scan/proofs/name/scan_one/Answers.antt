@@ -1,4 +1,4 @@
-use Rattle.std.proofs.Common.{◌≡◌, ◌∙◌, true, ap, sym, subst}
+use Rattle.std.proofs.Common.{◌∙◌, ap, subst}
 use Rattle.std.specs.Prelude.{IsTrue, option_map}
 use Rattle.sync_scan.specs.Looks.{IsFound, MayFind, look_of}
 use Rattle.sync_scan.proofs.RecordLemmas.{found-recordable}
