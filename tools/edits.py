@@ -1,4 +1,4 @@
-"""What tools/test and tools/planted read alike: which function of a crate an edit changes."""
+"""Which function of a crate an edit changes, for tools/planted."""
 import os
 import re
 from collections import namedtuple
