@@ -1,5 +1,5 @@
 //! A part of a file, read from the store.
-ghost use Rattle.std.specs.Prelude.{◌≡◌, ◌+◌, ◌-◌, ◌^◌, ◌<◌, ◌≤◌, IfErr, IfOk, Option, false, length, nat_le, true};
+ghost use Rattle.std.specs.Prelude.{◌≡◌, ◌≢◌, ◌+◌, ◌-◌, ◌^◌, ◌<◌, ◌≤◌, IfErr, IfOk, MatchOption, Option, false, length, nat_le, true};
 ghost use Rattle.file_store.specs.Calls.{stat_of};
 ghost use Rattle.file_store.specs.Trees.{bytes_of};
 ghost use Rattle.file_store.specs.declared.node.Node.{Node};
@@ -34,10 +34,21 @@ pub(crate) fn read_part<S: FileStore, G: Gate>(
     }
     let mut bytes = Vec::from_elem(alloc, 0, part.size as usize)?;
     match read_full(store, gate, &part.name, part.offset, &mut bytes) {
-        Ok(count) if count == bytes.len() => Ok(Some(Octets::from_vec(bytes))),
-        Ok(_) => Ok(None),
+        Ok(count) => Ok(all_read(bytes, count)),
         Err(StoreRefusal::OutOfMemory) => Err(AllocError),
         Err(_) => Ok(None),
+    }
+}
+
+// The bytes, if so many were read that there is no other among them.
+fn all_read(bytes: Vec<u8>, count: usize) -> Option<Octets>
+    ensures { MatchOption result (count ≢ length bytes.items)
+        (λ read. (count ≡ length bytes.items) × (read ≡ bytes.items)) }
+{
+    if count == bytes.len() {
+        Some(Octets::from_vec(bytes))
+    } else {
+        None
     }
 }
 

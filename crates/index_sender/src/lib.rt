@@ -4,10 +4,12 @@
 //! [`IndexSender`] gives them out.
 #![tactic(auto)]
 
+mod infos;
 pub mod laws;
 mod page;
 mod sender;
 
+pub use infos::file_infos;
 pub use page::Page;
 pub use sender::{IndexSender, MAX_PAGE_RECORDS};
 

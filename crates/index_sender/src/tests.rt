@@ -2,7 +2,7 @@
 ghost use Rattle.std.specs.Prelude.{◌≡◌, IsTrue};
 ghost use Rattle.folder_core.specs.Steps.{is_recordable};
 
-use crate::{IndexSender, Page};
+use crate::{IndexSender, Page, file_infos};
 use bep_messages::Items;
 use folder_calls::{FolderCalls, Lone, Outside};
 use folder_core::{Finding, FolderCore, FoundContent, PlainFolder, ScanAnswer};
@@ -55,6 +55,22 @@ fn begins_in_the_middle(rt: HostRuntime) {
         gives(&rt, &mut sender, &mut lone),
         ("IndexUpdate", 3, 1, 3)
     );
+}
+
+#[test]
+fn makes_messages_of_records(rt: HostRuntime) {
+    let mut lone = recorded(&rt, 2);
+    let page = IndexSender::new(None)
+        .next_page(&mut lone)
+        .expect(&rt, "a page");
+    let Page::Index(records) = page else {
+        panic!(&rt; "no Index");
+    };
+    let infos = file_infos(rt.alloc(), records.as_slice()).expect(&rt, "messages");
+    assert_eq!(rt; infos.as_slice().len(), 2);
+    for (info, expected) in infos.as_slice().iter().zip([("n1", 1), ("n2", 2)]) {
+        assert_eq!(rt; (info.name.as_str(), info.sequence), expected);
+    }
 }
 
 /// A record that was given changes before the second page: it comes again.
