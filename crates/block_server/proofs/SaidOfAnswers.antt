@@ -1,6 +1,6 @@
 -- What a served answer says.
-use Rattle.std.proofs.Common.{◌≡◌, ℕ, zero, suc, ◌+◌, Bool, true, false, List, [], length, take, drop, refl, sym, ap, subst, ◌∙◌, arith, ◌⊎◌, inl, inr}
-use Rattle.std.specs.Prelude.{bytes_eq, ◌==◌, ◌||◌, cond, not, ℤ, pos, Option, None, Some, IfSome, unwrap_or}
+use Rattle.std.proofs.Common.{◌≡◌, ℕ, suc, Bool, true, false, List, [], length, take, drop, refl, sym, ap, subst, ◌∙◌, arith, ◌⊎◌, inl, inr}
+use Rattle.std.specs.Prelude.{bytes_eq, ◌==◌, cond, not, pos, Option, None, Some, IfSome, unwrap_or}
 use Rattle.std.specs.Option.{option_map_or}
 use Rattle.std.proofs.lemmas.Bool.{or_cases}
 use Rattle.std.proofs.lemmas.Bool.Decides.{Decides-eqb}
@@ -13,7 +13,7 @@ use Rattle.sync_record.specs.Infos.{natural}
 use Rattle.sync_record.specs.Records.{FileRecord}
 use Rattle.block_server.specs.declared.code.Code.{Code}
 use Rattle.block_server.specs.declared.code.Code.TheVariants.{Generic, NoSuchFile, InvalidFile}
-use Rattle.block_server.specs.Served.{Serves, answers_bytes, answers_code, answers_read, asked_of, code_number, has_digest, one_fault_more, refused, served}
+use Rattle.block_server.specs.Served.{Serves, answers_bytes, answers_code, answers_read, asked_of, code_number, has_digest, one_fault_more, refused}
 
 inside : {A : Type 0} (x y : A) → Some x ≡ Some y → x ≡ y
 inside x y e = ap (λ o. unwrap_or o x) e

@@ -1,5 +1,5 @@
 -- Names whose shape is refused, before anything is allocated.
-use Rattle.std.proofs.Common.{◌≡◌, Bool, true, false, List, [], ◌∷◌, ◌++◌, refl, sym, ap, ◌∙◌, ◌⊎◌, inl, inr}
+use Rattle.std.proofs.Common.{◌≡◌, Bool, true, false, List, [], ◌∷◌, refl, sym, ap, ◌∙◌, ◌⊎◌, inl, inr}
 use Rattle.std.specs.Prelude.{ℕ, cond, find, is_some, IfSome, IsSome, Option, None, Some}
 use Rattle.std.specs.Option.{option_or}
 use Rattle.std.proofs.lemmas.Bool.{true≢false}
@@ -10,7 +10,6 @@ use Rattle.sync_names.specs.declared.fault.NameFault.{NameFault}
 use Rattle.sync_names.specs.declared.fault.NameFault.TheVariants.{Empty, Absolute, BadComponent, Nul, NotNfc, Internal, OutOfMemory}
 use Rattle.sync_names.specs.Refusal.{refusal, refuses, shape_refusal, shape_tests}
 use Rattle.sync_record.specs.Records.{FileRecord}
-use Rattle.block_server.specs.declared.code.Code.{Code}
 use Rattle.block_server.specs.declared.code.Code.TheVariants.{NoSuchFile, InvalidFile}
 use Rattle.block_server.specs.Served.{record_refuses, refused}
 

@@ -1,4 +1,4 @@
-use Rattle.std.proofs.Common.{◌≡◌, true, refl, sym, subst, ◌∙◌}
+use Rattle.std.proofs.Common.{sym, subst}
 use Rattle.std.specs.Prelude.{None}
 use Rattle.file_store.specs.Trees.{bytes_of}
 use Rattle.folder_calls.specs.Shared.{now}

@@ -1,4 +1,4 @@
-use Rattle.std.proofs.Common.{◌≡◌, true, false, sym, subst, ◌∙◌, inl, inr}
+use Rattle.std.proofs.Common.{◌≡◌, sym, subst, ◌∙◌, inl, inr}
 use Rattle.std.specs.Prelude.{IfSome, Err, Result}
 use Rattle.sync_names.specs.declared.fault.NameFault.{NameFault}
 use Rattle.sync_names.specs.declared.fault.NameFault.TheVariants.{OutOfMemory}
