@@ -1,2 +1,1 @@
 pub mod WorkersCalls
-pub mod PagesGiven

@@ -3,11 +3,9 @@
 //! They stand in a crate of their own because a crate with tests is proved twice, once with them.
 #![tactic(auto)]
 
-mod pages;
 mod pulling;
 mod workers;
 
-pub use pages::give_pages;
 pub use pulling::{Pulled, pull_bytes};
 pub use workers::{begin_and_give_up, record_over};
 
@@ -19,8 +17,6 @@ mod every;
 mod limits;
 #[cfg(test)]
 mod mixed;
-#[cfg(test)]
-mod paging;
 #[cfg(test)]
 mod plans;
 #[cfg(test)]

@@ -7,16 +7,17 @@ ghost use Rattle.folder_shared.specs.Passes.{IsPassOf};
 
 use crate::copied_once::CopiedOnce;
 use crate::limits::{begins, enter_commit, finishes_when_full};
-use crate::paging::{are, gives};
 use crate::pulls::{offers, pulls};
 use crate::values::{announces, device, directory, moment, name, scanned_as};
 use crate::{Pulled, begin_and_give_up, record_over};
 use folder_calls::{At, EnterRefusal, FolderCalls};
 use folder_core::{FolderCore, PlainFolder, ScanAnswer};
 use folder_shared::{Member, Pass, SharedFolder};
+use index_sender::{IndexSender, Page};
 use std::alloc::AllocError;
 use std::process::Abort;
 use std::sync::Wait;
+use sync_record::Record;
 
 #[test]
 fn is_known_after_a_meeting(rt: HostRuntime) {
@@ -117,11 +118,21 @@ fn three_work<C: FolderCore + Drop, R: AllocGlobal + Abort + Wait>(
         Ok(answer) => assert_eq!(rt; scanned_as(answer), ("Recorded", 2)),
         Err(_) => panic!(rt; "OutOfMemory"),
     }
-    let mut records = Vec::new(rt.alloc());
-    assert_eq!(rt; gives(rt, &mut member, 0, &mut records), 2);
-    are(rt, &records, &[("x", 1), ("y", 2)]);
+    match IndexSender::new(None).next_page(&mut member).expect(rt, "a page") {
+        Page::Index(records) => are(rt, records.as_slice(), &[("x", 1), ("y", 2)]),
+        _ => panic!(rt; "no Index"),
+    }
     assert_eq!(rt; begin_and_give_up(&mut member, &name), Ok(None));
     member.into_pass()
+}
+
+/// Compares names and sequences.
+fn are(rt: &impl Abort, given: &[Record], expected: &[(&str, u64)]) {
+    assert_eq!(rt; given.len(), expected.len());
+    for (record, (name, sequence)) in given.iter().zip(expected) {
+        assert_eq!(rt; record.name().as_str(), *name);
+        assert_eq!(rt; record.sequence(), *sequence);
+    }
 }
 
 #[test]

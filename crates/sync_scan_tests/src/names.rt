@@ -6,6 +6,7 @@ use file_store::MemStore;
 use folder_calls::{FolderCalls, Lone, Outside};
 use folder_core::{Finding, FoundContent, PlainFolder};
 use std::process::Abort;
+use std::thread::Threads;
 use sync_version::Moment;
 
 // of no bytes
@@ -36,20 +37,27 @@ fn records_an_empty_file_once(rt: HostRuntime) {
 #[test]
 fn records_files_of_some_blocks(rt: HostRuntime) {
     let (mut store, mut folder) = (MemStore::new(rt.alloc()), lone(&rt));
-    for (at, (size, blocks)) in [(131_072, 1), (131_073, 2), (67_239_936, 513)]
-        .into_iter()
-        .enumerate()
-    {
-        let zeros = vec![in rt.alloc(); 0u8; size].expect(&rt, "bytes");
-        put(&rt, &mut store, "a", &zeros);
-        let recorded = ("Recorded", at as u64 + 1);
-        assert_eq!(rt; scans(&rt, &mut store, &mut folder, "a"), recorded);
-        assert_eq!(rt; scans(&rt, &mut store, &mut folder, "a"), ("Unchanged", 0));
-        let record = local(&rt, &mut folder, "a");
-        assert_eq!(rt; record.blocks().len(), blocks);
-        for block in record.blocks() {
-            assert!(rt; block.size == 1 || block.hash == ZEROS);
-        }
+    has_blocks(&rt, &mut store, &mut folder, 131_072, (1, 1));
+    has_blocks(&rt, &mut store, &mut folder, 131_073, (2, 2));
+    has_blocks(&rt, &mut store, &mut folder, 67_239_936, (3, 513));
+    assert_eq!(rt; scans(&rt, &mut store, &mut folder, "a"), ("Unchanged", 0));
+}
+
+/// The file "a" of so many zero bytes is recorded, under this sequence and with so many blocks.
+fn has_blocks(
+    rt: &(impl AllocGlobal + Abort + Threads + Sync),
+    store: &mut MemStore,
+    folder: &mut Lone<PlainFolder>,
+    size: usize,
+    (sequence, blocks): (u64, usize),
+) {
+    let zeros = vec![in rt.alloc(); 0u8; size].expect(rt, "bytes");
+    put(rt, store, "a", &zeros);
+    assert_eq!(rt; scans(rt, store, folder, "a"), ("Recorded", sequence));
+    let record = local(rt, folder, "a");
+    assert_eq!(rt; record.blocks().len(), blocks);
+    for block in record.blocks() {
+        assert!(rt; block.size == 1 || block.hash == ZEROS);
     }
 }
 

@@ -1,0 +1,3 @@
+pub mod Serving
+pub mod SaidOfAnswers
+pub mod Shapes

@@ -1,0 +1,35 @@
+//! The laws of served answers. A law is a function that does nothing, whose contract says of the definitions in `specs/` what
+//! follows from them in plainer words.
+ghost use Rattle.std.specs.Prelude.{◌≡◌, ◌≢◌, ◌⊎◌, Bool, ℕ, pos, [], List, Option, None, drop, length, take, true};
+ghost use Rattle.sha2.specs.Sha256.{sha256};
+ghost use Rattle.sync_record.specs.Infos.{natural};
+ghost use Rattle.sync_record.specs.Records.{FileRecord};
+ghost use Rattle.bep_messages.specs.declared.request.Request.{Request};
+ghost use Rattle.bep_messages.specs.declared.response.Response.{Response};
+ghost use Rattle.block_server.specs.Served.{Serves, answers_code, refused};
+ghost use Rattle.block_server.specs.declared.code.Code.TheVariants.{Generic};
+
+/// Code 0 is answered only with as many bytes as were asked for, that have the digest that was asked for, if one was, of a valid
+/// live local file, and of a store that keeps what is written with just the bytes that the file has there; the store has then
+/// not failed. No other code comes with bytes, and the id is always that of the request.
+pub fn bytes_are_those_that_were_asked_for()
+    ensures id { (keeps : Bool) (q : Request) (r : Option FileRecord) (file : List ℕ)
+        (faults : ℕ) (response : Response) (after : ℕ) →
+        Serves keeps q r file faults response after → response.id ≡ q.id }
+    ensures code { (keeps : Bool) (q : Request) (r : Option FileRecord) (file : List ℕ)
+        (faults : ℕ) (response : Response) (after : ℕ) →
+        Serves keeps q r file faults response after →
+        ((response.code ≡ pos 0) × (after ≡ faults) × (refused q r ≡ None)
+        × (length response.payload ≡ natural q.size)
+        × ((q.hash ≡ []) ⊎ (sha256 response.payload ≡ q.hash))
+        × (keeps ≡ true → response.payload ≡ take (natural q.size) (drop (natural q.offset) file)))
+        ⊎ ((response.payload ≡ []) × (response.code ≢ pos 0)) }
+{}
+
+/// A fault of the store comes with code 1, and only where no test refuses the request.
+pub fn faults_are_answered_with_code_1()
+    ensures { (keeps : Bool) (q : Request) (r : Option FileRecord) (file : List ℕ)
+        (faults : ℕ) (response : Response) (after : ℕ) →
+        Serves keeps q r file faults response after → after ≢ faults →
+        (refused q r ≡ None) × (response ≡ answers_code q Generic) }
+{}

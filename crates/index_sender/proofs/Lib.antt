@@ -1,0 +1,3 @@
+pub mod PageRecords
+pub mod KeepingUp
+pub mod PageRead
