@@ -3,6 +3,7 @@ use Rattle.std.specs.Prelude.{◌≡◌, ℕ, Option}
 use Rattle.sync_version.specs.Versions.{Vector}
 use Rattle.sync_record.specs.Records.{FileRecord, Name}
 use Rattle.folder_core.specs.States.{local, local_version}
+use Rattle.folder_core.specs.declared.change.Change.{Change}
 use Rattle.folder_core.specs.declared.change.Change.TheVariants.{ScanFound, ScanGone}
 use Rattle.folder_calls.specs.Calls.{scan_value}
 use Rattle.folder_calls.specs.Shared.{CallerView, Gets, Sees, now}
@@ -30,3 +31,9 @@ pub record Scans (old : CallerView) (n : Name) (moment : ℕ) (may : Option File
   pub found : Look
   pub may_be : may (local (now read) n) found
   pub asks : AsksFor read n (local_version (now read) n) moment found result new
+
+-- the change is a scan of the name at the moment
+abbrev pub IsScanOf : Name → ℕ → Change → Type 0
+IsScanOf n moment (ScanFound m expected found at) = (m ≡ n) × (at ≡ moment)
+IsScanOf n moment (ScanGone m expected at) = (m ≡ n) × (at ≡ moment)
+IsScanOf n moment _ = ⊥

@@ -8,6 +8,7 @@
 mod all;
 mod asking;
 mod hashing;
+pub mod laws;
 mod looking;
 mod missing;
 mod name;
