@@ -1,0 +1,3 @@
+pub mod BytesLemmas
+pub mod StandingLemmas
+pub mod PuttingLemmas

@@ -1,0 +1,5 @@
+pub mod Copies
+pub mod Bytes
+pub mod Standing
+pub mod Answers
+pub mod Putting
