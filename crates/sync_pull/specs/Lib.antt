@@ -3,3 +3,5 @@ pub mod Bytes
 pub mod Standing
 pub mod Answers
 pub mod Putting
+pub mod Fetching
+pub mod Replacing

@@ -1,7 +1,8 @@
 -- What a pull does to the store (own rule).
-use Rattle.std.specs.Prelude.{bytes_eq, ◌≡◌, ◌⊎◌, ℕ, Bool, true, false, if◌then◌else◌, List, [], Option, Some, None, unwrap_or}
+use Rattle.std.specs.Prelude.{bytes_eq, ◌≡◌, ◌⊎◌, ℕ, Bool, true, false, if◌then◌else◌, List, [], ⊤, Option, Some, None, IsSome, unwrap_or}
 use Rattle.file_store.specs.declared.node.Node.{Node}
 use Rattle.file_store.specs.declared.node.Node.TheVariants.{Directory, File}
+use Rattle.file_store.specs.Calls.{renamed}
 use Rattle.file_store.specs.Names.{Name, is_parent}
 use Rattle.file_store.specs.Trees.{Tree}
 use Rattle.sync_record.specs.Records.{FileRecord, kind_of}
@@ -56,3 +57,13 @@ IsCleared standing.File standing.Nothing old n new = IsGone old n new
 IsCleared standing.Directory standing.File old n new = IsGone old n new
 IsCleared standing.Directory standing.Nothing old n new = IsGone old n new
 IsCleared there wanted old n new = new ≡ old
+
+-- the file was moved to the name of its copy, where nothing was
+abbrev pub IsCopied : Option Name → Tree → Name → Tree → Type 0
+IsCopied None old n new = ⊥
+IsCopied (Some copy) old n new = (old.names copy ≡ None) × (new ≡ renamed old n copy)
+
+-- there is no name for the copy, or something is at it
+abbrev pub IsTaken : Option Name → Tree → Type 0
+IsTaken None t = ⊤
+IsTaken (Some copy) t = IsSome (t.names copy)

@@ -7,11 +7,14 @@
 mod answer;
 mod base;
 mod commit;
+mod copy;
 mod max_conflicts;
+mod replace;
 mod source;
 
 pub use base::{room_for, stands_as};
 pub use answer::{PullAnswer, PullFailure, PullRefusal};
 pub use commit::{Standing, put_in_place, standing_of};
+pub use copy::{make_copy, move_back};
 pub use max_conflicts::MaxConflicts;
 pub use source::BlockSource;
