@@ -1,3 +1,4 @@
 pub mod BytesLemmas
 pub mod StandingLemmas
 pub mod PuttingLemmas
+pub mod FetchLemmas

@@ -12,7 +12,7 @@ use Rattle.file_store.specs.Names.{Name, is_parent}
 use Rattle.file_store.specs.Trees.{Tree, or_directory, with_parents}
 use Rattle.sync_pull.specs.Putting.{ChangesNameAlone, IsGone, IsKeptOrMade, WritesTempAlone}
 
-here : {X : Type 0} (n : Name) (x : Option X) (f : Name → Option X) → put_at n x f n ≡ x
+pub here : {X : Type 0} (n : Name) (x : Option X) (f : Name → Option X) → put_at n x f n ≡ x
 here n x f = ap (λ b. cond b x (f n)) ((bytes_eq-Decides n n).1 refl)
 
 elsewhere : {X : Type 0} (n : Name) (x : Option X) (f : Name → Option X) (q : Name) → bytes_eq n q ≡ false → put_at n x f q ≡ f q

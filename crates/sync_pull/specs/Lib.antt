@@ -5,3 +5,4 @@ pub mod Answers
 pub mod Putting
 pub mod Fetching
 pub mod Replacing
+pub mod Plans

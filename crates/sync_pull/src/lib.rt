@@ -8,7 +8,9 @@ mod answer;
 mod base;
 mod commit;
 mod copy;
+pub mod laws;
 mod max_conflicts;
+mod plan;
 mod replace;
 mod source;
 
@@ -17,4 +19,5 @@ pub use answer::{PullAnswer, PullFailure, PullRefusal};
 pub use commit::{Standing, put_in_place, standing_of};
 pub use copy::{make_copy, move_back};
 pub use max_conflicts::MaxConflicts;
+pub use plan::is_copy_due;
 pub use source::BlockSource;
