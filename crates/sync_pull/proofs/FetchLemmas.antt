@@ -16,7 +16,8 @@ use Rattle.file_store.specs.Trees.{Tree}
 use Rattle.sync_blocks.specs.declared.block.Block.{Block}
 use Rattle.sync_blocks.specs.Tiling.{Tiles, tiles}
 use Rattle.sync_record.specs.Assemblies.{Assembling, put_answer}
-use Rattle.sync_record.specs.Validity.{describes_file}
+use Rattle.sync_record.specs.Records.{FileRecord, is_live_file}
+use Rattle.sync_record.specs.Validity.{describes_file, is_valid}
 use Rattle.sync_record.specs.declared.put.Put.{Put}
 use Rattle.sync_record.specs.declared.put.Put.TheVariants.{WrongSize, WrongHash, Ok}
 use Rattle.sync_pull.specs.Bytes.{AreOf, HasBlock}
@@ -149,3 +150,27 @@ tiled-size bs size block_size (inr t) =
     let size_is = t.one.3 in
     let empty = t.empty in
     omega arith
+
+some-at : (bs : List Block) (i : ℕ) → i < length bs → (b : Block) × (slice_get bs i ≡ Some b)
+some-at [] i h = absurd (omega arith)
+some-at (b ∷ bs) zero h = (b, refl)
+some-at (b ∷ bs) (suc i) h = some-at bs i (omega arith)
+
+and-left : (a b : Bool) → (a && b) ≡ true → a ≡ true
+and-left true b h = refl
+and-left false b h = absurd (false≢true h)
+
+-- one block more is in the temporary file of a valid file
+pub held-next : ((blocks : List Block) (size block_size : ℕ) → IsTrue (tiles blocks size block_size) ↔ Tiles blocks size block_size)
+    → ((r : FileRecord) → IsTrue (is_valid r) → IsTrue (is_live_file r) → IsTrue (describes_file r.size r.block_size r.blocks))
+    → ((bytes piece : List ℕ) → overwritten bytes (length bytes) piece ≡ bytes ++ piece)
+    → (r : FileRecord) → IsTrue (is_valid r && is_live_file r) → (i : ℕ) → i < length r.blocks
+    → (n : Name) (before after : Assembling) (old new : Tree) → before.target ≡ r → HoldsBlocks (take i r.blocks) n old
+    → IfSome (slice_get before.target.blocks i) (λ b. IsWritten i b n before after old new) → HoldsBlocks (take (i + 1) r.blocks) n new
+held-next tested whole appended r valid i within n before after old new target held written =
+    let t = tiles-of tested r.size r.block_size r.blocks (whole r (and-left (is_valid r) (is_live_file r) valid) (and-right (is_valid r) (is_live_file r) valid)) in
+    let at = some-at r.blocks i within in
+    let blocks : before.target.blocks ≡ r.blocks = ap (λ (x : FileRecord). x.blocks) target in
+    let w : IsWritten i at.0 n before after old new =
+    subst (λ o. IfSome o (λ b. IsWritten i b n before after old new)) (ap (λ l. slice_get l i) blocks ∙ at.1) written in
+    holds-more appended r.blocks t.0 t.1 t.2 i at.0 at.1 n before after old new blocks held w

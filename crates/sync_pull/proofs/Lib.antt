@@ -2,3 +2,4 @@ pub mod BytesLemmas
 pub mod StandingLemmas
 pub mod PuttingLemmas
 pub mod FetchLemmas
+pub mod ChainLemmas

@@ -1,6 +1,6 @@
 -- What each call of a store changes, and what it puts in place.
-use Rattle.std.proofs.Common.{◌≡◌, ℕ, Bool, true, false, cond, inl, inr, List, [], Option, Some, None, Result, Ok, Err, refl, sym, ap, subst, ◌∙◌, ◌⊎◌}
-use Rattle.std.specs.Prelude.{bytes_eq, IfOk, unwrap_or}
+use Rattle.std.proofs.Common.{◌≡◌, ℕ, Bool, true, false, cond, inl, inr, List, [], ◌∷◌, ◌&&◌, Option, Some, None, Result, Ok, Err, refl, sym, ap, subst, ◌∙◌, ◌⊎◌}
+use Rattle.std.specs.Prelude.{bytes_eq, ◌==◌, unwrap_or}
 use Rattle.std.proofs.lemmas.Slice.Eq.{bytes_eq-Decides}
 use Rattle.file_store.specs.declared.node.Node.{Node}
 use Rattle.file_store.specs.declared.node.Node.TheVariants.{Directory, File}
@@ -115,3 +115,40 @@ module _ (fails : Type 0) (old new : Tree) (n : Name) where
 
   pub remove_dir-is : RemovesDir fails old n (Ok tt) new → IsGone old n new
   remove_dir-is h = (ap (λ (t : Tree). t.names n) h.1 ∙ here n None old.names, ap (λ (t : Tree). t.temps) h.1)
+
+-- ---- the temporary file alone
+
+pub temps-then : (n : Name) (a b c : Tree) → ChangesTemp a n b → ChangesTemp b n c → ChangesTemp a n c
+temps-then n a b c x y = record { names = y.names ∙ x.names; temps = λ q e. y.temps q e ∙ x.temps q e }
+
+pub temps-write : (n : Name) (a b : Tree) → ChangesTemp a n b → WritesTempAlone n a b
+temps-write n a b x = record {
+  alone = record { names = λ q e. inl (ap (λ f. f q) x.names); temps = x.temps };
+  name = ap (λ f. f n) x.names;
+}
+
+no-own-parent : (n : Name) → is_parent n n ≡ false
+no-own-parent [] = refl
+no-own-parent (x ∷ xs) = ap (λ b. (x == x) && b) (no-own-parent xs) ∙ and-false (x == x)
+  where
+    and-false : (b : Bool) → (b && false) ≡ false
+    and-false true = refl
+    and-false false = refl
+
+own-name : (n : Name) (f : Name → Option Node) → with_parents n f n ≡ f n
+own-name n f = ap (λ b. cond b (or_directory (f n)) (f n)) (no-own-parent n)
+
+pub makes_temp-writes : (fails : Type 0) (old new : Tree) (n : Name) (r : Result (Unit {0}) StoreRefusal) → MakesTemp fails old n r new → WritesTempAlone n old new
+makes_temp-writes fails old new n r h =
+    answers-keep fails (ChangesTempAndParents old n new) (MakeTempRefused old n) old (temp_made old n) new (WritesTempAlone n old) (temp-itself n old)
+    (record {
+      alone = record { names = λ q e. parents-made n q old.names; temps = λ q e. elsewhere n (Some []) old.temps q e };
+      name = own-name n old.names;
+    })
+    (λ p. record {
+      alone = record {
+        names = λ q e. elim (p.names q) [ inl same ↦ inl same | inr made ↦ subst (IsKeptOrMade n q (old.names q)) (sym made) (parents-made n q old.names) ];
+        temps = p.temps;
+      };
+      name = elim (p.names n) [ inl same ↦ same | inr made ↦ made ∙ own-name n old.names ];
+    }) r h

@@ -6,3 +6,6 @@ pub mod Putting
 pub mod Fetching
 pub mod Replacing
 pub mod Plans
+pub mod Chains
+pub mod Ends
+pub mod Pulled

@@ -2,6 +2,8 @@
 use Rattle.std.specs.Prelude.{◌≡◌, ◌≤◌, ◌⊎◌, ⊤, ℕ, All, Bool, true, false, List, Option, Some, None, length, pos}
 use Rattle.file_store.specs.declared.node.Node.{Node}
 use Rattle.file_store.specs.declared.node.Node.TheVariants.{Directory, File}
+use Rattle.file_store.specs.Names.{Name}
+use Rattle.file_store.specs.Trees.{Tree}
 use Rattle.sync_record.specs.Records.{FileRecord, kind_of}
 use Rattle.sync_record.specs.declared.kind.Kind.{Kind}
 use Rattle.sync_record.specs.declared.kind.Kind.TheVariants as kind
@@ -32,3 +34,13 @@ StandsAs (Some r) there = IsOfRecord r.deleted r there
 abbrev pub HasRoom : Option FileRecord → ℕ → Type 0
 HasRoom None room = ⊤
 HasRoom (Some r) room = All (λ b. b.size ≤ room) r.blocks
+
+-- what the record says can be put in place: of a live file the bytes are in the temporary file
+abbrev pub IsReadyBy : Kind → FileRecord → Name → Tree → Type 0
+IsReadyBy kind.File r n t = (bytes : List ℕ) × (t.temps n ≡ Some bytes) × IsFileOf r bytes
+IsReadyBy kind.Directory r n t = ⊤
+IsReadyBy kind.Other r n t = ⊥
+
+abbrev pub IsReadyAs : Bool → FileRecord → Name → Tree → Type 0
+IsReadyAs true r n t = ⊤
+IsReadyAs false r n t = IsReadyBy (kind_of r) r n t

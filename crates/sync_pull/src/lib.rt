@@ -8,6 +8,8 @@ mod answer;
 mod base;
 mod commit;
 mod copy;
+mod ends;
+mod fetch;
 pub mod laws;
 mod max_conflicts;
 mod plan;
