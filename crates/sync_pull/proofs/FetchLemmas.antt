@@ -16,7 +16,9 @@ use Rattle.file_store.specs.Trees.{Tree}
 use Rattle.sync_blocks.specs.declared.block.Block.{Block}
 use Rattle.sync_blocks.specs.Tiling.{Tiles, tiles}
 use Rattle.sync_record.specs.Assemblies.{Assembling, put_answer}
-use Rattle.sync_record.specs.Records.{FileRecord, is_live_file}
+use Rattle.sync_record.specs.Records.{FileRecord, is_live_file, kind_of}
+use Rattle.sync_record.specs.declared.kind.Kind.TheVariants as kind
+use Rattle.sync_pull.specs.Standing.{IsReadyAs, IsReadyBy}
 use Rattle.sync_record.specs.Validity.{describes_file, is_valid}
 use Rattle.sync_record.specs.declared.put.Put.{Put}
 use Rattle.sync_record.specs.declared.put.Put.TheVariants.{WrongSize, WrongHash, Ok}
@@ -174,3 +176,22 @@ held-next tested whole appended r valid i within n before after old new target h
     let w : IsWritten i at.0 n before after old new =
     subst (λ o. IfSome o (λ b. IsWritten i b n before after old new)) (ap (λ l. slice_get l i) blocks ∙ at.1) written in
     holds-more appended r.blocks t.0 t.1 t.2 i at.0 at.1 n before after old new blocks held w
+
+-- bytes of the blocks of a file that is described are as many as it has
+pub size-is : ((blocks : List Block) (size block_size : ℕ) → IsTrue (tiles blocks size block_size) ↔ Tiles blocks size block_size)
+    → (size block_size : ℤ) (blocks : List Block) (bytes : List ℕ) → IsTrue (describes_file size block_size blocks) → AreOf blocks bytes → size ≡ pos (length bytes)
+size-is law (pos s) (pos b) blocks bytes h own =
+    let t : Tiles blocks s b = (law blocks s b).0 (and-right _ (tiles blocks s b) h) in
+    ap pos (sym (of-length blocks bytes own ∙ tiled-size blocks s b t))
+size-is law (pos s) (negsuc n) blocks bytes h own = absurd (false≢true h)
+size-is law (negsuc n) b blocks bytes h own = absurd (false≢true h)
+
+-- a valid live file whose blocks are in the temporary file can be put in place
+pub ready-file : ((blocks : List Block) (size block_size : ℕ) → IsTrue (tiles blocks size block_size) ↔ Tiles blocks size block_size)
+    → ((r : FileRecord) → IsTrue (is_valid r) → IsTrue (is_live_file r) → IsTrue (describes_file r.size r.block_size r.blocks))
+    → (r : FileRecord) → IsTrue (is_valid r) → r.deleted ≡ false → kind_of r ≡ kind.File → (n : Name) (t : Tree) → HoldsBlocks r.blocks n t → IsReadyAs r.deleted r n t
+ready-file tested whole r valid live file n t held =
+    let live_file : IsTrue (is_live_file r) = grind arith in
+    let size = size-is tested r.size r.block_size r.blocks held.bytes (whole r valid live_file) held.own in
+    let to : IsReadyAs r.deleted r n t ≡ IsReadyBy kind.File r n t = ap (λ d. IsReadyAs d r n t) live ∙ ap (λ k. IsReadyBy k r n t) file in
+    subst (λ X. X) (sym to) (held.bytes, held.held, record { size = size; blocks = inr held.own })

@@ -3,3 +3,5 @@ pub mod StandingLemmas
 pub mod PuttingLemmas
 pub mod FetchLemmas
 pub mod ChainLemmas
+pub mod EndsLemmas
+pub mod PulledLemmas

@@ -71,12 +71,10 @@ IsNotBegunBy Unsupported a = a ≡ answer.Unsupported
 IsNotBegunBy (Refused HistoryFull) a = a ≡ answer.HistoryFull
 IsNotBegunBy result a = ⊥
 
--- what a pull of a name comes to: it is not begun, as the folder says or because memory is out, or it is begun and ends
-abbrev pub Comes : CallerView → Name → PullAnswer → CallerView → Type 0
-Comes old n result new =
-    ((a : Answer) × IsNotBegunBy result a × Gets old (BeginPull n) a new)
-    ⊎ (((result ≡ Refused OutOfMemory) × (new ≡ old))
-    ⊎ ((t : PullInfo) × (next : CallerView) × Gets old (BeginPull n) (answer.Begun t) next × Ends next t result new))
+-- the pull of a name is not begun, as the folder says or because memory is out
+abbrev pub IsNotBegun : CallerView → Name → PullAnswer → CallerView → Type 0
+IsNotBegun old n result new =
+    ((a : Answer) × IsNotBegunBy result a × Gets old (BeginPull n) a new) ⊎ ((result ≡ Refused OutOfMemory) × (new ≡ old))
 
 -- why the pull stops is what it comes to
 abbrev pub stopped : Stop → PullAnswer

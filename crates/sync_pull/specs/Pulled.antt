@@ -1,9 +1,13 @@
 -- What a pull does to the store, by the answer that it comes to (own rule).
-use Rattle.std.specs.Prelude.{bytes_eq, ◌≡◌, ⊤, ℕ, true, false, ℤ, Some}
+use Rattle.std.specs.Prelude.{bytes_eq, ◌≡◌, ◌⊎◌, ⊤, ℕ, true, false, ℤ, Some}
 use Rattle.file_store.specs.Names.{Name}
 use Rattle.file_store.specs.Trees.{Tree}
 use Rattle.folder_core.specs.Steps.{is_copy_due}
 use Rattle.folder_core.specs.declared.pull_info.PullInfo.{PullInfo}
+use Rattle.folder_core.specs.declared.answer.Answer.TheVariants.{Begun}
+use Rattle.folder_core.specs.declared.change.Change.TheVariants.{BeginPull}
+use Rattle.folder_calls.specs.Shared.{CallerView, Gets}
+use Rattle.sync_pull.specs.Ends.{Ends, IsNotBegun}
 use Rattle.sync_pull.specs.Plans.{copy_name}
 use Rattle.sync_pull.specs.Putting.{IsKeptOrMade}
 use Rattle.sync_pull.specs.Standing.{StandsAs}
@@ -39,3 +43,17 @@ pub record IsPulled (most : ℤ) (moment : ℕ) (n : Name) (t : PullInfo) (old n
 pub record ChangesNameAndCopy (n copy : Name) (old new : Tree) : Type 0 where
   pub names : (q : Name) → bytes_eq n q ≡ false → bytes_eq copy q ≡ false → IsKeptOrMade n q (old.names q) (new.names q)
   pub temps : (q : Name) → bytes_eq n q ≡ false → new.temps q ≡ old.temps q
+
+-- What the pull of a ticket's target comes to: what is asked of the folder until it ends, and, if the store keeps what is
+-- written, what is done to the store.
+pub record Pulls (most : ℤ) (moment : ℕ) (n : Name) (keeps : Type 0) (t : PullInfo) (result : PullAnswer) (old : CallerView) (before : Tree) (new : CallerView) (after : Tree) : Type 0 where
+  pub ends : Ends old t result new
+  pub done : keeps → IfDone result (IsPulled most moment n t before after)
+  pub kept : keeps → IsNameKept result n before after
+  pub alone : keeps → ChangesNameAndCopy n (copy_name n moment t.base) before after
+
+-- what a pull of a name comes to: it is not begun, and nothing changes; or it is begun, and pulls the ticket's target
+abbrev pub Comes : ℤ → ℕ → Name → Type 0 → PullAnswer → CallerView → Tree → CallerView → Tree → Type 0
+Comes most moment n keeps result old before new after =
+    (IsNotBegun old n result new × (keeps → after ≡ before))
+    ⊎ ((t : PullInfo) × (next : CallerView) × Gets old (BeginPull n) (Begun t) next × Pulls most moment n keeps t result next before new after)

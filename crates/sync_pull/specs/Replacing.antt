@@ -33,7 +33,7 @@ pub record IsReplaced (base : Option FileRecord) (target : FileRecord) (plan : C
 abbrev pub IsUntouched : Stop → Tree → Tree → Type 0
 IsUntouched OutOfMemory old new = ⊤
 IsUntouched (Failed StoreFault) old new = ⊤
-IsUntouched (Failed NoSource) old new = ⊤
+IsUntouched (Failed NoSource) old new = new ≡ old
 IsUntouched (Failed LocalChanged) old new = new ≡ old
 IsUntouched (Failed ConflictNameTaken) old new = new ≡ old
 IsUntouched (Failed NotEmpty) old new = ⊤

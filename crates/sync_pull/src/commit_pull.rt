@@ -57,17 +57,19 @@ pub(crate) fn commit_pull<S: FileStore, W: FolderCalls, G: Gate>(
 {
     tickets_are_those_that_were_asked_for();
     gate.at(GatePlace::FolderCall);
-    match calls.enter_commit(ticket) {
-        Ok(At { at: _, value: Ok(commit) }) => {
-            replace_and_finish(store, calls, gate, name, commit, ready)
-        }
-        Ok(At { at: _, value: Err(refusal) }) => {
-            drop_temp(store, name, ready.assembled.target());
-            refused(calls, gate, refusal)
-        }
+    let entered = match calls.enter_commit(ticket) {
+        Ok(At { at: _, value }) => value,
         Err(EnterAllocError(ticket)) => {
             drop_temp(store, name, ready.assembled.target());
-            give_up(calls, gate, ticket, PullAnswer::Refused(PullRefusal::OutOfMemory))
+            let answer = PullAnswer::Refused(PullRefusal::OutOfMemory);
+            return give_up(calls, gate, ticket, answer);
+        }
+    };
+    match entered {
+        Ok(commit) => replace_and_finish(store, calls, gate, name, commit, ready),
+        Err(refusal) => {
+            drop_temp(store, name, ready.assembled.target());
+            refused(calls, gate, refusal)
         }
     }
 }

@@ -7,12 +7,14 @@
 mod answer;
 mod base;
 mod commit;
+mod commit_pull;
 mod copy;
 mod ends;
 mod fetch;
 pub mod laws;
 mod max_conflicts;
 mod plan;
+mod pull;
 mod replace;
 mod source;
 
@@ -22,4 +24,5 @@ pub use commit::{Standing, put_in_place, standing_of};
 pub use copy::{make_copy, move_back};
 pub use max_conflicts::MaxConflicts;
 pub use plan::is_copy_due;
+pub use pull::pull_name;
 pub use source::BlockSource;
