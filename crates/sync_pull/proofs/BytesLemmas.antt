@@ -1,9 +1,9 @@
 -- What bytes blocks describe, as a file is read or written block after block.
-use Rattle.std.proofs.Common.{◌-◌, min, eq-eqb, ◌≡◌, ◌≢◌, ℕ, Bool, true, false, ◌+◌, ◌<◌, ◌≤◌, List, [], ◌∷◌, ◌++◌, length, take, drop, get_or, refl, sym, ap, subst, ◌∙◌, arith}
+use Rattle.std.proofs.Common.{◌-◌, min, eq-eqb, ◌≡◌, ◌≢◌, ℕ, Bool, true, false, ◌+◌, ◌<◌, ◌≤◌, List, [], ◌∷◌, length, take, drop, refl, sym, ap, subst, ◌∙◌, arith}
 use Rattle.std.specs.Prelude.{◌↔◌, ◌==◌, IsTrue, MatchBool, nat_eq}
 use Rattle.std.specs.Cmp.Lexicographic.{pointwise, told_text}
 use Rattle.std.proofs.lemmas.Bool.{eqb-true, false≢true}
-use Rattle.std.proofs.lemmas.List.{take-append-le, drop-append-le, length-take-le, length-take, drop-drop, drop_all, length-drop}
+use Rattle.std.proofs.lemmas.List.{length-take-le, length-take, drop-drop, drop_all, length-drop}
 use Rattle.std.proofs.Math.Seq.{take-length}
 use Rattle.sha2.specs.Sha256.{sha256}
 use Rattle.sync_blocks.specs.declared.block.Block.{Block}
@@ -68,4 +68,3 @@ past-has_not b at size bytes whole past h =
     let left : length (drop at bytes) ≡ length bytes - at = length-drop at bytes in
     let is = h.size in
     omega arith
-

@@ -1,15 +1,13 @@
 -- What a caller sees and asks, one call after the other.
-use Rattle.std.proofs.Common.{◌≡◌, List, [], ◌∷◌, ◌++◌, refl, sym, ap, subst, ◌∙◌, append_assoc, append-nil}
+use Rattle.std.proofs.Common.{◌≡◌, List, [], ◌++◌, refl, sym, ap, subst, ◌∙◌, append_assoc, append-nil}
 use Rattle.std.specs.Prelude.{Some}
 use mathlib.Core.List.{IsPrefix}
 use Rattle.folder_core.specs.declared.answer.Answer.{Answer}
 use Rattle.folder_core.specs.declared.change.Change.{Change}
-use Rattle.folder_calls.specs.Adds.{Asked}
 use Rattle.folder_calls.specs.Histories.{own_entries}
 use Rattle.folder_calls.specs.Shared.{CallerView, ChangesAt, Gets, Sees}
 use Rattle.folder_calls.specs.declared.at.At.{At}
 use Rattle.folder_calls.specs.declared.entry.Entry.{Entry}
-use Rattle.sync_pull.specs.Chains.{AsksAndSees}
 
 pub sees-itself : (v : CallerView) → Sees v v
 sees-itself v = record { longer = ([], append-nil v.seen); own = refl; same = refl }

@@ -1,11 +1,11 @@
 -- How a pull ends.
-use Rattle.std.proofs.Common.{◌≡◌, Bool, true, false, List, [], ◌∷◌, ◌⊎◌, inl, inr, refl, sym, ap, subst, ◌∙◌}
+use Rattle.std.proofs.Common.{◌≡◌, Bool, true, false, List, [], ◌∷◌, inl, inr, refl, sym, ap, subst, ◌∙◌}
 use Rattle.std.specs.Prelude.{Err, MatchBool}
 use Rattle.folder_core.specs.Steps.{is_accepted}
 use Rattle.folder_core.specs.declared.answer.Answer.{Answer}
 use Rattle.folder_core.specs.declared.answer.Answer.TheVariants as answer
 use Rattle.folder_core.specs.declared.change.Change.{Change}
-use Rattle.folder_core.specs.declared.change.Change.TheVariants.{Abort, EnterCommit, Finish, GiveUp}
+use Rattle.folder_core.specs.declared.change.Change.TheVariants.{Abort, EnterCommit, GiveUp}
 use Rattle.folder_core.specs.declared.pull_info.PullInfo.{PullInfo}
 use Rattle.folder_calls.specs.Adds.{Asked}
 use Rattle.folder_calls.specs.Calls.{GivesBack, enter_value}

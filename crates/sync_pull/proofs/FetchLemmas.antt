@@ -1,5 +1,5 @@
 -- A file that is written block after block.
-use Rattle.std.proofs.Common.{◌≡◌, ◌≢◌, ℕ, ◌+◌, ◌-◌, ◌<◌, ◌≤◌, Bool, true, false, ◌&&◌, ◌⊎◌, inl, inr, List, [], ◌∷◌, ◌++◌, length, take, drop, min, get_or, Option, Some, None, suc, zero, refl, sym, ap, subst, ◌∙◌, arith, append_assoc}
+use Rattle.std.proofs.Common.{◌≡◌, ℕ, ◌+◌, ◌-◌, ◌<◌, ◌≤◌, Bool, true, false, ◌&&◌, inl, inr, List, [], ◌∷◌, ◌++◌, length, take, drop, min, get_or, Some, None, suc, zero, refl, sym, ap, subst, ◌∙◌, arith}
 use Rattle.std.specs.Prelude.{◌↔◌, bytes_eq, not, ◌==◌, if◌then◌else◌, IfSome, IsTrue, slice_get, sum_by, ℤ, pos, negsuc, unwrap_or}
 use Rattle.std.proofs.lemmas.Bool.{eqb-true, false≢true}
 use Rattle.std.proofs.lemmas.List.{take_all, take-append-le, drop-append-le, drop_all, length-take, length-drop, take-append-drop, drop-drop}
@@ -8,9 +8,7 @@ use Rattle.std.proofs.lemmas.Option.{slice_get_within, get_or_from_slice_get}
 use Rattle.std.proofs.lemmas.Slice.Eq.{bytes_eq-Decides}
 use Rattle.std.proofs.Math.Seq.{take-suc, drop-cons}
 use Rattle.sha2.specs.Sha256.{sha256}
-use Rattle.file_store.specs.Calls.{temp_written}
 use Rattle.file_store.specs.Contents.{overwritten}
-use Rattle.file_store.specs.Maps.{put_at}
 use Rattle.file_store.specs.Names.{Name}
 use Rattle.file_store.specs.Trees.{Tree}
 use Rattle.sync_blocks.specs.declared.block.Block.{Block}
@@ -20,11 +18,10 @@ use Rattle.sync_record.specs.Records.{FileRecord, is_live_file, kind_of}
 use Rattle.sync_record.specs.declared.kind.Kind.TheVariants as kind
 use Rattle.sync_pull.specs.Standing.{IsReadyAs, IsReadyBy}
 use Rattle.sync_record.specs.Validity.{describes_file, is_valid}
-use Rattle.sync_record.specs.declared.put.Put.{Put}
 use Rattle.sync_record.specs.declared.put.Put.TheVariants.{WrongSize, WrongHash, Ok}
 use Rattle.sync_pull.specs.Bytes.{AreOf, HasBlock}
 use Rattle.sync_pull.proofs.PuttingLemmas.{here}
-use Rattle.sync_pull.specs.Fetching.{HoldsBlocks, IsPut, IsWritten}
+use Rattle.sync_pull.specs.Fetching.{HoldsBlocks, IsWritten}
 
 has-length : (b : Block) (bytes : List ℕ) → HasBlock b bytes → b.size ≤ length bytes
 has-length b bytes h =
@@ -51,8 +48,7 @@ of-more [] b bytes piece e size digest =
 of-more (c ∷ bs) b bytes piece h size digest =
     let fits : c.size ≤ length bytes = has-length c bytes h.0 in
     let front : take c.size (bytes ++ piece) ≡ take c.size bytes = take-append-le c.size bytes piece fits in
-    let back : drop c.size (bytes ++ piece) ≡ drop c.size bytes ++ piece = drop-append-le c.size bytes piece fits in
-    (
+    let back : drop c.size (bytes ++ piece) ≡ drop c.size bytes ++ piece = drop-append-le c.size bytes piece fits in (
       record { size = ap length front ∙ h.0.size; digest = ap sha256 front ∙ h.0.digest },
       subst (AreOf (bs ++ b ∷ [])) (sym back) (of-more bs b (drop c.size bytes) piece h.1 size digest),
     )

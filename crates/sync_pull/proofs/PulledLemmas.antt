@@ -1,6 +1,6 @@
 -- What a pull does to the store, by its answer.
-use Rattle.std.proofs.Common.{◌≡◌, ℕ, Bool, true, List, [], Option, Some, None, ◌⊎◌, inl, inr, refl, sym, ap, subst, ◌∙◌}
-use Rattle.std.specs.Prelude.{bytes_eq, false, if◌then◌else◌, unwrap_or, ℤ}
+use Rattle.std.proofs.Common.{◌≡◌, ℕ, Bool, true, [], Option, Some, None, inl, inr, sym, ap, subst, ◌∙◌}
+use Rattle.std.specs.Prelude.{false, if◌then◌else◌, unwrap_or, ℤ}
 use Rattle.file_store.specs.declared.node.Node.TheVariants.{File}
 use Rattle.folder_core.specs.Steps.{is_copy_due}
 use Rattle.sync_record.specs.Records.{FileRecord, kind_of}
@@ -22,7 +22,7 @@ use Rattle.folder_calls.specs.declared.pull.EnterRefusal.TheVariants as enter
 use Rattle.sync_pull.specs.Ends.{Closes, EndsCommit, Finishes, IsRefused, stopped}
 use Rattle.sync_pull.specs.Pulled.{IfDone, IsNameKept, IsPulled}
 use Rattle.sync_pull.specs.Putting.{IsInPlace, IsKeptOrMade, standing_by, standing_of}
-use Rattle.sync_pull.specs.Replacing.{ChangesAlone, IsCopyKept, IsOther, IsReplaced, IsUntouched}
+use Rattle.sync_pull.specs.Replacing.{ChangesAlone, IsCopyKept, IsReplaced, IsUntouched}
 use Rattle.sync_pull.specs.declared.answer.PullAnswer.{PullAnswer}
 use Rattle.sync_pull.specs.declared.answer.PullAnswer.TheVariants.{Done, NotNeeded, Busy, Unsupported, LocalMoved, Superseded, Refused, Failed}
 use Rattle.sync_pull.specs.declared.answer.PullFailure.TheVariants.{StoreFault, NoSource, LocalChanged, ConflictNameTaken, NotEmpty, BadParent}

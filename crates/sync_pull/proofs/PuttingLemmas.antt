@@ -1,12 +1,11 @@
 -- What each call of a store changes, and what it puts in place.
-use Rattle.std.proofs.Common.{◌≡◌, ℕ, Bool, true, false, cond, inl, inr, List, [], ◌∷◌, ◌&&◌, Option, Some, None, Result, Ok, Err, refl, sym, ap, subst, ◌∙◌, ◌⊎◌}
+use Rattle.std.proofs.Common.{◌≡◌, ℕ, Bool, true, false, cond, inl, inr, [], ◌∷◌, ◌&&◌, Option, Some, None, Result, Ok, Err, refl, sym, ap, subst, ◌∙◌}
 use Rattle.std.specs.Prelude.{bytes_eq, ◌==◌, unwrap_or}
 use Rattle.std.proofs.lemmas.Slice.Eq.{bytes_eq-Decides}
 use Rattle.file_store.specs.declared.node.Node.{Node}
 use Rattle.file_store.specs.declared.node.Node.TheVariants.{Directory, File}
 use Rattle.file_store.specs.declared.refusal.StoreRefusal.{StoreRefusal}
-use Rattle.file_store.specs.Calls.{Answers, IsWhole, Commits, CommitRefused, Drops, DropRefused, MakesDir, MakesSome, MakeDirRefused, MakesTemp, MakeTempRefused, ChangesTempAndParents, Removes, RemoveRefused, RemovesDir, RemoveDirRefused, ChangesTemp, Writes, WriteRefused, committed, dir_made, removed, temp_dropped, temp_made, temp_written}
-use Rattle.file_store.specs.Contents.{overwritten}
+use Rattle.file_store.specs.Calls.{Answers, IsWhole, Commits, CommitRefused, MakesDir, MakesSome, MakeDirRefused, MakesTemp, MakeTempRefused, ChangesTempAndParents, Removes, RemoveRefused, RemovesDir, RemoveDirRefused, ChangesTemp, committed, dir_made, removed, temp_made}
 use Rattle.file_store.specs.Maps.{put_at}
 use Rattle.file_store.specs.Names.{Name, is_parent}
 use Rattle.file_store.specs.Trees.{Tree, or_directory, with_parents}

@@ -1,5 +1,5 @@
 -- What stands at a name.
-use Rattle.std.proofs.Common.{◌≡◌, ℕ, Bool, false, List, length, Option, Some, None, Result, Ok, Err, refl, sym, ap, subst, ◌∙◌}
+use Rattle.std.proofs.Common.{◌≡◌, ℕ, Bool, false, List, length, Option, Some, None, Result, sym, ap, subst, ◌∙◌}
 use Rattle.std.specs.Prelude.{◌↔◌, IfOk, IsTrue}
 use Rattle.std.proofs.lemmas.Result.{IfOk-weaker}
 use Rattle.file_store.specs.Calls.{stat_of}
@@ -22,11 +22,12 @@ said-file (Some (File bytes m)) size modified e = (bytes, cc, cc)
 pub file-stands : (r : FileRecord) (there : Option Node) (bytes : List ℕ) (modified : ℕ) → r.deleted ≡ false → kind_of r ≡ kind.File
     → there ≡ Some (File bytes modified) → (P : Type 0) → (P ↔ IsFileOf r (bytes_of there)) → P ↔ StandsAs (Some r) there
 file-stands r there bytes modified live file is P e =
-    let to : StandsAs (Some r) there ≡ IsOfKind kind.File r there = ap (λ d. IsOfRecord d r there) live ∙ ap (λ k. IsOfKind k r there) file in
-    (λ p. subst (λ X. X) (sym to) (bytes, modified, is, subst (λ o. IsFileOf r (bytes_of o)) is (e.0 p)),
-     λ s.
-         let f : IsOfKind kind.File r there = subst (λ X. X) to s in
-         e.1 (subst (λ o. IsFileOf r (bytes_of o)) (sym f.2) f.3))
+    let to : StandsAs (Some r) there ≡ IsOfKind kind.File r there = ap (λ d. IsOfRecord d r there) live ∙ ap (λ k. IsOfKind k r there) file in (
+      λ p. subst (λ X. X) (sym to) (bytes, modified, is, subst (λ o. IsFileOf r (bytes_of o)) is (e.0 p)),
+      λ s.
+          let f : IsOfKind kind.File r there = subst (λ X. X) to s in
+          e.1 (subst (λ o. IsFileOf r (bytes_of o)) (sym f.2) f.3),
+    )
 
 -- so a file that was read by its size says whether what is there is what the record says
 pub of-kept : (r : FileRecord) (base : Option FileRecord) (there then : Option Node) (size : ℕ) (bytes : List ℕ) (modified : ℕ) → r.deleted ≡ false → kind_of r ≡ kind.File

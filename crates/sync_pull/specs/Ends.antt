@@ -1,5 +1,5 @@
 -- How a pull ends: what its worker asked of the folder, and the answers that it got (own rule).
-use Rattle.std.specs.Prelude.{◌≡◌, ◌⊎◌, ℕ, false, List, [], ◌∷◌}
+use Rattle.std.specs.Prelude.{◌≡◌, ◌⊎◌, false, List, [], ◌∷◌}
 use Rattle.sync_record.specs.Records.{Name}
 use Rattle.folder_core.specs.Steps.{is_accepted}
 use Rattle.folder_core.specs.declared.answer.Answer.{Answer}

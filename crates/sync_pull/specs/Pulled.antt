@@ -12,9 +12,9 @@ use Rattle.sync_pull.specs.Plans.{copy_name}
 use Rattle.sync_pull.specs.Putting.{IsKeptOrMade}
 use Rattle.sync_pull.specs.Standing.{StandsAs}
 use Rattle.sync_pull.specs.declared.answer.PullAnswer.{PullAnswer}
-use Rattle.sync_pull.specs.declared.answer.PullAnswer.TheVariants.{Done, NotNeeded, Busy, Unsupported, LocalMoved, Superseded, Refused, Failed}
-use Rattle.sync_pull.specs.declared.answer.PullFailure.TheVariants.{StoreFault, NoSource, LocalChanged, ConflictNameTaken, NotEmpty, BadParent}
-use Rattle.sync_pull.specs.declared.answer.PullRefusal.TheVariants.{SequenceFull, HistoryFull, OutOfMemory, Stray}
+use Rattle.sync_pull.specs.declared.answer.PullAnswer.TheVariants.{Done, Refused, Failed}
+use Rattle.sync_pull.specs.declared.answer.PullFailure.TheVariants.{StoreFault, NotEmpty, BadParent}
+use Rattle.sync_pull.specs.declared.answer.PullRefusal.TheVariants.{OutOfMemory, Stray}
 
 -- it is done, and this holds
 abbrev pub IfDone : PullAnswer → Type 0 → Type 0

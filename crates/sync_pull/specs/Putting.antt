@@ -1,5 +1,5 @@
 -- What a pull does to the store (own rule).
-use Rattle.std.specs.Prelude.{bytes_eq, ◌≡◌, ◌⊎◌, ℕ, Bool, true, false, if◌then◌else◌, List, [], ⊤, Option, Some, None, IsSome, unwrap_or}
+use Rattle.std.specs.Prelude.{bytes_eq, ◌≡◌, ◌⊎◌, ℕ, true, false, if◌then◌else◌, List, [], ⊤, Option, Some, None, IsSome, unwrap_or}
 use Rattle.file_store.specs.declared.node.Node.{Node}
 use Rattle.file_store.specs.declared.node.Node.TheVariants.{Directory, File}
 use Rattle.file_store.specs.Calls.{renamed}

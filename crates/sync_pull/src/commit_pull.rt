@@ -101,7 +101,15 @@ fn replace_and_finish<S: FileStore, W: FolderCalls, G: Gate>(
         mut room,
     } = ready;
     let base = commit.base();
-    match replace(store, gate, name, base, commit.target(), &plan, room.as_mut_slice()) {
+    match replace(
+        store,
+        gate,
+        name,
+        base,
+        commit.target(),
+        &plan,
+        room.as_mut_slice(),
+    ) {
         Ok(()) => finish(calls, gate, commit, assembled),
         Err(stop) => {
             drop_temp(store, name, commit.target());

@@ -87,10 +87,20 @@ pub(crate) fn refused<W: FolderCalls, G: Gate>(
         EnterRefusal::LocalMoved(ticket) => give_up(calls, gate, ticket, PullAnswer::LocalMoved),
         EnterRefusal::Superseded(ticket) => give_up(calls, gate, ticket, PullAnswer::Superseded),
         EnterRefusal::SequenceFull(ticket) => {
-            give_up(calls, gate, ticket, PullAnswer::Refused(PullRefusal::SequenceFull))
+            give_up(
+                calls,
+                gate,
+                ticket,
+                PullAnswer::Refused(PullRefusal::SequenceFull),
+            )
         }
         EnterRefusal::HistoryFull(ticket) => {
-            give_up(calls, gate, ticket, PullAnswer::Refused(PullRefusal::HistoryFull))
+            give_up(
+                calls,
+                gate,
+                ticket,
+                PullAnswer::Refused(PullRefusal::HistoryFull),
+            )
         }
     }
 }

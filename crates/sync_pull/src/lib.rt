@@ -18,8 +18,8 @@ mod pull;
 mod replace;
 mod source;
 
-pub use base::{room_for, stands_as};
 pub use answer::{PullAnswer, PullFailure, PullRefusal};
+pub use base::{room_for, stands_as};
 pub use commit::{Standing, put_in_place, standing_of};
 pub use copy::{make_copy, move_back};
 pub use max_conflicts::MaxConflicts;

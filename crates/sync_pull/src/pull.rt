@@ -119,7 +119,17 @@ fn pull_begun<S: FileStore, W: FolderCalls, B: BlockSource, G: Gate>(
     ensures alone { S.keeps ≡ true → ChangesNameAndCopy name.now
         (copy_name name.now moment ticket.base) (S.tree store.old) (S.tree store.new) }
 {
-    match prepare(alloc, store, calls, source, gate, name, &ticket, moment, max_conflicts) {
+    match prepare(
+        alloc,
+        store,
+        calls,
+        source,
+        gate,
+        name,
+        &ticket,
+        moment,
+        max_conflicts,
+    ) {
         Ok(ready) => commit_pull(store, calls, gate, name, ticket, ready),
         Err(stop) => {
             drop_temp(store, name, ticket.target());

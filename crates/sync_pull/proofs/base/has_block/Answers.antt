@@ -12,7 +12,7 @@ returns-clause-exact g c = λ keeps.
     let room : length (take size c.args.buffer.now) ≡ size = length-take-le size c.args.buffer.now c.requires.room in
     let whole : length c.read_full.new.buffer ≡ size = c.read_full.auto.buffer ∙ room in
     let read : take c.in_ok-count.count c.read_full.new.buffer
-        ≡ take size (drop c.args.at (bytes_of ((g.S.FileStore.tree c.args.store.now).names c.args.name.now))) =
+    ≡ take size (drop c.args.at (bytes_of ((g.S.FileStore.tree c.args.store.now).names c.args.name.now))) =
     c.in_ok-count.ensures.reads keeps ∙ ap (λ k. take k (drop c.args.at (bytes_of ((g.S.FileStore.tree c.args.store.now).names c.args.name.now)))) room in
     let more : size ≤ c.in_ok-count.count = c.if-count-block.false in
     has-exactly c.eq.result c.args.block.now c.read_full.new.buffer _ (full-is c.args.block.now c.in_ok-count.count c.read_full.new.buffer _ whole c.in_ok-count.ensures.bound read more) whole

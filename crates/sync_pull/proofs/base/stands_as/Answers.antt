@@ -1,10 +1,7 @@
-use Rattle.std.proofs.Common.{◌≡◌, Option, Result, ap, refl, sym, subst, ◌∙◌}
-use Rattle.std.specs.Prelude.{◌↔◌, IfOk, IsTrue, Some, length, option_copied}
-use Rattle.file_store.specs.Trees.{Tree, bytes_of}
-use Rattle.file_store.specs.declared.node.Node.TheVariants.{File}
-use Rattle.sync_record.specs.Records.{FileRecord}
-use Rattle.sync_pull.specs.Standing.{IsFileOf, StandsAs}
-use Rattle.sync_pull.proofs.StandingLemmas.{file-stands, of-kept, said-file}
+use Rattle.std.proofs.Common.{◌≡◌, ap, sym, ◌∙◌}
+use Rattle.std.specs.Prelude.{Some, option_copied}
+use Rattle.file_store.specs.Trees.{Tree}
+use Rattle.sync_pull.proofs.StandingLemmas.{of-kept, said-file}
 use Rattle.sync_pull.proofs.base.stands_as.Goals as goal
 
 pub returns-in-File-File-clause-exact : goal.returns-in-File-File-clause-exact

@@ -1,4 +1,4 @@
-use Rattle.std.proofs.Common.{Err, ap, subst, sym, ◌∙◌}
+use Rattle.std.proofs.Common.{Err, ap, subst}
 use Rattle.std.specs.Prelude.{IfErr}
 use Rattle.folder_core.specs.declared.answer.Answer.TheVariants.{Entered}
 use Rattle.folder_core.specs.declared.change.Change.TheVariants.{EnterCommit}
@@ -7,7 +7,7 @@ use Rattle.sync_pull.proofs.ChainLemmas.{gets}
 use Rattle.sync_pull.proofs.EndsLemmas.{entered-ends, memory-ends, refused-ends}
 use Rattle.sync_pull.proofs.commit_pull.commit_pull.Goals as goal
 
-pub returns-in-Ok-entered-clause-ends : goal.returns-in-Ok-clause-ends
+pub returns-in-Ok-entered-clause-ends : goal.returns-in-Ok-entered-clause-ends
 returns-in-Ok-entered-clause-ends g c =
     let t = c.args.ticket in
     let commit = c.in-Ok-entered.commit in
