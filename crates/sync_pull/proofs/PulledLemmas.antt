@@ -20,9 +20,9 @@ use Rattle.folder_calls.specs.Shared.{CallerView}
 use Rattle.folder_calls.specs.declared.pull.EnterRefusal.{EnterRefusal}
 use Rattle.folder_calls.specs.declared.pull.EnterRefusal.TheVariants as enter
 use Rattle.sync_pull.specs.Ends.{Closes, EndsCommit, Finishes, IsRefused, stopped}
-use Rattle.sync_pull.specs.Pulled.{IfDone, IsNameKept, IsPulled}
+use Rattle.sync_pull.specs.Pulled.{IfDone, IsNameKept, IsPulled, IsThereOrCopied}
 use Rattle.sync_pull.specs.Putting.{IsInPlace, IsKeptOrMade, standing_by, standing_of}
-use Rattle.sync_pull.specs.Replacing.{ChangesAlone, IsCopyKept, IsReplaced, IsUntouched}
+use Rattle.sync_pull.specs.Replacing.{ChangesAlone, IsCopyKept, IsReplaced, IsSaved, IsUntouched}
 use Rattle.sync_pull.specs.declared.answer.PullAnswer.{PullAnswer}
 use Rattle.sync_pull.specs.declared.answer.PullAnswer.TheVariants.{Done, NotNeeded, Busy, Unsupported, LocalMoved, Superseded, Refused, Failed}
 use Rattle.sync_pull.specs.declared.answer.PullFailure.TheVariants.{StoreFault, NoSource, LocalChanged, ConflictNameTaken, NotEmpty, BadParent}
@@ -179,3 +179,31 @@ pulled most moment n t plan old mid new same ready planned h = record {
   there = there-is t.target n mid new ready h.in_place;
   copied = λ due. copied-as most moment n t.base t.target plan mid new planned h.copied due ∙ same;
 }
+
+-- ---- what was at the name is saved
+
+pub kept-saved : (plan : CopyPlan) (old : Tree) (n : Name) (new : Tree) → IsCopyKept plan old n new → IsSaved plan old n new
+kept-saved NotDue old n new h = tt
+kept-saved (Due None) old n new h = absurd h
+kept-saved (Due (Some copy)) old n new h = inr h
+
+pub saved-temp : (plan : CopyPlan) (old mid : Tree) (n : Name) (new : Tree) → IsSaved plan old n mid → ChangesTemp mid n new → IsSaved plan old n new
+saved-temp NotDue old mid n new h x = tt
+saved-temp (Due None) old mid n new h x = ap (λ f. f n) x.names ∙ h
+saved-temp (Due (Some copy)) old mid n new (inl h) x = inl (ap (λ f. f n) x.names ∙ h)
+saved-temp (Due (Some copy)) old mid n new (inr h) x = inr (ap (λ f. f copy) x.names ∙ h)
+
+pub temp-saved : (plan : CopyPlan) (old : Tree) (n : Name) (new : Tree) → ChangesTemp old n new → IsSaved plan old n new
+temp-saved NotDue old n new x = tt
+temp-saved (Due None) old n new x = ap (λ f. f n) x.names
+temp-saved (Due (Some copy)) old n new x = inl (ap (λ f. f n) x.names)
+
+pub saved-as : (most : ℤ) (moment : ℕ) (n : Name) (base : Option FileRecord) (target : FileRecord) (plan : CopyPlan) (old mid new : Tree) → IsPlanned most moment n base target plan
+    → mid.names n ≡ old.names n → IsSaved plan mid n new → is_copy_due most base target ≡ true → IsThereOrCopied n (copy_name n moment base) old new
+saved-as most moment n base target NotDue old mid new planned same h due = absurd (true-false (sym due ∙ planned))
+  where
+    true-false : true ≡ false → ⊥
+    true-false e = cc
+saved-as most moment n base target (Due None) old mid new planned same h due = inl (h ∙ same)
+saved-as most moment n base target (Due (Some copy)) old mid new planned same (inl h) due = inl (h ∙ same)
+saved-as most moment n base target (Due (Some copy)) old mid new planned same (inr h) due = inr (ap new.names (sym planned.1) ∙ h ∙ same)

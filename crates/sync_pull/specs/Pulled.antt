@@ -39,6 +39,10 @@ pub record IsPulled (most : ℤ) (moment : ℕ) (n : Name) (t : PullInfo) (old n
   pub there : StandsAs (Some t.target) (new.names n)
   pub copied : is_copy_due most t.base t.target ≡ true → new.names (copy_name n moment t.base) ≡ old.names n
 
+-- what was at the name is there still, or at the name of its copy
+abbrev pub IsThereOrCopied : Name → Name → Tree → Tree → Type 0
+IsThereOrCopied n copy old new = (new.names n ≡ old.names n) ⊎ (new.names copy ≡ old.names n)
+
 -- nothing changes but what is at the name and at that of its copy, the temporary file, and missing parents, which are made
 pub record ChangesNameAndCopy (n copy : Name) (old new : Tree) : Type 0 where
   pub names : (q : Name) → bytes_eq n q ≡ false → bytes_eq copy q ≡ false → IsKeptOrMade n q (old.names q) (new.names q)
@@ -50,6 +54,7 @@ pub record Pulls (most : ℤ) (moment : ℕ) (n : Name) (keeps : Type 0) (t : Pu
   pub ends : Ends old t result new
   pub done : keeps → IfDone result (IsPulled most moment n t before after)
   pub kept : keeps → IsNameKept result n before after
+  pub saved : keeps → is_copy_due most t.base t.target ≡ true → IsThereOrCopied n (copy_name n moment t.base) before after
   pub alone : keeps → ChangesNameAndCopy n (copy_name n moment t.base) before after
 
 -- what a pull of a name comes to: it is not begun, and nothing changes; or it is begun, and pulls the ticket's target

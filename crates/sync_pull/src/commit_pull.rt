@@ -3,7 +3,7 @@ ghost use Rattle.std.specs.Prelude.{◌≡◌, length, true};
 ghost use Rattle.file_store.specs.Calls.{ChangesTemp};
 ghost use Rattle.sync_pull.specs.Ends.{Ends, EndsCommit};
 ghost use Rattle.sync_pull.specs.Pulled.{IfDone, IsNameKept};
-ghost use Rattle.sync_pull.specs.Replacing.{ChangesAlone, IsOfFile, IsReplaced};
+ghost use Rattle.sync_pull.specs.Replacing.{ChangesAlone, IsOfFile, IsReplaced, IsSaved};
 ghost use Rattle.sync_pull.specs.Standing.{HasRoom};
 
 use crate::ends::{abort, answer_of, finish, give_up, refused};
@@ -52,6 +52,8 @@ pub(crate) fn commit_pull<S: FileStore, W: FolderCalls, G: Gate>(
         name.now (S.tree store.old) (S.tree store.new)) }
     ensures kept { S.keeps ≡ true →
         IsNameKept result name.now (S.tree store.old) (S.tree store.new) }
+    ensures saved { S.keeps ≡ true →
+        IsSaved ready.plan (S.tree store.old) name.now (S.tree store.new) }
     ensures alone { S.keeps ≡ true →
         ChangesAlone name.now ready.plan (S.tree store.old) (S.tree store.new) }
 {
@@ -92,6 +94,8 @@ fn replace_and_finish<S: FileStore, W: FolderCalls, G: Gate>(
         name.now (S.tree store.old) (S.tree store.new)) }
     ensures kept { S.keeps ≡ true →
         IsNameKept result name.now (S.tree store.old) (S.tree store.new) }
+    ensures saved { S.keeps ≡ true →
+        IsSaved ready.plan (S.tree store.old) name.now (S.tree store.new) }
     ensures alone { S.keeps ≡ true →
         ChangesAlone name.now ready.plan (S.tree store.old) (S.tree store.new) }
 {

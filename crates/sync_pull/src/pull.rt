@@ -1,10 +1,11 @@
 //! The pull of a name.
 ghost use Rattle.std.specs.Prelude.{◌≡◌, ◌≢◌, IfOk, length, true};
+ghost use Rattle.folder_core.specs.Steps.{is_copy_due};
 ghost use Rattle.folder_calls.specs.Shared.{Sees};
 ghost use Rattle.sync_record.specs.Devices.{Identity};
 ghost use Rattle.sync_pull.specs.Ends.{Ends};
 ghost use Rattle.sync_pull.specs.Plans.{IsPlanned, copy_name};
-ghost use Rattle.sync_pull.specs.Pulled.{Comes, ChangesNameAndCopy, IfDone, IsNameKept, IsPulled};
+ghost use Rattle.sync_pull.specs.Pulled.{Comes, ChangesNameAndCopy, IfDone, IsNameKept, IsPulled, IsThereOrCopied};
 ghost use Rattle.sync_pull.specs.Putting.{WritesTempAlone};
 ghost use Rattle.sync_pull.specs.Replacing.{IsOfFile};
 ghost use Rattle.sync_pull.specs.Standing.{HasRoom, IsReadyAs};
@@ -116,6 +117,9 @@ fn pull_begun<S: FileStore, W: FolderCalls, B: BlockSource, G: Gate>(
         (S.tree store.old) (S.tree store.new)) }
     ensures kept { S.keeps ≡ true →
         IsNameKept result name.now (S.tree store.old) (S.tree store.new) }
+    ensures saved { S.keeps ≡ true → is_copy_due max_conflicts ticket.base ticket.target ≡ true
+        → IsThereOrCopied name.now (copy_name name.now moment ticket.base) (S.tree store.old)
+        (S.tree store.new) }
     ensures alone { S.keeps ≡ true → ChangesNameAndCopy name.now
         (copy_name name.now moment ticket.base) (S.tree store.old) (S.tree store.new) }
 {

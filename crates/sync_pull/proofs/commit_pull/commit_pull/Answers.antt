@@ -5,6 +5,7 @@ use Rattle.folder_core.specs.declared.change.Change.TheVariants.{EnterCommit}
 use Rattle.folder_calls.specs.Calls.{GivesBack, enter_value}
 use Rattle.sync_pull.proofs.ChainLemmas.{gets}
 use Rattle.sync_pull.proofs.EndsLemmas.{entered-ends, memory-ends, refused-ends}
+use Rattle.sync_pull.proofs.PulledLemmas.{temp-saved}
 use Rattle.sync_pull.proofs.commit_pull.commit_pull.Goals as goal
 
 pub returns-in-Ok-entered-clause-ends : goal.returns-in-Ok-entered-clause-ends
@@ -24,3 +25,9 @@ returns-in-Err-entered-clause-ends g c =
 pub returns-in-Err-clause-ends : goal.returns-in-Err-clause-ends
 returns-in-Err-clause-ends g c =
     memory-ends _ _ _ c.args.ticket _ c.in-Err.ensures.changes c.in-Err.ensures.out_of_memory c.give_up.result c.give_up.ensures.closes
+
+pub returns-in-Err-entered-clause-saved : goal.returns-in-Err-entered-clause-saved
+returns-in-Err-entered-clause-saved g c = λ keeps. temp-saved c.args.ready.plan _ c.args.name.now _ (c.drop_temp-in-Err-entered.ensures keeps)
+
+pub returns-in-Err-clause-saved : goal.returns-in-Err-clause-saved
+returns-in-Err-clause-saved g c = λ keeps. temp-saved c.args.ready.plan _ c.args.name.now _ (c.drop_temp.ensures keeps)

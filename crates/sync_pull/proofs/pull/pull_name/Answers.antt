@@ -15,6 +15,7 @@ returns-in-Ok-Begun-clause-comes g c = inr (
     ends = c.pull_begun.ensures.ends;
     done = c.pull_begun.ensures.done;
     kept = c.pull_begun.ensures.kept;
+    saved = c.pull_begun.ensures.saved;
     alone = c.pull_begun.ensures.alone;
   },
 )
