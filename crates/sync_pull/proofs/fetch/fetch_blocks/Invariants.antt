@@ -1,0 +1,17 @@
+-- The blocks so far are in the temporary file, and nothing else changed; the caller only saw the history go on.
+use Rattle.std.proofs.Common.{◌≡◌, true, take}
+use Rattle.std.specs.Prelude.{Some, []}
+use Rattle.file_store.specs.Calls.{ChangesTemp}
+use Rattle.folder_calls.specs.Shared.{Sees}
+use Rattle.sync_pull.specs.Fetching.{HoldsBlocks}
+use Rattle.sync_pull.proofs.fetch.fetch_blocks.Given as goal
+
+abbrev pub invariant-loop-index : goal.invariant-loop-index
+invariant-loop-index g l = record {
+  target : l.assembly.target ≡ l.initial.assembly.target;
+  folder : g.W.FolderCalls.folder l.calls ≡ g.W.FolderCalls.folder l.initial.calls;
+  sees : Sees (g.W.FolderCalls.view l.initial.calls) (g.W.FolderCalls.view l.calls);
+  held : g.S.FileStore.keeps ≡ true → (g.S.FileStore.tree l.initial.store).temps l.from.name.now ≡ Some []
+      → HoldsBlocks (take l.index l.initial.assembly.target.blocks) l.from.name.now (g.S.FileStore.tree l.store);
+  temp : g.S.FileStore.keeps ≡ true → ChangesTemp (g.S.FileStore.tree l.initial.store) l.from.name.now (g.S.FileStore.tree l.store);
+}

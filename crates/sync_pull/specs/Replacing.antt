@@ -1,0 +1,57 @@
+-- A file, directory or nothing that is replaced by a target (own rule).
+use Rattle.std.specs.Prelude.{bytes_eq, ◌≡◌, ◌⊎◌, ⊤, false, Option, Some, None}
+use Rattle.file_store.specs.Names.{Name}
+use Rattle.file_store.specs.Trees.{Tree}
+use Rattle.sync_record.specs.Records.{FileRecord}
+use Rattle.sync_pull.specs.Putting.{IsInPlace, IsKeptOrMade, standing_of}
+use Rattle.sync_pull.specs.Standing.{StandsAs}
+use Rattle.sync_pull.specs.declared.answer.PullFailure.TheVariants.{StoreFault, NoSource, LocalChanged, ConflictNameTaken, NotEmpty, BadParent}
+use Rattle.sync_pull.specs.declared.answer.Stop.{Stop}
+use Rattle.sync_pull.specs.declared.answer.Stop.TheVariants.{Failed, OutOfMemory}
+use Rattle.sync_pull.specs.declared.commit.Standing.TheVariants as standing
+use Rattle.sync_pull.specs.declared.replace.CopyPlan.{CopyPlan}
+use Rattle.sync_pull.specs.declared.replace.CopyPlan.TheVariants.{Due, NotDue}
+
+-- a copy is due only of a file
+abbrev pub IsOfFile : CopyPlan → Option FileRecord → Type 0
+IsOfFile NotDue base = ⊤
+IsOfFile (Due copy) base = standing_of base ≡ standing.File
+
+-- a due copy holds what was at the name
+abbrev pub IsCopyKept : CopyPlan → Tree → Name → Tree → Type 0
+IsCopyKept NotDue old n new = ⊤
+IsCopyKept (Due None) old n new = ⊥
+IsCopyKept (Due (Some copy)) old n new = new.names copy ≡ old.names n
+
+-- what the base says was at the name, the target is in its place, and a due copy holds what was there
+pub record IsReplaced (base : Option FileRecord) (target : FileRecord) (plan : CopyPlan) (n : Name) (old new : Tree) : Type 0 where
+  pub stood : StandsAs base (old.names n)
+  pub in_place : IsInPlace (standing_of (Some target)) old n new
+  pub copied : IsCopyKept plan old n new
+
+-- nothing changed where something else was there, or where the copy had no place
+abbrev pub IsUntouched : Stop → Tree → Tree → Type 0
+IsUntouched OutOfMemory old new = ⊤
+IsUntouched (Failed StoreFault) old new = ⊤
+IsUntouched (Failed NoSource) old new = new ≡ old
+IsUntouched (Failed LocalChanged) old new = new ≡ old
+IsUntouched (Failed ConflictNameTaken) old new = new ≡ old
+IsUntouched (Failed NotEmpty) old new = ⊤
+IsUntouched (Failed BadParent) old new = ⊤
+
+-- what was at the name is there still, or at the name of a due copy
+abbrev pub IsSaved : CopyPlan → Tree → Name → Tree → Type 0
+IsSaved NotDue old n new = ⊤
+IsSaved (Due None) old n new = new.names n ≡ old.names n
+IsSaved (Due (Some copy)) old n new = (new.names n ≡ old.names n) ⊎ (new.names copy ≡ old.names n)
+
+-- another name than that of the copy
+abbrev pub IsOther : CopyPlan → Name → Type 0
+IsOther NotDue q = ⊤
+IsOther (Due None) q = ⊤
+IsOther (Due (Some copy)) q = bytes_eq copy q ≡ false
+
+-- nothing changes but what is at the name and at that of a due copy, the temporary file, and missing parents, which are made
+pub record ChangesAlone (n : Name) (plan : CopyPlan) (old new : Tree) : Type 0 where
+  pub names : (q : Name) → bytes_eq n q ≡ false → IsOther plan q → IsKeptOrMade n q (old.names q) (new.names q)
+  pub temps : (q : Name) → bytes_eq n q ≡ false → new.temps q ≡ old.temps q

@@ -1,0 +1,123 @@
+//! The commit of a pull.
+ghost use Rattle.std.specs.Prelude.{◌≡◌, length, true};
+ghost use Rattle.file_store.specs.Calls.{ChangesTemp};
+ghost use Rattle.sync_pull.specs.Ends.{Ends, EndsCommit};
+ghost use Rattle.sync_pull.specs.Pulled.{IfDone, IsNameKept};
+ghost use Rattle.sync_pull.specs.Replacing.{ChangesAlone, IsOfFile, IsReplaced, IsSaved};
+ghost use Rattle.sync_pull.specs.Standing.{HasRoom};
+
+use crate::ends::{abort, answer_of, finish, give_up, refused};
+use crate::replace::{CopyPlan, replace};
+use crate::{PullAnswer, PullRefusal, Standing, standing_of};
+use file_store::{FileStore, Gate, GatePlace};
+use folder_calls::laws::tickets_are_those_that_were_asked_for;
+use folder_calls::{At, Commit, EnterAllocError, FolderCalls, Ticket};
+use sync_names::SafeName;
+use sync_record::{Assembled, Record};
+
+// What a pull has got before its commit is entered: the target, whose bytes are in the temporary file if it is a file; what is to
+// be done with the file that is replaced; and the buffer for its check.
+#[derive(Drop)]
+pub(crate) struct Ready {
+    pub(crate) assembled: Assembled,
+    pub(crate) plan: CopyPlan,
+    pub(crate) room: Vec<u8>,
+}
+
+// Drops the temporary file of a target, if it is a file. What cannot be dropped stays.
+pub(crate) fn drop_temp<S: FileStore>(store: &mut S, name: &SafeName, target: &Record)
+    ensures { S.keeps ≡ true → ChangesTemp (S.tree store.old) name.now (S.tree store.new) }
+{
+    if standing_of(Some(target)) == Standing::File {
+        let _ = store.drop_temp(name);
+    }
+}
+
+// Enters the commit of a pull, replaces what is at the name, and finishes the pull. Otherwise the temporary file is dropped, and
+// the pull is given up, or aborted if its commit was entered.
+pub(crate) fn commit_pull<S: FileStore, W: FolderCalls, G: Gate>(
+    store: &mut S,
+    calls: &mut W,
+    gate: &G,
+    name: &SafeName,
+    ticket: Ticket,
+    ready: Ready,
+) -> PullAnswer
+    requires assembled { ready.assembled ≡ ticket.target }
+    requires room { HasRoom ticket.base (length ready.room.items) }
+    requires of_file { IsOfFile ready.plan ticket.base }
+    ensures folder { W.folder calls.new ≡ W.folder calls.old }
+    ensures ends { Ends (W.view calls.old) ticket result (W.view calls.new) }
+    ensures done { S.keeps ≡ true → IfDone result (IsReplaced ticket.base ticket.target ready.plan
+        name.now (S.tree store.old) (S.tree store.new)) }
+    ensures kept { S.keeps ≡ true →
+        IsNameKept result name.now (S.tree store.old) (S.tree store.new) }
+    ensures saved { S.keeps ≡ true →
+        IsSaved ready.plan (S.tree store.old) name.now (S.tree store.new) }
+    ensures alone { S.keeps ≡ true →
+        ChangesAlone name.now ready.plan (S.tree store.old) (S.tree store.new) }
+{
+    tickets_are_those_that_were_asked_for();
+    gate.at(GatePlace::FolderCall);
+    let entered = match calls.enter_commit(ticket) {
+        Ok(At { at: _, value }) => value,
+        Err(EnterAllocError(ticket)) => {
+            drop_temp(store, name, ready.assembled.target());
+            let answer = PullAnswer::Refused(PullRefusal::OutOfMemory);
+            return give_up(calls, gate, ticket, answer);
+        }
+    };
+    match entered {
+        Ok(commit) => replace_and_finish(store, calls, gate, name, commit, ready),
+        Err(refusal) => {
+            drop_temp(store, name, ready.assembled.target());
+            refused(calls, gate, refusal)
+        }
+    }
+}
+
+// Replaces what is at the name and finishes the pull, whose commit was entered; otherwise drops the temporary file and aborts it.
+fn replace_and_finish<S: FileStore, W: FolderCalls, G: Gate>(
+    store: &mut S,
+    calls: &mut W,
+    gate: &G,
+    name: &SafeName,
+    commit: Commit,
+    ready: Ready,
+) -> PullAnswer
+    requires assembled { ready.assembled ≡ commit.target }
+    requires room { HasRoom commit.base (length ready.room.items) }
+    requires of_file { IsOfFile ready.plan commit.base }
+    ensures folder { W.folder calls.new ≡ W.folder calls.old }
+    ensures ends { EndsCommit (W.view calls.old) commit result (W.view calls.new) }
+    ensures done { S.keeps ≡ true → IfDone result (IsReplaced commit.base commit.target ready.plan
+        name.now (S.tree store.old) (S.tree store.new)) }
+    ensures kept { S.keeps ≡ true →
+        IsNameKept result name.now (S.tree store.old) (S.tree store.new) }
+    ensures saved { S.keeps ≡ true →
+        IsSaved ready.plan (S.tree store.old) name.now (S.tree store.new) }
+    ensures alone { S.keeps ≡ true →
+        ChangesAlone name.now ready.plan (S.tree store.old) (S.tree store.new) }
+{
+    let Ready {
+        assembled,
+        plan,
+        mut room,
+    } = ready;
+    let base = commit.base();
+    match replace(
+        store,
+        gate,
+        name,
+        base,
+        commit.target(),
+        &plan,
+        room.as_mut_slice(),
+    ) {
+        Ok(()) => finish(calls, gate, commit, assembled),
+        Err(stop) => {
+            drop_temp(store, name, commit.target());
+            abort(calls, gate, commit, answer_of(stop))
+        }
+    }
+}

@@ -1,0 +1,194 @@
+//! The pull of a name.
+ghost use Rattle.std.specs.Prelude.{◌≡◌, ◌≢◌, IfOk, length, true};
+ghost use Rattle.folder_core.specs.Steps.{is_copy_due};
+ghost use Rattle.folder_calls.specs.Shared.{Sees};
+ghost use Rattle.sync_record.specs.Devices.{Identity};
+ghost use Rattle.sync_pull.specs.Ends.{Ends};
+ghost use Rattle.sync_pull.specs.Plans.{IsPlanned, copy_name};
+ghost use Rattle.sync_pull.specs.Pulled.{Comes, ChangesNameAndCopy, IfDone, IsNameKept, IsPulled, IsThereOrCopied};
+ghost use Rattle.sync_pull.specs.Putting.{WritesTempAlone};
+ghost use Rattle.sync_pull.specs.Replacing.{IsOfFile};
+ghost use Rattle.sync_pull.specs.Standing.{HasRoom, IsReadyAs};
+
+use crate::answer::Stop;
+use crate::commit_pull::{Ready, commit_pull, drop_temp};
+use crate::ends::{answer_of, give_up};
+use crate::fetch::fetch_file;
+use crate::plan::plan_copy;
+use crate::{BlockSource, MaxConflicts, PullAnswer, PullFailure, PullRefusal, room_for};
+use file_store::{FileStore, Gate, GatePlace};
+use folder_calls::{At, BeginAnswer, FolderCalls, Ticket};
+use std::alloc::Global;
+use sync_blocks::laws::tiling_is_tested;
+use sync_names::SafeName;
+use sync_record::laws::only_well_formed_files_have_blocks;
+use sync_record::{Assembled, Kind, Record};
+use sync_version::Moment;
+
+// Puts a target together: a file from its blocks, in a new temporary file; there is nothing to put of a directory or a deletion.
+fn assemble<S: FileStore, W: FolderCalls, B: BlockSource, G: Gate>(
+    alloc: Global,
+    store: &mut S,
+    calls: &mut W,
+    source: &mut B,
+    gate: &G,
+    name: &SafeName,
+    target: &Record,
+) -> Result<Assembled, Stop>
+    requires { (device : Identity) → device ≢ (W.view calls.old).opening.me → B.may_ask device }
+    ensures folder { W.folder calls.new ≡ W.folder calls.old }
+    ensures sees { Sees (W.view calls.old) (W.view calls.new) }
+    ensures target { IfOk result (λ assembled. assembled ≡ target.now) }
+    ensures ready { S.keeps ≡ true → IfOk result
+        (λ _. IsReadyAs target.now.deleted target.now name.now (S.tree store.new)) }
+    ensures temp { S.keeps ≡ true →
+        WritesTempAlone name.now (S.tree store.old) (S.tree store.new) }
+{
+    if target.is_deleted() {
+        return Ok(Assembled::plain(target.copy()?));
+    }
+    // The target of a ticket is valid, and if it is live, it is a file or a directory.
+    if !target.is_valid() {
+        return Err(Stop::Failed(PullFailure::NoSource));
+    }
+    match target.kind() {
+        Kind::File => {
+            tiling_is_tested();
+            only_well_formed_files_have_blocks();
+            let file = target.copy()?;
+            fetch_file(alloc, store, calls, source, gate, name, file)
+        }
+        Kind::Directory => Ok(Assembled::plain(target.copy()?)),
+        Kind::Other => Err(Stop::Failed(PullFailure::NoSource)),
+    }
+}
+
+// All that a pull needs before its commit is entered.
+fn prepare<S: FileStore, W: FolderCalls, B: BlockSource, G: Gate>(
+    alloc: Global,
+    store: &mut S,
+    calls: &mut W,
+    source: &mut B,
+    gate: &G,
+    name: &SafeName,
+    ticket: &Ticket,
+    moment: Moment,
+    max_conflicts: MaxConflicts,
+) -> Result<Ready, Stop>
+    requires { (device : Identity) → device ≢ (W.view calls.old).opening.me → B.may_ask device }
+    ensures folder { W.folder calls.new ≡ W.folder calls.old }
+    ensures sees { Sees (W.view calls.old) (W.view calls.new) }
+    ensures target { IfOk result (λ ready. ready.assembled ≡ ticket.now.target) }
+    ensures room { IfOk result (λ ready. HasRoom ticket.now.base (length ready.room.items)) }
+    ensures planned { IfOk result (λ ready. IsPlanned max_conflicts moment name.now ticket.now.base
+        ticket.now.target ready.plan) }
+    ensures of_file { IfOk result (λ ready. IsOfFile ready.plan ticket.now.base) }
+    ensures ready { S.keeps ≡ true → IfOk result (λ _.
+        IsReadyAs ticket.now.target.deleted ticket.now.target name.now (S.tree store.new)) }
+    ensures temp { S.keeps ≡ true →
+        WritesTempAlone name.now (S.tree store.old) (S.tree store.new) }
+{
+    let plan = plan_copy(name, ticket.base(), ticket.target(), moment, max_conflicts)?;
+    let room = room_for(alloc, ticket.base())?;
+    let assembled = assemble(alloc, store, calls, source, gate, name, ticket.target())?;
+    Ok(Ready {
+        assembled,
+        plan,
+        room,
+    })
+}
+
+// Ends a pull that was begun.
+fn pull_begun<S: FileStore, W: FolderCalls, B: BlockSource, G: Gate>(
+    alloc: Global,
+    store: &mut S,
+    calls: &mut W,
+    source: &mut B,
+    gate: &G,
+    name: &SafeName,
+    ticket: Ticket,
+    moment: Moment,
+    max_conflicts: MaxConflicts,
+) -> PullAnswer
+    requires { (device : Identity) → device ≢ (W.view calls.old).opening.me → B.may_ask device }
+    ensures folder { W.folder calls.new ≡ W.folder calls.old }
+    ensures ends { Ends (W.view calls.old) ticket result (W.view calls.new) }
+    ensures done { S.keeps ≡ true → IfDone result (IsPulled max_conflicts moment name.now ticket
+        (S.tree store.old) (S.tree store.new)) }
+    ensures kept { S.keeps ≡ true →
+        IsNameKept result name.now (S.tree store.old) (S.tree store.new) }
+    ensures saved { S.keeps ≡ true → is_copy_due max_conflicts ticket.base ticket.target ≡ true
+        → IsThereOrCopied name.now (copy_name name.now moment ticket.base) (S.tree store.old)
+        (S.tree store.new) }
+    ensures alone { S.keeps ≡ true → ChangesNameAndCopy name.now
+        (copy_name name.now moment ticket.base) (S.tree store.old) (S.tree store.new) }
+{
+    match prepare(
+        alloc,
+        store,
+        calls,
+        source,
+        gate,
+        name,
+        &ticket,
+        moment,
+        max_conflicts,
+    ) {
+        Ok(ready) => commit_pull(store, calls, gate, name, ticket, ready),
+        Err(stop) => {
+            drop_temp(store, name, ticket.target());
+            give_up(calls, gate, ticket, answer_of(stop))
+        }
+    }
+}
+
+/// Pulls the best of a name, if it is needed: its file is put together from blocks beside what is at the name, and takes the place of
+/// exactly what the pull began on.
+///
+/// Each block comes from a local place that has its digest, or from a device that has the best, in rising identity; `source` asks
+/// the devices, and never this one. Before the commit is entered only the temporary file of the name is written. Then what is at the
+/// name is compared with the local record by its content, and is kept under the name of a conflict copy if one is due. What could
+/// not be finished is given up or aborted, and the temporary file dropped; after that no pull that this call began is open, unless the
+/// answer is `Refused(Stray)`.
+///
+/// The gate is passed before each read of the store, each digest and each call of the folder. After the commit was entered only calls
+/// of the store may allocate. A file whose blocks are at hand is read once and written once, and the file that is replaced is
+/// read once. O(n) time for n bytes, and memory for the greatest block of each of the two files.
+pub fn pull_name<S: FileStore, W: FolderCalls, B: BlockSource, G: Gate>(
+    alloc: Global,
+    store: &mut S,
+    calls: &mut W,
+    source: &mut B,
+    gate: &G,
+    name: &SafeName,
+    moment: Moment,
+    max_conflicts: MaxConflicts,
+) -> PullAnswer
+    requires { (device : Identity) → device ≢ (W.view calls.old).opening.me → B.may_ask device }
+    ensures folder { W.folder calls.new ≡ W.folder calls.old }
+    ensures comes { Comes max_conflicts moment name.now (S.keeps ≡ true) result (W.view calls.old)
+        (S.tree store.old) (W.view calls.new) (S.tree store.new) }
+{
+    gate.at(GatePlace::FolderCall);
+    let begun = match calls.begin_pull(name) {
+        Ok(At { at: _, value }) => value,
+        Err(_) => return PullAnswer::Refused(PullRefusal::OutOfMemory),
+    };
+    match begun {
+        Ok(BeginAnswer::Begun(ticket)) => pull_begun(
+            alloc,
+            store,
+            calls,
+            source,
+            gate,
+            name,
+            ticket,
+            moment,
+            max_conflicts,
+        ),
+        Ok(BeginAnswer::NotNeeded) => PullAnswer::NotNeeded,
+        Ok(BeginAnswer::Busy) => PullAnswer::Busy,
+        Ok(BeginAnswer::Unsupported) => PullAnswer::Unsupported,
+        Err(_) => PullAnswer::Refused(PullRefusal::HistoryFull),
+    }
+}

@@ -1,0 +1,30 @@
+ghost use Rattle.std.specs.Prelude.{◌≡◌};
+
+use std::alloc::AllocError;
+use sync_blocks::Block;
+use sync_names::SafeName;
+use sync_record::DeviceId;
+
+/// Where the blocks of other devices come from.
+pub trait BlockSource {
+    ghost use Rattle.sync_record.specs.Devices.{Identity};
+
+    /// Which devices may be asked.
+    ghost may_ask: { Identity → Type 0 };
+
+    /// Asks a device for the bytes of a block of a name, and leaves them in `bytes`, in place of what is there. Returns `false` if
+    /// the device did not give any; what is in `bytes` then means nothing. Whether the bytes are right is for the caller to test.
+    /// Returns `Err` only if out of memory.
+    fn fetch(
+        &mut self,
+        device: DeviceId,
+        name: &SafeName,
+        block: &Block,
+        bytes: &mut Vec<u8>,
+    ) -> Result<bool, AllocError>
+        requires { may_ask device };
+
+    /// Names blocks of a name that may be asked for next, in this order, and the devices that have them. A source may ask for
+    /// them ahead, or do nothing; no contract relies on it.
+    fn will_ask(&mut self, _devices: &[DeviceId], _name: &SafeName, _blocks: &[Block]) {}
+}
