@@ -1,4 +1,4 @@
-use Rattle.std.proofs.Common.{◌≡◌, ℕ, Bool, true, false, List, [], ◌∷◌, ◌++◌, refl, sym, subst, ap, ◌⊎◌, inl, inr}
+use Rattle.std.proofs.Common.{◌≡◌, ℕ, Bool, true, false, List, [], ◌∷◌, ◌++◌, refl, sym, subst, ◌⊎◌, inl, inr}
 use Rattle.std.specs.Prelude.{filter, if◌then◌else◌, Option}
 use Rattle.sync_version.specs.Versions.{Vector}
 use Rattle.sync_record.specs.Records.{Name}
