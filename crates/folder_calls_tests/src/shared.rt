@@ -118,7 +118,10 @@ fn three_work<C: FolderCore + Drop, R: AllocGlobal + Abort + Wait>(
         Ok(answer) => assert_eq!(rt; scanned_as(answer), ("Recorded", 2)),
         Err(_) => panic!(rt; "OutOfMemory"),
     }
-    match IndexSender::new(None).next_page(&mut member).expect(rt, "a page") {
+    match IndexSender::new(None)
+        .next_page(&mut member)
+        .expect(rt, "a page")
+    {
         Page::Index(records) => are(rt, records.as_slice(), &[("x", 1), ("y", 2)]),
         _ => panic!(rt; "no Index"),
     }
