@@ -1,4 +1,4 @@
-"""Which function of a crate an edit changes, for tools/planted."""
+"""What tools/kept_ci and tools/planted read alike: which function of a crate an edit changes."""
 import os
 import re
 from collections import namedtuple

@@ -58,12 +58,19 @@ pub ends-from : (n : Name) (e : Entry) → (is_accepted e.answer ≡ true) × ((
 ends-from n e x = ap (λ b. b && ends_pull_of n e.change) x.0 ∙ end-from n e.change x.1.0 x.1.1 x.1.2
 
 pub pull-over : (opening : FolderState) (front : List Entry) (commit : PullInfo) (assembled : FileRecord) → EndsPull opening front commit assembled
-    → (before rest : List Entry) × (front ≡ before ++ rest) × (local_version (state_after opening before) commit.name ≡ local_version (state_after opening front) commit.name)
-    × (assembled ≡ commit.target) × IsAssembled assembled
+    → (before between : List Entry) × (begun : Entry) × (ticket : PullInfo) × (front ≡ before ++ begun ∷ between) × (begun.answer ≡ Begun ticket)
+    × (ticket.number ≡ commit.number) × (ticket.name ≡ commit.name) × (ticket.target ≡ commit.target)
+    × (local_version (state_after opening before) commit.name ≡ local_version (state_after opening front) commit.name) × (assembled ≡ commit.target) × IsAssembled assembled
 pull-over opening front commit assembled e = (
   e.before,
-  e.begun ∷ e.between,
+  e.between,
+  e.begun,
+  e.ticket,
   e.divided,
+  e.began,
+  e.same.0,
+  e.same.1,
+  e.same.2,
   ap (local_version (state_after opening e.before)) (sym e.same.1) ∙ sym (ap (option_map (λ r. r.version)) e.over) ∙ sym e.unmoved,
   e.target,
   e.blocks,

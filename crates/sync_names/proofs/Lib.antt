@@ -9,4 +9,5 @@ pub mod WalkLemmas
 pub mod BesideLemmas
 pub mod NfcLemmas
 pub mod ConflictLemmas
+pub mod CopyLemmas
 pub mod Lemmas

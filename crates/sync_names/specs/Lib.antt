@@ -9,3 +9,4 @@ pub mod Base32
 pub mod Utc
 pub mod Made
 pub mod Walk
+pub mod Copies

@@ -3,6 +3,7 @@ ghost use Rattle.std.specs.Prelude.{◌≡◌, ◌≢◌, ◌↔◌, ◌<◌, �
 ghost use Rattle.std.specs.List.{join_with_byte};
 ghost use Rattle.sync_names.specs.Base32.{base32_digit};
 ghost use Rattle.sync_names.specs.Components.{components, folder_components, folder_of, last_component};
+ghost use Rattle.sync_names.specs.Copies.{IsConflictCopy};
 ghost use Rattle.sync_names.specs.Extension.{stem_of, extension_of};
 ghost use Rattle.sync_names.specs.Internal.{IsInternal};
 ghost use Rattle.sync_names.specs.Made.{temp_text, conflict_mark, conflict_text, IsTempText};
@@ -77,6 +78,13 @@ pub fn conflict_names_are_beside()
     ensures refused { (name : List ℕ) (moment modified_by : ℕ) → IsSafe name → moment ≤ MAX_SECONDS →
         refusal (conflict_text name moment modified_by)
         ≡ (if bytes_eq (last_component name) (codes ".syncthing.tmp") then Some Internal else None) }
+{}
+
+/// The name that a conflict copy gets, whatever its moment and device, is one of a conflict copy; and a name is none of itself.
+pub fn conflict_names_are_of_copies()
+    ensures made { (name : List ℕ) (moment modified_by : ℕ) → moment ≤ MAX_SECONDS →
+        IsConflictCopy name (conflict_text name moment modified_by) }
+    ensures other { (name copy : List ℕ) → IsConflictCopy name copy → copy ≢ name }
 {}
 
 /// The time by counting is what the calendar and a clock in UTC show, and it is the only such time.

@@ -6,6 +6,7 @@
 #![tactic(auto)]
 
 mod base32;
+mod copies;
 mod fault;
 mod internal;
 pub mod laws;
@@ -17,6 +18,7 @@ mod tests;
 mod text;
 mod utc;
 
+pub use copies::is_conflict_copy;
 pub use fault::NameFault;
 pub use internal::{is_internal, is_temporary};
 pub use made::{TempName, conflict_name, temp_name};

@@ -1,6 +1,9 @@
 //! Names that are accepted, rejected and made. The dates are those of Python's `datetime`, the base32
 //! texts those of its `base64`. Each call is made once: out of memory ends a test.
-use crate::{NameFault, SafeName, TempName, conflict_name, is_internal, is_temporary, temp_name};
+use crate::{
+    NameFault, SafeName, TempName, conflict_name, is_conflict_copy, is_internal, is_temporary,
+    temp_name,
+};
 use std::process::Abort;
 use std::test::Fail;
 use sync_version::Moment;
@@ -218,4 +221,48 @@ fn knows_components_of_temporary_files(rt: HostRuntime) {
 fn temporary(rt: &(impl AllocGlobal + Abort), text: &str) -> TempName {
     let name = SafeName::parse(rt.alloc(), text).expect(rt, "a safe name");
     temp_name(&name).expect(rt, "a temporary name")
+}
+
+#[test]
+fn conflict_copies_are_known(rt: HostRuntime) -> Result<(), Fail> {
+    let table = [
+        (
+            "notes.txt",
+            "notes.sync-conflict-20200101-000000-AAAAAAA.txt",
+            true,
+        ),
+        (
+            "d.x/readme",
+            "d.x/readme.sync-conflict-20200101-000000-AEBAGBA",
+            true,
+        ),
+        (
+            ".bashrc",
+            ".sync-conflict-19700101-000010-Z234567.bashrc",
+            true,
+        ),
+        ("a", "a.sync-conflict-99999999-999999-AAAAAAA", true),
+        ("a", "a", false),
+        ("a", "b.sync-conflict-20200101-000000-AAAAAAA", false),
+        ("a", "d/a.sync-conflict-20200101-000000-AAAAAAA", false),
+        ("d/a", "a.sync-conflict-20200101-000000-AAAAAAA", false),
+        ("a.b", "a.sync-conflict-20200101-000000-AAAAAAA", false),
+        ("a", "a.sync-conflict-20200101-000000-AAAAAAA.b", false),
+        ("a", "a.sync-conflict-2020010-0000000-AAAAAAA", false),
+        ("a", "a.sync-conflict-20200101-000000-AAAAAA1", false),
+        ("a", "a.sync-conflict-20200101-000000-AAAAAA8", false),
+        ("a", "a.sync-conflict-20200101-000000-AAAAAAa", false),
+        ("a", "a.sync-conflict-20200101-000000_AAAAAAA", false),
+        ("a", "a.sync-conflict-20200101_000000-AAAAAAA", false),
+        ("a", "a.sync-conflict-2020010x-000000-AAAAAAA", false),
+        ("a", "a.sync-conflict-20200101-00000/-AAAAAAA", false),
+        ("a", "a.sync-conflict-20200101-000000-AAAAAAAA", false),
+        ("a", "a.sync_conflict-20200101-000000-AAAAAAA", false),
+    ];
+    for (name, copy, is_one) in table {
+        let name = SafeName::parse(rt.alloc(), name)?;
+        let copy = SafeName::parse(rt.alloc(), copy)?;
+        assert_eq!(rt; is_conflict_copy(&copy, &name), is_one, "of {copy:?}");
+    }
+    Ok(())
 }

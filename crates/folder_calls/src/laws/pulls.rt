@@ -1,5 +1,5 @@
 //! Which entries of a history begin, enter and end pulls, and what a finish ends.
-ghost use Rattle.std.specs.Prelude.{◌≡◌, ◌↔◌, ◌⊎◌, ◌++◌, List, true};
+ghost use Rattle.std.specs.Prelude.{◌≡◌, ◌↔◌, ◌⊎◌, ◌++◌, ◌∷◌, List, true};
 ghost use Rattle.sync_record.specs.Assemblies.{IsAssembled};
 ghost use Rattle.sync_record.specs.Records.{FileRecord, Name};
 ghost use Rattle.folder_core.specs.States.{FolderState, local_version};
@@ -25,12 +25,15 @@ pub fn entries_of_pulls_are_of_their_name()
         ⊎ ((e.change ≡ GiveUp t) ⊎ (e.change ≡ Abort t))))) }
 {}
 
-/// A pull that is ended by a finish began at a point of the history from which the local version of its name is the same still, and what
-/// was put in place is its target, assembled.
+/// A pull that is ended by a finish was begun by an entry of the history, at which the local version of its name was the same as
+/// at the end, and what was put in place is its target, assembled.
 pub fn pulls_end_over_what_they_began_on()
     ensures { (opening : FolderState) (front : List Entry) (commit : PullInfo)
         (assembled : FileRecord) → EndsPull opening front commit assembled →
-        (before rest : List Entry) × (front ≡ before ++ rest)
+        (before between : List Entry) × (begun : Entry) × (ticket : PullInfo)
+        × (front ≡ before ++ begun ∷ between) × (begun.answer ≡ Begun ticket)
+        × (ticket.number ≡ commit.number) × (ticket.name ≡ commit.name)
+        × (ticket.target ≡ commit.target)
         × (local_version (state_after opening before) commit.name
         ≡ local_version (state_after opening front) commit.name)
         × (assembled ≡ commit.target) × IsAssembled assembled }
