@@ -30,7 +30,9 @@ impl KeptFiles {
             if entry.kind == Kind::File {
                 let bytes = read_file(alloc, store, &entry.name)?;
                 let name = entry.name.copy()?;
-                files.push(KeptFile { name, bytes })?;
+                files
+                    .push(KeptFile { name, bytes })
+                    .map_err(AllocError::from)?;
             }
         }
         Ok(KeptFiles { files })

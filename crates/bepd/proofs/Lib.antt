@@ -1,4 +1,3 @@
-mod LineSteps
 pub mod Keeping
 pub mod Framing
 pub mod Reading
