@@ -13,8 +13,8 @@ pub(crate) fn parent_of(name: &str) -> Option<&str>
     Some(name.split_at(slash).0)
 }
 
-/// Whether a name is below a directory. O(n).
-pub(crate) fn is_below(name: &str, dir: &str) -> bool
+/// Whether a name is below a directory. Does not allocate. O(n).
+pub fn is_below(name: &str, dir: &str) -> bool
     ensures { result ≡ is_parent dir.now name.now }
 {
     let (name, dir) = (name.as_bytes(), dir.as_bytes());
