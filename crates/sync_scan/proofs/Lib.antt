@@ -4,3 +4,5 @@ pub mod ScanLemmas
 pub mod MissingLemmas
 pub mod PageLemmas
 pub mod EachLemmas
+pub mod ToldLemmas
+pub mod FoundLemmas
