@@ -6,3 +6,4 @@ pub mod PageLemmas
 pub mod EachLemmas
 pub mod ToldLemmas
 pub mod FoundLemmas
+pub mod GoneLemmas
