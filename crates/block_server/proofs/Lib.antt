@@ -1,3 +1,4 @@
 pub mod Serving
 pub mod SaidOfAnswers
 pub mod Shapes
+pub mod GivenParts

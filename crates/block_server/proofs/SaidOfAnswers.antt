@@ -21,7 +21,7 @@ inside x y e = ap (λ o. unwrap_or o x) e
 above-zero : (k : ℕ) → pos (suc k) ≡ pos 0 → ⊥
 above-zero k e = let f : suc k ≡ 0 = cc in omega arith
 
-code-above_zero : (code : Code) → code_number code ≡ pos 0 → ⊥
+pub code-above_zero : (code : Code) → code_number code ≡ pos 0 → ⊥
 code-above_zero Generic e = above-zero 0 e
 code-above_zero NoSuchFile e = above-zero 1 e
 code-above_zero InvalidFile e = above-zero 2 e

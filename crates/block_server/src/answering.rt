@@ -3,6 +3,7 @@ ghost use Rattle.file_store.specs.Trees.{bytes_of};
 ghost use Rattle.folder_calls.specs.Shared.{Sees, now};
 ghost use Rattle.folder_core.specs.States.{local};
 ghost use Rattle.sync_names.specs.Refusal.{shape_refusal};
+ghost use Rattle.block_server.specs.PartsGiven.{ServesGiven};
 ghost use Rattle.block_server.specs.Served.{Serves, answers_code, has_digest};
 
 use crate::Code;
@@ -34,6 +35,8 @@ pub fn answer<S: FileStore, W: FolderCalls, G: Gate>(
         (local (now (W.view calls.new)) request.now.name)
         (bytes_of ((S.tree store.old).names request.now.name)) (S.fault_count store.old) response
         (S.fault_count store.new)) }
+    ensures given { IfOk result (λ response. ServesGiven S.gives request.now
+        (local (now (W.view calls.new)) request.now.name) store.old response store.new) }
     ensures folder { W.folder calls.new ≡ W.folder calls.old }
     ensures sees { Sees (W.view calls.old) (W.view calls.new) }
     ensures kept { S.keeps ≡ true → S.tree store.new ≡ S.tree store.old }

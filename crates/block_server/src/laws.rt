@@ -6,8 +6,11 @@ ghost use Rattle.sync_record.specs.Infos.{natural};
 ghost use Rattle.sync_record.specs.Records.{FileRecord};
 ghost use Rattle.bep_messages.specs.declared.request.Request.{Request};
 ghost use Rattle.bep_messages.specs.declared.response.Response.{Response};
+ghost use Rattle.block_server.specs.PartsGiven.{GivesPart, ServesGiven};
 ghost use Rattle.block_server.specs.Served.{Serves, answers_code, refused};
 ghost use Rattle.block_server.specs.declared.code.Code.TheVariants.{Generic};
+
+use file_store::FileStore;
 
 /// Code 0 is answered only with as many bytes as were asked for, that have the digest that was asked for, if one was, of a valid
 /// live local file, and of a store that keeps what is written with just the bytes that the file has there; the store has then
@@ -32,4 +35,12 @@ pub fn faults_are_answered_with_code_1()
         (faults : ℕ) (response : Response) (after : ℕ) →
         Serves keeps q r file faults response after → after ≢ faults →
         (refused q r ≡ None) × (response ≡ answers_code q Generic) }
+{}
+
+/// Of every store, whether it keeps what is written or not: bytes come with code 0 only, and are those that the store gave for this
+/// request, from the asked offset on and as many as were asked for.
+pub fn bytes_are_those_that_the_store_gave<S: FileStore>()
+    ensures { (q : Request) (r : Option FileRecord) (old new : S) (response : Response) →
+        ServesGiven S.gives q r old response new → response.code ≡ pos 0 →
+        GivesPart S.gives q.name (natural q.offset) (natural q.size) old (Some response.payload) new }
 {}

@@ -1,9 +1,12 @@
 //! A part of a file, read from the store.
-ghost use Rattle.std.specs.Prelude.{◌≡◌, ◌≢◌, ◌+◌, ◌-◌, ◌^◌, ◌<◌, ◌≤◌, IfErr, IfOk, MatchOption, Option, false, length, nat_le, true};
+ghost use Rattle.std.specs.Prelude.{◌≡◌, ◌≢◌, ◌+◌, ◌-◌, ◌^◌, ◌<◌, ◌≤◌, IfErr, IfOk, MatchOption, MatchResult, Option, false, length, nat_le, true};
 ghost use Rattle.file_store.specs.Calls.{stat_of};
 ghost use Rattle.file_store.specs.Trees.{bytes_of};
 ghost use Rattle.file_store.specs.declared.node.Node.{Node};
 ghost use Rattle.file_store.specs.Refusals.{IsPlain, count_after};
+ghost use Rattle.file_store.specs.Asked.{StatAt};
+ghost use Rattle.file_store.specs.declared.node.Stat.{Stat};
+ghost use Rattle.block_server.specs.PartsGiven.{GivesPart, size_said};
 ghost use Rattle.block_server.specs.PartsRead.{ReadsPart};
 
 use crate::part::Part;
@@ -23,6 +26,8 @@ pub(crate) fn read_part<S: FileStore, G: Gate>(
     ensures reads { IfOk result (λ read. ReadsPart S.keeps part.now.offset part.now.size
         (bytes_of ((S.tree store.old).names part.now.name)) (S.fault_count store.old) read
         (S.fault_count store.new)) }
+    ensures given { IfOk result (λ read. GivesPart S.gives part.now.name part.now.offset
+        part.now.size store.old read store.new) }
     ensures kept { S.keeps ≡ true → S.tree store.new ≡ S.tree store.old }
     ensures out_of_memory { IfErr result (λ _. S.fault_count store.new ≡ S.fault_count store.old) }
 {
@@ -61,6 +66,10 @@ fn has_part<S: FileStore, G: Gate>(
     ensures enough { S.keeps ≡ true → IfOk result (λ enough. enough ≡ nat_le part.now.size
         (length (bytes_of ((S.tree store.old).names part.now.name)) - part.now.offset)) }
     ensures none { IfOk result (λ enough. enough ≡ false → 1 ≤ part.now.size) }
+    ensures said { MatchResult result
+        (λ enough. (said : Stat) × S.gives store.old (StatAt part.now.name) (Ok said) store.new
+        × (enough ≡ nat_le part.now.size (size_said said - part.now.offset)))
+        (λ refusal. S.gives store.old (StatAt part.now.name) (Err refusal) store.new) }
     ensures kept { S.keeps ≡ true → S.tree store.new ≡ S.tree store.old }
     ensures refusals { IfErr result IsPlain }
     ensures counted { S.fault_count store.new ≡ count_after result (S.fault_count store.old) }
@@ -72,7 +81,8 @@ fn has_part<S: FileStore, G: Gate>(
 
 // How many bytes the file has, 0 if there is none.
 fn size_of(stat: Stat) -> u64
-    ensures { (node : Option Node) → stat ≡ stat_of node → result ≡ length (bytes_of node) }
+    ensures there { (node : Option Node) → stat ≡ stat_of node → result ≡ length (bytes_of node) }
+    ensures said { result ≡ size_said stat }
 {
     match stat {
         Stat::File(size, _) => size,

@@ -4,6 +4,7 @@ pub mod Contents
 pub mod Trees
 pub mod Refusals
 pub mod Asked
+pub mod FullReads
 pub mod Calls
 pub mod Listings
 pub mod Laws

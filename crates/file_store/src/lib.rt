@@ -26,6 +26,7 @@ pub use gate::{Gate, GatePlace, OpenGate};
 pub use mem::MemStore;
 pub use name_map::NameMap;
 pub use node::{Kind, Listed, Listing, Node, Stat};
+pub use parents::{is_below, parent_of};
 pub use reading::read_full;
 pub use refusal::StoreRefusal;
 pub use store::FileStore;

@@ -2,8 +2,8 @@
 ghost use Rattle.std.specs.Prelude.{◌≡◌, ◌<◌, ◌||◌, false, bytes_eq, length, MatchOption, IfSome};
 ghost use Rattle.file_store.specs.Names.{Name, is_parent};
 
-/// The directory that a name is in, if it has a parent. O(n).
-pub(crate) fn parent_of(name: &str) -> Option<&str>
+/// The directory that a name is in, if it has a parent. Does not allocate. O(n).
+pub fn parent_of(name: &str) -> Option<&str>
     ensures parents { MatchOption result
         ((q : Name) → is_parent q name.now ≡ false)
         (λ p. (q : Name) → is_parent q name.now ≡ (bytes_eq p.now q || is_parent q p.now)) }
@@ -13,8 +13,8 @@ pub(crate) fn parent_of(name: &str) -> Option<&str>
     Some(name.split_at(slash).0)
 }
 
-/// Whether a name is below a directory. O(n).
-pub(crate) fn is_below(name: &str, dir: &str) -> bool
+/// Whether a name is below a directory. Does not allocate. O(n).
+pub fn is_below(name: &str, dir: &str) -> bool
     ensures { result ≡ is_parent dir.now name.now }
 {
     let (name, dir) = (name.as_bytes(), dir.as_bytes());

@@ -1,5 +1,6 @@
 ghost use Rattle.std.specs.Prelude.{◌≡◌, ◌+◌, ◌^◌, ◌<◌, ◌≤◌, IfErr, IfOk, drop, length, take, true};
 ghost use Rattle.file_store.specs.Refusals.{IsPlain, count_after};
+ghost use Rattle.file_store.specs.FullReads.{FillsAll};
 ghost use Rattle.file_store.specs.Trees.{bytes_of};
 
 use crate::{FileStore, Gate, GatePlace, StoreRefusal};
@@ -22,6 +23,8 @@ pub fn read_full<S: FileStore, G: Gate>(
     ensures reads { S.keeps ≡ true → IfOk result (λ n. take n buffer.new
         ≡ take (length buffer.old) (drop offset (bytes_of ((S.tree store.old).names name.now)))) }
     ensures kept { S.keeps ≡ true → S.tree store.new ≡ S.tree store.old }
+    // Of every store: no byte is another than those that it gave.
+    ensures given { FillsAll S.gives name.now offset store.old buffer.old result store.new buffer.new }
     ensures refusals { IfErr result IsPlain }
     ensures counted { S.fault_count store.new ≡ count_after result (S.fault_count store.old) }
 {

@@ -10,7 +10,9 @@ use Rattle.folder_calls.specs.declared.refusal.ScanRefusal.TheVariants.{CounterF
 use Rattle.file_store.specs.Trees.{Tree}
 use Rattle.file_store.specs.declared.refusal.StoreRefusal.{StoreRefusal}
 use Rattle.file_store.specs.declared.refusal.StoreRefusal.TheVariants.{StoreFault, NotEmpty, BadParent, OutOfMemory}
-use Rattle.sync_scan.specs.AllNames.{GoesOver, ScansEach, ScansOne, Tried, sum_after}
+use Rattle.sync_scan.specs.AllNames.{GoesOver, ScansEach, ScansOne, Tried, UnlessBelow, is_below_any, sum_after}
+use Rattle.sync_scan.specs.Told.{Giving}
+use Rattle.std.proofs.lemmas.Bool.{true≢false}
 use Rattle.sync_scan.specs.Looks.{MayFind, look_of}
 use Rattle.sync_scan.specs.Stops.{counted, stop_of}
 use Rattle.sync_scan.specs.declared.scanned.Look.{Look}
@@ -22,29 +24,50 @@ use Rattle.sync_scan.specs.declared.sum.ScanSum.{ScanSum}
 use Rattle.sync_scan.proofs.ScanLemmas.{sees-itself, sees-on}
 
 -- a name that is skipped is not looked at
-pub skipped : (v : CallerView) (n : Name) (moment : ℕ) (keeps : Type 0) (tree : Tree) → (keeps → ⊥) → ScansOne v n moment (MayFind keeps tree n) (Ok Skipped) v
-skipped v n moment keeps tree never = record {
+pub skipped : (v : CallerView) (n : Name) (moment : ℕ) (unread : List Name) (may : Name → Option FileRecord → Look → Type 0) (fails : StoreRefusal → Type 0)
+    → is_below_any unread n ≡ true → ScansOne v n moment (UnlessBelow unread may n) fails (Ok Skipped) v
+skipped v n moment unread may fails below = record {
   read = v;
   sees = sees-itself v;
   found = look.Skipped;
-  may_be = (tt, λ k. absurd (never k));
+  may_be = (λ e. refl, λ e. absurd (true≢false (sym below ∙ e)));
   asks = refl;
 }
 
--- the store's tree is as it was
-pub one-moved : (old new : CallerView) (n : Name) (moment : ℕ) (keeps : Type 0) (t u : Tree) (r : Result Scanned StoreRefusal) → (keeps → t ≡ u)
-    → ScansOne old n moment (MayFind keeps t n) r new → ScansOne old n moment (MayFind keeps u n) r new
-one-moved old new n moment keeps t u (Ok s) same scans = record {
+-- what may be found is said in other words
+pub one-weaker : (old new : CallerView) (n : Name) (moment : ℕ) (may other : Option FileRecord → Look → Type 0) (fails : StoreRefusal → Type 0) (r : Result Scanned StoreRefusal)
+    → ((local : Option FileRecord) (look : Look) → may local look → other local look) → ScansOne old n moment may fails r new → ScansOne old n moment other fails r new
+one-weaker old new n moment may other fails (Ok s) weaker scans = record {
   read = scans.read;
   sees = scans.sees;
   found = scans.found;
-  may_be = (scans.may_be.0, λ k. scans.may_be.1 k ∙ ap (λ (x : Tree). look_of (local (now scans.read) n) (x.names n)) (same k));
+  may_be = weaker (local (now scans.read) n) scans.found scans.may_be;
   asks = scans.asks;
 }
-one-moved old new n moment keeps t u (Err e) same sees = sees
+one-weaker old new n moment may other fails (Err e) weaker scans = scans
 
-module _ (moment : ℕ) (may : Name → Option FileRecord → Look → Type 0) where
-  after-seen : (a b c : CallerView) (n : Name) (r : Result Scanned StoreRefusal) → Sees a b → ScansOne b n moment (may n) r c → ScansOne a n moment (may n) r c
+pub each-weaker : (tried : List Tried) (old new : CallerView) (moment : ℕ) (may other : Name → Option FileRecord → Look → Type 0) (fails : Name → StoreRefusal → Type 0)
+    → ((n : Name) (local : Option FileRecord) (look : Look) → may n local look → other n local look) → ScansEach old moment may fails tried new → ScansEach old moment other fails tried new
+each-weaker [] old new moment may other fails weaker sees = sees
+each-weaker (x ∷ xs) old new moment may other fails weaker each =
+    (each.0, one-weaker old each.0 x.0 moment (may x.0) (other x.0) (fails x.0) x.1 (weaker x.0) each.1, each-weaker xs each.0 new moment may other fails weaker each.2)
+
+-- the store's tree is as it was
+pub may-moved : {S : Type 0} (gives : Giving S) (keeps : Type 0) (t u : Tree) → (keeps → t ≡ u) → (n : Name) (local : Option FileRecord) (look : Look)
+    → MayFind gives keeps t n local look → MayFind gives keeps u n local look
+may-moved gives keeps t u same n local look may = (may.0, λ k. may.1 k ∙ ap (λ (x : Tree). look_of local (x.names n)) (same k))
+
+pub below-moved : {S : Type 0} (gives : Giving S) (keeps : Type 0) (t u : Tree) (unread : List Name) → (keeps → t ≡ u) → (n : Name) (local : Option FileRecord) (look : Look)
+    → UnlessBelow unread (MayFind gives keeps t) n local look → UnlessBelow unread (MayFind gives keeps u) n local look
+below-moved gives keeps t u unread same n local look may = (may.0, λ e. may-moved gives keeps t u same n local look (may.1 e))
+
+-- a name that is not below an unread directory
+pub not-below : (unread : List Name) (may : Name → Option FileRecord → Look → Type 0) (n : Name) → is_below_any unread n ≡ false
+    → (local : Option FileRecord) (look : Look) → may n local look → UnlessBelow unread may n local look
+not-below unread may n apart local look found = (λ e. absurd (true≢false (sym e ∙ apart)), λ e. found)
+
+module _ (moment : ℕ) (may : Name → Option FileRecord → Look → Type 0) (fails : Name → StoreRefusal → Type 0) where
+  after-seen : (a b c : CallerView) (n : Name) (r : Result Scanned StoreRefusal) → Sees a b → ScansOne b n moment (may n) (fails n) r c → ScansOne a n moment (may n) (fails n) r c
   after-seen a b c n (Ok s) sees scans = record {
     read = scans.read;
     sees = sees-on a b scans.read sees scans.sees;
@@ -52,11 +75,11 @@ module _ (moment : ℕ) (may : Name → Option FileRecord → Look → Type 0) w
     may_be = scans.may_be;
     asks = scans.asks;
   }
-  after-seen a b c n (Err e) sees later = sees-on a b c sees later
+  after-seen a b c n (Err e) sees later = (sees-on a b c sees later.0, later.1)
 
   -- one name more was scanned
-  pub each-more : (tried : List Tried) (a b c : CallerView) (n : Name) (r : Result Scanned StoreRefusal) → ScansEach a moment may tried b
-      → ScansOne b n moment (may n) r c → ScansEach a moment may (tried ++ (n, r) ∷ []) c
+  pub each-more : (tried : List Tried) (a b c : CallerView) (n : Name) (r : Result Scanned StoreRefusal) → ScansEach a moment may fails tried b
+      → ScansOne b n moment (may n) (fails n) r c → ScansEach a moment may fails (tried ++ (n, r) ∷ []) c
   each-more [] a b c n r sees one = (c, after-seen a b c n r sees one, sees-itself c)
   each-more (t ∷ ts) a b c n r each one = (each.0, each.1, each-more ts each.0 b c n r each.2 one)
 
@@ -108,59 +131,52 @@ counted-stop sum (Err NotEmpty) on = on
 counted-stop sum (Err BadParent) on = on
 counted-stop sum (Err OutOfMemory) on = refl
 
--- all the names that were scanned, where the store's tree is as it was
-pub each-moved : (tried : List Tried) (old new : CallerView) (moment : ℕ) (keeps : Type 0) (t u : Tree) → (keeps → t ≡ u)
-    → ScansEach old moment (MayFind keeps t) tried new → ScansEach old moment (MayFind keeps u) tried new
-each-moved [] old new moment keeps t u same sees = sees
-each-moved (x ∷ xs) old new moment keeps t u same each =
-    (each.0, one-moved old each.0 x.0 moment keeps t u x.1 same each.1, each-moved xs each.0 new moment keeps t u same each.2)
-
 -- some names were gone over, none of which stops the scan, and counted
-abbrev pub Goes : CallerView → ℕ → (Name → Option FileRecord → Look → Type 0) → List Name → ScanSum → ScanSum → CallerView → Type 0
-Goes old moment may ns first sum new = (tried : List Tried) × ScansEach old moment may tried new × GoesOver ns tried None × (sum ≡ sum_after first tried)
+abbrev pub Goes : CallerView → ℕ → (Name → Option FileRecord → Look → Type 0) → (Name → StoreRefusal → Type 0) → List Name → ScanSum → ScanSum → CallerView → Type 0
+Goes old moment may fails ns first sum new = (tried : List Tried) × ScansEach old moment may fails tried new × GoesOver ns tried None × (sum ≡ sum_after first tried)
 
 -- the same of all of them, or those up to one that stops it
-abbrev pub Ends : CallerView → ℕ → (Name → Option FileRecord → Look → Type 0) → List Name → ScanSum → ScanSum → CallerView → Type 0
-Ends old moment may ns first sum new = (tried : List Tried) × ScansEach old moment may tried new × GoesOver ns tried sum.stopped × (sum ≡ sum_after first tried)
+abbrev pub Ends : CallerView → ℕ → (Name → Option FileRecord → Look → Type 0) → (Name → StoreRefusal → Type 0) → List Name → ScanSum → ScanSum → CallerView → Type 0
+Ends old moment may fails ns first sum new = (tried : List Tried) × ScansEach old moment may fails tried new × GoesOver ns tried sum.stopped × (sum ≡ sum_after first tried)
 
 -- the scan of a name, and its count
-abbrev pub Next : CallerView → ℕ → (Name → Option FileRecord → Look → Type 0) → Name → ScanSum → ScanSum → CallerView → Type 0
-Next old moment may n sum more new = (r : Result Scanned StoreRefusal) × ScansOne old n moment (may n) r new × (more ≡ counted sum r)
+abbrev pub Next : CallerView → ℕ → (Name → Option FileRecord → Look → Type 0) → (Name → StoreRefusal → Type 0) → Name → ScanSum → ScanSum → CallerView → Type 0
+Next old moment may fails n sum more new = (r : Result Scanned StoreRefusal) × ScansOne old n moment (may n) (fails n) r new × (more ≡ counted sum r)
 
-module _ (old v w : CallerView) (moment : ℕ) (may : Name → Option FileRecord → Look → Type 0) (ns : List Name) (n : Name) (first sum more : ScanSum)
-    (goes : Goes old moment may ns first sum v) (next : Next v moment may n sum more w) (on : sum.stopped ≡ None) where
+module _ (old v w : CallerView) (moment : ℕ) (may : Name → Option FileRecord → Look → Type 0) (fails : Name → StoreRefusal → Type 0) (ns : List Name) (n : Name) (first sum more : ScanSum)
+    (goes : Goes old moment may fails ns first sum v) (next : Next v moment may fails n sum more w) (on : sum.stopped ≡ None) where
   stop-is : more.stopped ≡ stop_of next.0
   stop-is = ap (λ (s : ScanSum). s.stopped) next.2 ∙ counted-stop sum next.0 on
 
   counts : more ≡ sum_after first (goes.0 ++ (n, next.0) ∷ [])
   counts = next.2 ∙ ap (λ s. counted s next.0) goes.3 ∙ sym (sum-more goes.0 first n next.0)
 
-  pub goes-on : more.stopped ≡ None → Goes old moment may (ns ++ n ∷ []) first more w
+  pub goes-on : more.stopped ≡ None → Goes old moment may fails (ns ++ n ∷ []) first more w
   goes-on off = (
     goes.0 ++ (n, next.0) ∷ [],
-    each-more moment may goes.0 old v w n next.0 goes.1 next.1,
+    each-more moment may fails goes.0 old v w n next.0 goes.1 next.1,
     over-more ns goes.0 n next.0 goes.2 (sym stop-is ∙ off),
     counts,
   )
 
-  pub ends : (rest : List Name) → is_some more.stopped ≡ true → Ends old moment may (ns ++ n ∷ rest) first more w
+  pub ends : (rest : List Name) → is_some more.stopped ≡ true → Ends old moment may fails (ns ++ n ∷ rest) first more w
   ends rest some = by more.stopped refl some
     where
-      by : (o : Option ScanStop) → more.stopped ≡ o → is_some o ≡ true → Ends old moment may (ns ++ n ∷ rest) first more w
+      by : (o : Option ScanStop) → more.stopped ≡ o → is_some o ≡ true → Ends old moment may fails (ns ++ n ∷ rest) first more w
       by None e some = absurd (cc)
       by (Some s) e some = (
         goes.0 ++ (n, next.0) ∷ [],
-        each-more moment may goes.0 old v w n next.0 goes.1 next.1,
+        each-more moment may fails goes.0 old v w n next.0 goes.1 next.1,
         subst (GoesOver (ns ++ n ∷ rest) (goes.0 ++ (n, next.0) ∷ [])) (sym e) (over-stop ns rest goes.0 n next.0 s goes.2 (sym stop-is ∙ e)),
         counts,
       )
 
-pub next-moved : (old new : CallerView) (n : Name) (moment : ℕ) (keeps : Type 0) (t u : Tree) (sum more : ScanSum) → (keeps → t ≡ u)
-    → Next old moment (MayFind keeps t) n sum more new → Next old moment (MayFind keeps u) n sum more new
-next-moved old new n moment keeps t u sum more same (r, one, e) = (r, one-moved old new n moment keeps t u r same one, e)
+pub next-weaker : (old new : CallerView) (n : Name) (moment : ℕ) (may other : Name → Option FileRecord → Look → Type 0) (fails : Name → StoreRefusal → Type 0) (sum more : ScanSum)
+    → ((local : Option FileRecord) (look : Look) → may n local look → other n local look) → Next old moment may fails n sum more new → Next old moment other fails n sum more new
+next-weaker old new n moment may other fails sum more weaker (r, one, e) = (r, one-weaker old new n moment (may n) (other n) (fails n) r weaker one, e)
 
-pub goes-nowhere : (v : CallerView) (moment : ℕ) (may : Name → Option FileRecord → Look → Type 0) (sum : ScanSum) → Goes v moment may [] sum sum v
-goes-nowhere v moment may sum = ([], sees-itself v, refl, refl)
+pub goes-nowhere : (v : CallerView) (moment : ℕ) (may : Name → Option FileRecord → Look → Type 0) (fails : Name → StoreRefusal → Type 0) (sum : ScanSum) → Goes v moment may fails [] sum sum v
+goes-nowhere v moment may fails sum = ([], sees-itself v, refl, refl)
 
 -- a list up to an element, with it and the rest
 pub divided-at : {X : Type 0} (xs : List X) (i : ℕ) (d : X) → i < length xs → xs ≡ take i xs ++ get_or xs i d ∷ drop (suc i) xs
@@ -175,7 +191,7 @@ is-none None e = refl
 is-none (Some x) e = absurd (cc)
 
 -- the caller saw the history go on after the names were scanned
-pub each-seen : (tried : List Tried) (moment : ℕ) (may : Name → Option FileRecord → Look → Type 0) (a b c : CallerView) → ScansEach a moment may tried b → Sees b c
-    → ScansEach a moment may tried c
-each-seen [] moment may a b c first later = sees-on a b c first later
-each-seen (t ∷ ts) moment may a b c each later = (each.0, each.1, each-seen ts moment may each.0 b c each.2 later)
+pub each-seen : (tried : List Tried) (moment : ℕ) (may : Name → Option FileRecord → Look → Type 0) (fails : Name → StoreRefusal → Type 0) (a b c : CallerView) → ScansEach a moment may fails tried b → Sees b c
+    → ScansEach a moment may fails tried c
+each-seen [] moment may fails a b c first later = sees-on a b c first later
+each-seen (t ∷ ts) moment may fails a b c each later = (each.0, each.1, each-seen ts moment may fails each.0 b c each.2 later)

@@ -4,3 +4,6 @@ pub mod ScanLemmas
 pub mod MissingLemmas
 pub mod PageLemmas
 pub mod EachLemmas
+pub mod ToldLemmas
+pub mod FoundLemmas
+pub mod GoneLemmas

@@ -1,5 +1,5 @@
 -- What is found can be recorded.
-use Rattle.std.proofs.Common.{◌≡◌, ℕ, zero, suc, ◌*◌, ◌≤◌, List, [], ◌∷◌, length, Option, Some, None, Bool, true, false, refl, sym, ap, subst, ◌∙◌, ◌⊎◌, inl, inr, arith}
+use Rattle.std.proofs.Common.{◌≡◌, ℕ, zero, suc, ◌*◌, ◌≤◌, List, [], ◌∷◌, length, Option, Some, None, Bool, true, false, refl, sym, ap, subst, ◌∙◌, arith}
 use Rattle.std.specs.Prelude.{◌^◌, ◌&&◌, ℤ, pos, negsuc, IsTrue, find, if◌then◌else◌, nat_lt, unwrap_or}
 use Rattle.std.specs.List.{AllByRecursion}
 use Rattle.std.specs.Ordering.{int_eq}
@@ -10,7 +10,10 @@ use Rattle.sync_blocks.specs.Tiling.{tiles}
 use Rattle.sync_record.specs.Records.{FileRecord, is_live_file}
 use Rattle.folder_core.specs.declared.finding.Finding.{Finding}
 use Rattle.folder_core.specs.Steps.{is_recordable}
-use Rattle.sync_scan.specs.Looks.{IsFound, IsRecordable, are_recorded, block_size_in, block_size_of, chosen_block_size, recorded_block_size}
+use Rattle.sync_scan.specs.Looks.{IsRecordable, IsTold, are_recorded, block_size_in, block_size_of, chosen_block_size, recorded_block_size}
+use Rattle.file_store.specs.Names.{Name}
+use Rattle.file_store.specs.declared.node.Stat.TheVariants as stat
+use Rattle.sync_scan.specs.Told.{Giving}
 use Rattle.sync_scan.specs.declared.scanned.Look.{Look}
 use Rattle.sync_scan.specs.declared.scanned.Look.TheVariants.{Found, Gone, Skipped, Changing}
 
@@ -63,21 +66,20 @@ pub some-size : (b : ℕ) → is_block_size b ≡ true → 1 ≤ b
 some-size zero e = absurd (cc)
 some-size (suc n) e = omega arith
 
-read-is : (local : Option FileRecord) (bytes : List ℕ) (b : ℕ) → (b ≡ block_size_for (length bytes)) ⊎ (b ≡ block_size_of local bytes) → is_block_size b ≡ true
-read-is local bytes b (inl e) = ap is_block_size e ∙ new-size-is (length bytes)
-read-is local bytes b (inr e) = ap is_block_size e ∙ chosen-is local bytes
-
 abbrev pub ListTiles : Type 0
 ListTiles = (bytes : List ℕ) (block_size : ℕ) → 1 ≤ block_size → IsTrue (tiles (block_list bytes block_size) (length bytes) block_size)
 
 -- what is found can be recorded, since block lists tile
-pub found-recordable : ListTiles → (local : Option FileRecord) (look : Look) → IsFound local look → IsRecordable look
-found-recordable tile local (Found f) (inl e) = subst (λ (g : Finding). IsTrue (is_recordable g.content)) (sym e) refl
-found-recordable tile local (Found f) (inr r) =
-    let is = read-is local r.bytes r.block_size r.chosen in
-    let fits : nat_lt (length r.bytes) (2 ^ 63) ≡ true = lt-ltb (length r.bytes) (2 ^ 63) (let w = r.within in omega arith) in
-    let covers : tiles (block_list r.bytes r.block_size) (length r.bytes) r.block_size ≡ true = tile r.bytes r.block_size (some-size r.block_size is) in
+pub found-recordable : {S : Type 0} → ListTiles → (gives : Giving S) (n : Name) (local : Option FileRecord) (look : Look) → IsTold gives n local look → IsRecordable look
+found-recordable tile gives n local (Found f) (stat.Directory, says, e) = subst (λ (g : Finding). IsTrue (is_recordable g.content)) (sym e) refl
+found-recordable tile gives n local (Found f) (stat.File size modified, says, (within, r)) =
+    let block_size = block_size_of local r.first in
+    let is = chosen-is local r.first in
+    let fits : nat_lt (length r.bytes) (2 ^ 63) ≡ true = lt-ltb (length r.bytes) (2 ^ 63) (omega (arith, r.long, within)) in
+    let covers : tiles (block_list r.bytes block_size) (length r.bytes) block_size ≡ true = tile r.bytes block_size (some-size block_size is) in
     ap (λ (g : Finding). is_recordable g.content) r.is ∙ and_from _ _ fits (and_from _ _ is covers)
-found-recordable tile local Gone f = tt
-found-recordable tile local Skipped f = tt
-found-recordable tile local Changing f = tt
+found-recordable tile gives n local (Found f) (stat.Missing, says, never) = absurd never
+found-recordable tile gives n local (Found f) (stat.Other, says, never) = absurd never
+found-recordable tile gives n local Gone told = tt
+found-recordable tile gives n local Skipped told = tt
+found-recordable tile gives n local Changing told = tt

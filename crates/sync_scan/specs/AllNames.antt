@@ -1,13 +1,20 @@
 -- The scan of all names: those of the store, and then those that the folder has and the store has not (own rule).
-use Rattle.std.specs.Prelude.{◌≡◌, ℕ, List, [], ◌∷◌, Contains, ◌⊎◌, Option, Some, None, MatchOption, Result, Ok, Err, IsTrue, fold}
+use Rattle.std.specs.Prelude.{◌≡◌, ℕ, List, [], ◌∷◌, Contains, ◌⊎◌, Option, Some, None, MatchOption, Result, Ok, Err, IfOk, IsTrue, fold, Bool, true, false, map}
+use Rattle.std.specs.List.{list_any}
 use Rattle.sync_record.specs.Records.{FileRecord, Name, is_live}
 use Rattle.folder_core.specs.States.{local}
 use Rattle.folder_calls.specs.Shared.{CallerView, Sees, now}
-use Rattle.file_store.specs.Listings.{AreAscending}
+use Rattle.file_store.specs.Asked.{ListAll}
+use Rattle.file_store.specs.Listings.{AreAscending, IsInOrder, IsListing}
+use Rattle.file_store.specs.Trees.{Tree}
+use Rattle.sync_scan.specs.Told.{Giving}
+use Rattle.file_store.specs.Names.{is_parent}
+use Rattle.file_store.specs.declared.node.Listing.{Listing}
 use Rattle.file_store.specs.declared.refusal.StoreRefusal.{StoreRefusal}
 use Rattle.sync_scan.specs.Scans.{Scans}
 use Rattle.sync_scan.specs.Stops.{counted, empty_sum, stop_by, stop_of}
 use Rattle.sync_scan.specs.declared.scanned.Look.{Look}
+use Rattle.sync_scan.specs.declared.scanned.Look.TheVariants.{Skipped}
 use Rattle.sync_scan.specs.declared.scanned.Scanned.{Scanned}
 use Rattle.sync_scan.specs.declared.sum.ScanStop.{ScanStop}
 use Rattle.sync_scan.specs.declared.sum.ScanStop.TheVariants.{OutOfMemory}
@@ -17,16 +24,16 @@ use Rattle.sync_scan.specs.declared.sum.ScanSum.{ScanSum}
 abbrev pub Tried : Type 0
 Tried = Name × Result Scanned StoreRefusal
 
--- the scan of one name, or a refusal of the store, after which nothing was asked of the folder
-abbrev pub ScansOne : CallerView → Name → ℕ → (Option FileRecord → Look → Type 0) → Result Scanned StoreRefusal → CallerView → Type 0
-ScansOne old n moment may (Ok scanned) new = Scans old n moment may scanned new
-ScansOne old n moment may (Err refusal) new = Sees old new
+-- the scan of one name; or why it was not looked at to the end, and then nothing was asked of the folder
+abbrev pub ScansOne : CallerView → Name → ℕ → (Option FileRecord → Look → Type 0) → (StoreRefusal → Type 0) → Result Scanned StoreRefusal → CallerView → Type 0
+ScansOne old n moment may fails (Ok scanned) new = Scans old n moment may scanned new
+ScansOne old n moment may fails (Err refusal) new = Sees old new × fails refusal
 
 -- these names were scanned, one after another
-abbrev pub ScansEach : CallerView → ℕ → (Name → Option FileRecord → Look → Type 0) → List Tried → CallerView → Type 0
-ScansEach old moment may [] new = Sees old new
-ScansEach old moment may (t ∷ ts) new =
-    (next : CallerView) × ScansOne old t.0 moment (may t.0) t.1 next × ScansEach next moment may ts new
+abbrev pub ScansEach : CallerView → ℕ → (Name → Option FileRecord → Look → Type 0) → (Name → StoreRefusal → Type 0) → List Tried → CallerView → Type 0
+ScansEach old moment may fails [] new = Sees old new
+ScansEach old moment may fails (t ∷ ts) new =
+    (next : CallerView) × ScansOne old t.0 moment (may t.0) (fails t.0) t.1 next × ScansEach next moment may fails ts new
 
 -- the names in their order, all of them, or those up to the first that stops the scan
 abbrev pub GoesOver : List Name → List Tried → Option ScanStop → Type 0
@@ -55,18 +62,38 @@ pub record AreMissing (old point : CallerView) (listed names : List Name) : Type
   pub had : (n : Name) → Contains names n → (before : CallerView) × (r : FileRecord) × Sees old before × (local (now before) n ≡ Some r) × IsTrue (is_live r)
   pub all : (n : Name) (r : FileRecord) → local (now point) n ≡ Some r → IsTrue (is_live r) → Contains listed n ⊎ Contains names n
 
--- What the scan of all names comes to. What a listing may be is handed in, and what may be found at a name by its local record.
-pub data ScansAll (IsListed : List Name → Type 0) (may : Name → Option FileRecord → Look → Type 0) (old : CallerView) (moment : ℕ) (sum : ScanSum) (new : CallerView) : Type 0 where
+-- the name is below one of the directories
+abbrev pub is_below_any : List Name → Name → Bool
+is_below_any directories n = list_any (λ d. is_parent d n) directories
+
+-- what is below a directory that could not be read is skipped, and is not looked at
+abbrev pub UnlessBelow : List Name → (Name → Option FileRecord → Look → Type 0) → Name → Option FileRecord → Look → Type 0
+UnlessBelow unread may n local look =
+    (is_below_any unread n ≡ true → look ≡ Skipped) × (is_below_any unread n ≡ false → may n local look)
+
+abbrev pub names_of : Listing → List Name
+names_of listing = map (λ e. e.name) listing.entries.items
+
+-- What the store lists, in order: of a store that keeps what is written, all that is there.
+abbrev pub HasListed : {S : Type 0} → Giving S → Type 0 → Tree → S → Result Listing StoreRefusal → Type 0
+HasListed {S} gives keeps tree store listed =
+    (new : S) × gives store ListAll listed new × IfOk listed IsInOrder × (keeps → IfOk listed (IsListing tree.names))
+
+-- What the scan of all names comes to. How the store lists its names is handed in, and what may be found at a name by its local
+-- record, and why a name may not be looked at to the end.
+pub data ScansAll (lists : Result Listing StoreRefusal → Type 0) (may : Name → Option FileRecord → Look → Type 0) (fails : Name → StoreRefusal → Type 0) (old : CallerView) (moment : ℕ) (sum : ScanSum) (new : CallerView) : Type 0 where
   -- the names are not listed
-  not_listed : (refusal : StoreRefusal) → new ≡ old → sum ≡ record empty_sum { stopped = Some (stop_by refusal) } → ScansAll IsListed may old moment sum new
+  not_listed : (refusal : StoreRefusal) → lists (Err refusal) → new ≡ old → sum ≡ record empty_sum { stopped = Some (stop_by refusal) }
+      → ScansAll lists may fails old moment sum new
   -- the scan of a listed name stops it
-  stopped : (listed : List Name) (tried : List Tried) (stop : ScanStop) → IsListed listed → ScansEach old moment may tried new
-      → GoesOver listed tried (Some stop) → sum ≡ sum_after empty_sum tried → ScansAll IsListed may old moment sum new
+  stopped : (listing : Listing) (tried : List Tried) (stop : ScanStop) → lists (Ok listing) → ScansEach old moment may fails tried new
+      → GoesOver (names_of listing) tried (Some stop) → sum ≡ sum_after empty_sum tried → ScansAll lists may fails old moment sum new
   -- memory is out while the other local names are looked for
-  not_read : (listed : List Name) (tried : List Tried) → IsListed listed → ScansEach old moment may tried new
-      → GoesOver listed tried None → sum ≡ record (sum_after empty_sum tried) { stopped = Some OutOfMemory } → ScansAll IsListed may old moment sum new
+  not_read : (listing : Listing) (tried : List Tried) → lists (Ok listing) → ScansEach old moment may fails tried new
+      → GoesOver (names_of listing) tried None → sum ≡ record (sum_after empty_sum tried) { stopped = Some OutOfMemory }
+      → ScansAll lists may fails old moment sum new
   -- all, or those up to one that is not listed
-  scanned : (listed missing : List Name) (tried later : List Tried) (done point : CallerView) (stop : Option ScanStop) → IsListed listed
-      → ScansEach old moment may tried done → GoesOver listed tried None → Sees done point → AreMissing done point listed missing
-      → ScansEach point moment may later new → GoesOver missing later stop → sum ≡ sum_after (sum_after empty_sum tried) later
-      → ScansAll IsListed may old moment sum new
+  scanned : (listing : Listing) (missing : List Name) (tried later : List Tried) (done point : CallerView) (stop : Option ScanStop) → lists (Ok listing)
+      → ScansEach old moment may fails tried done → GoesOver (names_of listing) tried None → Sees done point
+      → AreMissing done point (names_of listing) missing → ScansEach point moment (UnlessBelow listing.unread.items may) fails later new
+      → GoesOver missing later stop → sum ≡ sum_after (sum_after empty_sum tried) later → ScansAll lists may fails old moment sum new

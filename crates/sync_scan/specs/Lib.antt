@@ -1,3 +1,4 @@
+pub mod Told
 pub mod Looks
 pub mod Scans
 pub mod Stops

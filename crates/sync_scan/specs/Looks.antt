@@ -1,5 +1,5 @@
 -- What a scan finds at a name (own rule; the blocks by Block Exchange Protocol v1, "Fields of the FileInfo message").
-use Rattle.std.specs.Prelude.{◌≡◌, ◌⊎◌, ◌≤◌, ◌^◌, ℕ, ℤ, pos, negsuc, ⊤, Bool, ◌&&◌, ◌||◌, ◌==◌, nat_lt, if◌then◌else◌, List, [], length, Option, Some, None, IsTrue}
+use Rattle.std.specs.Prelude.{◌≡◌, ◌<◌, ◌≤◌, ◌^◌, ℕ, ℤ, pos, negsuc, ⊤, Bool, ◌&&◌, ◌||◌, ◌==◌, nat_lt, if◌then◌else◌, List, [], length, Option, Some, None, IsTrue}
 use Rattle.std.specs.Ordering.{int_eq}
 use Rattle.std.specs.Cmp.Lexicographic.{pointwise}
 use Rattle.sync_blocks.specs.declared.block.Block.{Block}
@@ -14,6 +14,9 @@ use Rattle.file_store.specs.Names.{Name}
 use Rattle.file_store.specs.Trees.{Tree}
 use Rattle.file_store.specs.declared.node.Node.{Node}
 use Rattle.file_store.specs.declared.node.Node.TheVariants.{Directory, File}
+use Rattle.file_store.specs.declared.node.Stat.{Stat}
+use Rattle.file_store.specs.declared.node.Stat.TheVariants as stat
+use Rattle.sync_scan.specs.Told.{Giving, HasNoOtherParent, HasOtherParent, ReadsOther, ReadsWhole, Says}
 use Rattle.sync_scan.specs.declared.scanned.Look.{Look}
 use Rattle.sync_scan.specs.declared.scanned.Look.TheVariants.{Found, Gone, Skipped, Changing}
 
@@ -72,21 +75,32 @@ look_of local None = Gone
 look_of local (Some Directory) = Found directory_finding
 look_of local (Some (File bytes modified)) = look_of_file local bytes modified
 
--- A file that was read of any store: these bytes, cut by the block size of new files or by that which the local record leads to.
-pub record IsRead (local : Option FileRecord) (found : Finding) : Type 0 where
+-- A file that was read of any store: these bytes, cut by the block size that the local record leads to for the bytes that were read
+-- first, and with the time that the store said.
+pub record IsRead {S : Type 0} (gives : Giving S) (n : Name) (local : Option FileRecord) (size modified : ℕ) (found : Finding) : Type 0 where
+  pub first : List ℕ
   pub bytes : List ℕ
-  pub block_size : ℕ
-  pub modified : ℕ
-  pub within : length bytes ≤ max_file_size
-  pub chosen : (block_size ≡ block_size_for (length bytes)) ⊎ (block_size ≡ block_size_of local bytes)
-  pub is : found ≡ file_finding block_size bytes modified
+  pub first_read : ReadsWhole gives n first
+  pub read : ReadsWhole gives n bytes
+  pub first_long : length first ≡ size
+  pub long : length bytes ≡ size
+  pub is : found ≡ file_finding (block_size_of local first) bytes modified
 
--- what any store may lead to: a directory, or a file whose bytes were read
-abbrev pub IsFound : Option FileRecord → Look → Type 0
-IsFound local (Found found) = (found ≡ directory_finding) ⊎ IsRead local found
-IsFound local Gone = ⊤
-IsFound local Skipped = ⊤
-IsFound local Changing = ⊤
+-- what may be found by what the store says of the name
+abbrev pub LeadsTo : {S : Type 0} → Giving S → Name → Option FileRecord → Stat → Look → Type 0
+LeadsTo gives n local stat.Missing Gone = HasNoOtherParent gives n
+LeadsTo gives n local stat.Missing Skipped = HasOtherParent gives n
+LeadsTo gives n local stat.Directory (Found found) = found ≡ directory_finding
+LeadsTo gives n local (stat.File size modified) (Found found) = (size ≤ max_file_size) × IsRead gives n local size modified found
+LeadsTo gives n local (stat.File size modified) Skipped = max_file_size < size
+LeadsTo gives n local (stat.File size modified) Changing = (size ≤ max_file_size) × ReadsOther gives n size
+LeadsTo gives n local stat.Other Skipped = ⊤
+LeadsTo gives n local _ _ = ⊥
+
+-- What is found of any store is what it says: where nothing is, a deletion, unless it says that something else is in a parent's
+-- place; what is neither a file nor a directory is skipped.
+abbrev pub IsTold : {S : Type 0} → Giving S → Name → Option FileRecord → Look → Type 0
+IsTold gives n local look = (said : Stat) × Says gives n said × LeadsTo gives n local said look
 
 -- what is found can be recorded
 abbrev pub IsRecordable : Look → Type 0
@@ -95,7 +109,6 @@ IsRecordable Gone = ⊤
 IsRecordable Skipped = ⊤
 IsRecordable Changing = ⊤
 
--- What may be found at a name, by its local record: what may be found of any store, and if the store keeps what is written, what
--- is there.
-abbrev pub MayFind : Type 0 → Tree → Name → Option FileRecord → Look → Type 0
-MayFind keeps tree n local look = IsFound local look × (keeps → look ≡ look_of local (tree.names n))
+-- What may be found at a name, by its local record: what the store says, and if it keeps what is written, what is there.
+abbrev pub MayFind : {S : Type 0} → Giving S → Type 0 → Tree → Name → Option FileRecord → Look → Type 0
+MayFind gives keeps tree n local look = IsTold gives n local look × (keeps → look ≡ look_of local (tree.names n))

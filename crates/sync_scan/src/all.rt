@@ -2,15 +2,16 @@
 ghost use Rattle.std.specs.Prelude.{◌≡◌, [], IsTrue, List, None, Result, false, map, true};
 ghost use Rattle.file_store.specs.Listings.{AreAscending, IsListing};
 ghost use Rattle.file_store.specs.declared.node.Listing.{Listing};
-ghost use Rattle.sync_scan.specs.AllNames.{GoesOver, ScansAll, ScansEach, ScansOne, Tried, sum_after};
+ghost use Rattle.sync_scan.specs.AllNames.{GoesOver, HasListed, ScansAll, ScansEach, ScansOne, Tried, UnlessBelow, is_below_any, sum_after};
 ghost use Rattle.sync_scan.specs.Looks.{MayFind};
+ghost use Rattle.sync_scan.specs.Told.{Fails};
 ghost use Rattle.sync_scan.specs.Stops.{counted, empty_sum};
 
 use crate::missing::missing_names;
 use crate::name::scan_one;
 use crate::sum::stop_by;
 use crate::{Progress, ScanStop, ScanSum, Scanned};
-use file_store::{FileStore, Gate, Listed, StoreRefusal};
+use file_store::{FileStore, Gate, Listed, StoreRefusal, is_below};
 use folder_calls::FolderCalls;
 use std::alloc::{AllocError, Global};
 use std::thread::Threads;
@@ -35,11 +36,9 @@ pub fn scan_all<S: FileStore, W: FolderCalls, G: Gate, P: Progress>(
     progress: &mut P,
 ) -> ScanSum
     ensures folder { W.folder calls.new ≡ W.folder calls.old }
-    ensures scans { ScansAll
-        (λ names. (listing : Listing) × (names ≡ map (λ e. e.name) listing.entries.items)
-        × AreAscending names
-        × (S.keeps ≡ true → IsListing (S.tree store.old).names listing))
-        (MayFind (IsTrue S.keeps) (S.tree store.old)) (W.view calls.old) moment result (W.view calls.new) }
+    ensures scans { ScansAll (HasListed S.gives (IsTrue S.keeps) (S.tree store.old) store.old)
+        (MayFind S.gives (IsTrue S.keeps) (S.tree store.old)) (Fails S.gives)
+        (W.view calls.old) moment result (W.view calls.new) }
     ensures kept { S.keeps ≡ true → S.tree store.new ≡ S.tree store.old }
 {
     let listing = match store.list() {
@@ -93,7 +92,7 @@ fn scan_listed<S: FileStore, W: FolderCalls, G: Gate, P: Progress>(
 ) -> ScanSum
     ensures folder { W.folder calls.new ≡ W.folder calls.old }
     ensures scans { (tried : List Tried) × ScansEach (W.view calls.old) moment
-        (MayFind (IsTrue S.keeps) (S.tree store.old)) tried (W.view calls.new)
+        (MayFind S.gives (IsTrue S.keeps) (S.tree store.old)) (Fails S.gives) tried (W.view calls.new)
         × GoesOver (map (λ e. e.name) entries.now) tried result.stopped
         × (result ≡ sum_after empty_sum tried) }
     ensures kept { S.keeps ≡ true → S.tree store.new ≡ S.tree store.old }
@@ -107,7 +106,6 @@ fn scan_listed<S: FileStore, W: FolderCalls, G: Gate, P: Progress>(
             calls,
             gate,
             &entry.name,
-            false,
             moment,
             buffer,
             progress,
@@ -136,20 +134,19 @@ fn scan_missing<S: FileStore, W: FolderCalls, G: Gate, P: Progress>(
     progress: &mut P,
     sum: ScanSum,
 ) -> ScanSum
-    requires listed { S.keeps ≡ true → unread.now ≡ [] }
-    requires goes_on { sum.stopped ≡ None }
+    requires { sum.stopped ≡ None }
     ensures folder { W.folder calls.new ≡ W.folder calls.old }
     ensures scans { (tried : List Tried) × ScansEach (W.view calls.old) moment
-        (MayFind (IsTrue S.keeps) (S.tree store.old)) tried (W.view calls.new)
+        (UnlessBelow unread.now (MayFind S.gives (IsTrue S.keeps) (S.tree store.old)))
+        (Fails S.gives) tried (W.view calls.new)
         × GoesOver names.now tried result.stopped
         × (result ≡ sum_after sum tried) }
     ensures kept { S.keeps ≡ true → S.tree store.new ≡ S.tree store.old }
 {
     let mut sum = sum;
     for name in names {
-        let is_skipped = is_below_any(unread, name);
-        scan_next(
-            rt, alloc, store, calls, gate, name, is_skipped, moment, buffer, progress, &mut sum,
+        scan_missing_name(
+            rt, alloc, store, calls, gate, name, unread, moment, buffer, progress, &mut sum,
         );
         if sum.stopped.is_some() {
             return sum;
@@ -158,7 +155,37 @@ fn scan_missing<S: FileStore, W: FolderCalls, G: Gate, P: Progress>(
     sum
 }
 
-// Scans a name, unless it is skipped, and counts what that came to.
+// Scans a name that is not listed, unless it is below an unread directory, and counts what that came to.
+fn scan_missing_name<S: FileStore, W: FolderCalls, G: Gate, P: Progress>(
+    rt: &(impl Threads + Sync),
+    alloc: Global,
+    store: &mut S,
+    calls: &mut W,
+    gate: &G,
+    name: &SafeName,
+    unread: &[SafeName],
+    moment: Moment,
+    buffer: &mut Vec<u8>,
+    progress: &mut P,
+    sum: &mut ScanSum,
+)
+    ensures folder { W.folder calls.new ≡ W.folder calls.old }
+    ensures scans { (r : Result Scanned StoreRefusal) × ScansOne (W.view calls.old) name.now moment
+        (UnlessBelow unread.now (MayFind S.gives (IsTrue S.keeps) (S.tree store.old)) name.now)
+        (Fails S.gives name.now) r (W.view calls.new)
+        × (sum.new ≡ counted sum.old r) }
+    ensures kept { S.keeps ≡ true → S.tree store.new ≡ S.tree store.old }
+{
+    if is_below_any(unread, name) {
+        sum.count(&Ok(Scanned::Skipped));
+        return;
+    }
+    scan_next(
+        rt, alloc, store, calls, gate, name, moment, buffer, progress, sum,
+    );
+}
+
+// Scans a name, and counts what that came to.
 fn scan_next<S: FileStore, W: FolderCalls, G: Gate, P: Progress>(
     rt: &(impl Threads + Sync),
     alloc: Global,
@@ -166,23 +193,18 @@ fn scan_next<S: FileStore, W: FolderCalls, G: Gate, P: Progress>(
     calls: &mut W,
     gate: &G,
     name: &SafeName,
-    is_skipped: bool,
     moment: Moment,
     buffer: &mut Vec<u8>,
     progress: &mut P,
     sum: &mut ScanSum,
 )
-    requires { S.keeps ≡ true → is_skipped ≡ false }
     ensures folder { W.folder calls.new ≡ W.folder calls.old }
     ensures scans { (r : Result Scanned StoreRefusal) × ScansOne (W.view calls.old) name.now moment
-        (MayFind (IsTrue S.keeps) (S.tree store.old) name.now) r (W.view calls.new)
+        (MayFind S.gives (IsTrue S.keeps) (S.tree store.old) name.now)
+        (Fails S.gives name.now) r (W.view calls.new)
         × (sum.new ≡ counted sum.old r) }
     ensures kept { S.keeps ≡ true → S.tree store.new ≡ S.tree store.old }
 {
-    if is_skipped {
-        sum.count(&Ok(Scanned::Skipped));
-        return;
-    }
     let scanned = scan_one(
         rt, alloc, store, calls, gate, name, moment, buffer, progress,
     );
@@ -191,16 +213,9 @@ fn scan_next<S: FileStore, W: FolderCalls, G: Gate, P: Progress>(
 
 // Whether the name is below one of the directories.
 fn is_below_any(directories: &[SafeName], name: &SafeName) -> bool
-    ensures { directories.now ≡ [] → result ≡ false }
+    ensures { result ≡ is_below_any directories.now name.now }
 {
     directories
         .iter()
-        .any(|directory| is_below(directory, name))
-}
-
-fn is_below(directory: &SafeName, name: &SafeName) -> bool {
-    match name.as_str().strip_prefix(directory.as_str()) {
-        Some(rest) => rest.starts_with('/'),
-        None => false,
-    }
+        .any(|directory| is_below(name.as_str(), directory.as_str()))
 }

@@ -1,9 +1,10 @@
 //! The blocks of a file of a store.
-ghost use Rattle.std.specs.Prelude.{◌≡◌, ◌≢◌, ◌^◌, ◌≤◌, ℕ, IfErr, IfOk, List, MatchOption, OnOk, [], ◌∷◌, ◌++◌, length, true};
+ghost use Rattle.std.specs.Prelude.{◌≡◌, ◌≢◌, ◌^◌, ◌≤◌, ℕ, IfErr, IfOk, IsNone, List, MatchOption, OnOk, [], ◌∷◌, ◌++◌, length, true};
 ghost use Rattle.sha2.specs.Sha256.{sha256};
 ghost use Rattle.file_store.specs.Refusals.{IsPlain, count_after};
 ghost use Rattle.file_store.specs.Trees.{bytes_of};
 ghost use Rattle.sync_blocks.specs.BlockList.{block_list};
+ghost use Rattle.sync_scan.specs.Told.{Fails, ReadsOther, ReadsWhole};
 
 use crate::Progress;
 use file_store::{FileStore, Gate, GatePlace, StoreRefusal, read_full};
@@ -34,7 +35,10 @@ pub(crate) fn blocks_of_file<S: FileStore, G: Gate, P: Progress>(
         (S.keeps ≡ true → length (bytes_of ((S.tree store.old).names name.now)) ≢ size)
         (λ blocks. (bytes : List ℕ) × (length bytes ≡ size)
         × (blocks.items ≡ block_list bytes block_size)
-        × (S.keeps ≡ true → bytes ≡ bytes_of ((S.tree store.old).names name.now)))) }
+        × (S.keeps ≡ true → bytes ≡ bytes_of ((S.tree store.old).names name.now))
+        × ReadsWhole S.gives name.now bytes)) }
+    ensures other { IfOk result (λ found. IsNone found → ReadsOther S.gives name.now size) }
+    ensures failed { IfErr result (Fails S.gives name.now) }
     ensures kept { S.keeps ≡ true → S.tree store.new ≡ S.tree store.old }
     ensures refusals { IfErr result IsPlain }
     ensures counted { S.fault_count store.new ≡ count_after result (S.fault_count store.old) }

@@ -1,15 +1,19 @@
 //! What is found at a name of a store.
-ghost use Rattle.std.specs.Prelude.{◌≡◌, ◌≢◌, ◌≤◌, ◌<◌, ◌^◌, IfErr, IfOk, IfSome, Ok, length, option_copied, true, List, ℕ};
+ghost use Rattle.std.specs.Prelude.{◌≡◌, ◌≢◌, ◌≤◌, ◌<◌, ◌^◌, false, IfErr, IfOk, IfSome, IsNone, Ok, Err, length, option_copied, true, List, ℕ};
 ghost use Rattle.file_store.specs.Refusals.{IsPlain, count_after};
 ghost use Rattle.file_store.specs.Trees.{bytes_of};
 ghost use Rattle.sync_blocks.specs.BlockList.{block_list};
 ghost use Rattle.sync_blocks.specs.Sizes.{is_block_size};
-ghost use Rattle.sync_scan.specs.Looks.{IsFound, are_recorded, file_finding, look_of, look_of_file, recorded_block_size};
+ghost use Rattle.file_store.specs.Asked.{StatAt};
+ghost use Rattle.file_store.specs.declared.node.Stat.{Stat};
+ghost use Rattle.sync_names.specs.Refusal.{refusal};
+ghost use Rattle.sync_scan.specs.Told.{Fails, HasNoOtherParent, HasOtherParent, Says};
+ghost use Rattle.sync_scan.specs.Looks.{IsTold, LeadsTo, are_recorded, file_finding, look_of, look_of_file, recorded_block_size};
 
 use crate::hashing::blocks_of_file;
 use crate::{Look, Progress};
 use bep_messages::Items;
-use file_store::{FileStore, Gate, GatePlace, Stat, StoreRefusal};
+use file_store::{FileStore, Gate, GatePlace, Stat, StoreRefusal, parent_of};
 use folder_core::{Finding, FoundContent};
 use std::alloc::{AllocError, Global};
 use std::thread::Threads;
@@ -38,7 +42,8 @@ pub(crate) fn look_at<S: FileStore, G: Gate, P: Progress>(
 ) -> Result<Look, StoreRefusal>
     ensures looks { S.keeps ≡ true → IfOk result (λ look.
         look ≡ look_of (option_copied local.entry) ((S.tree store.old).names name.now)) }
-    ensures found { IfOk result (IsFound (option_copied local.entry)) }
+    ensures told { IfOk result (IsTold S.gives name.now (option_copied local.entry)) }
+    ensures failed { IfErr result (Fails S.gives name.now) }
     ensures kept { S.keeps ≡ true → S.tree store.new ≡ S.tree store.old }
     ensures refusals { IfErr result IsPlain }
     ensures counted { S.fault_count store.new ≡ count_after result (S.fault_count store.old) }
@@ -80,7 +85,9 @@ fn look_at_file<S: FileStore, G: Gate, P: Progress>(
     ensures looks { S.keeps ≡ true → length (bytes_of ((S.tree store.old).names name.now)) ≡ size →
         IfOk result (λ look. look ≡ look_of_file (option_copied local.entry)
         (bytes_of ((S.tree store.old).names name.now)) modified) }
-    ensures found { IfOk result (IsFound (option_copied local.entry)) }
+    ensures told { IfOk result (LeadsTo S.gives name.now (option_copied local.entry)
+        (Stat.File size modified)) }
+    ensures failed { IfErr result (Fails S.gives name.now) }
     ensures kept { S.keeps ≡ true → S.tree store.new ≡ S.tree store.old }
     ensures refusals { IfErr result IsPlain }
     ensures counted { S.fault_count store.new ≡ count_after result (S.fault_count store.old) }
@@ -160,13 +167,16 @@ fn is_below_other<S: FileStore, G: Gate>(
     name: &SafeName,
 ) -> Result<bool, StoreRefusal>
     ensures none { S.keeps ≡ true → result ≢ Ok true }
+    ensures other { result ≡ Ok true → HasOtherParent S.gives name.now }
+    ensures no_other { result ≡ Ok false → HasNoOtherParent S.gives name.now }
+    ensures failed { IfErr result (Fails S.gives name.now) }
     ensures kept { S.keeps ≡ true → S.tree store.new ≡ S.tree store.old }
     ensures refusals { IfErr result IsPlain }
     ensures counted { S.fault_count store.new ≡ count_after result (S.fault_count store.old) }
 {
     let mut rest = name.as_str();
-    while let Some(slash) = rest.rfind('/') {
-        rest = rest.split_at(slash).0;
+    while let Some(parent) = parent_of(rest) {
+        rest = parent;
         if is_other(alloc, store, gate, rest)? {
             return Ok(true);
         }
@@ -174,6 +184,7 @@ fn is_below_other<S: FileStore, G: Gate>(
     Ok(false)
 }
 
+// Whether something that is neither a directory nor a file is at the name with this text, if there is such a safe name.
 fn is_other<S: FileStore, G: Gate>(
     alloc: Global,
     store: &mut S,
@@ -181,6 +192,11 @@ fn is_other<S: FileStore, G: Gate>(
     text: &str,
 ) -> Result<bool, StoreRefusal>
     ensures none { S.keeps ≡ true → result ≢ Ok true }
+    ensures other { result ≡ Ok true → Says S.gives text.now Stat.Other }
+    ensures no_other { result ≡ Ok false → IsNone (refusal text.now) →
+        (said : Stat) × (said ≢ Stat.Other) × Says S.gives text.now said }
+    ensures failed { result ≡ Err StoreRefusal.StoreFault →
+        (asked : S) × (new : S) × S.gives asked (StatAt text.now) (Err StoreRefusal.StoreFault) new }
     ensures kept { S.keeps ≡ true → S.tree store.new ≡ S.tree store.old }
     ensures refusals { IfErr result IsPlain }
     ensures counted { S.fault_count store.new ≡ count_after result (S.fault_count store.old) }

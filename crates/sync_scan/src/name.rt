@@ -4,6 +4,7 @@ ghost use Rattle.file_store.specs.Refusals.{IsPlain, count_after};
 ghost use Rattle.folder_calls.specs.Shared.{Sees};
 ghost use Rattle.sync_scan.specs.Looks.{MayFind};
 ghost use Rattle.sync_scan.specs.Scans.{Scans};
+ghost use Rattle.sync_scan.specs.Told.{Fails};
 
 use crate::asking::{ask, version_of};
 use crate::looking::look_at;
@@ -31,8 +32,9 @@ pub fn scan_name<S: FileStore, W: FolderCalls, G: Gate>(
 ) -> Result<Scanned, StoreRefusal>
     ensures folder { W.folder calls.new ≡ W.folder calls.old }
     ensures scans { IfOk result (λ scanned. Scans (W.view calls.old) name.now moment
-        (MayFind (IsTrue S.keeps) (S.tree store.old) name.now) scanned (W.view calls.new)) }
+        (MayFind S.gives (IsTrue S.keeps) (S.tree store.old) name.now) scanned (W.view calls.new)) }
     ensures refused { IfErr result (λ _. Sees (W.view calls.old) (W.view calls.new)) }
+    ensures failed { IfErr result (Fails S.gives name.now) }
     ensures kept { S.keeps ≡ true → S.tree store.new ≡ S.tree store.old }
     ensures refusals { IfErr result IsPlain }
     ensures counted { S.fault_count store.new ≡ count_after result (S.fault_count store.old) }
@@ -65,8 +67,9 @@ pub(crate) fn scan_one<S: FileStore, W: FolderCalls, G: Gate, P: Progress>(
 ) -> Result<Scanned, StoreRefusal>
     ensures folder { W.folder calls.new ≡ W.folder calls.old }
     ensures scans { IfOk result (λ scanned. Scans (W.view calls.old) name.now moment
-        (MayFind (IsTrue S.keeps) (S.tree store.old) name.now) scanned (W.view calls.new)) }
+        (MayFind S.gives (IsTrue S.keeps) (S.tree store.old) name.now) scanned (W.view calls.new)) }
     ensures refused { IfErr result (λ _. Sees (W.view calls.old) (W.view calls.new)) }
+    ensures failed { IfErr result (Fails S.gives name.now) }
     ensures kept { S.keeps ≡ true → S.tree store.new ≡ S.tree store.old }
     ensures refusals { IfErr result IsPlain }
     ensures counted { S.fault_count store.new ≡ count_after result (S.fault_count store.old) }

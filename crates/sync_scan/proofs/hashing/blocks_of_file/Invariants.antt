@@ -2,6 +2,7 @@
 use Rattle.std.proofs.Common.{◌≡◌, ◌≤◌, ◌-◌, ◌*◌, ◌⊎◌, ℕ, List, length, take, true}
 use Rattle.file_store.specs.Trees.{bytes_of}
 use Rattle.sync_blocks.specs.Groups.{blocks_from}
+use Rattle.sync_scan.specs.Told.{ReadsParts}
 use Rattle.sync_scan.proofs.hashing.blocks_of_file.Given as goal
 
 abbrev pub invariant-loop-done : goal.invariant-loop-done
@@ -9,7 +10,8 @@ invariant-loop-done g l = record {
   within : l.done ≤ l.size;
   whole : (l.done ≡ l.size) ⊎ ((n : ℕ) × (l.done ≡ n * l.block_size));
   read : (bytes : List ℕ) × (length bytes ≡ l.done) × (l.blocks.items ≡ blocks_from 0 bytes l.block_size)
-      × (g.S.FileStore.keeps ≡ true → bytes ≡ take l.done (bytes_of ((g.S.FileStore.tree l.initial.store).names l.name)));
+      × (g.S.FileStore.keeps ≡ true → bytes ≡ take l.done (bytes_of ((g.S.FileStore.tree l.initial.store).names l.name)))
+      × ReadsParts g.S.FileStore.gives l.name bytes;
   kept : g.S.FileStore.keeps ≡ true → g.S.FileStore.tree l.store ≡ g.S.FileStore.tree l.initial.store;
   counted : g.S.FileStore.fault_count l.store ≡ g.S.FileStore.fault_count l.initial.store;
   room : l.group ≤ length l.bytes;

@@ -1,0 +1,88 @@
+use Rattle.std.proofs.Common.{◌≡◌, ◌≤◌, ◌∙◌, rules, arith, true, false, refl, ap, sym, None, Some}
+use Rattle.std.specs.Prelude.{option_copied}
+use Rattle.file_store.specs.Trees.{bytes_of}
+use Rattle.sync_blocks.specs.Sizes.{block_size_for}
+use Rattle.sync_scan.specs.Looks.{are_recorded, block_size_of, max_file_size, recorded_block_size}
+use Rattle.sync_scan.proofs.FoundLemmas.{file-there, file-told, size-of-new, size-of-other, size-of-own, size-of-same}
+use Rattle.sync_scan.proofs.looking.look_at_file.Goals as goal
+use Rattle.sync_scan.proofs.looking.look_at_file.Goals.{then-recorded-own-via-then-recorded-own, then-recorded-own-via-else-recorded-own+then-are_recorded, in-Some+in_ok-blocks+in-Some-2+else-recorded-own+else-are_recorded, in_default}
+
+pub returns-in_default-2-clause-told : goal.returns-in_default-2-clause-told
+returns-in_default-2-clause-told g c = (omega arith, (rw c.in_default-2.is at c.in_ok-blocks.ensures.other) refl)
+
+pub returns-then-recorded-own-clause-looks : goal.returns-then-recorded-own-clause-looks
+returns-then-recorded-own-clause-looks g c = λ keeps same.
+    let local = option_copied c.args.local in
+    let recorded = c.in-Some.recorded in
+    let blocks = c.in-Some-2.blocks.items in
+    let read = rw c.in-Some-2.is at c.in_ok-blocks.ensures.read in
+    let is : recorded_block_size local c.args.size ≡ Some recorded = sym c.in-Some.ensures.value in
+    let chosen : block_size_of local read.0 ≡ recorded = elim c.then-recorded-own.branch [
+      | then-recorded-own-via-then-recorded-own w ↦ size-of-own local read.0 c.args.size read.1 recorded blocks is read.2 (let own : recorded ≡ block_size_for c.args.size = search rules in own)
+      | then-recorded-own-via-else-recorded-own+then-are_recorded w ↦
+          size-of-same local read.0 c.args.size read.1 recorded blocks is read.2 (let one : are_recorded local c.args.size blocks ≡ true = search rules in one)
+    ] in
+    file-there g.S.FileStore.gives c.args.name.now local c.args.size c.args.modified c.found_file.result (omega arith) read.0 read.0 recorded read.1 read.1 chosen
+    (c.found_file.ensures read.0 read.1 read.2) _ (read.3 keeps) (read.3 keeps)
+
+pub returns-then-recorded-own-clause-told : goal.returns-then-recorded-own-clause-told
+returns-then-recorded-own-clause-told g c =
+    let local = option_copied c.args.local in
+    let recorded = c.in-Some.recorded in
+    let blocks = c.in-Some-2.blocks.items in
+    let read = rw c.in-Some-2.is at c.in_ok-blocks.ensures.read in
+    let is : recorded_block_size local c.args.size ≡ Some recorded = sym c.in-Some.ensures.value in
+    let chosen : block_size_of local read.0 ≡ recorded = elim c.then-recorded-own.branch [
+      | then-recorded-own-via-then-recorded-own w ↦ size-of-own local read.0 c.args.size read.1 recorded blocks is read.2 (let own : recorded ≡ block_size_for c.args.size = search rules in own)
+      | then-recorded-own-via-else-recorded-own+then-are_recorded w ↦
+          size-of-same local read.0 c.args.size read.1 recorded blocks is read.2 (let one : are_recorded local c.args.size blocks ≡ true = search rules in one)
+    ] in
+    file-told g.S.FileStore.gives c.args.name.now local c.args.size c.args.modified c.found_file.result (omega arith) read.0 read.0 recorded read.1 read.1 chosen
+    (c.found_file.ensures read.0 read.1 read.2) read.4 read.4
+
+pub returns-in_default-3-clause-told : goal.returns-in_default-3-clause-told
+returns-in_default-3-clause-told g c = (omega arith, (rw c.in_default-3.is at c.in_ok-blocks-2.ensures.other) refl)
+
+pub returns-clause-looks : goal.returns-clause-looks
+returns-clause-looks g c = λ keeps same.
+    let local = option_copied c.args.local in
+    let size = c.args.size in
+    let own = c.block_size_for-own.result in
+    let fits : size ≤ max_file_size = omega arith in
+    let read = rw c.in-Some-3.is at c.in_ok-blocks-2.ensures.read in
+    elim c.match-recorded_block_size.branch [
+      | in-Some+in_ok-blocks+in-Some-2+else-recorded-own+else-are_recorded w ↦
+          let first = rw w.in-Some-2.is at w.in_ok-blocks.ensures.read in
+          let other : are_recorded local size w.in-Some-2.blocks.items ≡ false = search rules in
+          let chosen = size-of-other local first.0 size first.1 w.in-Some.recorded w.in-Some-2.blocks.items (sym w.in-Some.ensures.value) first.2 other ∙ sym c.block_size_for-own.ensures in
+          let there = ap (λ t. bytes_of (t.names c.args.name.now)) (w.in_ok-blocks.ensures.kept keeps) in
+          file-there g.S.FileStore.gives c.args.name.now local size c.args.modified c.found_file-2.result fits first.0 read.0 own first.1 read.1 chosen
+          (c.found_file-2.ensures read.0 read.1 read.2) _ (first.3 keeps) (read.3 keeps ∙ ap (λ s. bytes_of ((g.S.FileStore.tree s).names c.args.name.now)) w.store-is ∙ there)
+      | in_default w ↦
+          let none : recorded_block_size local size ≡ None = search rules in
+          let chosen = size-of-new local read.0 size read.1 none ∙ sym c.block_size_for-own.ensures in
+          let there = read.3 keeps ∙ ap (λ s. bytes_of ((g.S.FileStore.tree s).names c.args.name.now)) w.store-is in
+          file-there g.S.FileStore.gives c.args.name.now local size c.args.modified c.found_file-2.result fits read.0 read.0 own read.1 read.1 chosen
+          (c.found_file-2.ensures read.0 read.1 read.2) _ there there
+    ]
+
+pub returns-clause-told : goal.returns-clause-told
+returns-clause-told g c =
+    let local = option_copied c.args.local in
+    let size = c.args.size in
+    let own = c.block_size_for-own.result in
+    let read = rw c.in-Some-3.is at c.in_ok-blocks-2.ensures.read in
+    let fits : size ≤ max_file_size = omega arith in
+    elim c.match-recorded_block_size.branch [
+      | in-Some+in_ok-blocks+in-Some-2+else-recorded-own+else-are_recorded w ↦
+          let first = rw w.in-Some-2.is at w.in_ok-blocks.ensures.read in
+          let other : are_recorded local size w.in-Some-2.blocks.items ≡ false = search rules in
+          let chosen = size-of-other local first.0 size first.1 w.in-Some.recorded w.in-Some-2.blocks.items (sym w.in-Some.ensures.value) first.2 other ∙ sym c.block_size_for-own.ensures in
+          file-told g.S.FileStore.gives c.args.name.now local size c.args.modified c.found_file-2.result fits first.0 read.0 own first.1 read.1 chosen
+          (c.found_file-2.ensures read.0 read.1 read.2) first.4 read.4
+      | in_default w ↦
+          let none : recorded_block_size local size ≡ None = search rules in
+          let chosen = size-of-new local read.0 size read.1 none ∙ sym c.block_size_for-own.ensures in
+          file-told g.S.FileStore.gives c.args.name.now local size c.args.modified c.found_file-2.result fits read.0 read.0 own read.1 read.1 chosen
+          (c.found_file-2.ensures read.0 read.1 read.2) read.4 read.4
+    ]
