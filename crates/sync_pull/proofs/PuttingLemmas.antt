@@ -126,7 +126,7 @@ temps-write n a b x = record {
   name = ap (λ f. f n) x.names;
 }
 
-no-own-parent : (n : Name) → is_parent n n ≡ false
+pub no-own-parent : (n : Name) → is_parent n n ≡ false
 no-own-parent [] = refl
 no-own-parent (x ∷ xs) = ap (λ b. (x == x) && b) (no-own-parent xs) ∙ and-false (x == x)
   where
