@@ -7,3 +7,5 @@ pub mod EndsLemmas
 pub mod PulledLemmas
 pub mod FailLemmas
 pub mod ReasonLemmas
+pub mod OldCopyLemmas
+pub mod TrimLemmas

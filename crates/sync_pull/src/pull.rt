@@ -4,10 +4,11 @@ ghost use Rattle.file_store.specs.Calls.{HasBadParent};
 ghost use Rattle.folder_core.specs.Steps.{is_copy_due};
 ghost use Rattle.folder_calls.specs.Shared.{Sees};
 ghost use Rattle.sync_record.specs.Devices.{Identity};
+ghost use Rattle.sync_pull.specs.Copies.{IsRefused, TrimsCopies};
 ghost use Rattle.sync_pull.specs.Ends.{Ends};
 ghost use Rattle.sync_pull.specs.Faults.{CountsStop, FailsFor, IsFaultCounted};
 ghost use Rattle.sync_pull.specs.Plans.{IsPlanned, copy_name};
-ghost use Rattle.sync_pull.specs.Pulled.{Comes, ChangesNameAndCopy, IfDone, IfFile, IsDropped, IsNameKept, IsOldOrTarget, IsPulled, IsTakenOrDropped, IsThereOrCopied, PullFails};
+ghost use Rattle.sync_pull.specs.Pulled.{ChangesAndTrims, Comes, IfDone, IfFile, IsDropped, IsNameKept, IsOldOrTarget, IsPulled, IsTakenOrDropped, IsThereOrCopied, PullFails, TrimsAfter};
 ghost use Rattle.sync_pull.specs.Putting.{WritesTempAlone, standing_of};
 ghost use Rattle.sync_pull.specs.Replacing.{IsOfFile};
 ghost use Rattle.sync_pull.specs.Standing.{HasRoom, IsReadyAs};
@@ -18,12 +19,15 @@ use crate::ends::{answer_of, give_up};
 use crate::fetch::fetch_file;
 use crate::plan::plan_copy;
 use crate::replace::CopyPlan;
-use crate::{BlockSource, MaxConflicts, PullAnswer, PullFailure, PullRefusal, room_for};
+use crate::{
+    BlockSource, MaxConflicts, PullAnswer, PullFailure, PullRefusal, remove_old_copies, room_for,
+};
 use file_store::{FileStore, Gate, GatePlace};
 use folder_calls::{At, BeginAnswer, FolderCalls, Ticket};
 use std::alloc::Global;
 use sync_blocks::laws::tiling_is_tested;
 use sync_names::SafeName;
+use sync_names::laws::conflict_names_are_of_copies;
 use sync_record::laws::only_well_formed_files_have_blocks;
 use sync_record::{Assembled, Kind, Record};
 use sync_version::Moment;
@@ -105,6 +109,23 @@ fn prepare<S: FileStore, W: FolderCalls, B: BlockSource, G: Gate>(
     Ok((Ready { assembled, room }, plan))
 }
 
+// Removes older conflict copies after a pull that is done and made one.
+fn trim_copies<S: FileStore, G: Gate>(
+    store: &mut S,
+    gate: &G,
+    name: &SafeName,
+    plan: &CopyPlan,
+    max_conflicts: MaxConflicts,
+    answer: PullAnswer,
+)
+    ensures { TrimsAfter plan.now answer (λ copy. S.keeps ≡ true → TrimsCopies (IsRefused S.gives)
+        max_conflicts name.now copy (S.tree store.old) (S.tree store.new)) (store.new ≡ store.old) }
+{
+    if let (CopyPlan::Due(Some(copy)), PullAnswer::Done(_)) = (plan, answer) {
+        remove_old_copies(store, gate, name, copy, max_conflicts);
+    }
+}
+
 // Ends a pull that was begun.
 fn pull_begun<S: FileStore, W: FolderCalls, B: BlockSource, G: Gate>(
     alloc: Global,
@@ -136,9 +157,10 @@ fn pull_begun<S: FileStore, W: FolderCalls, B: BlockSource, G: Gate>(
         (IsTakenOrDropped result (S.keeps ≡ true → (S.tree store.new).temps name.now ≡ None)
         (IsDropped S.gives (S.keeps ≡ true) name.now (S.tree store.new).temps store.new))
         (S.keeps ≡ true → (S.tree store.new).temps ≡ (S.tree store.old).temps) }
-    ensures alone { S.keeps ≡ true → ChangesNameAndCopy name.now
-        (copy_name name.now moment ticket.base) (S.tree store.old) (S.tree store.new) }
+    ensures alone { S.keeps ≡ true → ChangesAndTrims max_conflicts moment name.now
+        (IsRefused S.gives) ticket result (S.tree store.old) (S.tree store.new) }
 {
+    conflict_names_are_of_copies();
     match prepare(
         alloc,
         store,
@@ -150,7 +172,11 @@ fn pull_begun<S: FileStore, W: FolderCalls, B: BlockSource, G: Gate>(
         moment,
         max_conflicts,
     ) {
-        Ok((ready, plan)) => commit_pull(store, calls, gate, name, ticket, ready, &plan),
+        Ok((ready, plan)) => {
+            let answer = commit_pull(store, calls, gate, name, ticket, ready, &plan);
+            trim_copies(store, gate, name, &plan, max_conflicts, answer);
+            answer
+        }
         Err(stop) => {
             drop_temp(store, name, ticket.target());
             give_up(calls, gate, ticket, answer_of(stop))
@@ -185,7 +211,7 @@ pub fn pull_name<S: FileStore, W: FolderCalls, B: BlockSource, G: Gate>(
     ensures comes { Comes max_conflicts moment name.now (S.keeps ≡ true)
         (IsFaultCounted (S.fault_count store.old) (S.fault_count store.new))
         (IsDropped S.gives (S.keeps ≡ true) name.now (S.tree store.new).temps store.new)
-        result (W.view calls.old) (S.tree store.old) (W.view calls.new) (S.tree store.new) }
+        (IsRefused S.gives) result (W.view calls.old) (S.tree store.old) (W.view calls.new) (S.tree store.new) }
 {
     gate.at(GatePlace::FolderCall);
     let begun = match calls.begin_pull(name) {
