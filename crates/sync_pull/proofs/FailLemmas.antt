@@ -1,5 +1,5 @@
 -- Why a pull fails, and what a failure leaves.
-use Rattle.std.proofs.Common.{◌≡◌, ◌≢◌, ℕ, true, Option, Some, None, List, inl, inr, refl, sym, ap, subst, ◌∙◌, arith}
+use Rattle.std.proofs.Common.{◌≡◌, ◌≢◌, ℕ, Option, Some, None, List, inl, inr, refl, sym, ap, subst, ◌∙◌, arith}
 use Rattle.std.specs.Prelude.{Err, IsErrAnd, IsSome, Ok, Result}
 use Rattle.file_store.specs.Calls.{ChangesTemp}
 use Rattle.file_store.specs.Names.{Name}
@@ -14,7 +14,7 @@ use Rattle.sync_record.specs.Records.{FileRecord}
 use Rattle.sync_pull.specs.Ends.{Closes, stopped}
 use Rattle.sync_pull.specs.Faults.{CountsFaults, CountsStop, FailsFor, IsFaultCounted, StopCounts, StopsFor}
 use Rattle.sync_pull.specs.Pulled.{IfDone, IfFile, IsTakenOrDropped}
-use Rattle.sync_pull.specs.Putting.{AreTempsKept, IsInPlace, IsLeft, IsTaken}
+use Rattle.sync_pull.specs.Putting.{AreTempsKept, IsInPlace, IsLeft}
 use Rattle.sync_pull.specs.Replacing.{IsCopyTaken, ReplaceFails}
 use Rattle.sync_pull.specs.declared.answer.PullAnswer.{PullAnswer}
 use Rattle.sync_pull.specs.declared.answer.PullAnswer.TheVariants.{Done, NotNeeded, Busy, Unsupported, LocalMoved, Superseded, Refused, Failed}

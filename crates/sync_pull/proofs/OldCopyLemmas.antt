@@ -1,14 +1,14 @@
 -- Which conflict copies are removed.
-use Rattle.std.proofs.Common.{◌≡◌, ◌≢◌, ℕ, ◌+◌, ◌-◌, ◌<◌, ◌≤◌, Bool, true, false, List, [], ◌∷◌, ◌++◌, length, take, get_or, Option, Some, None, Ok, Err, Result, suc, zero, inl, inr, refl, sym, ap, subst, ◌∙◌, arith, length-append}
-use Rattle.std.specs.Prelude.{bytes_eq, ◌⊎◌, ◌↔◌, ⊤, Contains, IsNone, MatchBool, map, nat_eq, not}
+use Rattle.std.proofs.Common.{◌≡◌, ◌≢◌, ℕ, ◌+◌, ◌<◌, ◌≤◌, Bool, true, false, List, [], ◌∷◌, ◌++◌, length, take, get_or, Option, Some, None, Ok, Err, Result, suc, zero, inl, inr, refl, sym, ap, subst, ◌∙◌, arith, length-append}
+use Rattle.std.specs.Prelude.{bytes_eq, ◌⊎◌, ◌↔◌, Contains, IsNone, MatchBool, map, nat_eq, not}
 use Rattle.std.specs.List.{AllByRecursion}
 use Rattle.std.specs.List.Sorted.{IsStrictlySortedBy}
 use Rattle.std.proofs.lemmas.List.{take_all, take-append-le}
 use Rattle.std.proofs.lemmas.List.Elements.{Contains-append_left, Contains-push, Contains-push_cases}
 use Rattle.std.proofs.lemmas.Slice.Eq.{bytes_eq-Decides}
 use Rattle.std.proofs.Math.Seq.{take-suc}
-use Rattle.file_store.specs.Asked.{Call, ListAll, Remove}
-use Rattle.file_store.specs.Calls.{IsWhole, RemoveRefused, Removes, removed}
+use Rattle.file_store.specs.Asked.{Call, Remove}
+use Rattle.file_store.specs.Calls.{Removes, removed}
 use Rattle.file_store.specs.Listings.{AreAscending}
 use Rattle.file_store.specs.Names.{Name}
 use Rattle.file_store.specs.Trees.{Tree, is_file}
@@ -136,20 +136,20 @@ take-more-no s ns n more = take-append-le s ns (n ∷ []) more
 
 -- ---- the entries of a listing
 
-contains-cases : {X : Type 0} (x : X) (xs : List X) (q : X) → Contains (x ∷ xs) q → (x ≡ q) ⊎ Contains xs q
+pub contains-cases : {X : Type 0} (x : X) (xs : List X) (q : X) → Contains (x ∷ xs) q → (x ≡ q) ⊎ Contains xs q
 contains-cases x xs q h = by h.0 h.1 h.2
   where
     by : (k : ℕ) → k < length (x ∷ xs) → get_or (x ∷ xs) k q ≡ q → (x ≡ q) ⊎ Contains xs q
     by zero less e = inl e
     by (suc k) less e = inr (k, omega arith, e)
 
-contains-first : {X : Type 0} (x : X) (xs : List X) → Contains (x ∷ xs) x
+pub contains-first : {X : Type 0} (x : X) (xs : List X) → Contains (x ∷ xs) x
 contains-first x xs = (0, omega arith, refl)
 
-contains-later : {X : Type 0} (x : X) (xs : List X) (q : X) → Contains xs q → Contains (x ∷ xs) q
+pub contains-later : {X : Type 0} (x : X) (xs : List X) (q : X) → Contains xs q → Contains (x ∷ xs) q
 contains-later x xs q h = (suc h.0, (let less = h.1 in omega arith), h.2)
 
-contains-none : {X : Type 0} (q : X) → Contains [] q → ⊥
+pub contains-none : {X : Type 0} (q : X) → Contains [] q → ⊥
 contains-none q h = let less = h.1 in omega arith
 
 chosen-below : (n copy : Name) (Q : Name → Type 0) (es : List Listed) (ns : List Name) → AllByRecursion Q (map (λ e. e.name) es) → AreListedCopies n copy es ns → AllByRecursion Q ns
@@ -206,3 +206,29 @@ module _ (n copy : Name) (t : Tree) (all : List Listed) (exact : (e : Listed) �
       λ old. old-copies all copies h (record { name = q; kind = kind.File }) ((exact (record { name = q; kind = kind.File })).1 (old.safe, of-file (t.names q) old.file)) (refl, old.named, old.other),
     );
   }
+
+-- ---- the least are removed
+
+below-each : (Q : Name → Type 0) (xs : List Name) (q : Name) → AllByRecursion Q xs → Contains xs q → Q q
+below-each Q [] q all has = absurd (contains-none q has)
+below-each Q (x ∷ xs) q all has = by (contains-cases x xs q has) (λ later. below-each Q xs q all.1 later)
+  where
+    by : (x ≡ q) ⊎ Contains xs q → (Contains xs q → Q q) → Q q
+    by (inl same) rest = subst Q same all.0
+    by (inr later) rest = rest later
+
+pub taken-below : (k : ℕ) (xs : List Name) (q r : Name) → AreAscending xs → Contains (take k xs) q → Contains xs r → (Contains (take k xs) r → ⊥) → slice_cmp nat_cmp q r ≡ Less
+unfolding IsStrictlySortedBy
+taken-below zero xs q r up has within apart = absurd (contains-none q has)
+taken-below (suc k) [] q r up has within apart = absurd (contains-none q has)
+taken-below (suc k) (x ∷ xs) q r up has within apart =
+    by (contains-cases x (take k xs) q has) (contains-cases x xs r within) (λ later there. taken-below k xs q r up.1 later there (λ h. apart (contains-later x (take k xs) r h)))
+  where
+    by : (x ≡ q) ⊎ Contains (take k xs) q → (x ≡ r) ⊎ Contains xs r → (Contains (take k xs) q → Contains xs r → slice_cmp nat_cmp q r ≡ Less) → slice_cmp nat_cmp q r ≡ Less
+    by first (inl same) rest = absurd (apart (subst (Contains (x ∷ take k xs)) same (contains-first x (take k xs))))
+    by (inl same) (inr there) rest = subst (λ y. slice_cmp nat_cmp y r ≡ Less) same (below-each (λ y. slice_cmp nat_cmp x y ≡ Less) xs r up.0 there)
+    by (inr later) (inr there) rest = rest later there
+
+pub none-taken : (xs : List Name) → xs ≢ [] → 0 < length xs
+none-taken [] some = absurd (some refl)
+none-taken (x ∷ xs) some = omega arith

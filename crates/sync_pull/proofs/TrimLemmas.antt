@@ -1,6 +1,6 @@
 -- What the removal of older conflict copies leaves as it was.
 use Rattle.std.proofs.Common.{◌≡◌, ◌≢◌, ℕ, Bool, true, false, List, take, drop, Option, Some, None, inl, inr, refl, sym, ap, subst, ◌∙◌}
-use Rattle.std.specs.Prelude.{bytes_eq, ◌⊎◌, ⊤, Contains, ℤ, pos, negsuc}
+use Rattle.std.specs.Prelude.{bytes_eq, ⊤, Contains, ℤ, pos, negsuc}
 use Rattle.std.proofs.lemmas.List.{take-append-drop}
 use Rattle.std.proofs.lemmas.List.Elements.{Contains-append_left}
 use Rattle.file_store.specs.Asked.{Call}
@@ -11,7 +11,7 @@ use Rattle.folder_core.specs.Steps.{is_copy_due}
 use Rattle.folder_core.specs.declared.pull_info.PullInfo.{PullInfo}
 use Rattle.sync_names.specs.Copies.{IsConflictCopy}
 use Rattle.sync_record.specs.Records.{FileRecord}
-use Rattle.sync_pull.specs.Copies.{AreOldCopies, RemovesFiles, TrimsCopies, surplus}
+use Rattle.sync_pull.specs.Copies.{RemovesFiles, TrimsCopies, surplus}
 use Rattle.sync_pull.specs.Plans.{IsPlanned, copy_name}
 use Rattle.sync_pull.specs.Pulled.{ChangesAndTrims, ChangesNameAndCopy, IfDone, IfDoneElse, IfFile, IsNameKept, IsOldOrTarget, IsPulled, IsThereOrCopied, TrimsAfter, TrimsIfDue}
 use Rattle.sync_pull.specs.Putting.{IsKeptOrMade, WritesTempAlone}

@@ -1,5 +1,5 @@
 -- How many conflict copies are kept of a name, and which (Syncthing, "Conflicting Changes", maxConflicts).
-use Rattle.std.specs.Prelude.{◌≡◌, ◌≢◌, ◌⊎◌, ◌↔◌, ◌-◌, ℕ, true, ℤ, pos, negsuc, ◌≤ℤ◌, List, [], ◌∷◌, length, take, Contains, Option, None, IsNone, Result, Err}
+use Rattle.std.specs.Prelude.{◌≡◌, ◌≢◌, ◌⊎◌, ◌↔◌, ◌-◌, ℕ, true, ℤ, pos, negsuc, ◌≤ℤ◌, List, [], ◌∷◌, length, take, Contains, None, IsNone, Result, Err}
 use Rattle.file_store.specs.Asked.{Call, Value, ListAll, Remove}
 use Rattle.file_store.specs.Listings.{AreAscending}
 use Rattle.file_store.specs.Names.{Name}

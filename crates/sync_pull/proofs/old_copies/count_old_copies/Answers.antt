@@ -1,6 +1,5 @@
-use Rattle.std.proofs.Common.{◌≡◌, ◌++◌, ◌∷◌, [], List, length, take, ap, arith, false, length-append, subst, sym, true, ◌∙◌}
+use Rattle.std.proofs.Common.{◌++◌, ◌∷◌, [], take, arith, length-append, subst, sym, ◌∙◌}
 use Rattle.std.proofs.lemmas.Bool.{false≢true}
-use Rattle.std.proofs.lemmas.List.{take_all}
 use Rattle.sync_pull.specs.Copies.{AreListedCopies}
 use Rattle.sync_pull.proofs.OldCopyLemmas.{listed-push, listed-skip, take-one}
 use Rattle.sync_pull.proofs.old_copies.count_old_copies.Goals as goal

@@ -1,7 +1,7 @@
 use Rattle.std.proofs.Common.{◌≡◌, ◌-◌, ap, inr, length, refl, subst, sym, take, ◌∙◌}
-use Rattle.std.specs.Prelude.{ℤ, pos}
+use Rattle.std.specs.Prelude.{ℤ}
 use Rattle.file_store.specs.Trees.{Tree}
-use Rattle.sync_pull.specs.Copies.{AreListedCopies, AreOldCopies, IsRefused, RemovesFiles, TrimsCopies, surplus}
+use Rattle.sync_pull.specs.Copies.{AreListedCopies, IsRefused, RemovesFiles, TrimsCopies}
 use Rattle.sync_pull.proofs.OldCopyLemmas.{listed-old}
 use Rattle.sync_pull.proofs.old_copies.remove_old_copies.Goals as goal
 

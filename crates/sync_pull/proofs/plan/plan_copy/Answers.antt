@@ -1,4 +1,4 @@
-use Rattle.std.proofs.Common.{◌≡◌, ap, rules, subst, sym, ◌∙◌}
+use Rattle.std.proofs.Common.{◌≡◌, ap, rules, subst, sym}
 use Rattle.std.specs.Prelude.{IsSome, Some, option_copied}
 use Rattle.sync_names.specs.Made.{conflict_text}
 use Rattle.sync_names.specs.Refusal.{refusal}

@@ -7,7 +7,6 @@ use Rattle.sync_record.specs.Records.{FileRecord}
 use Rattle.sync_pull.specs.Faults.{FailsFor, IsFaultCounted}
 use Rattle.sync_pull.specs.Pulled.{IfFile, IsDropped, IsNameKept, IsPulled, IsTakenOrDropped, PullFails}
 use Rattle.sync_pull.specs.Putting.{standing_of}
-use Rattle.sync_pull.specs.Replacing.{ReplaceFails}
 use Rattle.sync_pull.proofs.FailLemmas.{closed-fails, fails-weaker, temp-ended}
 use Rattle.sync_pull.specs.declared.answer.PullAnswer.{PullAnswer}
 use Rattle.sync_pull.proofs.TrimLemmas.{after-stay, after-undone, both-alone, changes-and-trims, dropped-alone, if-file-map, kept-from, old-or-target-on, pulled-on, there-or-copied-on, undone-same, undone-trims}
