@@ -5,3 +5,7 @@ pub mod FetchLemmas
 pub mod ChainLemmas
 pub mod EndsLemmas
 pub mod PulledLemmas
+pub mod FailLemmas
+pub mod ReasonLemmas
+pub mod OldCopyLemmas
+pub mod TrimLemmas

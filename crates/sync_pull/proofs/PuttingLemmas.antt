@@ -14,7 +14,7 @@ use Rattle.sync_pull.specs.Putting.{ChangesNameAlone, IsGone, IsKeptOrMade, Writ
 pub here : {X : Type 0} (n : Name) (x : Option X) (f : Name → Option X) → put_at n x f n ≡ x
 here n x f = ap (λ b. cond b x (f n)) ((bytes_eq-Decides n n).1 refl)
 
-elsewhere : {X : Type 0} (n : Name) (x : Option X) (f : Name → Option X) (q : Name) → bytes_eq n q ≡ false → put_at n x f q ≡ f q
+pub elsewhere : {X : Type 0} (n : Name) (x : Option X) (f : Name → Option X) (q : Name) → bytes_eq n q ≡ false → put_at n x f q ≡ f q
 elsewhere n x f q e = ap (λ b. cond b x (f q)) e
 
 -- ---- nothing else changes
@@ -25,7 +25,7 @@ alone-itself n t = record { names = λ q e. inl refl; temps = λ q e. refl }
 some-none : (x : Node) → Some x ≡ None → ⊥
 some-none x e = cc
 
-kept-then : (n q : Name) (a b c : Option Node) → IsKeptOrMade n q a b → IsKeptOrMade n q b c → IsKeptOrMade n q a c
+pub kept-then : (n q : Name) (a b c : Option Node) → IsKeptOrMade n q a b → IsKeptOrMade n q b c → IsKeptOrMade n q a c
 kept-then n q a b c (inl e) (inl f) = inl (f ∙ e)
 kept-then n q a b c (inl e) (inr f) = inr (f.0, sym e ∙ f.1, f.2)
 kept-then n q a b c (inr e) (inl f) = inr (e.0, e.1, f ∙ e.2)
@@ -126,7 +126,7 @@ temps-write n a b x = record {
   name = ap (λ f. f n) x.names;
 }
 
-no-own-parent : (n : Name) → is_parent n n ≡ false
+pub no-own-parent : (n : Name) → is_parent n n ≡ false
 no-own-parent [] = refl
 no-own-parent (x ∷ xs) = ap (λ b. (x == x) && b) (no-own-parent xs) ∙ and-false (x == x)
   where

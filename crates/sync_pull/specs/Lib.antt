@@ -2,6 +2,7 @@ pub mod Copies
 pub mod Bytes
 pub mod Standing
 pub mod Answers
+pub mod Faults
 pub mod Putting
 pub mod Fetching
 pub mod Replacing

@@ -1,19 +1,30 @@
 -- What a pull does to the store, by the answer that it comes to (own rule).
-use Rattle.std.specs.Prelude.{bytes_eq, ◌≡◌, ◌⊎◌, ⊤, ℕ, true, false, ℤ, Some}
+use Rattle.std.specs.Prelude.{bytes_eq, ◌≡◌, ◌≢◌, ◌⊎◌, ⊤, ℕ, Bool, true, false, List, ℤ, Option, Some, None, IsSome, Result, IfOk}
+use Rattle.file_store.specs.Asked.{Call, Value, DropTemp}
+use Rattle.file_store.specs.Calls.{HasBadParent, HasEntries}
 use Rattle.file_store.specs.Names.{Name}
 use Rattle.file_store.specs.Trees.{Tree}
+use Rattle.file_store.specs.declared.refusal.StoreRefusal.{StoreRefusal}
 use Rattle.folder_core.specs.Steps.{is_copy_due}
 use Rattle.folder_core.specs.declared.pull_info.PullInfo.{PullInfo}
 use Rattle.folder_core.specs.declared.answer.Answer.TheVariants.{Begun}
 use Rattle.folder_core.specs.declared.change.Change.TheVariants.{BeginPull}
 use Rattle.folder_calls.specs.Shared.{CallerView, Gets}
+use Rattle.sync_pull.specs.Copies.{TrimsCopies}
 use Rattle.sync_pull.specs.Ends.{Ends, IsNotBegun}
 use Rattle.sync_pull.specs.Plans.{copy_name}
-use Rattle.sync_pull.specs.Putting.{IsKeptOrMade}
+use Rattle.sync_names.specs.Refusal.{refusal}
+use Rattle.sync_pull.specs.Faults.{FailsFor}
+use Rattle.sync_pull.specs.Putting.{AreUnlike, IsKeptOrMade, standing_of}
 use Rattle.sync_pull.specs.Standing.{StandsAs}
 use Rattle.sync_pull.specs.declared.answer.PullAnswer.{PullAnswer}
 use Rattle.sync_pull.specs.declared.answer.PullAnswer.TheVariants.{Done, Refused, Failed}
-use Rattle.sync_pull.specs.declared.answer.PullFailure.TheVariants.{StoreFault, NotEmpty, BadParent}
+use Rattle.sync_pull.specs.declared.answer.PullFailure.{PullFailure}
+use Rattle.sync_pull.specs.declared.answer.PullFailure.TheVariants.{StoreFault, NoSource, LocalChanged, ConflictNameTaken, NotEmpty, BadParent}
+use Rattle.sync_pull.specs.declared.commit.Standing.{Standing}
+use Rattle.sync_pull.specs.declared.commit.Standing.TheVariants as standing
+use Rattle.sync_pull.specs.declared.replace.CopyPlan.{CopyPlan}
+use Rattle.sync_pull.specs.declared.replace.CopyPlan.TheVariants.{Due, NotDue}
 use Rattle.sync_pull.specs.declared.answer.PullRefusal.TheVariants.{OutOfMemory, Stray}
 
 -- it is done, and this holds
@@ -32,6 +43,25 @@ IsNameKept (Failed NotEmpty) n old new = ⊤
 IsNameKept (Failed BadParent) n old new = ⊤
 IsNameKept result n old new = new.names n ≡ old.names n
 
+-- The last that was asked of the store was to drop the temporary file of the name; where it did so, there is none.
+pub record IsDropped {S : Type 0} (gives : S → (call : Call) → Result (Value call) StoreRefusal → S → Type 0) (keeps : Type 0) (n : Name) (temps : Name → Option (List ℕ)) (new : S) : Type 0 where
+  pub before : S
+  pub answer : Result (Unit {0}) StoreRefusal
+  pub asked : gives before (DropTemp n) answer new
+  pub gone : keeps → IfOk answer (λ _. temps n ≡ None)
+
+-- the one for a target that is a file, and else the other
+abbrev pub IfFile : Standing → Type 0 → Type 0 → Type 0
+IfFile standing.File P Q = P
+IfFile standing.Directory P Q = Q
+IfFile standing.Nothing P Q = Q
+
+-- the temporary file was taken by the commit, or the store was asked to drop it
+abbrev pub IsTakenOrDropped : PullAnswer → Type 0 → Type 0 → Type 0
+IsTakenOrDropped (Done k) taken dropped = taken
+IsTakenOrDropped (Refused Stray) taken dropped = taken ⊎ dropped
+IsTakenOrDropped result taken dropped = dropped
+
 -- On entry what the base says was at the name; what the target says is there now, and where a copy is due, what was there
 -- is at the name of the copy.
 pub record IsPulled (most : ℤ) (moment : ℕ) (n : Name) (t : PullInfo) (old new : Tree) : Type 0 where
@@ -48,17 +78,70 @@ pub record ChangesNameAndCopy (n copy : Name) (old new : Tree) : Type 0 where
   pub names : (q : Name) → bytes_eq n q ≡ false → bytes_eq copy q ≡ false → IsKeptOrMade n q (old.names q) (new.names q)
   pub temps : (q : Name) → bytes_eq n q ≡ false → new.temps q ≡ old.temps q
 
+-- the one for a pull that is done, and else the other
+abbrev pub IfDoneElse : PullAnswer → Type 0 → Type 0 → Type 0
+IfDoneElse (Done k) P Q = P
+IfDoneElse result P Q = Q
+
+-- older copies are removed after a copy was made in a pull that is done, and else nothing is done
+abbrev pub TrimsAfter : CopyPlan → PullAnswer → (Name → Type 0) → Type 0 → Type 0
+TrimsAfter NotDue result trims still = still
+TrimsAfter (Due None) result trims still = still
+TrimsAfter (Due (Some copy)) result trims still = IfDoneElse result (trims copy) still
+
+-- the same, by whether a copy was due
+abbrev pub TrimsIfDue : Bool → PullAnswer → Type 0 → Type 0 → Type 0
+TrimsIfDue true result trims still = IfDoneElse result trims still
+TrimsIfDue false result trims still = still
+
+-- What is at the name, whatever the answer: what was there, what the target says, or, only where a file becomes a directory, a
+-- directory a file, or the file was moved to its copy, nothing.
+abbrev pub IsOldOrTarget : ℤ → Name → PullInfo → Tree → Tree → Type 0
+IsOldOrTarget most n t old new =
+    (new.names n ≡ old.names n)
+    ⊎ (StandsAs (Some t.target) (new.names n)
+    ⊎ (((is_copy_due most t.base t.target ≡ true) ⊎ AreUnlike (standing_of t.base) (standing_of (Some t.target))) × (new.names n ≡ None)))
+
+-- the name of the copy is not safe, or something is there
+abbrev pub HasNoPlace : Name → Tree → Type 0
+HasNoPlace copy t = IsSome (refusal copy) ⊎ IsSome (t.names copy)
+
+-- Why a pull that was begun fails, if the store keeps what is written: something else than what the base says was at the name; a due
+-- copy has no place; a directory that is to make way has entries; a parent of the name or of the copy's is a file. Of any store: a
+-- fault was counted; a deletion needs no source.
+abbrev pub PullFails : ℤ → ℕ → Name → Type 0 → Type 0 → PullInfo → Tree → Tree → PullFailure → Type 0
+PullFails most moment n keeps counted t old new StoreFault = counted
+PullFails most moment n keeps counted t old new NoSource = t.target.deleted ≡ false
+PullFails most moment n keeps counted t old new LocalChanged = keeps → StandsAs t.base (old.names n) → ⊥
+PullFails most moment n keeps counted t old new ConflictNameTaken =
+    (is_copy_due most t.base t.target ≡ true) × (keeps → HasNoPlace (copy_name n moment t.base) new)
+PullFails most moment n keeps counted t old new NotEmpty =
+    keeps → (standing_of t.base ≡ standing.Directory) × (standing_of (Some t.target) ≢ standing.Directory) × HasEntries old n
+PullFails most moment n keeps counted t old new BadParent =
+    keeps → HasBadParent old n ⊎ ((is_copy_due most t.base t.target ≡ true) × HasBadParent old (copy_name n moment t.base))
+
+-- Nothing else changes until the pull is done or has failed, and after a pull that is done and made a copy nothing but that older
+-- conflict copies are removed.
+pub record ChangesAndTrims (most : ℤ) (moment : ℕ) (n : Name) (refused : Call → Type 0) (t : PullInfo) (result : PullAnswer) (old new : Tree) : Type 0 where
+  pub placed : Tree
+  pub alone : ChangesNameAndCopy n (copy_name n moment t.base) old placed
+  pub trimmed : TrimsIfDue (is_copy_due most t.base t.target) result (TrimsCopies refused most n (copy_name n moment t.base) placed new) (new ≡ placed)
+
 -- What the pull of a ticket's target comes to: what is asked of the folder until it ends, and, if the store keeps what is
--- written, what is done to the store.
-pub record Pulls (most : ℤ) (moment : ℕ) (n : Name) (keeps : Type 0) (t : PullInfo) (result : PullAnswer) (old : CallerView) (before : Tree) (new : CallerView) (after : Tree) : Type 0 where
+-- written, what is done to the store. That a fault was counted, that the temporary file was dropped, and that the store refused a
+-- call, is handed in.
+pub record Pulls (most : ℤ) (moment : ℕ) (n : Name) (keeps counted dropped : Type 0) (refused : Call → Type 0) (t : PullInfo) (result : PullAnswer) (old : CallerView) (before : Tree) (new : CallerView) (after : Tree) : Type 0 where
   pub ends : Ends old t result new
   pub done : keeps → IfDone result (IsPulled most moment n t before after)
+  pub reasons : FailsFor (PullFails most moment n keeps counted t before after) result
   pub kept : keeps → IsNameKept result n before after
+  pub left : keeps → IsOldOrTarget most n t before after
   pub saved : keeps → is_copy_due most t.base t.target ≡ true → IsThereOrCopied n (copy_name n moment t.base) before after
-  pub alone : keeps → ChangesNameAndCopy n (copy_name n moment t.base) before after
+  pub temporary : IfFile (standing_of (Some t.target)) (IsTakenOrDropped result (keeps → after.temps n ≡ None) dropped) (keeps → after.temps ≡ before.temps)
+  pub alone : keeps → ChangesAndTrims most moment n refused t result before after
 
 -- what a pull of a name comes to: it is not begun, and nothing changes; or it is begun, and pulls the ticket's target
-abbrev pub Comes : ℤ → ℕ → Name → Type 0 → PullAnswer → CallerView → Tree → CallerView → Tree → Type 0
-Comes most moment n keeps result old before new after =
+abbrev pub Comes : ℤ → ℕ → Name → Type 0 → Type 0 → Type 0 → (Call → Type 0) → PullAnswer → CallerView → Tree → CallerView → Tree → Type 0
+Comes most moment n keeps counted dropped refused result old before new after =
     (IsNotBegun old n result new × (keeps → after ≡ before))
-    ⊎ ((t : PullInfo) × (next : CallerView) × Gets old (BeginPull n) (Begun t) next × Pulls most moment n keeps t result next before new after)
+    ⊎ ((t : PullInfo) × (next : CallerView) × Gets old (BeginPull n) (Begun t) next × Pulls most moment n keeps counted dropped refused t result next before new after)

@@ -2,7 +2,9 @@
 use Rattle.std.specs.Prelude.{bytes_eq, ◌≡◌, ◌⊎◌, ℕ, true, false, if◌then◌else◌, List, [], ⊤, Option, Some, None, IsSome, unwrap_or}
 use Rattle.file_store.specs.declared.node.Node.{Node}
 use Rattle.file_store.specs.declared.node.Node.TheVariants.{Directory, File}
-use Rattle.file_store.specs.Calls.{renamed}
+use Rattle.file_store.specs.Calls.{CommitRefused, MakeDirRefused, RemoveDirRefused, RemoveRefused, RenameRefused, removed, renamed}
+use Rattle.file_store.specs.declared.refusal.StoreRefusal.{StoreRefusal}
+use Rattle.file_store.specs.declared.refusal.StoreRefusal.TheVariants as refused
 use Rattle.file_store.specs.Names.{Name, is_parent}
 use Rattle.file_store.specs.Trees.{Tree}
 use Rattle.sync_record.specs.Records.{FileRecord, kind_of}
@@ -67,3 +69,60 @@ IsCopied (Some copy) old n new = (old.names copy ≡ None) × (new ≡ renamed o
 abbrev pub IsTaken : Option Name → Tree → Type 0
 IsTaken None t = ⊤
 IsTaken (Some copy) t = IsSome (t.names copy)
+
+-- a call is refused for one of its reasons, or the store fails
+abbrev pub MayRefuse : Type 0 → (StoreRefusal → Type 0) → StoreRefusal → Type 0
+MayRefuse fails reasons refusal = reasons refusal ⊎ (fails × (refusal ≡ refused.StoreFault))
+
+-- why the table of kinds is not gone through: the reasons of its calls
+abbrev pub PutRefused : Type 0 → Standing → Standing → Tree → Name → StoreRefusal → Type 0
+PutRefused fails standing.Nothing standing.Nothing t n refusal = ⊥
+PutRefused fails standing.Nothing standing.File t n refusal = MayRefuse fails (CommitRefused t n) refusal
+PutRefused fails standing.Nothing standing.Directory t n refusal = MayRefuse fails (MakeDirRefused t n) refusal
+PutRefused fails standing.File standing.Nothing t n refusal = MayRefuse fails (RemoveRefused t n) refusal
+PutRefused fails standing.File standing.File t n refusal = MayRefuse fails (CommitRefused t n) refusal
+PutRefused fails standing.File standing.Directory t n refusal =
+    MayRefuse fails (RemoveRefused t n) refusal ⊎ MayRefuse fails (MakeDirRefused (removed t n) n) refusal
+PutRefused fails standing.Directory standing.Nothing t n refusal = MayRefuse fails (RemoveDirRefused t n) refusal
+PutRefused fails standing.Directory standing.File t n refusal =
+    MayRefuse fails (RemoveDirRefused t n) refusal ⊎ MayRefuse fails (CommitRefused (removed t n) n) refusal
+PutRefused fails standing.Directory standing.Directory t n refusal = ⊥
+
+-- and why nothing makes way
+abbrev pub ClearRefused : Type 0 → Standing → Standing → Tree → Name → StoreRefusal → Type 0
+ClearRefused fails standing.File standing.Directory t n refusal = MayRefuse fails (RemoveRefused t n) refusal
+ClearRefused fails standing.File standing.Nothing t n refusal = MayRefuse fails (RemoveRefused t n) refusal
+ClearRefused fails standing.Directory standing.File t n refusal = MayRefuse fails (RemoveDirRefused t n) refusal
+ClearRefused fails standing.Directory standing.Nothing t n refusal = MayRefuse fails (RemoveDirRefused t n) refusal
+ClearRefused fails there wanted t n refusal = ⊥
+
+-- a file is to become a directory, or a directory a file
+abbrev pub AreUnlike : Standing → Standing → Type 0
+AreUnlike standing.File standing.Directory = ⊤
+AreUnlike standing.Directory standing.File = ⊤
+AreUnlike there wanted = ⊥
+
+-- What is left at the name: what was there, what was wanted, or, only where it may be so, nothing.
+abbrev pub IsLeft : Type 0 → Standing → Tree → Name → Tree → Type 0
+IsLeft emptied wanted old n new =
+    (new.names n ≡ old.names n) ⊎ (IsInPlace wanted old n new ⊎ (emptied × (new.names n ≡ None)))
+
+-- the temporary file is gone where a file was wanted
+abbrev pub IsTempTaken : Standing → Name → Tree → Type 0
+IsTempTaken standing.File n new = new.temps n ≡ None
+IsTempTaken standing.Directory n new = ⊤
+IsTempTaken standing.Nothing n new = ⊤
+
+-- and no temporary file changes where none was
+abbrev pub AreTempsKept : Standing → Tree → Tree → Type 0
+AreTempsKept standing.File old new = ⊤
+AreTempsKept standing.Directory old new = new.temps ≡ old.temps
+AreTempsKept standing.Nothing old new = new.temps ≡ old.temps
+
+-- Why a file is not moved to the name of its copy: nothing is there and the store refuses to move it, or the store fails.
+abbrev pub CopyRefused : Type 0 → Tree → Name → Option Name → StoreRefusal → Type 0
+CopyRefused fails t n None refusal = ⊥
+CopyRefused fails t n (Some copy) refused.StoreFault = fails ⊎ ((t.names copy ≡ None) × RenameRefused t n copy refused.StoreFault)
+CopyRefused fails t n (Some copy) refused.NotEmpty = ⊥
+CopyRefused fails t n (Some copy) refused.BadParent = RenameRefused t n copy refused.BadParent
+CopyRefused fails t n (Some copy) refused.OutOfMemory = ⊤

@@ -1,13 +1,17 @@
 -- A file, directory or nothing that is replaced by a target (own rule).
-use Rattle.std.specs.Prelude.{bytes_eq, ◌≡◌, ◌⊎◌, ⊤, false, Option, Some, None}
+use Rattle.std.specs.Prelude.{bytes_eq, ◌≡◌, ◌≢◌, ◌⊎◌, ⊤, ℕ, false, Option, Some, None}
+use Rattle.file_store.specs.Calls.{HasBadParent, HasEntries}
 use Rattle.file_store.specs.Names.{Name}
 use Rattle.file_store.specs.Trees.{Tree}
 use Rattle.sync_record.specs.Records.{FileRecord}
-use Rattle.sync_pull.specs.Putting.{IsInPlace, IsKeptOrMade, standing_of}
+use Rattle.sync_pull.specs.Faults.{IsFaultCounted}
+use Rattle.sync_pull.specs.Putting.{AreUnlike, IsInPlace, IsKeptOrMade, IsTaken, standing_of}
 use Rattle.sync_pull.specs.Standing.{StandsAs}
+use Rattle.sync_pull.specs.declared.answer.PullFailure.{PullFailure}
 use Rattle.sync_pull.specs.declared.answer.PullFailure.TheVariants.{StoreFault, NoSource, LocalChanged, ConflictNameTaken, NotEmpty, BadParent}
 use Rattle.sync_pull.specs.declared.answer.Stop.{Stop}
 use Rattle.sync_pull.specs.declared.answer.Stop.TheVariants.{Failed, OutOfMemory}
+use Rattle.sync_pull.specs.declared.commit.Standing.{Standing}
 use Rattle.sync_pull.specs.declared.commit.Standing.TheVariants as standing
 use Rattle.sync_pull.specs.declared.replace.CopyPlan.{CopyPlan}
 use Rattle.sync_pull.specs.declared.replace.CopyPlan.TheVariants.{Due, NotDue}
@@ -55,3 +59,45 @@ IsOther (Due (Some copy)) q = bytes_eq copy q ≡ false
 pub record ChangesAlone (n : Name) (plan : CopyPlan) (old new : Tree) : Type 0 where
   pub names : (q : Name) → bytes_eq n q ≡ false → IsOther plan q → IsKeptOrMade n q (old.names q) (new.names q)
   pub temps : (q : Name) → bytes_eq n q ≡ false → new.temps q ≡ old.temps q
+
+-- a copy is planned that has no name, or at whose name something is
+abbrev pub IsCopyTaken : CopyPlan → Tree → Type 0
+IsCopyTaken NotDue t = ⊥
+IsCopyTaken (Due copy) t = IsTaken copy t
+
+-- a parent of the name of a planned copy is a file
+abbrev pub HasBadCopyParent : CopyPlan → Tree → Type 0
+HasBadCopyParent NotDue t = ⊥
+HasBadCopyParent (Due None) t = ⊥
+HasBadCopyParent (Due (Some copy)) t = HasBadParent t copy
+
+-- the copy is planned
+abbrev pub IsDue : CopyPlan → Type 0
+IsDue NotDue = ⊥
+IsDue (Due copy) = ⊤
+
+-- Why a replacement fails, by the trees before and after it and the counts of faults: of a store that keeps what is written,
+-- something else is at the name; the copy has no place; a directory that is to make way has entries; a parent of the name or of
+-- the copy's is a file.
+abbrev pub ReplaceFails : Type 0 → Option FileRecord → FileRecord → CopyPlan → Name → Tree → Tree → ℕ → ℕ → PullFailure → Type 0
+ReplaceFails keeps base target plan n old new before after StoreFault = IsFaultCounted before after
+ReplaceFails keeps base target plan n old new before after NoSource = ⊥
+ReplaceFails keeps base target plan n old new before after LocalChanged = keeps → StandsAs base (old.names n) → ⊥
+ReplaceFails keeps base target plan n old new before after ConflictNameTaken = IsDue plan × (keeps → IsCopyTaken plan new)
+ReplaceFails keeps base target plan n old new before after NotEmpty =
+    keeps → (standing_of base ≡ standing.Directory) × (standing_of (Some target) ≢ standing.Directory) × HasEntries old n
+ReplaceFails keeps base target plan n old new before after BadParent = keeps → HasBadParent old n ⊎ HasBadCopyParent plan old
+
+-- Why a copy is not made, or nothing put in the place of the file.
+abbrev pub CopiedFails : Type 0 → Option Name → Tree → Tree → ℕ → ℕ → PullFailure → Type 0
+CopiedFails keeps copy old new before after StoreFault = IsFaultCounted before after
+CopiedFails keeps copy old new before after NoSource = ⊥
+CopiedFails keeps copy old new before after LocalChanged = ⊥
+CopiedFails keeps copy old new before after ConflictNameTaken = keeps → IsTaken copy new
+CopiedFails keeps copy old new before after NotEmpty = keeps → ⊥
+CopiedFails keeps copy old new before after BadParent = keeps → HasBadCopyParent (Due copy) old
+
+-- where nothing may be left at the name: a kept file was moved away, or what was there is of another kind than what is wanted
+abbrev pub MayEmpty : CopyPlan → Standing → Standing → Type 0
+MayEmpty NotDue there wanted = AreUnlike there wanted
+MayEmpty (Due copy) there wanted = ⊤

@@ -1,7 +1,7 @@
 //! Whether what is at a name is what its local record says.
 ghost use Rattle.std.specs.Prelude.{◌≡◌, ◌↔◌, ◌+◌, ◌^◌, ◌<◌, ◌≤◌, All, IfErr, IfOk, IsTrue, drop, length, option_copied, true};
-ghost use Rattle.file_store.specs.Refusals.{IsPlain};
-ghost use Rattle.file_store.specs.Trees.{bytes_of};
+ghost use Rattle.file_store.specs.Refusals.{IsPlain, count_after};
+ghost use Rattle.file_store.specs.Trees.{IsTree, bytes_of};
 ghost use Rattle.sync_pull.specs.Bytes.{AreOf, HasBlock};
 ghost use Rattle.sync_pull.specs.Standing.{HasRoom, IsFileOf, StandsAs};
 
@@ -54,6 +54,8 @@ pub fn stands_as<S: FileStore, G: Gate>(
         IsTrue stands ↔ StandsAs (option_copied base.entry) ((S.tree store.old).names name.now)) }
     ensures kept { S.keeps ≡ true → S.tree store.new ≡ S.tree store.old }
     ensures refusals { IfErr result IsPlain }
+    ensures counted { S.fault_count store.new ≡ count_after result (S.fault_count store.old) }
+    ensures tree { S.keeps ≡ true → IsTree (S.tree store.new) }
 {
     gate.at(GatePlace::StoreRead);
     let there = store.stat(name)?;
@@ -84,6 +86,7 @@ fn is_file_of<S: FileStore, G: Gate>(
         → IfOk result (λ has. IsTrue has ↔ IsFileOf base.now (bytes_of ((S.tree store.old).names name.now))) }
     ensures kept { S.keeps ≡ true → S.tree store.new ≡ S.tree store.old }
     ensures refusals { IfErr result IsPlain }
+    ensures counted { S.fault_count store.new ≡ count_after result (S.fault_count store.old) }
 {
     if u64::try_from(base.size()) != Ok(size) {
         return Ok(false);
@@ -108,6 +111,7 @@ fn has_blocks<S: FileStore, G: Gate>(
         → IfOk result (λ has. IsTrue has ↔ AreOf blocks.now (bytes_of ((S.tree store.old).names name.now))) }
     ensures kept { S.keeps ≡ true → S.tree store.new ≡ S.tree store.old }
     ensures refusals { IfErr result IsPlain }
+    ensures counted { S.fault_count store.new ≡ count_after result (S.fault_count store.old) }
 {
     let mut at = 0;
     for block in blocks {
@@ -137,6 +141,7 @@ fn has_block<S: FileStore, G: Gate>(
         IsTrue has ↔ HasBlock block.now (drop at (bytes_of ((S.tree store.old).names name.now)))) }
     ensures kept { S.keeps ≡ true → S.tree store.new ≡ S.tree store.old }
     ensures refusals { IfErr result IsPlain }
+    ensures counted { S.fault_count store.new ≡ count_after result (S.fault_count store.old) }
 {
     let part = &mut buffer[..block.size as usize];
     let count = read_full(store, gate, name, at, part)?;

@@ -1,6 +1,7 @@
 //! A target that is put in the place of what its base says.
-ghost use Rattle.std.specs.Prelude.{◌≡◌, IfOk, option_copied, true};
-ghost use Rattle.sync_pull.specs.Putting.{ChangesNameAlone, IsCleared, IsInPlace, IsStanding, standing_of};
+ghost use Rattle.std.specs.Prelude.{◌≡◌, IfErr, IfOk, option_copied, true};
+ghost use Rattle.file_store.specs.Refusals.{count_after};
+ghost use Rattle.sync_pull.specs.Putting.{AreTempsKept, AreUnlike, ChangesNameAlone, ClearRefused, IsCleared, IsInPlace, IsLeft, IsStanding, IsTempTaken, PutRefused, standing_of};
 
 use file_store::{FileStore, StoreRefusal};
 use sync_names::SafeName;
@@ -44,6 +45,13 @@ pub fn put_in_place<S: FileStore>(
 ) -> Result<(), StoreRefusal>
     ensures in_place { S.keeps ≡ true → IsStanding there ((S.tree store.old).names name.now)
         → IfOk result (λ _. IsInPlace wanted (S.tree store.old) name.now (S.tree store.new)) }
+    ensures taken { S.keeps ≡ true → IfOk result (λ _. IsTempTaken wanted name.now (S.tree store.new)) }
+    ensures left { S.keeps ≡ true → IfErr result (λ _.
+        IsLeft (AreUnlike there wanted) wanted (S.tree store.old) name.now (S.tree store.new)) }
+    ensures refusals { S.keeps ≡ true → IfErr result
+        (PutRefused ((s : S) × S.fails s) there wanted (S.tree store.old) name.now) }
+    ensures counted { S.fault_count store.new ≡ count_after result (S.fault_count store.old) }
+    ensures temps { S.keeps ≡ true → AreTempsKept wanted (S.tree store.old) (S.tree store.new) }
     ensures alone { S.keeps ≡ true → ChangesNameAlone name.now (S.tree store.old) (S.tree store.new) }
 {
     make_way(store, name, there, wanted)?;
@@ -63,6 +71,12 @@ fn make_way<S: FileStore>(
 ) -> Result<(), StoreRefusal>
     ensures gone { S.keeps ≡ true → IfOk result (λ _.
         IsCleared there wanted (S.tree store.old) name.now (S.tree store.new)) }
+    ensures left { S.keeps ≡ true → IfErr result (λ _.
+        IsLeft (AreUnlike there wanted) wanted (S.tree store.old) name.now (S.tree store.new)) }
+    ensures refusals { S.keeps ≡ true → IfErr result
+        (ClearRefused ((s : S) × S.fails s) there wanted (S.tree store.old) name.now) }
+    ensures counted { S.fault_count store.new ≡ count_after result (S.fault_count store.old) }
+    ensures temps { S.keeps ≡ true → (S.tree store.new).temps ≡ (S.tree store.old).temps }
     ensures alone { S.keeps ≡ true → ChangesNameAlone name.now (S.tree store.old) (S.tree store.new) }
 {
     match (there, wanted) {

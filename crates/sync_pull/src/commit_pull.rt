@@ -1,9 +1,11 @@
 //! The commit of a pull.
-ghost use Rattle.std.specs.Prelude.{◌≡◌, length, true};
+ghost use Rattle.std.specs.Prelude.{◌≡◌, ⊤, None, Some, length, true};
 ghost use Rattle.file_store.specs.Calls.{ChangesTemp};
 ghost use Rattle.sync_pull.specs.Ends.{Ends, EndsCommit};
-ghost use Rattle.sync_pull.specs.Pulled.{IfDone, IsNameKept};
-ghost use Rattle.sync_pull.specs.Replacing.{ChangesAlone, IsOfFile, IsReplaced, IsSaved};
+ghost use Rattle.sync_pull.specs.Faults.{CountsFaults, FailsFor};
+ghost use Rattle.sync_pull.specs.Pulled.{IfDone, IfFile, IsDropped, IsNameKept, IsTakenOrDropped};
+ghost use Rattle.sync_pull.specs.Putting.{IsLeft, standing_of};
+ghost use Rattle.sync_pull.specs.Replacing.{ChangesAlone, IsOfFile, IsReplaced, IsSaved, MayEmpty, ReplaceFails};
 ghost use Rattle.sync_pull.specs.Standing.{HasRoom};
 
 use crate::ends::{abort, answer_of, finish, give_up, refused};
@@ -15,18 +17,21 @@ use folder_calls::{At, Commit, EnterAllocError, FolderCalls, Ticket};
 use sync_names::SafeName;
 use sync_record::{Assembled, Record};
 
-// What a pull has got before its commit is entered: the target, whose bytes are in the temporary file if it is a file; what is to
-// be done with the file that is replaced; and the buffer for its check.
+// What a pull has got before its commit is entered: the target, whose bytes are in the temporary file if it is a file, and the
+// buffer for the check of the file that is replaced.
 #[derive(Drop)]
 pub(crate) struct Ready {
     pub(crate) assembled: Assembled,
-    pub(crate) plan: CopyPlan,
     pub(crate) room: Vec<u8>,
 }
 
 // Drops the temporary file of a target, if it is a file. What cannot be dropped stays.
 pub(crate) fn drop_temp<S: FileStore>(store: &mut S, name: &SafeName, target: &Record)
-    ensures { S.keeps ≡ true → ChangesTemp (S.tree store.old) name.now (S.tree store.new) }
+    ensures dropped { IfFile (standing_of (Some target.now))
+        (IsDropped S.gives (S.keeps ≡ true) name.now (S.tree store.new).temps store.new)
+        (store.new ≡ store.old) }
+    ensures counted { CountsFaults (S.fault_count store.old) (S.fault_count store.new) }
+    ensures temp { S.keeps ≡ true → ChangesTemp (S.tree store.old) name.now (S.tree store.new) }
 {
     if standing_of(Some(target)) == Standing::File {
         let _ = store.drop_temp(name);
@@ -42,20 +47,30 @@ pub(crate) fn commit_pull<S: FileStore, W: FolderCalls, G: Gate>(
     name: &SafeName,
     ticket: Ticket,
     ready: Ready,
+    plan: &CopyPlan,
 ) -> PullAnswer
     requires assembled { ready.assembled ≡ ticket.target }
     requires room { HasRoom ticket.base (length ready.room.items) }
-    requires of_file { IsOfFile ready.plan ticket.base }
+    requires of_file { IsOfFile plan.now ticket.base }
     ensures folder { W.folder calls.new ≡ W.folder calls.old }
     ensures ends { Ends (W.view calls.old) ticket result (W.view calls.new) }
-    ensures done { S.keeps ≡ true → IfDone result (IsReplaced ticket.base ticket.target ready.plan
+    ensures done { S.keeps ≡ true → IfDone result (IsReplaced ticket.base ticket.target plan.now
         name.now (S.tree store.old) (S.tree store.new)) }
     ensures kept { S.keeps ≡ true →
         IsNameKept result name.now (S.tree store.old) (S.tree store.new) }
     ensures saved { S.keeps ≡ true →
-        IsSaved ready.plan (S.tree store.old) name.now (S.tree store.new) }
+        IsSaved plan.now (S.tree store.old) name.now (S.tree store.new) }
+    ensures reasons { FailsFor (ReplaceFails (S.keeps ≡ true) ticket.base ticket.target plan.now name.now
+        (S.tree store.old) (S.tree store.new) (S.fault_count store.old) (S.fault_count store.new)) result }
+    ensures left { S.keeps ≡ true → IsLeft
+        (MayEmpty plan.now (standing_of ticket.base) (standing_of (Some ticket.target)))
+        (standing_of (Some ticket.target)) (S.tree store.old) name.now (S.tree store.new) }
+    ensures temporary { IfFile (standing_of (Some ticket.target))
+        (IsTakenOrDropped result (S.keeps ≡ true → (S.tree store.new).temps name.now ≡ None)
+        (IsDropped S.gives (S.keeps ≡ true) name.now (S.tree store.new).temps store.new))
+        (S.keeps ≡ true → (S.tree store.new).temps ≡ (S.tree store.old).temps) }
     ensures alone { S.keeps ≡ true →
-        ChangesAlone name.now ready.plan (S.tree store.old) (S.tree store.new) }
+        ChangesAlone name.now plan.now (S.tree store.old) (S.tree store.new) }
 {
     tickets_are_those_that_were_asked_for();
     gate.at(GatePlace::FolderCall);
@@ -68,7 +83,7 @@ pub(crate) fn commit_pull<S: FileStore, W: FolderCalls, G: Gate>(
         }
     };
     match entered {
-        Ok(commit) => replace_and_finish(store, calls, gate, name, commit, ready),
+        Ok(commit) => replace_and_finish(store, calls, gate, name, commit, ready, plan),
         Err(refusal) => {
             drop_temp(store, name, ready.assembled.target());
             refused(calls, gate, refusal)
@@ -84,24 +99,33 @@ fn replace_and_finish<S: FileStore, W: FolderCalls, G: Gate>(
     name: &SafeName,
     commit: Commit,
     ready: Ready,
+    plan: &CopyPlan,
 ) -> PullAnswer
     requires assembled { ready.assembled ≡ commit.target }
     requires room { HasRoom commit.base (length ready.room.items) }
-    requires of_file { IsOfFile ready.plan commit.base }
+    requires of_file { IsOfFile plan.now commit.base }
     ensures folder { W.folder calls.new ≡ W.folder calls.old }
     ensures ends { EndsCommit (W.view calls.old) commit result (W.view calls.new) }
-    ensures done { S.keeps ≡ true → IfDone result (IsReplaced commit.base commit.target ready.plan
+    ensures done { S.keeps ≡ true → IfDone result (IsReplaced commit.base commit.target plan.now
         name.now (S.tree store.old) (S.tree store.new)) }
     ensures kept { S.keeps ≡ true →
         IsNameKept result name.now (S.tree store.old) (S.tree store.new) }
     ensures saved { S.keeps ≡ true →
-        IsSaved ready.plan (S.tree store.old) name.now (S.tree store.new) }
+        IsSaved plan.now (S.tree store.old) name.now (S.tree store.new) }
+    ensures reasons { FailsFor (ReplaceFails (S.keeps ≡ true) commit.base commit.target plan.now name.now
+        (S.tree store.old) (S.tree store.new) (S.fault_count store.old) (S.fault_count store.new)) result }
+    ensures left { S.keeps ≡ true → IsLeft
+        (MayEmpty plan.now (standing_of commit.base) (standing_of (Some commit.target)))
+        (standing_of (Some commit.target)) (S.tree store.old) name.now (S.tree store.new) }
+    ensures temporary { IfFile (standing_of (Some commit.target))
+        (IsTakenOrDropped result (S.keeps ≡ true → (S.tree store.new).temps name.now ≡ None)
+        (IsDropped S.gives (S.keeps ≡ true) name.now (S.tree store.new).temps store.new))
+        (S.keeps ≡ true → (S.tree store.new).temps ≡ (S.tree store.old).temps) }
     ensures alone { S.keeps ≡ true →
-        ChangesAlone name.now ready.plan (S.tree store.old) (S.tree store.new) }
+        ChangesAlone name.now plan.now (S.tree store.old) (S.tree store.new) }
 {
     let Ready {
         assembled,
-        plan,
         mut room,
     } = ready;
     let base = commit.base();
@@ -111,7 +135,7 @@ fn replace_and_finish<S: FileStore, W: FolderCalls, G: Gate>(
         name,
         base,
         commit.target(),
-        &plan,
+        plan,
         room.as_mut_slice(),
     ) {
         Ok(()) => finish(calls, gate, commit, assembled),

@@ -1,7 +1,10 @@
 //! The conflict copy of a file that is to be replaced.
 ghost use Rattle.std.specs.Prelude.{◌≡◌, ◌⊎◌, IfErr, IfOk, MatchBool, option_copied, true};
 ghost use Rattle.file_store.specs.Calls.{renamed};
-ghost use Rattle.sync_pull.specs.Putting.{IsCopied, IsTaken};
+ghost use Rattle.file_store.specs.Refusals.{count_after};
+ghost use Rattle.file_store.specs.declared.refusal.StoreRefusal.TheVariants.{StoreFault};
+ghost use Rattle.sync_pull.specs.Faults.{CountsFaults};
+ghost use Rattle.sync_pull.specs.Putting.{CopyRefused, IsCopied, IsTaken};
 
 use file_store::{FileStore, Gate, GatePlace, Stat, StoreRefusal};
 use sync_names::SafeName;
@@ -19,8 +22,12 @@ pub fn make_copy<S: FileStore, G: Gate>(
     ensures moved { S.keeps ≡ true → IfOk result (λ is_moved. MatchBool is_moved
         (IsCopied (option_copied copy.entry) (S.tree store.old) name.now (S.tree store.new))
         (IsTaken (option_copied copy.entry) (S.tree store.old) × (S.tree store.new ≡ S.tree store.old))) }
-    ensures failed { S.keeps ≡ true → IfErr result (λ _. (S.tree store.new ≡ S.tree store.old)
-        ⊎ IsCopied (option_copied copy.entry) (S.tree store.old) name.now (S.tree store.new)) }
+    ensures failed { S.keeps ≡ true → IfErr result (λ refusal. (S.tree store.new ≡ S.tree store.old)
+        ⊎ ((refusal ≡ StoreFault)
+        × IsCopied (option_copied copy.entry) (S.tree store.old) name.now (S.tree store.new))) }
+    ensures refusals { S.keeps ≡ true → IfErr result (CopyRefused ((s : S) × S.fails s)
+        (S.tree store.old) name.now (option_copied copy.entry)) }
+    ensures counted { S.fault_count store.new ≡ count_after result (S.fault_count store.old) }
 {
     let Some(copy) = copy else {
         return Ok(false);
@@ -35,8 +42,9 @@ pub fn make_copy<S: FileStore, G: Gate>(
 
 /// Tries to move a copy back to its name, and does nothing if it cannot be.
 pub fn move_back<S: FileStore>(store: &mut S, name: &SafeName, copy: &SafeName)
-    ensures { S.keeps ≡ true → (S.tree store.new ≡ S.tree store.old)
+    ensures moved { S.keeps ≡ true → (S.tree store.new ≡ S.tree store.old)
         ⊎ (S.tree store.new ≡ renamed (S.tree store.old) copy.now name.now) }
+    ensures counted { CountsFaults (S.fault_count store.old) (S.fault_count store.new) }
 {
     let _ = store.rename(copy, name);
 }

@@ -1,12 +1,14 @@
 //! The bytes of a target's blocks, put into the temporary file.
-ghost use Rattle.std.specs.Prelude.{◌≡◌, ◌≢◌, ◌<◌, ◌&&◌, IfOk, IfSome, IsTrue, [], MatchBool, length, slice_get, Some, true};
-ghost use Rattle.file_store.specs.Calls.{ChangesTemp};
+ghost use Rattle.std.specs.Prelude.{◌≡◌, ◌≢◌, ⊤, ◌<◌, ◌&&◌, IfErr, IfOk, IfSome, IsTrue, [], MatchBool, length, slice_get, Some, true};
+ghost use Rattle.file_store.specs.Calls.{ChangesTemp, HasBadParent};
 ghost use Rattle.folder_calls.specs.Shared.{Sees};
 ghost use Rattle.sync_record.specs.Devices.{Identity};
 ghost use Rattle.sync_record.specs.Records.{is_live_file};
 ghost use Rattle.sync_record.specs.Validity.{is_valid};
+ghost use Rattle.sync_pull.specs.Faults.{CountsStop};
 ghost use Rattle.sync_pull.specs.Fetching.{HoldsBlocks, IsPut, IsPutOf, IsWritten};
 ghost use Rattle.sync_pull.specs.Putting.{WritesTempAlone};
+ghost use Rattle.sync_pull.specs.declared.answer.Stop.TheVariants.{OutOfMemory};
 
 use crate::answer::Stop;
 use crate::{BlockSource, PullFailure};
@@ -56,6 +58,7 @@ fn try_place<S: FileStore, W: FolderCalls, G: Gate>(
     ensures sees { Sees (W.view calls.old) (W.view calls.new) }
     ensures put { IfOk result (λ is_put. MatchBool is_put
         (IsPut index bytes.new.items assembly.old assembly.new) (assembly.new ≡ assembly.old)) }
+    ensures counted { CountsStop ⊤ ⊥ result (S.fault_count store.old) (S.fault_count store.new) }
     ensures kept { S.keeps ≡ true → S.tree store.new ≡ S.tree store.old }
 {
     let block = assembly.target().blocks()[index];
@@ -88,6 +91,7 @@ fn try_devices<B: BlockSource, G: Gate>(
     requires others { (device : Identity) → device ≢ from.now.me → B.may_ask device }
     ensures put { IfOk result (λ is_put. MatchBool is_put
         (IsPut index bytes.new.items assembly.old assembly.new) (assembly.new ≡ assembly.old)) }
+    ensures failed { IfErr result (λ stop. stop ≡ OutOfMemory) }
 {
     let block = assembly.target().blocks()[index];
     for device in from.devices {
@@ -121,6 +125,7 @@ fn find_bytes<S: FileStore, W: FolderCalls, B: BlockSource, G: Gate>(
     ensures sees { Sees (W.view calls.old) (W.view calls.new) }
     ensures put { IfOk result (λ is_put. MatchBool is_put
         (IsPut index bytes.new.items assembly.old assembly.new) (assembly.new ≡ assembly.old)) }
+    ensures counted { CountsStop ⊤ ⊥ result (S.fault_count store.old) (S.fault_count store.new) }
     ensures kept { S.keeps ≡ true → S.tree store.new ≡ S.tree store.old }
 {
     if assembly.target().blocks()[index].size == 0 {
@@ -153,6 +158,7 @@ fn fetch_block<S: FileStore, W: FolderCalls, B: BlockSource, G: Gate>(
         (slice_get assembly.old.target.blocks index)
         (λ b. IsWritten index b from.now.name.now assembly.old assembly.new (S.tree store.old)
         (S.tree store.new))) }
+    ensures counted { CountsStop ⊤ ⊥ result (S.fault_count store.old) (S.fault_count store.new) }
     ensures temp { S.keeps ≡ true →
         ChangesTemp (S.tree store.old) from.now.name.now (S.tree store.new) }
 {
@@ -181,6 +187,7 @@ fn fetch_blocks<S: FileStore, W: FolderCalls, B: BlockSource, G: Gate>(
     ensures target { IfOk result (λ _. assembly.new.target ≡ assembly.old.target) }
     ensures held { S.keeps ≡ true → (S.tree store.old).temps from.now.name.now ≡ Some []
         → IfOk result (λ _. HoldsBlocks assembly.old.target.blocks from.now.name.now (S.tree store.new)) }
+    ensures counted { CountsStop ⊤ ⊥ result (S.fault_count store.old) (S.fault_count store.new) }
     ensures temp { S.keeps ≡ true →
         ChangesTemp (S.tree store.old) from.now.name.now (S.tree store.new) }
 {
@@ -211,6 +218,8 @@ pub(crate) fn fetch_file<S: FileStore, W: FolderCalls, B: BlockSource, G: Gate>(
     ensures sees { Sees (W.view calls.old) (W.view calls.new) }
     ensures target { IfOk result (λ file. file ≡ target) }
     ensures held { S.keeps ≡ true → IfOk result (λ _. HoldsBlocks target.blocks name.now (S.tree store.new)) }
+    ensures counted { CountsStop ⊤ (S.keeps ≡ true → HasBadParent (S.tree store.old) name.now)
+        result (S.fault_count store.old) (S.fault_count store.new) }
     ensures temp { S.keeps ≡ true → WritesTempAlone name.now (S.tree store.old) (S.tree store.new) }
 {
     store.make_temp(name)?;

@@ -1,4 +1,4 @@
-ghost use Rattle.std.specs.Prelude.{◌≡◌, ◌↔◌, IsSome, IfSome};
+ghost use Rattle.std.specs.Prelude.{◌≡◌, ◌↔◌, IsSome, IfSome, MatchOption, negsuc, pos};
 ghost use Rattle.sync_pull.specs.Copies.{IsMaxConflicts};
 
 use std::marker::Model;
@@ -47,5 +47,12 @@ impl MaxConflicts {
         ensures allowed { IsMaxConflicts self }
     {
         self.most
+    }
+
+    /// How many copies may be kept; `None` for any number. O(1).
+    pub fn limit(self) -> Option<usize>
+        ensures { MatchOption result (self ≡ negsuc 0) (λ most. self ≡ pos most) }
+    {
+        usize::try_from(self.most).ok()
     }
 }

@@ -60,7 +60,9 @@ pub(crate) fn plan_copy(
     }
     match conflict_name(name, moment, base.modified_by()) {
         Ok(copy) => Ok(CopyPlan::Due(Some(copy))),
-        Err(NameFault::OutOfMemory) => Err(AllocError),
-        Err(_) => Ok(CopyPlan::Due(None)),
+        Err(fault) => match fault {
+            NameFault::OutOfMemory => Err(AllocError),
+            _ => Ok(CopyPlan::Due(None)),
+        },
     }
 }

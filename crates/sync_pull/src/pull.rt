@@ -1,12 +1,15 @@
 //! The pull of a name.
-ghost use Rattle.std.specs.Prelude.{◌≡◌, ◌≢◌, IfOk, length, true};
+ghost use Rattle.std.specs.Prelude.{◌≡◌, ◌≢◌, ⊤, IfOk, None, Some, false, length, true};
+ghost use Rattle.file_store.specs.Calls.{HasBadParent};
 ghost use Rattle.folder_core.specs.Steps.{is_copy_due};
 ghost use Rattle.folder_calls.specs.Shared.{Sees};
 ghost use Rattle.sync_record.specs.Devices.{Identity};
+ghost use Rattle.sync_pull.specs.Copies.{IsRefused, TrimsCopies};
 ghost use Rattle.sync_pull.specs.Ends.{Ends};
+ghost use Rattle.sync_pull.specs.Faults.{CountsStop, FailsFor, IsFaultCounted};
 ghost use Rattle.sync_pull.specs.Plans.{IsPlanned, copy_name};
-ghost use Rattle.sync_pull.specs.Pulled.{Comes, ChangesNameAndCopy, IfDone, IsNameKept, IsPulled, IsThereOrCopied};
-ghost use Rattle.sync_pull.specs.Putting.{WritesTempAlone};
+ghost use Rattle.sync_pull.specs.Pulled.{ChangesAndTrims, Comes, IfDone, IfFile, IsDropped, IsNameKept, IsOldOrTarget, IsPulled, IsTakenOrDropped, IsThereOrCopied, PullFails, TrimsAfter};
+ghost use Rattle.sync_pull.specs.Putting.{WritesTempAlone, standing_of};
 ghost use Rattle.sync_pull.specs.Replacing.{IsOfFile};
 ghost use Rattle.sync_pull.specs.Standing.{HasRoom, IsReadyAs};
 
@@ -15,12 +18,16 @@ use crate::commit_pull::{Ready, commit_pull, drop_temp};
 use crate::ends::{answer_of, give_up};
 use crate::fetch::fetch_file;
 use crate::plan::plan_copy;
-use crate::{BlockSource, MaxConflicts, PullAnswer, PullFailure, PullRefusal, room_for};
+use crate::replace::CopyPlan;
+use crate::{
+    BlockSource, MaxConflicts, PullAnswer, PullFailure, PullRefusal, remove_old_copies, room_for,
+};
 use file_store::{FileStore, Gate, GatePlace};
 use folder_calls::{At, BeginAnswer, FolderCalls, Ticket};
 use std::alloc::Global;
 use sync_blocks::laws::tiling_is_tested;
 use sync_names::SafeName;
+use sync_names::laws::conflict_names_are_of_copies;
 use sync_record::laws::only_well_formed_files_have_blocks;
 use sync_record::{Assembled, Kind, Record};
 use sync_version::Moment;
@@ -41,6 +48,10 @@ fn assemble<S: FileStore, W: FolderCalls, B: BlockSource, G: Gate>(
     ensures target { IfOk result (λ assembled. assembled ≡ target.now) }
     ensures ready { S.keeps ≡ true → IfOk result
         (λ _. IsReadyAs target.now.deleted target.now name.now (S.tree store.new)) }
+    ensures counted { CountsStop (target.now.deleted ≡ false)
+        (S.keeps ≡ true → HasBadParent (S.tree store.old) name.now) result
+        (S.fault_count store.old) (S.fault_count store.new) }
+    ensures still { IfFile (standing_of (Some target.now)) ⊤ (store.new ≡ store.old) }
     ensures temp { S.keeps ≡ true →
         WritesTempAlone name.now (S.tree store.old) (S.tree store.new) }
 {
@@ -74,28 +85,45 @@ fn prepare<S: FileStore, W: FolderCalls, B: BlockSource, G: Gate>(
     ticket: &Ticket,
     moment: Moment,
     max_conflicts: MaxConflicts,
-) -> Result<Ready, Stop>
+) -> Result<(Ready, CopyPlan), Stop>
     requires { (device : Identity) → device ≢ (W.view calls.old).opening.me → B.may_ask device }
     ensures folder { W.folder calls.new ≡ W.folder calls.old }
     ensures sees { Sees (W.view calls.old) (W.view calls.new) }
-    ensures target { IfOk result (λ ready. ready.assembled ≡ ticket.now.target) }
-    ensures room { IfOk result (λ ready. HasRoom ticket.now.base (length ready.room.items)) }
-    ensures planned { IfOk result (λ ready. IsPlanned max_conflicts moment name.now ticket.now.base
-        ticket.now.target ready.plan) }
-    ensures of_file { IfOk result (λ ready. IsOfFile ready.plan ticket.now.base) }
+    ensures target { IfOk result (λ made. made.0.assembled ≡ ticket.now.target) }
+    ensures room { IfOk result (λ made. HasRoom ticket.now.base (length made.0.room.items)) }
+    ensures planned { IfOk result (λ made. IsPlanned max_conflicts moment name.now ticket.now.base
+        ticket.now.target made.1) }
+    ensures of_file { IfOk result (λ made. IsOfFile made.1 ticket.now.base) }
     ensures ready { S.keeps ≡ true → IfOk result (λ _.
         IsReadyAs ticket.now.target.deleted ticket.now.target name.now (S.tree store.new)) }
+    ensures counted { CountsStop (ticket.now.target.deleted ≡ false)
+        (S.keeps ≡ true → HasBadParent (S.tree store.old) name.now) result
+        (S.fault_count store.old) (S.fault_count store.new) }
+    ensures still { IfFile (standing_of (Some ticket.now.target)) ⊤ (store.new ≡ store.old) }
     ensures temp { S.keeps ≡ true →
         WritesTempAlone name.now (S.tree store.old) (S.tree store.new) }
 {
     let plan = plan_copy(name, ticket.base(), ticket.target(), moment, max_conflicts)?;
     let room = room_for(alloc, ticket.base())?;
     let assembled = assemble(alloc, store, calls, source, gate, name, ticket.target())?;
-    Ok(Ready {
-        assembled,
-        plan,
-        room,
-    })
+    Ok((Ready { assembled, room }, plan))
+}
+
+// Removes older conflict copies after a pull that is done and made one.
+fn trim_copies<S: FileStore, G: Gate>(
+    store: &mut S,
+    gate: &G,
+    name: &SafeName,
+    plan: &CopyPlan,
+    max_conflicts: MaxConflicts,
+    answer: PullAnswer,
+)
+    ensures { TrimsAfter plan.now answer (λ copy. S.keeps ≡ true → TrimsCopies (IsRefused S.gives)
+        max_conflicts name.now copy (S.tree store.old) (S.tree store.new)) (store.new ≡ store.old) }
+{
+    if let (CopyPlan::Due(Some(copy)), PullAnswer::Done(_)) = (plan, answer) {
+        remove_old_copies(store, gate, name, copy, max_conflicts);
+    }
 }
 
 // Ends a pull that was begun.
@@ -120,9 +148,19 @@ fn pull_begun<S: FileStore, W: FolderCalls, B: BlockSource, G: Gate>(
     ensures saved { S.keeps ≡ true → is_copy_due max_conflicts ticket.base ticket.target ≡ true
         → IsThereOrCopied name.now (copy_name name.now moment ticket.base) (S.tree store.old)
         (S.tree store.new) }
-    ensures alone { S.keeps ≡ true → ChangesNameAndCopy name.now
-        (copy_name name.now moment ticket.base) (S.tree store.old) (S.tree store.new) }
+    ensures reasons { FailsFor (PullFails max_conflicts moment name.now (S.keeps ≡ true)
+        (IsFaultCounted (S.fault_count store.old) (S.fault_count store.new)) ticket
+        (S.tree store.old) (S.tree store.new)) result }
+    ensures left { S.keeps ≡ true → IsOldOrTarget max_conflicts name.now ticket
+        (S.tree store.old) (S.tree store.new) }
+    ensures temporary { IfFile (standing_of (Some ticket.target))
+        (IsTakenOrDropped result (S.keeps ≡ true → (S.tree store.new).temps name.now ≡ None)
+        (IsDropped S.gives (S.keeps ≡ true) name.now (S.tree store.new).temps store.new))
+        (S.keeps ≡ true → (S.tree store.new).temps ≡ (S.tree store.old).temps) }
+    ensures alone { S.keeps ≡ true → ChangesAndTrims max_conflicts moment name.now
+        (IsRefused S.gives) ticket result (S.tree store.old) (S.tree store.new) }
 {
+    conflict_names_are_of_copies();
     match prepare(
         alloc,
         store,
@@ -134,7 +172,11 @@ fn pull_begun<S: FileStore, W: FolderCalls, B: BlockSource, G: Gate>(
         moment,
         max_conflicts,
     ) {
-        Ok(ready) => commit_pull(store, calls, gate, name, ticket, ready),
+        Ok((ready, plan)) => {
+            let answer = commit_pull(store, calls, gate, name, ticket, ready, &plan);
+            trim_copies(store, gate, name, &plan, max_conflicts, answer);
+            answer
+        }
         Err(stop) => {
             drop_temp(store, name, ticket.target());
             give_up(calls, gate, ticket, answer_of(stop))
@@ -166,8 +208,10 @@ pub fn pull_name<S: FileStore, W: FolderCalls, B: BlockSource, G: Gate>(
 ) -> PullAnswer
     requires { (device : Identity) → device ≢ (W.view calls.old).opening.me → B.may_ask device }
     ensures folder { W.folder calls.new ≡ W.folder calls.old }
-    ensures comes { Comes max_conflicts moment name.now (S.keeps ≡ true) result (W.view calls.old)
-        (S.tree store.old) (W.view calls.new) (S.tree store.new) }
+    ensures comes { Comes max_conflicts moment name.now (S.keeps ≡ true)
+        (IsFaultCounted (S.fault_count store.old) (S.fault_count store.new))
+        (IsDropped S.gives (S.keeps ≡ true) name.now (S.tree store.new).temps store.new)
+        (IsRefused S.gives) result (W.view calls.old) (S.tree store.old) (W.view calls.new) (S.tree store.new) }
 {
     gate.at(GatePlace::FolderCall);
     let begun = match calls.begin_pull(name) {

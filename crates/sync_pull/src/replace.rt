@@ -1,7 +1,9 @@
 //! What is done to the store once a commit was entered.
-ghost use Rattle.std.specs.Prelude.{◌≡◌, IfErr, IfOk, length, option_copied, true};
-ghost use Rattle.sync_pull.specs.Putting.{IsInPlace, IsStanding};
-ghost use Rattle.sync_pull.specs.Replacing.{ChangesAlone, IsCopyKept, IsOfFile, IsReplaced, IsSaved, IsUntouched};
+ghost use Rattle.std.specs.Prelude.{◌≡◌, ⊤, IfErr, IfOk, Some, length, option_copied, true};
+ghost use Rattle.file_store.specs.Trees.{IsTree};
+ghost use Rattle.sync_pull.specs.Faults.{StopsFor};
+ghost use Rattle.sync_pull.specs.Putting.{AreTempsKept, IsInPlace, IsLeft, IsStanding, IsTempTaken, standing_of};
+ghost use Rattle.sync_pull.specs.Replacing.{ChangesAlone, CopiedFails, IsCopyKept, IsOfFile, IsReplaced, IsSaved, IsUntouched, MayEmpty, ReplaceFails};
 ghost use Rattle.sync_pull.specs.Standing.{HasRoom};
 ghost use Rattle.sync_pull.specs.declared.commit.Standing.TheVariants.{File};
 ghost use Rattle.sync_pull.specs.declared.replace.CopyPlan.TheVariants.{Due};
@@ -40,6 +42,16 @@ pub(crate) fn replace<S: FileStore, G: Gate>(
         (λ stop. IsUntouched stop (S.tree store.old) (S.tree store.new)) }
     ensures saved { S.keeps ≡ true → IfErr result
         (λ _. IsSaved plan.now (S.tree store.old) name.now (S.tree store.new)) }
+    ensures reasons { IfErr result (StopsFor (ReplaceFails (S.keeps ≡ true) (option_copied base.entry)
+        target.now plan.now name.now (S.tree store.old) (S.tree store.new) (S.fault_count store.old)
+        (S.fault_count store.new))) }
+    ensures left { S.keeps ≡ true → IfErr result (λ _.
+        IsLeft (MayEmpty plan.now (standing_of (option_copied base.entry)) (standing_of (Some target.now)))
+        (standing_of (Some target.now)) (S.tree store.old) name.now (S.tree store.new)) }
+    ensures taken { S.keeps ≡ true → IfOk result (λ _.
+        IsTempTaken (standing_of (Some target.now)) name.now (S.tree store.new)) }
+    ensures temps { S.keeps ≡ true →
+        AreTempsKept (standing_of (Some target.now)) (S.tree store.old) (S.tree store.new) }
     ensures alone { S.keeps ≡ true →
         ChangesAlone name.now plan.now (S.tree store.old) (S.tree store.new) }
 {
@@ -72,6 +84,14 @@ fn replace_copied<S: FileStore, G: Gate>(
         (λ stop. IsUntouched stop (S.tree store.old) (S.tree store.new)) }
     ensures saved { S.keeps ≡ true → IsStanding File ((S.tree store.old).names name.now)
         → IfErr result (λ _. IsSaved (Due copy.now) (S.tree store.old) name.now (S.tree store.new)) }
+    ensures reasons { IfErr result (StopsFor (CopiedFails
+        ((S.keeps ≡ true) × IsTree (S.tree store.old) × IsStanding File ((S.tree store.old).names name.now))
+        copy.now (S.tree store.old) (S.tree store.new) (S.fault_count store.old)
+        (S.fault_count store.new))) }
+    ensures left { S.keeps ≡ true → IsStanding File ((S.tree store.old).names name.now)
+        → IfErr result (λ _. IsLeft ⊤ wanted (S.tree store.old) name.now (S.tree store.new)) }
+    ensures taken { S.keeps ≡ true → IfOk result (λ _. IsTempTaken wanted name.now (S.tree store.new)) }
+    ensures temps { S.keeps ≡ true → AreTempsKept wanted (S.tree store.old) (S.tree store.new) }
     ensures alone { S.keeps ≡ true →
         ChangesAlone name.now (Due copy.now) (S.tree store.old) (S.tree store.new) }
 {

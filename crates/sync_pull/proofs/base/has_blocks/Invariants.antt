@@ -1,4 +1,4 @@
--- Nothing changed, and the file has all blocks exactly if it has the rest of them where it was read up to.
+-- Nothing changed, no fault was counted, and the file has all blocks exactly if it has the rest of them where it was read up to.
 use Rattle.std.proofs.Common.{◌≡◌, ◌≤◌, true, drop}
 use Rattle.std.specs.Prelude.{◌↔◌}
 use Rattle.file_store.specs.Trees.{bytes_of}
@@ -10,5 +10,6 @@ invariant-loop-block g l = record {
   within : l.at ≤ l.size;
   rest : g.S.FileStore.keeps ≡ true → AreOf l.blocks (bytes_of ((g.S.FileStore.tree l.initial.store).names l.name))
       ↔ AreOf (drop l.block-index l.blocks) (drop l.at (bytes_of ((g.S.FileStore.tree l.initial.store).names l.name)));
+  counted : g.S.FileStore.fault_count l.store ≡ g.S.FileStore.fault_count l.initial.store;
   kept : g.S.FileStore.keeps ≡ true → g.S.FileStore.tree l.store ≡ g.S.FileStore.tree l.initial.store;
 }

@@ -1,7 +1,13 @@
-use Rattle.std.proofs.Common.{subst}
+use Rattle.std.proofs.Common.{◌≡◌, true, Option, Some, ap, subst, sym}
 use Rattle.folder_core.specs.declared.change.Change.TheVariants.{Abort}
+use Rattle.sync_record.specs.Records.{FileRecord}
 use Rattle.sync_pull.specs.Ends.{Closes}
-use Rattle.sync_pull.proofs.PulledLemmas.{aborted-ends, finished-ends, kept-saved, saved-temp}
+use Rattle.sync_pull.specs.Faults.{StopsFor}
+use Rattle.sync_pull.specs.Pulled.{IfFile, IsDropped}
+use Rattle.sync_pull.specs.Putting.{AreTempsKept, IsLeft, standing_of}
+use Rattle.sync_pull.specs.Replacing.{MayEmpty, ReplaceFails}
+use Rattle.sync_pull.proofs.FailLemmas.{closed-fails, left-on, of-both, replace-dropped, stop-weaker, temp-ended}
+use Rattle.sync_pull.proofs.PulledLemmas.{aborted-ends, finished-ends, kept-saved, saved-temp, stop-undone}
 use Rattle.sync_pull.proofs.commit_pull.replace_and_finish.Goals as goal
 
 pub returns-in-Ok-clause-ends : goal.returns-in-Ok-clause-ends
@@ -13,7 +19,37 @@ returns-in-Err-clause-ends g c =
     (subst (λ a. Closes (g.W.FolderCalls.view c.args.calls.now) (Abort c.args.commit) a c.abort.result (g.W.FolderCalls.view c.abort.new.calls)) c.answer_of.ensures c.abort.ensures.closes)
 
 pub returns-in-Ok-clause-saved : goal.returns-in-Ok-clause-saved
-returns-in-Ok-clause-saved g c = λ keeps. kept-saved c.args.ready.plan _ c.args.name.now _ (c.in-Ok.ensures.replaced keeps).copied
+returns-in-Ok-clause-saved g c = λ keeps. kept-saved c.args.plan.now _ c.args.name.now _ (c.in-Ok.ensures.replaced keeps).copied
 
 pub returns-in-Err-clause-saved : goal.returns-in-Err-clause-saved
-returns-in-Err-clause-saved g c = λ keeps. saved-temp c.args.ready.plan _ _ c.args.name.now _ (c.in-Err.ensures.saved keeps) (c.drop_temp.ensures keeps)
+returns-in-Err-clause-saved g c = λ keeps. saved-temp c.args.plan.now _ _ c.args.name.now _ (c.in-Err.ensures.saved keeps) (c.drop_temp.ensures.temp keeps)
+
+pub returns-in-Err-clause-reasons : goal.returns-in-Err-clause-reasons
+returns-in-Err-clause-reasons g c =
+    let why = λ (b : Option FileRecord) (t : FileRecord). ReplaceFails (g.S.FileStore.keeps ≡ true) b t c.args.plan.now c.args.name.now (g.S.FileStore.tree c.args.store.now) in
+    let start = g.S.FileStore.fault_count c.args.store.now in
+    let old = λ (b : Option FileRecord) (t : FileRecord). why b t (g.S.FileStore.tree c.replace.new.store) start (g.S.FileStore.fault_count c.replace.new.store) in
+    let base = c.args.commit.base in
+    let target = c.args.commit.target in
+    let new = why base target (g.S.FileStore.tree c.drop_temp.new.store) start (g.S.FileStore.fault_count c.drop_temp.new.store) in
+    closed-fails new _ _ (Abort c.args.commit) c.in-Err.stop c.abort.result
+    (stop-weaker (old base target) new (replace-dropped (g.S.FileStore.keeps ≡ true) base target c.args.plan.now c.args.name.now (g.S.FileStore.tree c.args.store.now) (g.S.FileStore.tree c.replace.new.store) (g.S.FileStore.tree c.drop_temp.new.store) start (g.S.FileStore.fault_count c.replace.new.store) (g.S.FileStore.fault_count c.drop_temp.new.store) c.drop_temp.ensures.temp c.drop_temp.ensures.counted) c.in-Err.stop
+    (of-both (λ b t. StopsFor (old b t) c.in-Err.stop) _ base _ target (sym c.base-base.ensures) (sym c.target.ensures) c.in-Err.ensures.reasons))
+    (subst (λ a. Closes (g.W.FolderCalls.view c.args.calls.now) (Abort c.args.commit) a c.abort.result (g.W.FolderCalls.view c.abort.new.calls)) c.answer_of.ensures c.abort.ensures.closes)
+
+pub returns-in-Err-clause-left : goal.returns-in-Err-clause-left
+returns-in-Err-clause-left g c = λ keeps.
+    let left = λ (b : Option FileRecord) (t : FileRecord). IsLeft (MayEmpty c.args.plan.now (standing_of b) (standing_of (Some t))) (standing_of (Some t)) (g.S.FileStore.tree c.args.store.now) c.args.name.now in
+    left-on _ _ _ c.args.name.now (g.S.FileStore.tree c.replace.new.store) _ (ap (λ f. f c.args.name.now) (c.drop_temp.ensures.temp keeps).names)
+    (of-both (λ b t. left b t (g.S.FileStore.tree c.replace.new.store)) _ c.args.commit.base _ c.args.commit.target (sym c.base-base.ensures) (sym c.target.ensures) (c.in-Err.ensures.left keeps))
+
+pub returns-in-Err-clause-temporary : goal.returns-in-Err-clause-temporary
+returns-in-Err-clause-temporary g c =
+    let wanted = c.args.commit.target in
+    let mid = g.S.FileStore.tree c.replace.new.store in
+    temp-ended (standing_of (Some wanted)) c.abort.result _ _ (c.drop_temp.new.store ≡ c.replace.new.store) (g.S.FileStore.keeps ≡ true) (g.S.FileStore.tree c.args.store.now) mid _
+    (ap g.S.FileStore.tree) (λ keeps. subst (λ (t : FileRecord). AreTempsKept (standing_of (Some t)) (g.S.FileStore.tree c.args.store.now) mid) c.target.ensures (c.replace.ensures.temps keeps))
+    (subst (λ (t : FileRecord). IfFile (standing_of (Some t)) (IsDropped g.S.FileStore.gives (g.S.FileStore.keeps ≡ true) c.args.name.now (g.S.FileStore.tree c.drop_temp.new.store).temps c.drop_temp.new.store)
+    (c.drop_temp.new.store ≡ c.replace.new.store)) c.target-in-Err.ensures c.drop_temp.ensures.dropped)
+    (stop-undone ⊥ _ _ (Abort c.args.commit) c.in-Err.stop c.abort.result
+    (subst (λ a. Closes (g.W.FolderCalls.view c.args.calls.now) (Abort c.args.commit) a c.abort.result (g.W.FolderCalls.view c.abort.new.calls)) c.answer_of.ensures c.abort.ensures.closes))

@@ -22,6 +22,7 @@ loop-index-preserved g c =
       held = λ keeps empty.
           held-next c.tiling_is_tested.ensures.tested c.only_well_formed_files_have_blocks.ensures.whole c.bytes_written_are_read.ensures.appended r c.requires.valid
           c.loop-index.index (omega arith) n c.loop-index.assembly c.fetch_block.new.assembly _ _ inv.target (inv.held keeps empty) (c.in_ok-fetch_block.ensures.written keeps);
+      counted = c.in_ok-fetch_block.ensures.counted ∙ inv.counted;
       temp = λ keeps. temps-then n _ _ _ (inv.temp keeps) (c.fetch_block.ensures.temp keeps);
     }
 

@@ -1,4 +1,4 @@
--- The blocks so far are in the temporary file, and nothing else changed; the caller only saw the history go on.
+-- The blocks so far are in the temporary file, nothing else changed, and no fault was counted; the caller only saw the history go on.
 use Rattle.std.proofs.Common.{◌≡◌, true, take}
 use Rattle.std.specs.Prelude.{Some, []}
 use Rattle.file_store.specs.Calls.{ChangesTemp}
@@ -13,5 +13,6 @@ invariant-loop-index g l = record {
   sees : Sees (g.W.FolderCalls.view l.initial.calls) (g.W.FolderCalls.view l.calls);
   held : g.S.FileStore.keeps ≡ true → (g.S.FileStore.tree l.initial.store).temps l.from.name.now ≡ Some []
       → HoldsBlocks (take l.index l.initial.assembly.target.blocks) l.from.name.now (g.S.FileStore.tree l.store);
+  counted : g.S.FileStore.fault_count l.store ≡ g.S.FileStore.fault_count l.initial.store;
   temp : g.S.FileStore.keeps ≡ true → ChangesTemp (g.S.FileStore.tree l.initial.store) l.from.name.now (g.S.FileStore.tree l.store);
 }

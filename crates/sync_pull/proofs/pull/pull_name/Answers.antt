@@ -14,8 +14,11 @@ returns-in-Ok-Begun-clause-comes g c = inr (
   record {
     ends = c.pull_begun.ensures.ends;
     done = c.pull_begun.ensures.done;
+    reasons = c.pull_begun.ensures.reasons;
     kept = c.pull_begun.ensures.kept;
+    left = c.pull_begun.ensures.left;
     saved = c.pull_begun.ensures.saved;
+    temporary = c.pull_begun.ensures.temporary;
     alone = c.pull_begun.ensures.alone;
   },
 )
