@@ -1,6 +1,6 @@
 -- Why a pull fails, and what a failure leaves.
 use Rattle.std.proofs.Common.{◌≡◌, ◌≢◌, ℕ, Option, Some, None, List, inl, inr, refl, sym, ap, subst, ◌∙◌, arith}
-use Rattle.std.specs.Prelude.{Err, IsErrAnd, IsSome, Ok, Result}
+use Rattle.std.specs.Prelude.{Err, IfErr, IsErrAnd, IsSome, Ok, Result}
 use Rattle.file_store.specs.Calls.{ChangesTemp}
 use Rattle.file_store.specs.Names.{Name}
 use Rattle.file_store.specs.Trees.{Tree}
@@ -130,3 +130,8 @@ pub temp-ended : (w : Standing) (p : PullAnswer) (taken dropped still keeps : Ty
 temp-ended standing.File p taken dropped still keeps old mid new same kept d undone = undone-dropped p taken dropped undone d
 temp-ended standing.Directory p taken dropped still keeps old mid new same kept d undone = λ k. ap (λ (t : Tree). t.temps) (same d) ∙ kept k
 temp-ended standing.Nothing p taken dropped still keeps old mid new same kept d undone = λ k. ap (λ (t : Tree). t.temps) (same d) ∙ kept k
+
+-- an error that is passed on
+pub if-err : {X E : Type 0} (r : Result X E) (s : E) (P : E → Type 0) → IsErrAnd r (λ x. x ≡ s) → P s → IfErr r P
+if-err (Ok x) s P e h = tt
+if-err (Err x) s P e h = subst P (sym e) h

@@ -3,14 +3,16 @@ use Rattle.std.proofs.Common.{◌≡◌, ℕ, ◌+◌, ◌-◌, ◌^◌, ◌<◌
 use Rattle.std.specs.Prelude.{bytes_eq, ◌⊎◌, ⊤, IsSome, ℤ}
 use Rattle.std.proofs.lemmas.Bool.{false≢true}
 use Rattle.std.proofs.lemmas.Slice.Eq.{bytes_eq-Decides}
+use Rattle.file_store.specs.Asked.{Call}
 use Rattle.file_store.specs.Calls.{HasBadParent, HasEntries}
 use Rattle.file_store.specs.Names.{Name, is_parent}
 use Rattle.file_store.specs.Trees.{Tree, is_file}
 use Rattle.folder_core.specs.Steps.{is_copy_due}
 use Rattle.folder_core.specs.declared.pull_info.PullInfo.{PullInfo}
 use Rattle.sync_pull.specs.Faults.{CountsFaults, IsFaultCounted, StopCounts, StopsFor}
+use Rattle.sync_pull.specs.Copies.{IsMoveRefused}
 use Rattle.sync_pull.specs.Plans.{IsPlanned, copy_name}
-use Rattle.sync_pull.specs.Pulled.{HasNoPlace, IfFile, IsOldOrTarget, PullFails}
+use Rattle.sync_pull.specs.Pulled.{HasNoPlace, IfFile, IsOldOrTarget, MayBeEmpty, PullFails}
 use Rattle.sync_pull.specs.Putting.{AreTempsKept, AreUnlike, IsLeft, WritesTempAlone, standing_of}
 use Rattle.sync_pull.specs.Replacing.{HasBadCopyParent, IsCopyTaken, IsDue, MayEmpty, ReplaceFails}
 use Rattle.sync_pull.specs.Standing.{IsReadyAs, StandsAs}
@@ -136,19 +138,18 @@ stops-before most moment n keeps t old new a b c (stop.Failed BadParent) h count
 
 -- ---- what is left
 
-emptied-by : (most : ℤ) (moment : ℕ) (n : Name) (t : PullInfo) (plan : CopyPlan) → IsPlanned most moment n t.base t.target plan
-    → MayEmpty plan (standing_of t.base) (standing_of (Some t.target))
-    → (is_copy_due most t.base t.target ≡ true) ⊎ AreUnlike (standing_of t.base) (standing_of (Some t.target))
-emptied-by most moment n t NotDue planned m = inr m
-emptied-by most moment n t (Due None) planned m = inl planned.0
-emptied-by most moment n t (Due (Some copy)) planned m = inl planned.0
+emptied-by : (most : ℤ) (moment : ℕ) (n : Name) (refused : Call → Type 0) (t : PullInfo) (plan : CopyPlan) → IsPlanned most moment n t.base t.target plan
+    → MayEmpty refused n plan (standing_of t.base) (standing_of (Some t.target)) → MayBeEmpty most moment n refused t
+emptied-by most moment n refused t NotDue planned m = inr m
+emptied-by most moment n refused t (Due None) planned m = absurd m
+emptied-by most moment n refused t (Due (Some copy)) planned m = inl (planned.0, subst (IsMoveRefused refused n) planned.1 m)
 
-pub left-pulled : (most : ℤ) (moment : ℕ) (n : Name) (t : PullInfo) (plan : CopyPlan) (old mid new : Tree) → IsPlanned most moment n t.base t.target plan
+pub left-pulled : (most : ℤ) (moment : ℕ) (n : Name) (refused : Call → Type 0) (t : PullInfo) (plan : CopyPlan) (old mid new : Tree) → IsPlanned most moment n t.base t.target plan
     → mid.names n ≡ old.names n → IsReadyAs t.target.deleted t.target n mid
-    → IsLeft (MayEmpty plan (standing_of t.base) (standing_of (Some t.target))) (standing_of (Some t.target)) mid n new → IsOldOrTarget most n t old new
-left-pulled most moment n t plan old mid new planned same ready (inl e) = inl (e ∙ same)
-left-pulled most moment n t plan old mid new planned same ready (inr (inl p)) = inr (inl (there-is t.target n mid new ready p))
-left-pulled most moment n t plan old mid new planned same ready (inr (inr e)) = inr (inr (emptied-by most moment n t plan planned e.0, e.1))
+    → IsLeft (MayEmpty refused n plan (standing_of t.base) (standing_of (Some t.target))) (standing_of (Some t.target)) mid n new → IsOldOrTarget most moment n refused t old new
+left-pulled most moment n refused t plan old mid new planned same ready (inl e) = inl (e ∙ same)
+left-pulled most moment n refused t plan old mid new planned same ready (inr (inl p)) = inr (inl (there-is t.target n mid new ready p))
+left-pulled most moment n refused t plan old mid new planned same ready (inr (inr e)) = inr (inr (emptied-by most moment n refused t plan planned e.0, e.1))
 
 -- ---- the temporary file
 

@@ -140,10 +140,11 @@ pulled-on most moment n t old placed new s h = record {
   copied = λ due. s.copy_name ∙ h.copied due;
 }
 
-pub old-or-target-on : (most : ℤ) (n : Name) (t : PullInfo) (old placed new : Tree) → new.names n ≡ placed.names n → IsOldOrTarget most n t old placed → IsOldOrTarget most n t old new
-old-or-target-on most n t old placed new e (inl h) = inl (e ∙ h)
-old-or-target-on most n t old placed new e (inr (inl h)) = inr (inl (subst (StandsAs (Some t.target)) (sym e) h))
-old-or-target-on most n t old placed new e (inr (inr h)) = inr (inr (h.0, e ∙ h.1))
+pub old-or-target-on : (most : ℤ) (moment : ℕ) (n : Name) (refused : Call → Type 0) (t : PullInfo) (old placed new : Tree) → new.names n ≡ placed.names n
+    → IsOldOrTarget most moment n refused t old placed → IsOldOrTarget most moment n refused t old new
+old-or-target-on most moment n refused t old placed new e (inl h) = inl (e ∙ h)
+old-or-target-on most moment n refused t old placed new e (inr (inl h)) = inr (inl (subst (StandsAs (Some t.target)) (sym e) h))
+old-or-target-on most moment n refused t old placed new e (inr (inr h)) = inr (inr (h.0, e ∙ h.1))
 
 pub there-or-copied-on : (n copy : Name) (old placed new : Tree) → StaysSo n copy placed new → IsThereOrCopied n copy old placed → IsThereOrCopied n copy old new
 there-or-copied-on n copy old placed new s (inl h) = inl (s.name ∙ h)

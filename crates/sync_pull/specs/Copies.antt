@@ -1,6 +1,6 @@
 -- How many conflict copies are kept of a name, and which (Syncthing, "Conflicting Changes", maxConflicts).
-use Rattle.std.specs.Prelude.{◌≡◌, ◌≢◌, ◌⊎◌, ◌↔◌, ◌-◌, ℕ, true, ℤ, pos, negsuc, ◌≤ℤ◌, List, [], ◌∷◌, length, take, Contains, None, IsNone, Result, Err}
-use Rattle.file_store.specs.Asked.{Call, Value, ListAll, Remove}
+use Rattle.std.specs.Prelude.{◌≡◌, ◌≢◌, ◌⊎◌, ◌↔◌, ◌-◌, ℕ, true, ℤ, pos, negsuc, ◌≤ℤ◌, List, [], ◌∷◌, length, take, Contains, Option, Some, None, IsNone, Result, Err}
+use Rattle.file_store.specs.Asked.{Call, Value, ListAll, Remove, Rename}
 use Rattle.file_store.specs.Listings.{AreAscending}
 use Rattle.file_store.specs.Names.{Name}
 use Rattle.file_store.specs.Trees.{Tree, is_file}
@@ -33,6 +33,15 @@ surplus most copies = take (length copies - (most - 1)) copies
 -- the store refused the call
 abbrev pub IsRefused : {S : Type 0} → (S → (call : Call) → Result (Value call) StoreRefusal → S → Type 0) → Call → Type 0
 IsRefused {S = S} gives call = (old : S) × (why : StoreRefusal) × (new : S) × gives old call (Err why) new
+
+-- the store refused to move a file to the name of its copy
+abbrev pub IsCopyRefused : (Call → Type 0) → Name → Option Name → Type 0
+IsCopyRefused refused n None = ⊥
+IsCopyRefused refused n (Some copy) = refused (Rename n copy)
+
+-- that, or to move it back
+abbrev pub IsMoveRefused : (Call → Type 0) → Name → Name → Type 0
+IsMoveRefused refused n copy = refused (Rename n copy) ⊎ refused (Rename copy n)
 
 -- nothing changes but that what is at these names is gone; the store may have refused to remove it
 pub record RemovesFiles (refused : Call → Type 0) (names : List Name) (old new : Tree) : Type 0 where

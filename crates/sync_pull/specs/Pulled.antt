@@ -10,7 +10,7 @@ use Rattle.folder_core.specs.declared.pull_info.PullInfo.{PullInfo}
 use Rattle.folder_core.specs.declared.answer.Answer.TheVariants.{Begun}
 use Rattle.folder_core.specs.declared.change.Change.TheVariants.{BeginPull}
 use Rattle.folder_calls.specs.Shared.{CallerView, Gets}
-use Rattle.sync_pull.specs.Copies.{TrimsCopies}
+use Rattle.sync_pull.specs.Copies.{IsMoveRefused, TrimsCopies}
 use Rattle.sync_pull.specs.Ends.{Ends, IsNotBegun}
 use Rattle.sync_pull.specs.Plans.{copy_name}
 use Rattle.sync_names.specs.Refusal.{refusal}
@@ -94,13 +94,17 @@ abbrev pub TrimsIfDue : Bool → PullAnswer → Type 0 → Type 0 → Type 0
 TrimsIfDue true result trims still = IfDoneElse result trims still
 TrimsIfDue false result trims still = still
 
--- What is at the name, whatever the answer: what was there, what the target says, or, only where a file becomes a directory, a
--- directory a file, or the file was moved to its copy, nothing.
-abbrev pub IsOldOrTarget : ℤ → Name → PullInfo → Tree → Tree → Type 0
-IsOldOrTarget most n t old new =
+-- nothing may be at the name: the store refused to move a due copy there or back, a file becomes a directory, or a directory a file
+abbrev pub MayBeEmpty : ℤ → ℕ → Name → (Call → Type 0) → PullInfo → Type 0
+MayBeEmpty most moment n refused t =
+    ((is_copy_due most t.base t.target ≡ true) × IsMoveRefused refused n (copy_name n moment t.base))
+    ⊎ AreUnlike (standing_of t.base) (standing_of (Some t.target))
+
+-- What is at the name, whatever the answer: what was there, what the target says, or, only where that may be, nothing.
+abbrev pub IsOldOrTarget : ℤ → ℕ → Name → (Call → Type 0) → PullInfo → Tree → Tree → Type 0
+IsOldOrTarget most moment n refused t old new =
     (new.names n ≡ old.names n)
-    ⊎ (StandsAs (Some t.target) (new.names n)
-    ⊎ (((is_copy_due most t.base t.target ≡ true) ⊎ AreUnlike (standing_of t.base) (standing_of (Some t.target))) × (new.names n ≡ None)))
+    ⊎ (StandsAs (Some t.target) (new.names n) ⊎ (MayBeEmpty most moment n refused t × (new.names n ≡ None)))
 
 -- the name of the copy is not safe, or something is there
 abbrev pub HasNoPlace : Name → Tree → Type 0
@@ -135,7 +139,7 @@ pub record Pulls (most : ℤ) (moment : ℕ) (n : Name) (keeps counted dropped :
   pub done : keeps → IfDone result (IsPulled most moment n t before after)
   pub reasons : FailsFor (PullFails most moment n keeps counted t before after) result
   pub kept : keeps → IsNameKept result n before after
-  pub left : keeps → IsOldOrTarget most n t before after
+  pub left : keeps → IsOldOrTarget most moment n refused t before after
   pub saved : keeps → is_copy_due most t.base t.target ≡ true → IsThereOrCopied n (copy_name n moment t.base) before after
   pub temporary : IfFile (standing_of (Some t.target)) (IsTakenOrDropped result (keeps → after.temps n ≡ None) dropped) (keeps → after.temps ≡ before.temps)
   pub alone : keeps → ChangesAndTrims most moment n refused t result before after

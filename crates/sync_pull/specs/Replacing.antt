@@ -1,9 +1,11 @@
 -- A file, directory or nothing that is replaced by a target (own rule).
 use Rattle.std.specs.Prelude.{bytes_eq, ◌≡◌, ◌≢◌, ◌⊎◌, ⊤, ℕ, false, Option, Some, None}
+use Rattle.file_store.specs.Asked.{Call}
 use Rattle.file_store.specs.Calls.{HasBadParent, HasEntries}
 use Rattle.file_store.specs.Names.{Name}
 use Rattle.file_store.specs.Trees.{Tree}
 use Rattle.sync_record.specs.Records.{FileRecord}
+use Rattle.sync_pull.specs.Copies.{IsMoveRefused}
 use Rattle.sync_pull.specs.Faults.{IsFaultCounted}
 use Rattle.sync_pull.specs.Putting.{AreUnlike, IsInPlace, IsKeptOrMade, IsTaken, standing_of}
 use Rattle.sync_pull.specs.Standing.{StandsAs}
@@ -97,7 +99,9 @@ CopiedFails keeps copy old new before after ConflictNameTaken = keeps → IsTake
 CopiedFails keeps copy old new before after NotEmpty = keeps → ⊥
 CopiedFails keeps copy old new before after BadParent = keeps → HasBadCopyParent (Due copy) old
 
--- where nothing may be left at the name: a kept file was moved away, or what was there is of another kind than what is wanted
-abbrev pub MayEmpty : CopyPlan → Standing → Standing → Type 0
-MayEmpty NotDue there wanted = AreUnlike there wanted
-MayEmpty (Due copy) there wanted = ⊤
+-- where nothing may be left at the name: a kept file was moved away, and the store refused that or to move it back, or what was there
+-- is of another kind than what is wanted
+abbrev pub MayEmpty : (Call → Type 0) → Name → CopyPlan → Standing → Standing → Type 0
+MayEmpty refused n NotDue there wanted = AreUnlike there wanted
+MayEmpty refused n (Due None) there wanted = ⊥
+MayEmpty refused n (Due (Some copy)) there wanted = IsMoveRefused refused n copy

@@ -1,6 +1,7 @@
 //! The commit of a pull.
 ghost use Rattle.std.specs.Prelude.{◌≡◌, ⊤, None, Some, length, true};
 ghost use Rattle.file_store.specs.Calls.{ChangesTemp};
+ghost use Rattle.sync_pull.specs.Copies.{IsRefused};
 ghost use Rattle.sync_pull.specs.Ends.{Ends, EndsCommit};
 ghost use Rattle.sync_pull.specs.Faults.{CountsFaults, FailsFor};
 ghost use Rattle.sync_pull.specs.Pulled.{IfDone, IfFile, IsDropped, IsNameKept, IsTakenOrDropped};
@@ -63,7 +64,7 @@ pub(crate) fn commit_pull<S: FileStore, W: FolderCalls, G: Gate>(
     ensures reasons { FailsFor (ReplaceFails (S.keeps ≡ true) ticket.base ticket.target plan.now name.now
         (S.tree store.old) (S.tree store.new) (S.fault_count store.old) (S.fault_count store.new)) result }
     ensures left { S.keeps ≡ true → IsLeft
-        (MayEmpty plan.now (standing_of ticket.base) (standing_of (Some ticket.target)))
+        (MayEmpty (IsRefused S.gives) name.now plan.now (standing_of ticket.base) (standing_of (Some ticket.target)))
         (standing_of (Some ticket.target)) (S.tree store.old) name.now (S.tree store.new) }
     ensures temporary { IfFile (standing_of (Some ticket.target))
         (IsTakenOrDropped result (S.keeps ≡ true → (S.tree store.new).temps name.now ≡ None)
@@ -115,7 +116,7 @@ fn replace_and_finish<S: FileStore, W: FolderCalls, G: Gate>(
     ensures reasons { FailsFor (ReplaceFails (S.keeps ≡ true) commit.base commit.target plan.now name.now
         (S.tree store.old) (S.tree store.new) (S.fault_count store.old) (S.fault_count store.new)) result }
     ensures left { S.keeps ≡ true → IsLeft
-        (MayEmpty plan.now (standing_of commit.base) (standing_of (Some commit.target)))
+        (MayEmpty (IsRefused S.gives) name.now plan.now (standing_of commit.base) (standing_of (Some commit.target)))
         (standing_of (Some commit.target)) (S.tree store.old) name.now (S.tree store.new) }
     ensures temporary { IfFile (standing_of (Some commit.target))
         (IsTakenOrDropped result (S.keeps ≡ true → (S.tree store.new).temps name.now ≡ None)

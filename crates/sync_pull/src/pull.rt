@@ -151,7 +151,7 @@ fn pull_begun<S: FileStore, W: FolderCalls, B: BlockSource, G: Gate>(
     ensures reasons { FailsFor (PullFails max_conflicts moment name.now (S.keeps ≡ true)
         (IsFaultCounted (S.fault_count store.old) (S.fault_count store.new)) ticket
         (S.tree store.old) (S.tree store.new)) result }
-    ensures left { S.keeps ≡ true → IsOldOrTarget max_conflicts name.now ticket
+    ensures left { S.keeps ≡ true → IsOldOrTarget max_conflicts moment name.now (IsRefused S.gives) ticket
         (S.tree store.old) (S.tree store.new) }
     ensures temporary { IfFile (standing_of (Some ticket.target))
         (IsTakenOrDropped result (S.keeps ≡ true → (S.tree store.new).temps name.now ≡ None)

@@ -1,6 +1,7 @@
 //! What is done to the store once a commit was entered.
-ghost use Rattle.std.specs.Prelude.{◌≡◌, ⊤, IfErr, IfOk, Some, length, option_copied, true};
+ghost use Rattle.std.specs.Prelude.{◌≡◌, IfErr, IfOk, Some, length, option_copied, true};
 ghost use Rattle.file_store.specs.Trees.{IsTree};
+ghost use Rattle.sync_pull.specs.Copies.{IsRefused};
 ghost use Rattle.sync_pull.specs.Faults.{StopsFor};
 ghost use Rattle.sync_pull.specs.Putting.{AreTempsKept, IsInPlace, IsLeft, IsStanding, IsTempTaken, standing_of};
 ghost use Rattle.sync_pull.specs.Replacing.{ChangesAlone, CopiedFails, IsCopyKept, IsOfFile, IsReplaced, IsSaved, IsUntouched, MayEmpty, ReplaceFails};
@@ -46,7 +47,8 @@ pub(crate) fn replace<S: FileStore, G: Gate>(
         target.now plan.now name.now (S.tree store.old) (S.tree store.new) (S.fault_count store.old)
         (S.fault_count store.new))) }
     ensures left { S.keeps ≡ true → IfErr result (λ _.
-        IsLeft (MayEmpty plan.now (standing_of (option_copied base.entry)) (standing_of (Some target.now)))
+        IsLeft (MayEmpty (IsRefused S.gives) name.now plan.now (standing_of (option_copied base.entry))
+        (standing_of (Some target.now)))
         (standing_of (Some target.now)) (S.tree store.old) name.now (S.tree store.new)) }
     ensures taken { S.keeps ≡ true → IfOk result (λ _.
         IsTempTaken (standing_of (Some target.now)) name.now (S.tree store.new)) }
@@ -89,7 +91,8 @@ fn replace_copied<S: FileStore, G: Gate>(
         copy.now (S.tree store.old) (S.tree store.new) (S.fault_count store.old)
         (S.fault_count store.new))) }
     ensures left { S.keeps ≡ true → IsStanding File ((S.tree store.old).names name.now)
-        → IfErr result (λ _. IsLeft ⊤ wanted (S.tree store.old) name.now (S.tree store.new)) }
+        → IfErr result (λ _. IsLeft
+        (MayEmpty (IsRefused S.gives) name.now (Due copy.now) File wanted) wanted (S.tree store.old) name.now (S.tree store.new)) }
     ensures taken { S.keeps ≡ true → IfOk result (λ _. IsTempTaken wanted name.now (S.tree store.new)) }
     ensures temps { S.keeps ≡ true → AreTempsKept wanted (S.tree store.old) (S.tree store.new) }
     ensures alone { S.keeps ≡ true →

@@ -1,6 +1,7 @@
 use Rattle.std.proofs.Common.{◌≡◌, true, Option, Some, ap, subst, sym}
 use Rattle.folder_core.specs.declared.change.Change.TheVariants.{Abort}
 use Rattle.sync_record.specs.Records.{FileRecord}
+use Rattle.sync_pull.specs.Copies.{IsRefused}
 use Rattle.sync_pull.specs.Ends.{Closes}
 use Rattle.sync_pull.specs.Faults.{StopsFor}
 use Rattle.sync_pull.specs.Pulled.{IfFile, IsDropped}
@@ -39,7 +40,7 @@ returns-in-Err-clause-reasons g c =
 
 pub returns-in-Err-clause-left : goal.returns-in-Err-clause-left
 returns-in-Err-clause-left g c = λ keeps.
-    let left = λ (b : Option FileRecord) (t : FileRecord). IsLeft (MayEmpty c.args.plan.now (standing_of b) (standing_of (Some t))) (standing_of (Some t)) (g.S.FileStore.tree c.args.store.now) c.args.name.now in
+    let left = λ (b : Option FileRecord) (t : FileRecord). IsLeft (MayEmpty (IsRefused g.S.FileStore.gives) c.args.name.now c.args.plan.now (standing_of b) (standing_of (Some t))) (standing_of (Some t)) (g.S.FileStore.tree c.args.store.now) c.args.name.now in
     left-on _ _ _ c.args.name.now (g.S.FileStore.tree c.replace.new.store) _ (ap (λ f. f c.args.name.now) (c.drop_temp.ensures.temp keeps).names)
     (of-both (λ b t. left b t (g.S.FileStore.tree c.replace.new.store)) _ c.args.commit.base _ c.args.commit.target (sym c.base-base.ensures) (sym c.target.ensures) (c.in-Err.ensures.left keeps))
 

@@ -132,8 +132,8 @@ returns-in-Ok-clause-left g c = λ keeps.
     let new = g.S.FileStore.tree c.trim_copies.new.store in
     let stays = after-stay (IsRefused g.S.FileStore.gives) c.args.max_conflicts c.args.moment n t.base t.target c.in-Ok.plan placed new c.conflict_names_are_of_copies.ensures.other
     c.in-Ok.ensures.planned c.commit_pull-answer.result (g.S.FileStore.keeps ≡ true) (c.trim_copies.new.store ≡ c.commit_pull-answer.new.store) keeps (ap g.S.FileStore.tree) c.trim_copies.ensures in
-    old-or-target-on c.args.max_conflicts n t old placed new stays.name
-    (left-pulled c.args.max_conflicts c.args.moment n t c.in-Ok.plan old (g.S.FileStore.tree c.prepare.new.store) placed c.in-Ok.ensures.planned (c.prepare.ensures.temp keeps).name
+    old-or-target-on c.args.max_conflicts c.args.moment n (IsRefused g.S.FileStore.gives) t old placed new stays.name
+    (left-pulled c.args.max_conflicts c.args.moment n (IsRefused g.S.FileStore.gives) t c.in-Ok.plan old (g.S.FileStore.tree c.prepare.new.store) placed c.in-Ok.ensures.planned (c.prepare.ensures.temp keeps).name
     (c.in-Ok.ensures.ready keeps) (c.commit_pull-answer.ensures.left keeps))
 
 pub returns-in-Ok-clause-temporary : goal.returns-in-Ok-clause-temporary
