@@ -1,12 +1,13 @@
 //! Workers of a folder and what they answer: a line of standard input is a command, and its answer a line of standard output.
 //! `tools/worker_runs` compares the answers with those that the rules give.
 //!
-//! `worker_calls mem lone` has a store in memory and a folder for one caller, `member` in place of `lone` a worker of a shared folder, and
-//! `dir FOLDER` in place of `mem` a store in a folder of a disk; a number at the end limits the history of the folder. This device has the short id 9, any other one is named by its short
-//! id; a VERSION is `ID:COUNTER`, with `+` between several, or `-` for none. CONTENT is `text:TEXT`, or `zeros:SIZE` or `noise:SIZE` for so
-//! many bytes. A RECORD is `KIND,NAME,VERSION,TIME` of a `dir`, a symlink (`link`), a deletion (`gone`) or an empty file without its
-//! block (`bare`), or `KIND,NAME,VERSION,TIME,CONTENT` of a `file` or of one that its device cannot give (`invalid`), with its block
-//! size behind another comma where it is not 131,072; the device of the last counter modified it. Calls are counted from 1, the next one.
+//! `worker_calls mem lone` has a store in memory and a folder for one caller; `member` in place of `lone` has a worker of a shared folder, and
+//! `dir FOLDER` in place of `mem` a store in a folder of a disk. A number at the end limits the history of the folder. This device has the
+//! short id 9, any other one is named by its short id. VERSION is `ID:COUNTER`, with `+` between several, or `-` for none. CONTENT is
+//! `text:TEXT`, or `zeros:SIZE` or `noise:SIZE` for so many bytes. RECORD is `KIND,NAME,VERSION,TIME` of a directory (`dir`), a symlink (`link`), a
+//! deletion (`gone`) or an empty file without its block (`bare`), or `KIND,NAME,VERSION,TIME,CONTENT` of a `file` or of one that its device
+//! cannot give (`invalid`), with its block size behind another comma where it is not 131,072; the device of the last counter modified
+//! it. Calls are counted from 1, the next one.
 //!
 //! | Command | Answer |
 //! |---|---|
