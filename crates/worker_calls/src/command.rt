@@ -30,6 +30,8 @@ pub(crate) enum StoreCommand {
     Edit(Edit),
     /// Just before a call from now on, where 1 is the next.
     EditAt(u64, Edit),
+    /// The program waits for a line just before a call from now on, where 1 is the next.
+    Pause(u64),
     /// The call from now on fails, where 1 is the next.
     Fail(u64, FailureTime),
     /// Each read of the store gives so many bytes at most.
@@ -113,6 +115,7 @@ fn parse_store_command(alloc: Global, words: &[&str]) -> Result<Option<StoreComm
         ["calls"] => StoreCommand::Calls,
         ["watch"] => StoreCommand::Watch,
         ["steps"] => StoreCommand::Steps,
+        ["pause", call] => StoreCommand::Pause(number(call)?),
         ["fail", "before", call] => StoreCommand::Fail(number(call)?, FailureTime::Before),
         ["fail", "after", call] => StoreCommand::Fail(number(call)?, FailureTime::After),
         ["at", call, ref rest @ ..] => match parse_edit(alloc, rest)? {

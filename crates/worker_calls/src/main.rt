@@ -1,17 +1,19 @@
 //! Workers of a folder and what they answer: a line of standard input is a command, and its answer a line of standard output.
 //! `tools/worker_runs` compares the answers with those that the rules give.
 //!
-//! `worker_calls mem lone` has a store in memory and a folder for one caller, `member` in place of `lone` a worker of a shared folder, and
-//! `dir FOLDER` in place of `mem` a store in a folder of a disk. This device has the short id 9, any other one is named by its short
-//! id; a VERSION is `ID:COUNTER`, with `+` between several, or `-` for none. CONTENT is `text:TEXT`, or `zeros:SIZE` or `noise:SIZE` for so
-//! many bytes. A RECORD is `KIND,NAME,VERSION,TIME` of a `dir`, a symlink (`link`), a deletion (`gone`) or an empty file without its
-//! block (`bare`), or `KIND,NAME,VERSION,TIME,CONTENT` of a `file` or of one that its device cannot give (`invalid`), with its block
-//! size behind another comma where it is not 131,072. Calls are counted from 1, the next one.
+//! `worker_calls mem lone` has a store in memory and a folder for one caller; `member` in place of `lone` has a worker of a shared folder, and
+//! `dir FOLDER` in place of `mem` a store in a folder of a disk. A number at the end limits the history of the folder. This device has the
+//! short id 9, any other one is named by its short id. VERSION is `ID:COUNTER`, with `+` between several, or `-` for none. CONTENT is
+//! `text:TEXT`, or `zeros:SIZE` or `noise:SIZE` for so many bytes. RECORD is `KIND,NAME,VERSION,TIME` of a directory (`dir`), a symlink (`link`), a
+//! deletion (`gone`) or an empty file without its block (`bare`), or `KIND,NAME,VERSION,TIME,CONTENT` of a `file` or of one that its device
+//! cannot give (`invalid`), with its block size behind another comma where it is not 131,072; the device of the last counter modified
+//! it. Calls are counted from 1, the next one.
 //!
 //! | Command | Answer |
 //! |---|---|
 //! | `put NAME CONTENT`, `move NAME TO`, `remove NAME`, `mkdir NAME`, `rmdir NAME`: what a user does | `ok`, or the fault |
 //! | `at CALL` and one of these: it is done just before that call of the store | `ok` |
+//! | `pause CALL`: just before that call of the store the answer is `paused`; the rest comes after a line that is sent then | `ok` |
 //! | `fail before CALL`, `fail after CALL`: that call of the store fails | `ok` |
 //! | `pieces SIZE`: each read of the store by a worker gives so many bytes at most | `ok` |
 //! | `show NAME` | `missing`, `directory`, `other`, or `file SIZE` and the first 64 bytes |
@@ -75,7 +77,7 @@ use steps::Steps;
 use sync_pull::MaxConflicts;
 use sync_version::Moment;
 
-/// How many entries the folder's history takes.
+/// How many entries the folder's history takes where the command line does not say.
 const HISTORY_LIMIT: u64 = 1_000_000;
 
 /// The short id of this device.
@@ -84,9 +86,14 @@ const ME: u64 = 9;
 fn main(rt: HostRuntime) -> io::Result<()> {
     let words = env::args(&rt)?.collect::<Vec<String>>(rt.alloc())?;
     match word(&words, 1) {
-        "mem" => serve(&rt, MemStore::new(rt.alloc()), word(&words, 2)),
+        "mem" => serve(
+            &rt,
+            MemStore::new(rt.alloc()),
+            word(&words, 2),
+            word(&words, 3),
+        ),
         "dir" => match DirStore::open(&rt, rt.alloc(), word(&words, 2)) {
-            Ok(store) => serve(&rt, store, word(&words, 3)),
+            Ok(store) => serve(&rt, store, word(&words, 3), word(&words, 4)),
             Err(refusal) => show::print_refusal(&rt, refusal),
         },
         _ => usage(&rt),
@@ -102,23 +109,25 @@ fn word(words: &[String], index: usize) -> &str {
 }
 
 fn usage(rt: &impl Print) -> io::Result<()> {
-    println!(rt; "error: worker_calls mem|dir FOLDER lone|member")
+    println!(rt; "error: worker_calls mem|dir FOLDER lone|member [LIMIT]")
 }
 
 /// Answers the commands over a store.
-fn serve<S: FileStore + Drop>(
-    rt: &(impl Input + Print + AllocGlobal + Threads + Wait + Sync),
+fn serve<S: FileStore + Drop, R: Input + Print + AllocGlobal + Threads + Wait + Sync>(
+    rt: &R,
     store: S,
     keeper: &str,
+    limit: &str,
 ) -> io::Result<()> {
     let steps = Steps::new(rt.alloc());
     let (Some(moment), Some(most)) = (Moment::new(0), MaxConflicts::new(MaxConflicts::ANY)) else {
         return Ok(());
     };
-    let mut session = Session::new(rt.alloc(), store, &steps, moment, most);
+    let mut session = Session::new(rt, store, &steps, moment, most);
+    let limit = limit.parse::<u64>().unwrap_or(HISTORY_LIMIT);
     match keeper {
-        "lone" => serve_lone(rt, &mut session),
-        "member" => serve_member(rt, &mut session),
+        "lone" => serve_lone(rt, &mut session, limit),
+        "member" => serve_member(rt, &mut session, limit),
         _ => usage(rt),
     }
 }
@@ -129,15 +138,16 @@ fn empty_folder(alloc: Global) -> PlainFolder {
 }
 
 /// Answers the commands over a folder with one caller, which takes plans.
-fn serve_lone<S: FileStore>(
-    rt: &(impl Input + Print + AllocGlobal + Threads + Sync),
-    session: &mut Session<S>,
+fn serve_lone<S: FileStore, R: Input + Print + AllocGlobal + Threads + Sync>(
+    rt: &R,
+    session: &mut Session<S, R>,
+    limit: u64,
 ) -> io::Result<()> {
     let folder = empty_folder(rt.alloc());
     if folder.counts().pulls != 0 {
         return Ok(());
     }
-    let Ok(calls) = Lone::open(rt.alloc(), folder, HISTORY_LIMIT) else {
+    let Ok(calls) = Lone::open(rt.alloc(), folder, limit) else {
         return show::print_out_of_memory(rt);
     };
     let steps = session.steps;
@@ -154,15 +164,16 @@ fn serve_lone<S: FileStore>(
 }
 
 /// Answers the commands over a shared folder.
-fn serve_member<S: FileStore>(
-    rt: &(impl Input + Print + AllocGlobal + Threads + Wait + Sync),
-    session: &mut Session<S>,
+fn serve_member<S: FileStore, R: Input + Print + AllocGlobal + Threads + Wait + Sync>(
+    rt: &R,
+    session: &mut Session<S, R>,
+    limit: u64,
 ) -> io::Result<()> {
     let folder = empty_folder(rt.alloc());
     if folder.counts().pulls != 0 {
         return Ok(());
     }
-    let Ok(folder) = SharedFolder::open(rt, rt.alloc(), folder, HISTORY_LIMIT) else {
+    let Ok(folder) = SharedFolder::open(rt, rt.alloc(), folder, limit) else {
         return show::print_out_of_memory(rt);
     };
     let Ok(pass) = folder.pass(rt) else {
@@ -179,9 +190,9 @@ fn serve_member<S: FileStore>(
 }
 
 /// Answers a line.
-fn answer<S: FileStore, W: FolderCalls>(
+fn answer<S: FileStore, R: Input + Print + AllocGlobal, W: FolderCalls>(
     rt: &(impl Print + AllocGlobal + Threads + Sync),
-    session: &mut Session<S>,
+    session: &mut Session<S, R>,
     calls: &mut Noted<W>,
     command: Result<Command, LineFault>,
 ) -> io::Result<()> {

@@ -10,9 +10,9 @@ use sync_names::SafeName;
 /// The most bytes of a file that are shown.
 const SHOWN: usize = 64;
 
-pub(crate) fn answer_store<S: FileStore>(
+pub(crate) fn answer_store<S: FileStore, R>(
     rt: &(impl Print + AllocGlobal),
-    store: &mut Watched<S>,
+    store: &mut Watched<S, R>,
     steps: &Steps,
     command: StoreCommand,
 ) -> io::Result<()> {
@@ -20,6 +20,10 @@ pub(crate) fn answer_store<S: FileStore>(
         StoreCommand::Edit(edit) => print_done(rt, edit.make(&mut store.inner)),
         StoreCommand::EditAt(call, edit) => {
             store.edit(call.saturating_sub(1), edit);
+            println!(rt; "ok")
+        }
+        StoreCommand::Pause(call) => {
+            store.pause(call.saturating_sub(1));
             println!(rt; "ok")
         }
         StoreCommand::Fail(call, time) => {

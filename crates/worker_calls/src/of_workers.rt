@@ -35,9 +35,9 @@ impl Progress for Hashed {
     fn scanned(&mut self, _names: u64, _listed: u64) {}
 }
 
-pub(crate) fn answer_setting<S>(
+pub(crate) fn answer_setting<S, R: AllocGlobal>(
     rt: &impl Print,
-    session: &mut Session<S>,
+    session: &mut Session<S, R>,
     setting: Setting,
 ) -> io::Result<()> {
     match setting {
@@ -50,9 +50,9 @@ pub(crate) fn answer_setting<S>(
     println!(rt; "ok")
 }
 
-pub(crate) fn answer_work<S: FileStore, W: FolderCalls>(
+pub(crate) fn answer_work<S: FileStore, R: Input + Print + AllocGlobal, W: FolderCalls>(
     rt: &(impl Print + AllocGlobal + Threads + Sync),
-    session: &mut Session<S>,
+    session: &mut Session<S, R>,
     calls: &mut Noted<W>,
     work: Work,
 ) -> io::Result<()> {
@@ -85,9 +85,9 @@ fn mark(alloc: Global, which: usize) {
     let _ = Vec::<u8>::with_capacity(alloc, MARK.saturating_add(which));
 }
 
-fn scan_names<S: FileStore, W: FolderCalls>(
+fn scan_names<S: FileStore, R: Input + Print + AllocGlobal, W: FolderCalls>(
     rt: &(impl Print + AllocGlobal + Threads + Sync),
-    session: &mut Session<S>,
+    session: &mut Session<S, R>,
     calls: &mut Noted<W>,
 ) -> io::Result<()> {
     let mut hashed = Hashed { bytes: 0 };
@@ -107,9 +107,9 @@ fn scan_names<S: FileStore, W: FolderCalls>(
     print_sum(rt, &sum, hashed.bytes)
 }
 
-fn scan<S: FileStore, W: FolderCalls>(
+fn scan<S: FileStore, R: Input + Print + AllocGlobal, W: FolderCalls>(
     rt: &(impl Print + AllocGlobal + Threads + Sync),
-    session: &mut Session<S>,
+    session: &mut Session<S, R>,
     calls: &mut Noted<W>,
     name: &SafeName,
 ) -> io::Result<()> {
@@ -129,9 +129,9 @@ fn scan<S: FileStore, W: FolderCalls>(
     print_scanned(rt, &scanned)
 }
 
-fn give_page<S: FileStore, W: FolderCalls>(
+fn give_page<S: FileStore, R: Input + Print + AllocGlobal, W: FolderCalls>(
     rt: &(impl Print + AllocGlobal),
-    session: &mut Session<S>,
+    session: &mut Session<S, R>,
     calls: &mut Noted<W>,
 ) -> io::Result<()> {
     let refused = session.take_refused();
@@ -158,9 +158,9 @@ fn print_page(rt: &impl Print, kind: &str, records: &Items<Record>) -> io::Resul
     Ok(())
 }
 
-fn respond<S: FileStore, W: FolderCalls>(
+fn respond<S: FileStore, R: Input + Print + AllocGlobal, W: FolderCalls>(
     alloc: Global,
-    session: &mut Session<S>,
+    session: &mut Session<S, R>,
     calls: &mut Noted<W>,
     request: &Request,
 ) -> Result<Response, AllocError> {
@@ -173,9 +173,9 @@ fn respond<S: FileStore, W: FolderCalls>(
 }
 
 /// Answers a Request that is given by its bytes, by those of the Response.
-fn answer_bytes<S: FileStore, W: FolderCalls>(
+fn answer_bytes<S: FileStore, R: Input + Print + AllocGlobal, W: FolderCalls>(
     rt: &(impl Print + AllocGlobal),
-    session: &mut Session<S>,
+    session: &mut Session<S, R>,
     calls: &mut Noted<W>,
     bytes: &[u8],
 ) -> io::Result<()> {
@@ -194,9 +194,9 @@ fn answer_bytes<S: FileStore, W: FolderCalls>(
 }
 
 /// Answers a Request by the code of the Response, the number of its bytes and their digest.
-fn answer_request<S: FileStore, W: FolderCalls>(
+fn answer_request<S: FileStore, R: Input + Print + AllocGlobal, W: FolderCalls>(
     rt: &(impl Print + AllocGlobal),
-    session: &mut Session<S>,
+    session: &mut Session<S, R>,
     calls: &mut Noted<W>,
     request: &Request,
 ) -> io::Result<()> {
@@ -209,9 +209,9 @@ fn answer_request<S: FileStore, W: FolderCalls>(
     println!(rt; "code {} bytes {} {digest}", response.code, bytes.len())
 }
 
-fn pull<S: FileStore, W: FolderCalls>(
+fn pull<S: FileStore, R: Input + Print + AllocGlobal, W: FolderCalls>(
     rt: &(impl Print + AllocGlobal),
-    session: &mut Session<S>,
+    session: &mut Session<S, R>,
     calls: &mut Noted<W>,
     name: &SafeName,
 ) -> io::Result<()> {

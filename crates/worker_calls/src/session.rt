@@ -3,14 +3,13 @@ use crate::source::Devices;
 use crate::steps::{NotingGate, Steps};
 use crate::watched::Watched;
 use index_sender::IndexSender;
-use std::alloc::Global;
 use sync_pull::MaxConflicts;
 use sync_version::Moment;
 
 /// What a script works with, besides the folder.
 #[derive(Drop)]
-pub(crate) struct Session<'a, S> {
-    pub(crate) store: Watched<'a, S>,
+pub(crate) struct Session<'a, S, R> {
+    pub(crate) store: Watched<'a, S, R>,
     pub(crate) steps: &'a Steps,
     pub(crate) source: Devices,
     pub(crate) sender: IndexSender,
@@ -20,19 +19,19 @@ pub(crate) struct Session<'a, S> {
     pub(crate) refused: u64,
 }
 
-impl<'a, S> Session<'a, S> {
+impl<'a, S, R: AllocGlobal> Session<'a, S, R> {
     /// At a moment, with a limit of conflict copies.
     pub(crate) fn new(
-        alloc: Global,
+        rt: &'a R,
         store: S,
         steps: &'a Steps,
         moment: Moment,
         max_conflicts: MaxConflicts,
-    ) -> Session<'a, S> {
+    ) -> Session<'a, S, R> {
         Session {
-            store: Watched::new(store, steps),
+            store: Watched::new(rt, store, steps),
             steps,
-            source: Devices::new(alloc),
+            source: Devices::new(rt.alloc()),
             sender: IndexSender::new(None),
             moment,
             max_conflicts,

@@ -18,24 +18,28 @@ struct Due<T> {
 
 /// A store that a script watches and troubles.
 #[derive(Drop)]
-pub(crate) struct Watched<'a, S> {
+pub(crate) struct Watched<'a, S, R> {
+    rt: &'a R,
     pub(crate) inner: S,
     steps: &'a Steps,
     calls: u64,
     failure: Option<Due<FailureTime>>,
     edit: Option<Due<Edit>>,
+    pause: Option<Due<()>>,
     most: usize,
     faults: u64,
 }
 
-impl<'a, S> Watched<'a, S> {
-    pub(crate) fn new(inner: S, steps: &'a Steps) -> Watched<'a, S> {
+impl<'a, S, R> Watched<'a, S, R> {
+    pub(crate) fn new(rt: &'a R, inner: S, steps: &'a Steps) -> Watched<'a, S, R> {
         Watched {
+            rt,
             inner,
             steps,
             calls: 0,
             failure: None,
             edit: None,
+            pause: None,
             most: usize::MAX,
             faults: 0,
         }
@@ -51,6 +55,11 @@ impl<'a, S> Watched<'a, S> {
         self.edit = Some(Due { left, what: edit });
     }
 
+    /// Has the program wait for a line before the call after `left` others.
+    pub(crate) fn pause(&mut self, left: u64) {
+        self.pause = Some(Due { left, what: () });
+    }
+
     /// Has each read give no more than so many bytes, and at least one where there is one.
     pub(crate) fn give_pieces(&mut self, most: usize) {
         self.most = most.max(1);
@@ -62,22 +71,32 @@ impl<'a, S> Watched<'a, S> {
         self.calls = 0;
         self.failure = None;
         self.edit = None;
+        self.pause = None;
         calls
     }
 }
 
-impl<S: FileStore> Watched<'_, S> {
-    // What comes before a call: the change that is due is made. Returns when the call fails, if it does.
+impl<S: FileStore, R: Input + Print + AllocGlobal> Watched<'_, S, R> {
+    // What comes before a call: the line is waited for, or the change made, that is due. Returns when the call fails, if it does.
     fn begin(&mut self, name: &'static str) -> Option<FailureTime>
         ensures { self.new.faults ≡ self.old.faults }
     {
         self.steps.note(name);
         self.calls = self.calls.saturating_add(1);
+        if take_due(&mut self.pause).is_some() {
+            wait(self.rt);
+        }
         if let Some(edit) = take_due(&mut self.edit) {
             let _ = edit.make(&mut self.inner);
         }
         take_due(&mut self.failure)
     }
+}
+
+// Says that a call waits, until a line comes.
+fn wait(rt: &(impl Input + Print + AllocGlobal)) {
+    let _ = println!(rt; "paused");
+    let _ = rt.lines(rt.alloc()).next();
 }
 
 // What is due now, if anything is. Counts the call.
@@ -122,7 +141,7 @@ fn settle<T: Drop>(
     }
 }
 
-impl<S: FileStore> FileStore for Watched<'_, S> {
+impl<S: FileStore, R: Input + Print + AllocGlobal> FileStore for Watched<'_, S, R> {
     ghost keeps = { false };
 
     ghost fails = { λ _. ⊤ };
