@@ -215,7 +215,8 @@ pub fn pull_name<S: FileStore, W: FolderCalls, B: BlockSource, G: Gate>(
     ensures comes { Comes max_conflicts moment name.now (S.keeps ≡ true)
         (IsFaultCounted (S.fault_count store.old) (S.fault_count store.new))
         (IsDropped S.gives (S.keeps ≡ true) name.now (S.tree store.new).temps store.new)
-        (IsRefused S.gives) result (W.view calls.old) (S.tree store.old) (W.view calls.new) (S.tree store.new) }
+        (IsRefused S.gives) result (W.view calls.old) (S.tree store.old) (W.view calls.new)
+        (S.tree store.new) }
 {
     gate.at(GatePlace::FolderCall);
     let begun = match calls.begin_pull(name) {
