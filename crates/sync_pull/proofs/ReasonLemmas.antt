@@ -13,7 +13,7 @@ use Rattle.sync_pull.specs.Faults.{CountsFaults, IsFaultCounted, StopCounts, Sto
 use Rattle.sync_pull.specs.Copies.{IsMoveRefused}
 use Rattle.sync_pull.specs.Plans.{IsPlanned, copy_name}
 use Rattle.sync_pull.specs.Pulled.{HasNoPlace, IfFile, IsOldOrTarget, MayBeEmpty, PullFails}
-use Rattle.sync_pull.specs.Putting.{AreTempsKept, AreUnlike, IsLeft, WritesTempAlone, standing_of}
+use Rattle.sync_pull.specs.Putting.{AreTempsKept, IsLeft, WritesTempAlone, standing_of}
 use Rattle.sync_pull.specs.Replacing.{HasBadCopyParent, IsCopyTaken, IsDue, MayEmpty, ReplaceFails}
 use Rattle.sync_pull.specs.Standing.{IsReadyAs, StandsAs}
 use Rattle.sync_pull.specs.declared.answer.PullFailure.{PullFailure}

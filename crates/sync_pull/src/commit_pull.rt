@@ -61,10 +61,12 @@ pub(crate) fn commit_pull<S: FileStore, W: FolderCalls, G: Gate>(
         IsNameKept result name.now (S.tree store.old) (S.tree store.new) }
     ensures saved { S.keeps ≡ true →
         IsSaved plan.now (S.tree store.old) name.now (S.tree store.new) }
-    ensures reasons { FailsFor (ReplaceFails (S.keeps ≡ true) ticket.base ticket.target plan.now name.now
-        (S.tree store.old) (S.tree store.new) (S.fault_count store.old) (S.fault_count store.new)) result }
+    ensures reasons { FailsFor (ReplaceFails (S.keeps ≡ true) ticket.base ticket.target plan.now
+        name.now (S.tree store.old) (S.tree store.new) (S.fault_count store.old)
+        (S.fault_count store.new)) result }
     ensures left { S.keeps ≡ true → IsLeft
-        (MayEmpty (IsRefused S.gives) name.now plan.now (standing_of ticket.base) (standing_of (Some ticket.target)))
+        (MayEmpty (IsRefused S.gives) name.now plan.now (standing_of ticket.base)
+        (standing_of (Some ticket.target)))
         (standing_of (Some ticket.target)) (S.tree store.old) name.now (S.tree store.new) }
     ensures temporary { IfFile (standing_of (Some ticket.target))
         (IsTakenOrDropped result (S.keeps ≡ true → (S.tree store.new).temps name.now ≡ None)
@@ -113,10 +115,12 @@ fn replace_and_finish<S: FileStore, W: FolderCalls, G: Gate>(
         IsNameKept result name.now (S.tree store.old) (S.tree store.new) }
     ensures saved { S.keeps ≡ true →
         IsSaved plan.now (S.tree store.old) name.now (S.tree store.new) }
-    ensures reasons { FailsFor (ReplaceFails (S.keeps ≡ true) commit.base commit.target plan.now name.now
-        (S.tree store.old) (S.tree store.new) (S.fault_count store.old) (S.fault_count store.new)) result }
+    ensures reasons { FailsFor (ReplaceFails (S.keeps ≡ true) commit.base commit.target plan.now
+        name.now (S.tree store.old) (S.tree store.new) (S.fault_count store.old)
+        (S.fault_count store.new)) result }
     ensures left { S.keeps ≡ true → IsLeft
-        (MayEmpty (IsRefused S.gives) name.now plan.now (standing_of commit.base) (standing_of (Some commit.target)))
+        (MayEmpty (IsRefused S.gives) name.now plan.now (standing_of commit.base)
+        (standing_of (Some commit.target)))
         (standing_of (Some commit.target)) (S.tree store.old) name.now (S.tree store.new) }
     ensures temporary { IfFile (standing_of (Some commit.target))
         (IsTakenOrDropped result (S.keeps ≡ true → (S.tree store.new).temps name.now ≡ None)

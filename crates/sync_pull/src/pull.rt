@@ -193,9 +193,13 @@ fn pull_begun<S: FileStore, W: FolderCalls, B: BlockSource, G: Gate>(
 /// not be finished is given up or aborted, and the temporary file dropped; after that no pull that this call began is open, unless the
 /// answer is `Refused(Stray)`.
 ///
+/// After a pull that is done and made a conflict copy, older ones are removed, the least by their bytes first, until with the new one at
+/// most `max_conflicts` are left; where the store refuses that, the answer is `Done` all the same.
+///
 /// The gate is passed before each read of the store, each digest and each call of the folder. After the commit was entered only calls
 /// of the store may allocate. A file whose blocks are at hand is read once and written once, and the file that is replaced is
-/// read once. O(n) time for n bytes, and memory for the greatest block of each of the two files.
+/// read once; a listing of the store is read where older copies may have to be removed. O(n) time for n bytes, and memory for the
+/// greatest block of each of the two files.
 pub fn pull_name<S: FileStore, W: FolderCalls, B: BlockSource, G: Gate>(
     alloc: Global,
     store: &mut S,
@@ -211,7 +215,8 @@ pub fn pull_name<S: FileStore, W: FolderCalls, B: BlockSource, G: Gate>(
     ensures comes { Comes max_conflicts moment name.now (S.keeps ≡ true)
         (IsFaultCounted (S.fault_count store.old) (S.fault_count store.new))
         (IsDropped S.gives (S.keeps ≡ true) name.now (S.tree store.new).temps store.new)
-        (IsRefused S.gives) result (W.view calls.old) (S.tree store.old) (W.view calls.new) (S.tree store.new) }
+        (IsRefused S.gives) result (W.view calls.old) (S.tree store.old) (W.view calls.new)
+        (S.tree store.new) }
 {
     gate.at(GatePlace::FolderCall);
     let begun = match calls.begin_pull(name) {

@@ -92,8 +92,10 @@ fn replace_copied<S: FileStore, G: Gate>(
         (S.fault_count store.new))) }
     ensures left { S.keeps ≡ true → IsStanding File ((S.tree store.old).names name.now)
         → IfErr result (λ _. IsLeft
-        (MayEmpty (IsRefused S.gives) name.now (Due copy.now) File wanted) wanted (S.tree store.old) name.now (S.tree store.new)) }
-    ensures taken { S.keeps ≡ true → IfOk result (λ _. IsTempTaken wanted name.now (S.tree store.new)) }
+        (MayEmpty (IsRefused S.gives) name.now (Due copy.now) File wanted) wanted
+        (S.tree store.old) name.now (S.tree store.new)) }
+    ensures taken { S.keeps ≡ true →
+        IfOk result (λ _. IsTempTaken wanted name.now (S.tree store.new)) }
     ensures temps { S.keeps ≡ true → AreTempsKept wanted (S.tree store.old) (S.tree store.new) }
     ensures alone { S.keeps ≡ true →
         ChangesAlone name.now (Due copy.now) (S.tree store.old) (S.tree store.new) }
