@@ -31,7 +31,7 @@ FailsFor why Superseded = ⊤
 FailsFor why (Refused refusal) = ⊤
 FailsFor why (Failed failure) = why failure
 
--- What stops the fetching of blocks: a fault that is counted, want of memory, or, if these may be, want of a source, or a parent of
+-- What stops the fetching of blocks: a fault that is counted, out of memory, or, if these may be, no source, or a parent of
 -- the name that is a file.
 abbrev pub StopCounts : Type 0 → Type 0 → Stop → ℕ → ℕ → Type 0
 StopCounts source parent stop.OutOfMemory before after = after ≡ before
