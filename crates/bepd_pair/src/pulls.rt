@@ -1,0 +1,118 @@
+//! Rounds of pulls.
+use crate::link::Link;
+use crate::output::{Output, Refused};
+use crate::peer::Peer;
+use bep_session::Session;
+use file_store::OpenGate;
+use folder_calls::FolderCalls;
+use std::alloc::{AllocError, Global};
+use sync_names::SafeName;
+use sync_pull::{PullAnswer, pull_name};
+use sync_version::Moment;
+
+/// The names that a round pulls: those with a live best, in byte order, and then those with a deleted one, in the reverse
+/// order, so that what is in a directory goes before it.
+#[derive(Drop)]
+struct Round {
+    live: Vec<SafeName>,
+    deleted: Vec<SafeName>,
+}
+
+/// Pulls each needed name once, and tells what it came to.
+pub(crate) fn pull(
+    alloc: Global,
+    peer: &mut Peer,
+    session: &mut Session,
+    other: &mut Peer,
+    other_session: &mut Session,
+    moment: Moment,
+    output: &mut Output,
+) -> Result<(), Refused> {
+    let round = round_of(alloc, peer)?;
+    for name in &round.live {
+        pull_one(
+            alloc,
+            peer,
+            session,
+            other,
+            other_session,
+            name,
+            moment,
+            output,
+        )?;
+    }
+    for name in round.deleted.iter().rev() {
+        pull_one(
+            alloc,
+            peer,
+            session,
+            other,
+            other_session,
+            name,
+            moment,
+            output,
+        )?;
+    }
+    Ok(())
+}
+
+fn round_of(alloc: Global, peer: &mut Peer) -> Result<Round, AllocError> {
+    let needed = peer.calls.need(None, usize::MAX)?.value;
+    let mut live = Vec::new(alloc);
+    let mut deleted = Vec::new(alloc);
+    for name in needed.as_slice() {
+        let is_deleted = match peer.calls.best(name)?.value {
+            Some(best) => best.record.is_deleted(),
+            None => false,
+        };
+        let name = name.copy()?;
+        if is_deleted {
+            deleted.push(name)?;
+        } else {
+            live.push(name)?;
+        }
+    }
+    Ok(Round { live, deleted })
+}
+
+fn pull_one(
+    alloc: Global,
+    peer: &mut Peer,
+    session: &mut Session,
+    other: &mut Peer,
+    other_session: &mut Session,
+    name: &SafeName,
+    moment: Moment,
+    output: &mut Output,
+) -> Result<(), AllocError> {
+    let answer = answer_of(alloc, peer, session, other, other_session, name, moment);
+    output.push_pull(peer.side, answer, name)
+}
+
+fn answer_of(
+    alloc: Global,
+    peer: &mut Peer,
+    session: &mut Session,
+    other: &mut Peer,
+    other_session: &mut Session,
+    name: &SafeName,
+    moment: Moment,
+) -> PullAnswer {
+    let mut link = Link {
+        alloc,
+        session,
+        other,
+        other_session,
+        moment,
+    };
+    pull_name(
+        alloc,
+        &mut peer.store,
+        &mut peer.calls,
+        &mut link,
+        &OpenGate,
+        name,
+        moment,
+        peer.most,
+    )
+}
