@@ -4,7 +4,7 @@ use crate::{Disk, empty_folder, epoch, failed, open, tell};
 use file_store::OpenGate;
 use folder_calls::{FolderCalls, Lone};
 use folder_core::PlainFolder;
-use std::alloc::{AllocError, Global};
+use std::alloc::AllocError;
 use std::io;
 use std::rt::{Clock, Files};
 use std::thread::Threads;
@@ -24,7 +24,7 @@ pub fn measure<R: AllocGlobal + Print + Eprint + Clock + Files + Threads + Sync>
     let mut source = announced(rt, from, &mut calls)?;
     let mut store = open(rt, rt.alloc(), to)?;
     let start = Instant::now(rt)?;
-    let done = pull_all(rt.alloc(), &mut store, &mut calls, &mut source)?;
+    let done = pull_all(rt, &mut store, &mut calls, &mut source)?;
     tell(rt, "pull", start)?;
     println!(rt; "pulled {done}")?;
     let _ = calls.close();
@@ -58,8 +58,8 @@ fn announced<R: AllocGlobal + Clock + Files + Threads + Sync>(
 }
 
 /// Pulls the needed names. Returns how many were done.
-fn pull_all<R: Files>(
-    alloc: Global,
+fn pull_all<R: AllocGlobal + Files + Threads + Sync>(
+    rt: &R,
     store: &mut Disk<R>,
     calls: &mut Lone<PlainFolder>,
     source: &mut KeptFiles,
@@ -67,21 +67,31 @@ fn pull_all<R: Files>(
     let names = calls.need(None, usize::MAX)?.value;
     let mut done = 0u64;
     for name in names.as_slice() {
-        if pull_one(alloc, store, calls, source, name) {
+        if pull_one(rt, store, calls, source, name) {
             done = done.saturating_add(1);
         }
     }
     Ok(done)
 }
 
-fn pull_one<R: Files>(
-    alloc: Global,
+fn pull_one<R: AllocGlobal + Files + Threads + Sync>(
+    rt: &R,
     store: &mut Disk<R>,
     calls: &mut Lone<PlainFolder>,
     source: &mut KeptFiles,
     name: &SafeName,
 ) -> bool {
     let most = MaxConflicts::new(-1).unwrap();
-    let answer = pull_name(alloc, store, calls, source, &OpenGate, name, epoch(), most);
+    let answer = pull_name(
+        rt,
+        rt.alloc(),
+        store,
+        calls,
+        source,
+        &OpenGate,
+        name,
+        epoch(),
+        most,
+    );
     matches!(answer, PullAnswer::Done(_))
 }

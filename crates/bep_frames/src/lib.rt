@@ -14,8 +14,6 @@ pub mod laws;
 mod reader;
 mod run;
 mod size;
-#[cfg(test)]
-mod tests;
 mod writing;
 
 pub use fault::{FrameFault, WriteFault};

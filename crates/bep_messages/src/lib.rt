@@ -54,6 +54,3 @@ pub use response::Response;
 pub use text::Text;
 pub use vector::Vector;
 pub use writer::Writer;
-
-#[cfg(test)]
-mod tests;

@@ -13,8 +13,6 @@ mod ids;
 pub mod laws;
 mod pieces;
 mod session;
-#[cfg(test)]
-mod tests;
 mod times;
 
 pub use event::Event;

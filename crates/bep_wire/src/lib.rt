@@ -14,6 +14,3 @@ pub use fault::{FieldsFault, WireFault};
 pub use field::{Field, MAX_FIELD_NUMBER, MAX_VARINT_LEN, Value};
 pub use reading::{next_field, read_fields};
 pub use writing::{put_bytes, put_varint};
-
-#[cfg(test)]
-mod tests;

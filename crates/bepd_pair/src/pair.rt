@@ -294,7 +294,16 @@ fn act<T: Threads + Sync>(
             Ok(())
         }
         Action::Scan => scans::scan(rt, alloc, peer, moment, output),
-        Action::Pull => pulls::pull(alloc, peer, session, other, other_session, moment, output),
+        Action::Pull => pulls::pull(
+            rt,
+            alloc,
+            peer,
+            session,
+            other,
+            other_session,
+            moment,
+            output,
+        ),
         Action::Show => scans::show(alloc, peer, output),
     }
 }

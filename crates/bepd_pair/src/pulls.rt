@@ -6,6 +6,7 @@ use bep_session::Session;
 use file_store::OpenGate;
 use folder_calls::FolderCalls;
 use std::alloc::{AllocError, Global};
+use std::thread::Threads;
 use sync_names::SafeName;
 use sync_pull::{PullAnswer, pull_name};
 use sync_version::Moment;
@@ -19,7 +20,8 @@ struct Round {
 }
 
 /// Pulls each needed name once, and tells what it came to.
-pub(crate) fn pull(
+pub(crate) fn pull<R: Threads + Sync>(
+    rt: &R,
     alloc: Global,
     peer: &mut Peer,
     session: &mut Session,
@@ -31,6 +33,7 @@ pub(crate) fn pull(
     let round = round_of(alloc, peer)?;
     for name in &round.live {
         pull_one(
+            rt,
             alloc,
             peer,
             session,
@@ -43,6 +46,7 @@ pub(crate) fn pull(
     }
     for name in round.deleted.iter().rev() {
         pull_one(
+            rt,
             alloc,
             peer,
             session,
@@ -75,7 +79,8 @@ fn round_of(alloc: Global, peer: &mut Peer) -> Result<Round, AllocError> {
     Ok(Round { live, deleted })
 }
 
-fn pull_one(
+fn pull_one<R: Threads + Sync>(
+    rt: &R,
     alloc: Global,
     peer: &mut Peer,
     session: &mut Session,
@@ -85,11 +90,12 @@ fn pull_one(
     moment: Moment,
     output: &mut Output,
 ) -> Result<(), AllocError> {
-    let answer = answer_of(alloc, peer, session, other, other_session, name, moment);
+    let answer = answer_of(rt, alloc, peer, session, other, other_session, name, moment);
     output.push_pull(peer.side, answer, name)
 }
 
-fn answer_of(
+fn answer_of<R: Threads + Sync>(
+    rt: &R,
     alloc: Global,
     peer: &mut Peer,
     session: &mut Session,
@@ -106,6 +112,7 @@ fn answer_of(
         moment,
     };
     pull_name(
+        rt,
         alloc,
         &mut peer.store,
         &mut peer.calls,

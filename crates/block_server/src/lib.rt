@@ -12,6 +12,3 @@ mod reading;
 pub use answering::answer;
 pub use code::Code;
 pub use part::MAX_PART_SIZE;
-
-#[cfg(test)]
-mod tests;

@@ -7,7 +7,7 @@ use Rattle.file_store.specs.declared.node.Node.TheVariants.{Directory}
 use Rattle.file_store.specs.Contents.{overwritten}
 use Rattle.file_store.specs.Maps.{put_at}
 use Rattle.file_store.specs.Names.{Name, is_parent}
-use Rattle.file_store.specs.Trees.{or_directory, with_parents}
+use Rattle.file_store.specs.Trees.{modified_at, node_modified, or_directory, with_parents}
 use Rattle.file_store.proofs.BetweenLemmas.{same_bytes, same_name}
 use Rattle.file_store.proofs.ParentLemmas.{parent_push, turned}
 
@@ -103,3 +103,17 @@ put_written n f h old w piece offset (Ok u) is put there =
     put ∙ ap (λ m. put_at n (Some m) f) (is ∙ ap (λ o. overwritten (unwrap_or o []) offset piece) (sym there))
 put_written n f h old w piece offset (Err e) is put there =
     put ∙ ap (λ m. put_at n (Some m) f) is ∙ put_same n (Some old) f there
+
+-- a node that is changed in its place
+pub put_modified : (n : Name) (moment : ℕ) (f h : Name → Option Node) (old new : Node) → Some new ≡ node_modified moment (Some old) → h ≡ put_at n (Some new) f → f n ≡ Some old
+    → h ≡ modified_at n moment f
+put_modified n moment f h old new is put there = put ∙ (λ t q. at_each q t)
+  where
+    there_at : (q : Name) → bytes_eq n q ≡ true → Some new ≡ node_modified moment (f q)
+    there_at q e = is ∙ sym (ap (node_modified moment) there) ∙ ap (λ m. node_modified moment (f m)) (same_name n q e)
+
+    at_each : (q : Name) → put_at n (Some new) f q ≡ modified_at n moment f q
+    at_each q = elim (cases_Bool (bytes_eq n q)) [
+      | inl e ↦ ap (λ b. cond b (Some new) (f q)) e ∙ there_at q e ∙ sym (ap (λ b. cond b (node_modified moment (f q)) (f q)) e)
+      | inr e ↦ ap (λ b. cond b (Some new) (f q)) e ∙ sym (ap (λ b. cond b (node_modified moment (f q)) (f q)) e)
+    ]

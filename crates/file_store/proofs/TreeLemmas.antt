@@ -6,7 +6,7 @@ use Rattle.file_store.specs.declared.node.Node.{Node}
 use Rattle.file_store.specs.declared.node.Node.TheVariants.{Directory, File}
 use Rattle.file_store.specs.Maps.{put_at}
 use Rattle.file_store.specs.Names.{Name, is_parent}
-use Rattle.file_store.specs.Trees.{AreGrounded, IsTree, tree_of, is_file, is_directory, or_directory, with_parents}
+use Rattle.file_store.specs.Trees.{AreGrounded, IsTree, tree_of, is_file, is_directory, modified_at, node_modified, or_directory, with_parents}
 use Rattle.file_store.proofs.BetweenLemmas.{same_name, parent_trans}
 use Rattle.file_store.proofs.PutLemmas.{put_elsewhere}
 
@@ -107,6 +107,25 @@ module _ (F : Name → Option Node) where
       names = taken n (file_is_none (F n) file) k.names;
       temps = grounded_base S n None (file_is_none (F n) file) k.temps;
     }
+
+    pub modified_tree : (moment : ℕ) → IsTree (tree_of (modified_at n moment F) S)
+    modified_tree moment = record { names = λ p q h some. still p (k.names p q h (was q some)); temps = λ p q h some. still p (k.temps p q h some) }
+      where
+        still_is : (b : Bool) (o : Option Node) → o ≡ Some Directory → cond b (node_modified moment o) o ≡ Some Directory
+        still_is true o e = ap (node_modified moment) e
+        still_is false o e = e
+
+        still : (p : Name) → F p ≡ Some Directory → modified_at n moment F p ≡ Some Directory
+        still p e = still_is (bytes_eq n p) (F p) e
+
+        was_some : (b : Bool) (o : Option Node) → IsSome (cond b (node_modified moment o) o) → IsSome o
+        was_some true None h = h
+        was_some true (Some Directory) h = h
+        was_some true (Some (File b m)) h = h
+        was_some false o h = h
+
+        was : (q : Name) → IsSome (modified_at n moment F q) → IsSome (F q)
+        was q some = was_some (bytes_eq n q) (F q) some
 
     pub dir_made_tree : IsFree F n → F n ≡ None → IsTree (tree_of (put_at n (Some Directory) (with_parents n F)) S)
     dir_made_tree free none = record {

@@ -1,5 +1,5 @@
 -- What a store has (own rule).
-use Rattle.std.specs.Prelude.{◌≡◌, ℕ, Bool, true, false, if◌then◌else◌, List, [], Option, Some, None, IsSome}
+use Rattle.std.specs.Prelude.{bytes_eq, ◌≡◌, ℕ, Bool, true, false, if◌then◌else◌, List, [], Option, Some, None, IsSome}
 use Rattle.file_store.specs.declared.node.Node.{Node}
 use Rattle.file_store.specs.declared.node.Node.TheVariants.{Directory, File}
 use Rattle.file_store.specs.Names.{Name, is_parent}
@@ -37,6 +37,16 @@ abbrev pub bytes_of : Option Node → List ℕ
 bytes_of None = []
 bytes_of (Some Directory) = []
 bytes_of (Some (File bytes modified)) = bytes
+
+-- what is there, a file modified at the moment
+abbrev pub node_modified : ℕ → Option Node → Option Node
+node_modified moment None = None
+node_modified moment (Some Directory) = Some Directory
+node_modified moment (Some (File bytes modified)) = Some (File bytes moment)
+
+-- the same, where the file at the name, if one is there, was modified at the moment
+abbrev pub modified_at : Name → ℕ → (Name → Option Node) → Name → Option Node
+modified_at n moment f q = if bytes_eq n q then node_modified moment (f q) else f q
 
 -- what is there, or a directory where nothing is
 abbrev pub or_directory : Option Node → Option Node

@@ -13,8 +13,9 @@ use crate::parents::parent_of;
 use crate::{Content, FileStore, Listing, Node, Stat, StoreRefusal, changes};
 use std::alloc::Global;
 use sync_names::SafeName;
+use sync_version::Moment;
 
-/// A store in memory. A file that it commits was modified at 1970-01-01T00:00:00Z.
+/// A store in memory. A file that it commits was modified at 1970-01-01T00:00:00Z, until [`MemStore::set_modified`] says otherwise.
 ///
 /// Below, n is how many names and temporary files there are, and d how many parents of a name are missing.
 #[derive(Drop)]
@@ -28,6 +29,7 @@ pub struct MemStore {
 
 impl MemStore {
     ghost use Rattle.file_store.specs.Stores.{empty_tree, mem_faults, mem_tree};
+    ghost use Rattle.file_store.specs.Trees.{modified_at};
 
     /// An empty store. Does not allocate.
     pub fn new(alloc: Global) -> MemStore
@@ -40,6 +42,17 @@ impl MemStore {
             temps: NameMap::new(alloc),
             faults: 0,
         }
+    }
+
+    /// Says that the file at a name was modified at this moment. Returns whether a file is there; if none is, nothing changes. Does
+    /// not allocate. O(log n).
+    pub fn set_modified(&mut self, name: &SafeName, moment: Moment) -> bool
+        ensures result { result ≡ is_file ((mem_tree self.old).names name.now) }
+        ensures tree { mem_tree self.new
+            ≡ tree_of (modified_at name.now moment (mem_tree self.old).names) (mem_tree self.old).temps }
+        ensures faults { mem_faults self.new ≡ mem_faults self.old }
+    {
+        self.names.set_modified(name.as_str(), moment)
     }
 }
 

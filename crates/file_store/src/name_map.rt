@@ -4,12 +4,14 @@ ghost use Rattle.file_store.specs.Contents.{overwritten};
 ghost use Rattle.file_store.specs.Listings.{IsListing};
 ghost use Rattle.file_store.specs.Maps.{found_at, put_at};
 ghost use Rattle.file_store.specs.Names.{Name, is_parent};
+ghost use Rattle.file_store.specs.Trees.{is_file, modified_at};
 
 use crate::listing::{kind_of, safe_name};
 use crate::parents::is_below;
 use crate::{Content, Listed, Listing, Node};
 use std::alloc::{AllocError, Global};
 use std::collections::BTreeMap;
+use sync_version::Moment;
 
 /// Values by name. Contracts see what is at each name.
 #[derive(Drop)]
@@ -74,6 +76,17 @@ impl NameMap<Node> {
             entries,
             unread: Vec::new(alloc),
         })
+    }
+
+    /// Says that the file at a name was modified at this moment. Returns whether a file is there. Does not allocate. O(log n).
+    pub(crate) fn set_modified(&mut self, name: &str, moment: Moment) -> bool
+        ensures result { result ≡ is_file (found_at self.old name.now) }
+        ensures left { found_at self.new ≡ modified_at name.now moment (found_at self.old) }
+    {
+        match self.map.get_mut(name) {
+            Some(node) => node.set_modified(moment),
+            None => false,
+        }
     }
 }
 

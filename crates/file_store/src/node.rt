@@ -1,4 +1,7 @@
 //! What is at a name.
+ghost use Rattle.std.specs.Prelude.{◌≡◌, Some};
+ghost use Rattle.file_store.specs.Trees.{is_file, node_modified};
+
 use crate::Content;
 use sync_names::SafeName;
 use sync_version::Moment;
@@ -10,6 +13,22 @@ pub enum Node {
     Directory,
     /// A file with its bytes, and when it was modified.
     File(Content, Moment),
+}
+
+impl Node {
+    /// Says that a file was modified at this moment. Returns whether it is a file. O(1).
+    pub(crate) fn set_modified(&mut self, moment: Moment) -> bool
+        ensures result { result ≡ is_file (Some self.old) }
+        ensures changed { Some self.new ≡ node_modified moment (Some self.old) }
+    {
+        match self {
+            Node::Directory => false,
+            Node::File(_, modified) => {
+                *modified = moment;
+                true
+            }
+        }
+    }
 }
 
 /// What a store says of a name.

@@ -12,6 +12,3 @@ mod sender;
 pub use infos::file_infos;
 pub use page::Page;
 pub use sender::{IndexSender, MAX_PAGE_RECORDS};
-
-#[cfg(test)]
-mod tests;

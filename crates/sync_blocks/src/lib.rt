@@ -8,8 +8,6 @@ mod hashing;
 pub mod laws;
 mod reading;
 mod size;
-#[cfg(test)]
-mod tests;
 mod tiling;
 
 pub use block::Block;

@@ -13,8 +13,6 @@ pub mod laws;
 mod made;
 mod name;
 mod order;
-#[cfg(test)]
-mod tests;
 mod text;
 mod utc;
 

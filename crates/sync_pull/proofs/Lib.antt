@@ -2,6 +2,7 @@ pub mod BytesLemmas
 pub mod StandingLemmas
 pub mod PuttingLemmas
 pub mod FetchLemmas
+pub mod GroupLemmas
 pub mod ChainLemmas
 pub mod EndsLemmas
 pub mod PulledLemmas

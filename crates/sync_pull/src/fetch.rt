@@ -1,7 +1,9 @@
 //! The bytes of a target's blocks, put into the temporary file.
-ghost use Rattle.std.specs.Prelude.{◌≡◌, ◌≢◌, ⊤, ◌<◌, ◌&&◌, IfErr, IfOk, IfSome, IsTrue, [], MatchBool, length, slice_get, Some, true};
+ghost use Rattle.std.specs.Prelude.{◌≡◌, ◌≢◌, ⊤, ◌+◌, ◌^◌, ◌<◌, ◌≤◌, ◌&&◌, IfErr, IfOk, IfSome, IsTrue, [], MatchBool, drop, length, slice_get, take, Some, true};
 ghost use Rattle.file_store.specs.Calls.{ChangesTemp, HasBadParent};
 ghost use Rattle.folder_calls.specs.Shared.{Sees};
+ghost use Rattle.sha2.specs.Sha256.{sha256};
+ghost use Rattle.sync_blocks.specs.Groups.{blocks_from};
 ghost use Rattle.sync_record.specs.Devices.{Identity};
 ghost use Rattle.sync_record.specs.Records.{is_live_file};
 ghost use Rattle.sync_record.specs.Validity.{is_valid};
@@ -16,8 +18,11 @@ use file_store::laws::bytes_written_are_read;
 use file_store::{FileStore, Gate, GatePlace, read_full};
 use folder_calls::FolderCalls;
 use folder_core::Best;
-use std::alloc::Global;
-use sync_blocks::laws::tiling_is_tested;
+use sha2::{Digest, Sha256};
+use std::alloc::{AllocError, Global};
+use std::thread::Threads;
+use sync_blocks::laws::{block_list_is_by_cuts, parts_make_the_block_list, tiling_is_tested};
+use sync_blocks::{Block, group_len, push_blocks};
 use sync_names::SafeName;
 use sync_record::laws::only_well_formed_files_have_blocks;
 use sync_record::{Assembled, Assembly, DeviceId, Put, Record};
@@ -28,6 +33,164 @@ struct Others<'a> {
     name: &'a SafeName,
     devices: &'a [DeviceId],
     me: DeviceId,
+}
+
+// Blocks of a target that follow each other, as they were found.
+#[derive(Drop)]
+struct Group {
+    // Their bytes, one block after the other.
+    bytes: Vec<u8>,
+    // For each how many of the devices need not be asked again.
+    asked: Vec<usize>,
+}
+
+// Reads the bytes at a place in a local file that has the block's digest, if the folder knows one. Returns whether the file has
+// as many there as the block has.
+fn read_place<S: FileStore, W: FolderCalls, G: Gate>(
+    store: &mut S,
+    calls: &mut W,
+    gate: &G,
+    block: &Block,
+    bytes: &mut Vec<u8>,
+) -> Result<bool, Stop>
+    ensures folder { W.folder calls.new ≡ W.folder calls.old }
+    ensures sees { Sees (W.view calls.old) (W.view calls.new) }
+    ensures counted { CountsStop ⊤ ⊥ result (S.fault_count store.old) (S.fault_count store.new) }
+    ensures kept { S.keeps ≡ true → S.tree store.new ≡ S.tree store.old }
+{
+    gate.at(GatePlace::FolderCall);
+    let Some(place) = calls.find_block(&block.hash)?.value else {
+        return Ok(false);
+    };
+    if place.offset.checked_add(u64::from(block.size)).is_none() {
+        return Ok(false);
+    }
+    bytes.clear();
+    bytes.resize(block.size as usize, 0)?;
+    let count = read_full(store, gate, &place.name, place.offset, bytes.as_mut_slice())?;
+    Ok(count == bytes.len())
+}
+
+// Asks the devices for the bytes of a block, one after the other but never this device, until one gives as many as the block has.
+// Returns how many devices there are up to that one.
+fn ask_devices<B: BlockSource>(
+    source: &mut B,
+    from: &Others,
+    block: &Block,
+    bytes: &mut Vec<u8>,
+) -> Result<Option<usize>, AllocError>
+    requires { (device : Identity) → device ≢ from.now.me → B.may_ask device }
+{
+    for i in 0..from.devices.len() {
+        let device = from.devices[i];
+        if device == from.me {
+            continue;
+        }
+        bytes.clear();
+        if source.fetch(device, from.name, block, bytes)?
+            && bytes.len() as u64 == u64::from(block.size)
+        {
+            return Ok(Some(i + 1));
+        }
+    }
+    Ok(None)
+}
+
+// Finds bytes of a block, and leaves them in `bytes`: none of an empty block, else those of a local place or of a device. Whether they
+// have its digest is not tested yet. Returns how many of the devices need not be asked again: all of them for an empty block.
+fn find_bytes<S: FileStore, W: FolderCalls, B: BlockSource, G: Gate>(
+    store: &mut S,
+    calls: &mut W,
+    source: &mut B,
+    gate: &G,
+    from: &Others,
+    block: &Block,
+    bytes: &mut Vec<u8>,
+) -> Result<Option<usize>, Stop>
+    requires { (device : Identity) → device ≢ from.now.me → B.may_ask device }
+    ensures folder { W.folder calls.new ≡ W.folder calls.old }
+    ensures sees { Sees (W.view calls.old) (W.view calls.new) }
+    ensures counted { CountsStop ⊤ ⊥ result (S.fault_count store.old) (S.fault_count store.new) }
+    ensures kept { S.keeps ≡ true → S.tree store.new ≡ S.tree store.old }
+{
+    if block.size == 0 {
+        bytes.clear();
+        return Ok(Some(from.devices.len()));
+    }
+    if read_place(store, calls, gate, block, bytes)? {
+        return Ok(Some(0));
+    }
+    Ok(ask_devices(source, from, block, bytes)?)
+}
+
+// Finds bytes of the blocks, which become the group. Fails with `NoSource` if none gave as many bytes as a block has.
+fn gather<S: FileStore, W: FolderCalls, B: BlockSource, G: Gate>(
+    store: &mut S,
+    calls: &mut W,
+    source: &mut B,
+    gate: &G,
+    from: &Others,
+    blocks: &[Block],
+    group: &mut Group,
+    bytes: &mut Vec<u8>,
+) -> Result<(), Stop>
+    requires { (device : Identity) → device ≢ from.now.me → B.may_ask device }
+    ensures each { IfOk result (λ _. length group.new.asked.items ≡ length blocks.now) }
+    ensures folder { W.folder calls.new ≡ W.folder calls.old }
+    ensures sees { Sees (W.view calls.old) (W.view calls.new) }
+    ensures counted { CountsStop ⊤ ⊥ result (S.fault_count store.old) (S.fault_count store.new) }
+    ensures kept { S.keeps ≡ true → S.tree store.new ≡ S.tree store.old }
+{
+    group.bytes.clear();
+    group.asked.clear();
+    for i in 0..blocks.len() {
+        let block = &blocks[i];
+        let Some(asked) = find_bytes(store, calls, source, gate, from, block, bytes)? else {
+            return Err(Stop::Failed(PullFailure::NoSource));
+        };
+        gate.at(GatePlace::Digest);
+        group.bytes.extend_from_slice(bytes.as_slice())?;
+        group.asked.extend_from_slice(&[asked])?;
+    }
+    Ok(())
+}
+
+// The bytes of block `i` of those that were hashed, with their digest; no bytes if there are not as many blocks.
+fn cut_of<'a>(bytes: &'a [u8], hashed: &[Block], block_size: u32, i: usize) -> (&'a [u8], [u8; 32])
+    requires some { 1 ≤ block_size }
+    requires hashed { hashed.now ≡ blocks_from 0 bytes.now block_size }
+    ensures { result.1 ≡ sha256 result.0.now }
+{
+    parts_make_the_block_list();
+    block_list_is_by_cuts();
+    if let Some(block) = hashed.get(i) {
+        if let Some(cut) = bytes_at(bytes, block) {
+            return (cut, block.hash);
+        }
+    }
+    (&[], Sha256::digest(&[]))
+}
+
+// The bytes where the block is, if there are as many.
+fn bytes_at<'a>(bytes: &'a [u8], block: &Block) -> Option<&'a [u8]>
+    ensures { IfSome result (λ cut. cut.now ≡ take block.now.size (drop block.now.offset bytes.now)) }
+{
+    bytes
+        .get(block.offset as usize..)?
+        .get(..block.size as usize)
+}
+
+// Tries bytes with their digest as a block of the target. Returns whether they are the block's, and were put.
+fn try_hashed(assembly: &mut Assembly, index: usize, bytes: &[u8], digest: &[u8; 32]) -> bool
+    requires index { index < length assembly.old.target.blocks }
+    requires digest { digest.now ≡ sha256 bytes.now }
+    ensures { MatchBool result (IsPut index bytes.now assembly.old assembly.new) (assembly.new ≡ assembly.old) }
+{
+    match assembly.put_hashed(index, bytes, digest) {
+        Put::Ok => true,
+        Put::WrongSize => false,
+        Put::WrongHash => false,
+    }
 }
 
 // Tries the bytes as a block of the target. Returns whether they are the block's, and were put.
@@ -43,46 +206,12 @@ fn try_bytes<G: Gate>(gate: &G, assembly: &mut Assembly, index: usize, bytes: &[
     }
 }
 
-// Tries the bytes at a place in a local file that has the block's digest, if the folder knows one. What is short or wrong is
-// passed over.
-fn try_place<S: FileStore, W: FolderCalls, G: Gate>(
-    store: &mut S,
-    calls: &mut W,
-    gate: &G,
-    assembly: &mut Assembly,
-    index: usize,
-    bytes: &mut Vec<u8>,
-) -> Result<bool, Stop>
-    requires { index < length assembly.old.target.blocks }
-    ensures folder { W.folder calls.new ≡ W.folder calls.old }
-    ensures sees { Sees (W.view calls.old) (W.view calls.new) }
-    ensures put { IfOk result (λ is_put. MatchBool is_put
-        (IsPut index bytes.new.items assembly.old assembly.new) (assembly.new ≡ assembly.old)) }
-    ensures counted { CountsStop ⊤ ⊥ result (S.fault_count store.old) (S.fault_count store.new) }
-    ensures kept { S.keeps ≡ true → S.tree store.new ≡ S.tree store.old }
-{
-    let block = assembly.target().blocks()[index];
-    gate.at(GatePlace::FolderCall);
-    let Some(place) = calls.find_block(&block.hash)?.value else {
-        return Ok(false);
-    };
-    if place.offset.checked_add(u64::from(block.size)).is_none() {
-        return Ok(false);
-    }
-    bytes.clear();
-    bytes.resize(block.size as usize, 0)?;
-    let count = read_full(store, gate, &place.name, place.offset, bytes.as_mut_slice())?;
-    if count < bytes.len() {
-        return Ok(false);
-    }
-    Ok(try_bytes(gate, assembly, index, bytes.as_slice()))
-}
-
-// Asks the devices for the bytes of a block, one after the other but never this device, until one gives them.
+// Asks the devices that were not asked yet for the bytes of a block, one after the other but never this device, until one gives them.
 fn try_devices<B: BlockSource, G: Gate>(
     source: &mut B,
     gate: &G,
     from: &Others,
+    asked: usize,
     assembly: &mut Assembly,
     index: usize,
     bytes: &mut Vec<u8>,
@@ -94,7 +223,7 @@ fn try_devices<B: BlockSource, G: Gate>(
     ensures failed { IfErr result (λ stop. stop ≡ OutOfMemory) }
 {
     let block = assembly.target().blocks()[index];
-    for device in from.devices {
+    for device in from.devices.get(asked..).unwrap_or(&[]) {
         if *device == from.me {
             continue;
         }
@@ -108,51 +237,23 @@ fn try_devices<B: BlockSource, G: Gate>(
     Ok(false)
 }
 
-// Puts the bytes of a block, and leaves them in `bytes`: none of an empty block, else those of a local place or of a device.
-fn find_bytes<S: FileStore, W: FolderCalls, B: BlockSource, G: Gate>(
+// Puts bytes that were found, with their digest, as a block; or if they are not the block's, bytes of a device that was not asked yet. They
+// are written to the temporary file at the block's offset. Fails with `NoSource` if none gave them.
+fn put_block<S: FileStore, B: BlockSource, G: Gate>(
     store: &mut S,
-    calls: &mut W,
     source: &mut B,
     gate: &G,
     from: &Others,
     assembly: &mut Assembly,
     index: usize,
-    bytes: &mut Vec<u8>,
-) -> Result<bool, Stop>
-    requires index { index < length assembly.old.target.blocks }
-    requires others { (device : Identity) → device ≢ from.now.me → B.may_ask device }
-    ensures folder { W.folder calls.new ≡ W.folder calls.old }
-    ensures sees { Sees (W.view calls.old) (W.view calls.new) }
-    ensures put { IfOk result (λ is_put. MatchBool is_put
-        (IsPut index bytes.new.items assembly.old assembly.new) (assembly.new ≡ assembly.old)) }
-    ensures counted { CountsStop ⊤ ⊥ result (S.fault_count store.old) (S.fault_count store.new) }
-    ensures kept { S.keeps ≡ true → S.tree store.new ≡ S.tree store.old }
-{
-    if assembly.target().blocks()[index].size == 0 {
-        bytes.clear();
-        return Ok(try_bytes(gate, assembly, index, bytes.as_slice()));
-    }
-    if try_place(store, calls, gate, assembly, index, bytes)? {
-        return Ok(true);
-    }
-    try_devices(source, gate, from, assembly, index, bytes)
-}
-
-// Puts a block, and writes its bytes to the temporary file at the block's offset. Fails with `NoSource` if none gave them.
-fn fetch_block<S: FileStore, W: FolderCalls, B: BlockSource, G: Gate>(
-    store: &mut S,
-    calls: &mut W,
-    source: &mut B,
-    gate: &G,
-    from: &Others,
-    assembly: &mut Assembly,
-    index: usize,
+    found: &[u8],
+    digest: &[u8; 32],
+    asked: usize,
     bytes: &mut Vec<u8>,
 ) -> Result<(), Stop>
     requires index { index < length assembly.old.target.blocks }
+    requires digest { digest.now ≡ sha256 found.now }
     requires others { (device : Identity) → device ≢ from.now.me → B.may_ask device }
-    ensures folder { W.folder calls.new ≡ W.folder calls.old }
-    ensures sees { Sees (W.view calls.old) (W.view calls.new) }
     ensures put { IfOk result (λ _. IsPutOf index assembly.old assembly.new) }
     ensures written { S.keeps ≡ true → IfOk result (λ _. IfSome
         (slice_get assembly.old.target.blocks index)
@@ -162,22 +263,133 @@ fn fetch_block<S: FileStore, W: FolderCalls, B: BlockSource, G: Gate>(
     ensures temp { S.keeps ≡ true →
         ChangesTemp (S.tree store.old) from.now.name.now (S.tree store.new) }
 {
-    if !find_bytes(store, calls, source, gate, from, assembly, index, bytes)? {
+    let offset = assembly.target().blocks()[index].offset;
+    if try_hashed(assembly, index, found, digest) {
+        store.write_at(from.name, offset, found)?;
+        return Ok(());
+    }
+    if !try_devices(source, gate, from, asked, assembly, index, bytes)? {
         return Err(Stop::Failed(PullFailure::NoSource));
     }
-    let offset = assembly.target().blocks()[index].offset;
     store.write_at(from.name, offset, bytes.as_slice())?;
     Ok(())
 }
 
-// Puts all blocks of a target and writes them to the temporary file, which is empty.
-fn fetch_blocks<S: FileStore, W: FolderCalls, B: BlockSource, G: Gate>(
+// Puts the blocks of a group, which begins at block `start`, and writes them to the temporary file, which has those before.
+fn put_group<S: FileStore, B: BlockSource, G: Gate>(
+    store: &mut S,
+    source: &mut B,
+    gate: &G,
+    from: &Others,
+    assembly: &mut Assembly,
+    start: usize,
+    group: &Group,
+    hashed: &[Block],
+    block_size: u32,
+    bytes: &mut Vec<u8>,
+) -> Result<(), Stop>
+    requires valid { IsTrue (is_valid assembly.old.target && is_live_file assembly.old.target) }
+    requires within { start + length group.now.asked.items ≤ length assembly.old.target.blocks }
+    requires fits { start + length group.now.asked.items < 2 ^ 64 }
+    requires some { 1 ≤ block_size }
+    requires hashed { hashed.now ≡ blocks_from 0 group.now.bytes.items block_size }
+    requires others { (device : Identity) → device ≢ from.now.me → B.may_ask device }
+    ensures target { IfOk result (λ _. assembly.new.target ≡ assembly.old.target) }
+    ensures held { S.keeps ≡ true
+        → HoldsBlocks (take start assembly.old.target.blocks) from.now.name.now (S.tree store.old)
+        → IfOk result (λ _. HoldsBlocks (take (start + length group.now.asked.items) assembly.old.target.blocks)
+        from.now.name.now (S.tree store.new)) }
+    ensures counted { CountsStop ⊤ ⊥ result (S.fault_count store.old) (S.fault_count store.new) }
+    ensures temp { S.keeps ≡ true →
+        ChangesTemp (S.tree store.old) from.now.name.now (S.tree store.new) }
+{
+    tiling_is_tested();
+    only_well_formed_files_have_blocks();
+    bytes_written_are_read();
+    for i in 0..group.asked.len() {
+        let (found, digest) = cut_of(group.bytes.as_slice(), hashed, block_size, i);
+        put_block(
+            store,
+            source,
+            gate,
+            from,
+            assembly,
+            start + i,
+            found,
+            &digest,
+            group.asked[i],
+            bytes,
+        )?;
+    }
+    Ok(())
+}
+
+// Finds, hashes and puts so many blocks from block `start` on, and writes them to the temporary file, which has those before.
+fn fetch_group<S: FileStore, W: FolderCalls, B: BlockSource, G: Gate>(
+    rt: &(impl Threads + Sync),
+    alloc: Global,
     store: &mut S,
     calls: &mut W,
     source: &mut B,
     gate: &G,
     from: &Others,
     assembly: &mut Assembly,
+    start: usize,
+    count: usize,
+    group: &mut Group,
+    bytes: &mut Vec<u8>,
+) -> Result<(), Stop>
+    requires valid { IsTrue (is_valid assembly.old.target && is_live_file assembly.old.target) }
+    requires within { start + count ≤ length assembly.old.target.blocks }
+    requires others { (device : Identity) → device ≢ from.now.me → B.may_ask device }
+    ensures folder { W.folder calls.new ≡ W.folder calls.old }
+    ensures sees { Sees (W.view calls.old) (W.view calls.new) }
+    ensures target { IfOk result (λ _. assembly.new.target ≡ assembly.old.target) }
+    ensures held { S.keeps ≡ true
+        → HoldsBlocks (take start assembly.old.target.blocks) from.now.name.now (S.tree store.old)
+        → IfOk result (λ _. HoldsBlocks (take (start + count) assembly.old.target.blocks) from.now.name.now
+        (S.tree store.new)) }
+    ensures counted { CountsStop ⊤ ⊥ result (S.fault_count store.old) (S.fault_count store.new) }
+    ensures temp { S.keeps ≡ true →
+        ChangesTemp (S.tree store.old) from.now.name.now (S.tree store.new) }
+{
+    let blocks = &assembly.target().blocks()[start..start + count];
+    gather(store, calls, source, gate, from, blocks, group, bytes)?;
+    let block_size = block_size_of(assembly.target());
+    let mut hashed = Vec::new(alloc);
+    push_blocks(
+        rt,
+        alloc,
+        0,
+        group.bytes.as_slice(),
+        block_size,
+        &mut hashed,
+    )?;
+    put_group(
+        store,
+        source,
+        gate,
+        from,
+        assembly,
+        start,
+        group,
+        hashed.as_slice(),
+        block_size,
+        bytes,
+    )
+}
+
+// Puts all blocks of a target and writes them to the temporary file, which is empty.
+fn fetch_blocks<S: FileStore, W: FolderCalls, B: BlockSource, G: Gate>(
+    rt: &(impl Threads + Sync),
+    alloc: Global,
+    store: &mut S,
+    calls: &mut W,
+    source: &mut B,
+    gate: &G,
+    from: &Others,
+    assembly: &mut Assembly,
+    group: &mut Group,
     bytes: &mut Vec<u8>,
 ) -> Result<(), Stop>
     requires valid { IsTrue (is_valid assembly.old.target && is_live_file assembly.old.target) }
@@ -191,11 +403,15 @@ fn fetch_blocks<S: FileStore, W: FolderCalls, B: BlockSource, G: Gate>(
     ensures temp { S.keeps ≡ true →
         ChangesTemp (S.tree store.old) from.now.name.now (S.tree store.new) }
 {
-    tiling_is_tested();
-    only_well_formed_files_have_blocks();
-    bytes_written_are_read();
-    for index in 0..assembly.target().blocks().len() {
-        fetch_block(store, calls, source, gate, from, assembly, index, bytes)?;
+    let count = assembly.target().blocks().len();
+    let most = blocks_at_once(assembly.target());
+    let mut done = 0;
+    while done < count {
+        let next = most.min(count - done);
+        fetch_group(
+            rt, alloc, store, calls, source, gate, from, assembly, done, next, group, bytes,
+        )?;
+        done += next;
     }
     Ok(())
 }
@@ -203,7 +419,11 @@ fn fetch_blocks<S: FileStore, W: FolderCalls, B: BlockSource, G: Gate>(
 /// Puts a file together from its blocks in a new temporary file of the name. The blocks come from local places and from the devices
 /// that have the best, in rising identity; this device is not asked. After a failure nothing but the temporary file, and missing
 /// parents, which are made, has changed.
+///
+/// As many whole blocks as fit 64 MiB, and at least one, are found at once, and hashed in a few threads for each processor; one
+/// block is hashed in this thread.
 pub(crate) fn fetch_file<S: FileStore, W: FolderCalls, B: BlockSource, G: Gate>(
+    rt: &(impl Threads + Sync),
     alloc: Global,
     store: &mut S,
     calls: &mut W,
@@ -230,8 +450,23 @@ pub(crate) fn fetch_file<S: FileStore, W: FolderCalls, B: BlockSource, G: Gate>(
     source.will_ask(devices, name, assembly.target().blocks());
     let me = calls.me();
     let from = Others { name, devices, me };
+    let mut group = Group {
+        bytes: Vec::with_capacity(alloc, bytes_at_once(assembly.target()))?,
+        asked: Vec::new(alloc),
+    };
     let mut bytes = Vec::new(alloc);
-    fetch_blocks(store, calls, source, gate, &from, &mut assembly, &mut bytes)?;
+    fetch_blocks(
+        rt,
+        alloc,
+        store,
+        calls,
+        source,
+        gate,
+        &from,
+        &mut assembly,
+        &mut group,
+        &mut bytes,
+    )?;
     match assembly.done() {
         Ok(file) => Ok(file),
         Err(_) => Err(Stop::Failed(PullFailure::NoSource)),
@@ -243,4 +478,26 @@ fn devices_of(best: &Option<Best>) -> &[DeviceId] {
         Some(best) => best.devices.as_slice(),
         None => &[],
     }
+}
+
+// The block size of a file that is well formed.
+fn block_size_of(target: &Record) -> u32
+    ensures { 1 ≤ result }
+{
+    u32::try_from(target.block_size()).unwrap_or(0).max(1)
+}
+
+// How many bytes of a file are found before they are hashed.
+fn bytes_at_once(target: &Record) -> usize {
+    let size = u64::try_from(target.size()).unwrap_or(0);
+    group_len(size, block_size_of(target))
+}
+
+// How many blocks those are.
+fn blocks_at_once(target: &Record) -> usize
+    ensures { 1 ≤ result }
+{
+    bytes_at_once(target)
+        .div_ceil(block_size_of(target) as usize)
+        .max(1)
 }

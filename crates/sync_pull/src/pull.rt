@@ -25,6 +25,7 @@ use crate::{
 use file_store::{FileStore, Gate, GatePlace};
 use folder_calls::{At, BeginAnswer, FolderCalls, Ticket};
 use std::alloc::Global;
+use std::thread::Threads;
 use sync_blocks::laws::tiling_is_tested;
 use sync_names::SafeName;
 use sync_names::laws::conflict_names_are_of_copies;
@@ -34,6 +35,7 @@ use sync_version::Moment;
 
 // Puts a target together: a file from its blocks, in a new temporary file; there is nothing to put of a directory or a deletion.
 fn assemble<S: FileStore, W: FolderCalls, B: BlockSource, G: Gate>(
+    rt: &(impl Threads + Sync),
     alloc: Global,
     store: &mut S,
     calls: &mut W,
@@ -67,7 +69,7 @@ fn assemble<S: FileStore, W: FolderCalls, B: BlockSource, G: Gate>(
             tiling_is_tested();
             only_well_formed_files_have_blocks();
             let file = target.copy()?;
-            fetch_file(alloc, store, calls, source, gate, name, file)
+            fetch_file(rt, alloc, store, calls, source, gate, name, file)
         }
         Kind::Directory => Ok(Assembled::plain(target.copy()?)),
         Kind::Other => Err(Stop::Failed(PullFailure::NoSource)),
@@ -76,6 +78,7 @@ fn assemble<S: FileStore, W: FolderCalls, B: BlockSource, G: Gate>(
 
 // All that a pull needs before its commit is entered.
 fn prepare<S: FileStore, W: FolderCalls, B: BlockSource, G: Gate>(
+    rt: &(impl Threads + Sync),
     alloc: Global,
     store: &mut S,
     calls: &mut W,
@@ -105,7 +108,7 @@ fn prepare<S: FileStore, W: FolderCalls, B: BlockSource, G: Gate>(
 {
     let plan = plan_copy(name, ticket.base(), ticket.target(), moment, max_conflicts)?;
     let room = room_for(alloc, ticket.base())?;
-    let assembled = assemble(alloc, store, calls, source, gate, name, ticket.target())?;
+    let assembled = assemble(rt, alloc, store, calls, source, gate, name, ticket.target())?;
     Ok((Ready { assembled, room }, plan))
 }
 
@@ -128,6 +131,7 @@ fn trim_copies<S: FileStore, G: Gate>(
 
 // Ends a pull that was begun.
 fn pull_begun<S: FileStore, W: FolderCalls, B: BlockSource, G: Gate>(
+    rt: &(impl Threads + Sync),
     alloc: Global,
     store: &mut S,
     calls: &mut W,
@@ -162,6 +166,7 @@ fn pull_begun<S: FileStore, W: FolderCalls, B: BlockSource, G: Gate>(
 {
     conflict_names_are_of_copies();
     match prepare(
+        rt,
         alloc,
         store,
         calls,
@@ -198,9 +203,10 @@ fn pull_begun<S: FileStore, W: FolderCalls, B: BlockSource, G: Gate>(
 ///
 /// The gate is passed before each read of the store, each digest and each call of the folder. After the commit was entered only calls
 /// of the store may allocate. A file whose blocks are at hand is read once and written once, and the file that is replaced is
-/// read once; a listing of the store is read where older copies may have to be removed. O(n) time for n bytes, and memory for the
-/// greatest block of each of the two files.
+/// read once; a listing of the store is read where older copies may have to be removed. O(n) time for n bytes, which are hashed in a few
+/// threads for each processor, and memory for 64 MiB of the new file, or for its greatest block, and for the greatest block of the old one.
 pub fn pull_name<S: FileStore, W: FolderCalls, B: BlockSource, G: Gate>(
+    rt: &(impl Threads + Sync),
     alloc: Global,
     store: &mut S,
     calls: &mut W,
@@ -225,6 +231,7 @@ pub fn pull_name<S: FileStore, W: FolderCalls, B: BlockSource, G: Gate>(
     };
     match begun {
         Ok(BeginAnswer::Begun(ticket)) => pull_begun(
+            rt,
             alloc,
             store,
             calls,

@@ -7,6 +7,7 @@ use folder_calls::{FolderCalls, HistoryFull, Lone};
 use folder_core::{FolderCore, PlainFolder};
 use std::alloc::AllocError;
 use std::process::Abort;
+use std::thread::Threads;
 use sync_blocks::Block;
 use sync_names::SafeName;
 use sync_pull::{BlockSource, MaxConflicts, PullAnswer, PullFailure, pull_name};
@@ -90,7 +91,7 @@ fn finds_no_source_of_other_bytes(rt: HostRuntime) {
 }
 
 fn pulls(
-    rt: &(impl AllocGlobal + Abort),
+    rt: &(impl AllocGlobal + Abort + Threads + Sync),
     store: &mut MemStore,
     lone: &mut Lone<PlainFolder>,
     source: &mut Two,
@@ -99,6 +100,7 @@ fn pulls(
     let most = MaxConflicts::new(10).expect(rt, "a limit");
     let name = name(rt, "d/x");
     pull_name(
+        rt,
         rt.alloc(),
         store,
         lone,

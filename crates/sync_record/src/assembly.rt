@@ -1,4 +1,5 @@
-ghost use Rattle.std.specs.Prelude.{◌≡◌, ◌↔◌, ◌<◌, ◌&&◌, [], IfOk, IfErr, IsOk, IsTrue, IfSome, false, length, replicate, slice_get};
+ghost use Rattle.std.specs.Prelude.{◌≡◌, ◌↔◌, ◌<◌, ◌&&◌, ◌==◌, [], IfOk, IfErr, IsOk, IsTrue, IfSome, false, length, replicate, slice_get};
+ghost use Rattle.sha2.specs.Sha256.{sha256};
 ghost use Rattle.sync_record.specs.Assemblies.{IsAssembled, is_complete, is_plain, nothing_placed, put_answer, with_put};
 ghost use Rattle.sync_record.specs.Records.{is_live_file};
 ghost use Rattle.sync_record.specs.Validity.{is_valid};
@@ -47,13 +48,27 @@ impl Assembly {
 
     /// Puts bytes as a block, which must be one of the target's: `WrongSize` if they are not as many as the block has,
     /// otherwise `WrongHash` if their SHA-256 digest is not the block's, and otherwise `Ok`. Only `Ok` changes anything.
-    /// Does not allocate. O(n) for n bytes.
+    /// Does not allocate. O(n) for n bytes, of as many as the block has; else O(1).
     pub fn put(&mut self, block: usize, bytes: &[u8]) -> Put
         requires { block < length self.old.target.blocks }
         ensures answer { IfSome (slice_get self.old.target.blocks block) (λ b. result ≡ put_answer b bytes.now) }
         ensures placed { self.new ≡ with_put result block self.old }
     {
-        let answer = try_block(&self.target.blocks()[block], bytes);
+        if !has_size(&self.target.blocks()[block], bytes) {
+            return Put::WrongSize;
+        }
+        self.put_hashed(block, bytes, &Sha256::digest(bytes))
+    }
+
+    /// As [`put`](Assembly::put), of bytes whose SHA-256 digest is known: blocks may be hashed in other threads before. Does not
+    /// allocate. O(1).
+    pub fn put_hashed(&mut self, block: usize, bytes: &[u8], digest: &[u8; 32]) -> Put
+        requires block { block < length self.old.target.blocks }
+        requires digest { digest.now ≡ sha256 bytes.now }
+        ensures answer { IfSome (slice_get self.old.target.blocks block) (λ b. result ≡ put_answer b bytes.now) }
+        ensures placed { self.new ≡ with_put result block self.old }
+    {
+        let answer = try_block(&self.target.blocks()[block], bytes, digest);
         if let Put::Ok = answer {
             self.placed[block] = true;
         }
@@ -86,14 +101,22 @@ fn none_placed(alloc: Global, blocks: usize) -> Result<Vec<bool>, AllocError>
     Vec::from_elem(alloc, false, blocks)
 }
 
-// What the put of the bytes as the block comes to.
-fn try_block(block: &Block, bytes: &[u8]) -> Put
+// Whether the bytes are as many as the block has.
+fn has_size(block: &Block, bytes: &[u8]) -> bool
+    ensures { result ≡ (length bytes.now == block.now.size) }
+{
+    bytes.len() as u64 == u64::from(block.size)
+}
+
+// What the put of the bytes, which have this digest, as the block comes to.
+fn try_block(block: &Block, bytes: &[u8], digest: &[u8; 32]) -> Put
+    requires { digest.now ≡ sha256 bytes.now }
     ensures { result ≡ put_answer block.now bytes.now }
 {
-    if bytes.len() as u64 != u64::from(block.size) {
+    if !has_size(block, bytes) {
         return Put::WrongSize;
     }
-    if Sha256::digest(bytes) != block.hash {
+    if *digest != block.hash {
         return Put::WrongHash;
     }
     Put::Ok

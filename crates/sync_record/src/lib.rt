@@ -14,8 +14,6 @@ mod preference;
 mod put;
 mod record;
 mod same;
-#[cfg(test)]
-mod tests;
 
 pub use assembly::{Assembled, Assembly};
 pub use content::same_content;

@@ -5,8 +5,6 @@ mod fault;
 pub mod laws;
 mod moment;
 mod relation;
-#[cfg(test)]
-mod tests;
 mod version;
 mod walk;
 

@@ -210,7 +210,7 @@ fn answer_request<S: FileStore, R: Input + Print + AllocGlobal, W: FolderCalls>(
 }
 
 fn pull<S: FileStore, R: Input + Print + AllocGlobal, W: FolderCalls>(
-    rt: &(impl Print + AllocGlobal),
+    rt: &(impl Print + AllocGlobal + Threads + Sync),
     session: &mut Session<S, R>,
     calls: &mut Noted<W>,
     name: &SafeName,
@@ -220,6 +220,7 @@ fn pull<S: FileStore, R: Input + Print + AllocGlobal, W: FolderCalls>(
     let refused = session.take_refused();
     begin_refusing(rt.alloc(), refused);
     let answer = pull_name(
+        rt,
         rt.alloc(),
         &mut session.store,
         calls,

@@ -1,18 +1,22 @@
 -- The blocks so far are in the temporary file, nothing else changed, and no fault was counted; the caller only saw the history go on.
-use Rattle.std.proofs.Common.{◌≡◌, true, take}
+use Rattle.std.proofs.Common.{◌≡◌, ◌-◌, ◌≤◌, true, take, length}
 use Rattle.std.specs.Prelude.{Some, []}
 use Rattle.file_store.specs.Calls.{ChangesTemp}
 use Rattle.folder_calls.specs.Shared.{Sees}
 use Rattle.sync_pull.specs.Fetching.{HoldsBlocks}
 use Rattle.sync_pull.proofs.fetch.fetch_blocks.Given as goal
 
-abbrev pub invariant-loop-index : goal.invariant-loop-index
-invariant-loop-index g l = record {
+abbrev pub invariant-loop-done : goal.invariant-loop-done
+invariant-loop-done g l = record {
   target : l.assembly.target ≡ l.initial.assembly.target;
+  within : l.done ≤ length l.initial.assembly.target.blocks;
   folder : g.W.FolderCalls.folder l.calls ≡ g.W.FolderCalls.folder l.initial.calls;
   sees : Sees (g.W.FolderCalls.view l.initial.calls) (g.W.FolderCalls.view l.calls);
   held : g.S.FileStore.keeps ≡ true → (g.S.FileStore.tree l.initial.store).temps l.from.name.now ≡ Some []
-      → HoldsBlocks (take l.index l.initial.assembly.target.blocks) l.from.name.now (g.S.FileStore.tree l.store);
+      → HoldsBlocks (take l.done l.initial.assembly.target.blocks) l.from.name.now (g.S.FileStore.tree l.store);
   counted : g.S.FileStore.fault_count l.store ≡ g.S.FileStore.fault_count l.initial.store;
   temp : g.S.FileStore.keeps ≡ true → ChangesTemp (g.S.FileStore.tree l.initial.store) l.from.name.now (g.S.FileStore.tree l.store);
 }
+
+abbrev pub decreases-loop-done : goal.decreases-loop-done
+decreases-loop-done g l = l.count - l.done

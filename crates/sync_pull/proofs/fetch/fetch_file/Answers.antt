@@ -24,3 +24,6 @@ pub returns-clause-temp : goal.returns-clause-temp
 returns-clause-temp g c = λ keeps.
     temp-together c.args.name.now _ _ _ (makes_temp-writes _ _ _ c.args.name.now c.make_temp.result (c.make_temp.ensures.makes keeps))
     (temps-write c.args.name.now _ _ (c.fetch_blocks.ensures.temp keeps))
+
+pub returns-in_err-with_capacity-clause-temp : goal.returns-in_err-with_capacity-clause-temp
+returns-in_err-with_capacity-clause-temp g c = λ keeps. makes_temp-writes _ _ _ c.args.name.now c.make_temp.result (c.make_temp.ensures.makes keeps)

@@ -1,0 +1,6 @@
+pub mod Lists
+pub mod Names
+pub mod Moves
+pub mod Told
+pub mod Sending
+pub mod Adding

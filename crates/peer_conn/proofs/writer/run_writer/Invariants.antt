@@ -1,0 +1,14 @@
+use Rattle.std.proofs.Common.{◌≡◌, []}
+use Rattle.bep_frames.specs.Written.{hello_frame}
+use Rattle.peer_conn.specs.Words.{taken_of, IsSameTaker}
+use Rattle.peer_conn.specs.Sending.{HasWritten}
+use Rattle.peer_conn.proofs.writer.run_writer.Given as goal
+
+abbrev pub invariant-loop : goal.invariant-loop
+invariant-loop g l = record {
+  next : (goal.iterator-loop g).can_next l.iterator';
+  finite : (goal.iterator-loop g).is_finite l.iterator';
+  same : IsSameTaker l.fn.taker l.taker;
+  empty : l.buffer.items ≡ [];
+  written : HasWritten (taken_of l.fn.taker) (taken_of l.taker) (hello_frame l.hello) (g.W.Write.contents l.fn.writer) (g.W.Write.contents l.writer);
+}

@@ -1,0 +1,5 @@
+pub mod Rule
+pub mod Words
+pub mod Sending
+pub mod Configs
+pub mod Turns

@@ -1,0 +1,230 @@
+//! The indexer of a connection.
+ghost use Rattle.std.specs.Prelude.{◌≡◌};
+ghost use Rattle.peer_conn.specs.Turns.{Adds, BeginsWith};
+ghost use Rattle.peer_conn.specs.Words.{IsSameEnded, IsSameSeat, all_of, put_of};
+
+use crate::config::{folder_of, start_of};
+use crate::ends::{Ended, Seat};
+use crate::turn::{Turn, TurnEnd, index_turn};
+use bep_frames::Message;
+use bep_messages::{ClusterConfig, Ping, Text};
+use bep_session::ping_due;
+use crossbeam_channel::{Receiver, RecvTimeoutError};
+use folder_calls::FolderCalls;
+use index_sender::IndexSender;
+use std::alloc::{AllocError, Global};
+use std::sync::Wait;
+use std::time::{Clock, Duration};
+use sync_version::Moment;
+
+/// How many seconds the indexer sleeps once it has told all.
+const PAUSE_SECONDS: u64 = 1;
+
+/// A folder that is shared with the peer.
+#[derive(Drop)]
+pub struct IndexedFolder<W> {
+    /// The folder's id.
+    pub id: Text,
+    /// The number of this device's index of the folder.
+    pub index_id: u64,
+    /// The calls of the folder.
+    pub calls: W,
+}
+
+/// Why an indexer ended.
+#[derive(Clone, Copy, Debug, PartialEq, Eq)]
+pub enum IndexerEnd {
+    /// The other end of the channel of ClusterConfigs was dropped.
+    Closed,
+    /// The taker was dropped.
+    Gone,
+    /// Memory is out.
+    OutOfMemory,
+}
+
+impl From<TurnEnd> for IndexerEnd {
+    fn from(end: TurnEnd) -> IndexerEnd {
+        match end {
+            TurnEnd::OutOfMemory => IndexerEnd::OutOfMemory,
+            TurnEnd::Gone => IndexerEnd::Gone,
+        }
+    }
+}
+
+impl From<AllocError> for IndexerEnd {
+    fn from(_failed: AllocError) -> IndexerEnd {
+        IndexerEnd::OutOfMemory
+    }
+}
+
+/// Puts the ClusterConfig of this device, waits for the peer's, and then puts the pages of each folder that both have, one of each folder
+/// in turn. A folder begins with an Index of all records, unless the peer's ClusterConfig says that it has this index up to some
+/// sequence. Later ClusterConfigs of the peer are passed over.
+///
+/// After a round in which there was nothing to tell it sleeps for a second, and puts a Ping if it has put nothing for 90 seconds. It
+/// ends once the other end of the channel is dropped, at once if it sleeps.
+pub fn run_indexer<R: Wait + Clock, W: FolderCalls>(
+    rt: &R,
+    alloc: Global,
+    config: ClusterConfig,
+    configs: &Receiver<ClusterConfig>,
+    folders: &mut [IndexedFolder<W>],
+    seat: Seat<Message>,
+) -> (Ended<Message>, IndexerEnd)
+    ensures same { IsSameEnded seat result.0 }
+    ensures put { BeginsWith config (put_of seat) (all_of result.0) }
+{
+    let mut seat = seat;
+    let end = match seat.put_wait(rt, Message::ClusterConfig(config)) {
+        Ok(()) => index_all(rt, alloc, configs, folders, &mut seat),
+        Err(_) => IndexerEnd::Gone,
+    };
+    (seat.end(), end)
+}
+
+// Waits for the peer's ClusterConfig, and puts pages until it ends.
+fn index_all<R: Wait + Clock, W: FolderCalls>(
+    rt: &R,
+    alloc: Global,
+    configs: &Receiver<ClusterConfig>,
+    folders: &mut [IndexedFolder<W>],
+    seat: &mut Seat<Message>,
+) -> IndexerEnd
+    ensures same { IsSameSeat seat.old seat.new }
+    ensures put { Adds (put_of seat.old) (put_of seat.new) }
+{
+    let Ok(config) = configs.recv(rt) else {
+        return IndexerEnd::Closed;
+    };
+    let mut senders = match senders_of(alloc, &config, folders) {
+        Ok(senders) => senders,
+        Err(_) => return IndexerEnd::OutOfMemory,
+    };
+    let mut last_put = moment_of(rt, Moment::new(0).unwrap());
+    for _ in rt.forever() {
+        match index_once(
+            rt,
+            alloc,
+            configs,
+            folders,
+            senders.as_mut_slice(),
+            seat,
+            last_put,
+        ) {
+            Ok(moment) => last_put = moment,
+            Err(end) => return end,
+        }
+    }
+    unreachable!()
+}
+
+// A round, and where there was nothing to tell a pause. Returns the moment of the last put.
+#[tactic(auto, using(crate::proofs::Adding::adds_then))]
+fn index_once<R: Wait + Clock, W: FolderCalls>(
+    rt: &R,
+    alloc: Global,
+    configs: &Receiver<ClusterConfig>,
+    folders: &mut [IndexedFolder<W>],
+    senders: &mut [Option<IndexSender>],
+    seat: &mut Seat<Message>,
+    last_put: Moment,
+) -> Result<Moment, IndexerEnd>
+    ensures same { IsSameSeat seat.old seat.new }
+    ensures put { Adds (put_of seat.old) (put_of seat.new) }
+{
+    let moment = moment_of(rt, last_put);
+    let is_put = index_round(rt, alloc, folders, senders, seat)?;
+    let is_ping = !is_put && ping_due(last_put, moment);
+    if is_ping {
+        put_ping(rt, seat)?;
+    }
+    let pause = if is_put { 0 } else { PAUSE_SECONDS };
+    if is_closed_within(rt, configs, Duration::from_secs(pause)) {
+        return Err(IndexerEnd::Closed);
+    }
+    Ok(if is_put || is_ping { moment } else { last_put })
+}
+
+fn put_ping<R: Wait>(rt: &R, seat: &mut Seat<Message>) -> Result<(), IndexerEnd>
+    ensures same { IsSameSeat seat.old seat.new }
+    ensures put { Adds (put_of seat.old) (put_of seat.new) }
+{
+    match seat.put_wait(rt, Message::Ping(Ping {})) {
+        Ok(()) => Ok(()),
+        Err(_) => Err(IndexerEnd::Gone),
+    }
+}
+
+// Waits until the other end of the channel is dropped, or something comes by it, or this time has passed. Returns whether it was dropped.
+fn is_closed_within<R: Wait + Clock>(
+    rt: &R,
+    configs: &Receiver<ClusterConfig>,
+    time: Duration,
+) -> bool {
+    match configs.recv_timeout(rt, time) {
+        Err(RecvTimeoutError::Disconnected) => true,
+        _ => false,
+    }
+}
+
+// The sender of each folder that the peer's ClusterConfig has too.
+fn senders_of<W: FolderCalls>(
+    alloc: Global,
+    config: &ClusterConfig,
+    folders: &mut [IndexedFolder<W>],
+) -> Result<Vec<Option<IndexSender>>, AllocError> {
+    let mut senders = Vec::with_capacity(alloc, folders.len())?;
+    for folder in folders {
+        senders.push(sender_of(config, folder))?;
+    }
+    Ok(senders)
+}
+
+fn sender_of<W: FolderCalls>(
+    config: &ClusterConfig,
+    folder: &mut IndexedFolder<W>,
+) -> Option<IndexSender> {
+    let _ = folder_of(config, folder.id.as_str())?;
+    let me = folder.calls.me();
+    let last = folder.calls.known(me).value;
+    let start = start_of(config, folder.id.as_str(), me, folder.index_id, last);
+    Some(IndexSender::new(start))
+}
+
+// A turn of each folder. Returns whether a page was put.
+fn index_round<R: Wait, W: FolderCalls>(
+    rt: &R,
+    alloc: Global,
+    folders: &mut [IndexedFolder<W>],
+    senders: &mut [Option<IndexSender>],
+    seat: &mut Seat<Message>,
+) -> Result<bool, IndexerEnd>
+    ensures same { IsSameSeat seat.old seat.new }
+    ensures put { Adds (put_of seat.old) (put_of seat.new) }
+{
+    let mut is_put = false;
+    for i in 0..folders.len().min(senders.len()) {
+        let IndexedFolder {
+            id,
+            index_id: _,
+            calls,
+        } = &mut folders[i];
+        let Some(sender) = &mut senders[i] else {
+            continue;
+        };
+        match index_turn(rt, alloc, sender, id.as_str(), calls, seat) {
+            Turn::Put => is_put = true,
+            Turn::Nothing => {}
+            Turn::Ended(end) => return Err(IndexerEnd::from(end)),
+        }
+    }
+    Ok(is_put)
+}
+
+// The moment by the clock, or the last one where there is none.
+fn moment_of<R: Clock>(rt: &R, last: Moment) -> Moment {
+    match rt.since_1970() {
+        Ok(time) => Moment::new(time.as_secs()).unwrap_or(last),
+        Err(_) => last,
+    }
+}

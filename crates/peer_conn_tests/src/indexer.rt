@@ -1,0 +1,234 @@
+//! The indexer over a member of a shared folder, whose messages are taken beside it. Out of memory ends a test.
+ghost use Rattle.std.specs.Prelude.{◌≡◌, IsTrue};
+ghost use Rattle.folder_core.specs.Steps.{is_recordable};
+ghost use Rattle.folder_shared.specs.Passes.{IsPassOf};
+
+use bep_frames::Message;
+use bep_messages::{ClusterConfig, FileInfo, Text};
+use crossbeam_channel::{Receiver, Sender, bounded};
+use folder_calls::FolderCalls;
+use folder_core::{Finding, FolderCore, FoundContent, PlainFolder, ScanAnswer};
+use folder_shared::{Member, Pass, SharedFolder};
+use peer_conn::{
+    FolderTold, IndexedFolder, IndexerEnd, OutQueue, Seat, Taker, cluster_config, entry_of,
+    run_indexer, start_of,
+};
+use std::alloc::Global;
+use std::process::Abort;
+use std::sync::Wait;
+use std::test::*;
+use std::thread::{Threads, join};
+use std::time::Clock;
+use sync_names::SafeName;
+use sync_record::DeviceId;
+use sync_version::Moment;
+
+/// A message in short: its kind, how many records it has, and the sequences of the first and of the last.
+type Short = (&'static str, usize, i64, i64);
+
+/// The number of this device's index.
+const INDEX_ID: u64 = 7;
+
+/// The device of which each byte is this number. This one is 9, and the peer 1.
+fn device(number: u8) -> DeviceId {
+    DeviceId::new([number; 32])
+}
+
+/// The peer's ClusterConfig, which says up to which sequence of which index of this device it has the folder.
+fn peers_config(
+    alloc: Global,
+    folder: &str,
+    index_id: u64,
+    sequence: u64,
+) -> Result<ClusterConfig, Fail> {
+    let told = FolderTold {
+        id: folder,
+        index_id: 5,
+        sequence: 0,
+        peer_index_id: index_id,
+        peer_sequence: sequence,
+    };
+    Ok(cluster_config(alloc, device(1), "peer", device(9), [told].as_slice())?)
+}
+
+fn short(kind: &'static str, infos: &[FileInfo]) -> Short {
+    match infos {
+        [] => (kind, 0, 0, 0),
+        [only] => (kind, 1, only.sequence, only.sequence),
+        [first, .., last] => (kind, infos.len(), first.sequence, last.sequence),
+    }
+}
+
+fn short_of(message: &Message) -> Short {
+    match message {
+        Message::ClusterConfig(config) => ("ClusterConfig", config.folders.as_slice().len(), 0, 0),
+        Message::Index(index) => short("Index", index.files.as_slice()),
+        Message::IndexUpdate(update) => short("IndexUpdate", update.files.as_slice()),
+        _ => ("other", 0, 0, 0),
+    }
+}
+
+/// Takes so many messages, and then ends the indexer.
+fn take_some<R: Wait + Abort>(
+    rt: &R,
+    alloc: Global,
+    mut taker: Taker<Message>,
+    count: usize,
+    to_indexer: Sender<ClusterConfig>,
+) -> Vec<Short> {
+    let mut taken = Vec::new(alloc);
+    while taken.len() < count && taker.wait(rt) {
+        while let Some(message) = taker.take(rt) {
+            taken.push(short_of(&message)).expect(rt, "memory");
+        }
+    }
+    drop(to_indexer);
+    taken
+}
+
+/// The folder of device 9 in which the directories n1, n2 and so on were recorded, in this order; and the pass by which they were.
+fn recorded<R: AllocGlobal + Abort + Wait>(
+    rt: &R,
+    folder: &SharedFolder<PlainFolder>,
+    pass: Pass<PlainFolder>,
+    count: u64,
+) -> Pass<PlainFolder>
+    requires { IsPassOf folder.now.locked pass }
+    ensures { IsPassOf folder.now.locked result }
+{
+    let mut member = Member::new(folder, rt, pass);
+    for number in 0..count {
+        let text = format!(in rt.alloc(); "n{}", number.saturating_add(1)).expect(rt, "a text");
+        let name = SafeName::from_string(text).expect(rt, "a name");
+        records(rt, &mut member, &name);
+    }
+    member.into_pass()
+}
+
+/// Records a directory where nothing was.
+fn records<W: FolderCalls>(rt: &impl Abort, calls: &mut W, name: &SafeName) {
+    let moment = Moment::new(0).expect(rt, "a moment");
+    let scanned = calls.scan_found(name, None, &directory(), moment);
+    match scanned.expect(rt, "an answer").value {
+        Ok(ScanAnswer::Recorded(_)) => {}
+        _ => panic!(rt; "not recorded"),
+    }
+}
+
+fn directory() -> Finding
+    ensures { IsTrue (is_recordable result.content) }
+{
+    Finding {
+        content: FoundContent::Directory,
+        modified_s: 1,
+        modified_ns: 0,
+    }
+}
+
+/// What an indexer of the folder puts first, and how it ends after that.
+fn first_messages<R: AllocGlobal + Abort + Clock + Sync + Threads + Wait>(
+    rt: &R,
+    count: u64,
+    peer: ClusterConfig,
+    messages: usize,
+) -> (Vec<Short>, IndexerEnd) {
+    let alloc = rt.alloc();
+    let core = PlainFolder::new(alloc, device(9));
+    assert!(rt; core.counts().pulls == 0);
+    let Ok(folder) = SharedFolder::open(rt, alloc, core, 2_000) else {
+        panic!(rt; "OutOfMemory");
+    };
+    let Ok(pass) = folder.pass(rt) else {
+        panic!(rt; "PassesFull");
+    };
+    let pass = recorded(rt, &folder, pass, count);
+    let (indexer, server, requester, taker) = OutQueue::open::<Message>(alloc, 64).expect(
+        rt, "a queue",
+    );
+    drop(server);
+    drop(requester);
+    let (to_indexer, configs) = bounded::<ClusterConfig, Global>(alloc, 1).expect(rt, "a channel");
+    assert!(rt; to_indexer.send(rt, peer).is_ok());
+    let member = Member::new(&folder, rt, pass);
+    let (end, taken) = join(
+        rt,
+        || index(rt, alloc, member, &configs, indexer),
+        || take_some(rt, alloc, taker, messages, to_indexer),
+    );
+    (taken, end)
+}
+
+fn index<R: Abort + Clock + Wait, W: FolderCalls + Drop>(
+    rt: &R,
+    alloc: Global,
+    calls: W,
+    configs: &Receiver<ClusterConfig>,
+    seat: Seat<Message>,
+) -> IndexerEnd {
+    let mine = FolderTold {
+        id: "f",
+        index_id: INDEX_ID,
+        sequence: 0,
+        peer_index_id: 0,
+        peer_sequence: 0,
+    };
+    let config = cluster_config(alloc, device(9), "me", device(1), [mine].as_slice());
+    let folder = IndexedFolder {
+        id: Text::from_str(alloc, "f").expect(rt, "a text"),
+        index_id: INDEX_ID,
+        calls,
+    };
+    let mut folders = [folder];
+    let (_, end) = run_indexer(
+        rt,
+        alloc,
+        config.expect(rt, "a ClusterConfig"),
+        configs,
+        folders.as_mut_slice(),
+        seat,
+    );
+    end
+}
+
+#[test]
+fn indexer_pages(rt: HostRuntime) -> Result<(), Fail> {
+    let peer = peers_config(rt.alloc(), "f", 0, 0)?;
+    let (taken, end) = first_messages(&rt, 1_001, peer, 3);
+    assert_eq!(rt; taken.len(), 3);
+    assert_eq!(rt; taken[0], ("ClusterConfig", 1, 0, 0));
+    assert_eq!(rt; taken[1], ("Index", 1_000, 1, 1_000));
+    assert_eq!(rt; taken[2], ("IndexUpdate", 1, 1_001, 1_001));
+    assert_eq!(rt; end, IndexerEnd::Closed);
+    Ok(())
+}
+
+#[test]
+fn indexer_goes_on_where_the_peer_is(rt: HostRuntime) -> Result<(), Fail> {
+    let peer = peers_config(rt.alloc(), "f", INDEX_ID, 2)?;
+    let (taken, end) = first_messages(&rt, 3, peer, 2);
+    assert_eq!(rt; taken.len(), 2);
+    assert_eq!(rt; taken[1], ("IndexUpdate", 1, 3, 3));
+    assert_eq!(rt; end, IndexerEnd::Closed);
+    Ok(())
+}
+
+#[test]
+fn starts(rt: HostRuntime) -> Result<(), Fail> {
+    let peer = peers_config(rt.alloc(), "f", INDEX_ID, 3)?;
+    let starts = |folder: &str, index_id: u64, last: u64| -> Option<i64> {
+        start_of(&peer, folder, device(9), index_id, last)
+    };
+    assert_eq!(rt; starts("f", INDEX_ID, 3), Some(3));
+    assert_eq!(rt; starts("f", INDEX_ID, 2), None);
+    assert_eq!(rt; starts("f", 8, 3), None);
+    assert_eq!(rt; starts("g", INDEX_ID, 3), None);
+    let empty = peers_config(rt.alloc(), "f", INDEX_ID, 0)?;
+    assert_eq!(rt; start_of(&empty, "f", device(9), INDEX_ID, 3), None);
+    assert!(rt; entry_of(&empty, "f", device(2)).is_none());
+    let entry = entry_of(&empty, "f", device(9)).ok_or(std::alloc::AllocError)?;
+    assert_eq!(rt;
+        (entry.index_id, entry.max_sequence, entry.compression),
+        (INDEX_ID, 0, 1)
+    );
+    Ok(())
+}

@@ -1,0 +1,228 @@
+//! Threads that put while a writer takes; a full queue; a writer that fails. Out of memory ends a test.
+ghost use Rattle.peer_conn.specs.Words.{IsSameEnded, IsSameQueue, IsSameSeat};
+
+use bep_frames::{Frame, Message, frames_of};
+use bep_messages::{Hello, Octets, Response, Text};
+use peer_conn::{
+    Ended, NotPut, OutQueue, Seat, SeatName, Taker, WriterFault, finish_writer, run_writer,
+};
+use std::alloc::{AllocError, Global};
+use std::io::{self, ErrorKind, Write};
+use std::sync::Wait;
+use std::test::*;
+use std::thread::{Threads, join};
+
+/// How many messages each thread puts.
+const EACH: i32 = 3_000;
+
+fn hello(alloc: Global) -> Hello {
+    Hello {
+        device_name: Text::new(alloc),
+        client_name: Text::new(alloc),
+        client_version: Text::new(alloc),
+    }
+}
+
+fn answer(alloc: Global, id: i32) -> Message {
+    Message::Response(Response {
+        id,
+        payload: Octets::new(alloc),
+        code: 0,
+    })
+}
+
+fn put_one<R: Wait>(rt: &R, seat: &mut Seat<Message>, message: Message) -> bool
+    ensures { IsSameSeat seat.old seat.new }
+{
+    seat.put_wait(rt, message).is_ok()
+}
+
+/// Puts answers with rising ids from `first` on.
+fn put_ids<R: Wait>(rt: &R, alloc: Global, mut seat: Seat<Message>, first: i32) -> Ended<Message>
+    ensures { IsSameEnded seat result }
+{
+    for i in 0..EACH {
+        if !put_one(rt, &mut seat, answer(alloc, first.wrapping_add(i))) {
+            break;
+        }
+    }
+    seat.end()
+}
+
+type Written = (Taker<Message>, Vec<u8>, Result<(), WriterFault>);
+
+fn write<R: Wait>(rt: &R, alloc: Global, mut taker: Taker<Message>) -> Written
+    ensures { IsSameQueue taker result.0 }
+{
+    let mut out = Vec::new(alloc);
+    let end = run_writer(rt, alloc, &hello(alloc), &mut taker, &mut out);
+    (taker, out, end)
+}
+
+type Three = (Ended<Message>, (Ended<Message>, Ended<Message>));
+
+fn put_all<R: Threads + Wait + Sync>(
+    rt: &R,
+    alloc: Global,
+    indexer: Seat<Message>,
+    server: Seat<Message>,
+    requester: Seat<Message>,
+) -> Three
+    ensures indexer { IsSameEnded indexer result.0 }
+    ensures server { IsSameEnded server result.1.0 }
+    ensures requester { IsSameEnded requester result.1.1 }
+{
+    join(
+        rt,
+        || -> Ended<Message>
+            ensures { IsSameEnded indexer result }
+        { put_ids(rt, alloc, indexer, 100_000) },
+        || -> (Ended<Message>, Ended<Message>)
+            ensures server { IsSameEnded server result.0 }
+            ensures requester { IsSameEnded requester result.1 }
+        {
+            join(
+                rt,
+                || -> Ended<Message>
+                    ensures { IsSameEnded server result }
+                { put_ids(rt, alloc, server, 200_000) },
+                || -> Ended<Message>
+                    ensures { IsSameEnded requester result }
+                { put_ids(rt, alloc, requester, 300_000) },
+            )
+        },
+    )
+}
+
+/// What a writer writes while three threads put.
+fn exchange<R: Threads + Wait + Sync>(rt: &R, alloc: Global) -> Result<Vec<u8>, AllocError> {
+    let (indexer, server, requester, taker) = OutQueue::open::<Message>(alloc, 16)?;
+    let ((mut taker, mut out, end), (indexer, (server, requester))) = join(
+        rt,
+        || -> Written
+            ensures { IsSameQueue taker result.0 }
+        { write(rt, alloc, taker) },
+        || -> Three
+            ensures indexer { IsSameEnded indexer result.0 }
+            ensures server { IsSameEnded server result.1.0 }
+            ensures requester { IsSameEnded requester result.1.1 }
+        { put_all(rt, alloc, indexer, server, requester) },
+    );
+    let rest = finish_writer(rt, alloc, &mut taker, indexer, server, requester, &mut out);
+    if end.is_err() || rest.is_err() {
+        return Err(AllocError);
+    }
+    Ok(out)
+}
+
+#[test]
+fn four_threads(rt: HostRuntime) -> Result<(), Fail> {
+    let alloc = rt.alloc();
+    let mut pieces = Vec::new(alloc);
+    pieces.push(exchange(&rt, alloc)?)?;
+    let stream = frames_of(alloc, pieces.as_slice(), true)?;
+    assert_eq!(rt; stream.end, Ok(0));
+    assert_eq!(rt; stream.frames.len(), 9_001);
+    let mut next = [100_000i32, 200_000, 300_000];
+    for frame in stream.frames.iter().skip(1) {
+        if let Frame::Message(Message::Response(response)) = frame {
+            let seat = match response.id {
+                ..200_000 => 0,
+                200_000..300_000 => 1,
+                _ => 2,
+            };
+            assert_eq!(rt; response.id, next[seat]);
+            next[seat] = next[seat].wrapping_add(1);
+        }
+    }
+    assert_eq!(rt; next, [103_000, 203_000, 303_000]);
+    Ok(())
+}
+
+#[test]
+fn a_full_queue(rt: HostRuntime) -> Result<(), Fail> {
+    let (mut indexer, mut server, requester, mut taker) = OutQueue::open::<u32>(rt.alloc(), 2)?;
+    assert!(rt; taker.take(&rt).is_none());
+    assert!(rt; server.put(&rt, 1).is_ok());
+    assert!(rt; indexer.put_wait(&rt, 2).is_ok());
+    assert!(rt; matches!(server.put(&rt, 3), Err(NotPut::Full(3))));
+    assert!(rt; taker.wait(&rt));
+    let first = taker.take_named(&rt).ok_or(AllocError)?;
+    assert_eq!(rt; (first.from, first.message), (SeatName::Server, 1));
+    assert!(rt; server.put(&rt, 3).is_ok());
+    assert_eq!(rt; taker.take(&rt), Some(2));
+    assert_eq!(rt; requester.name(), SeatName::Requester);
+    let ended = (server.end(), requester.end());
+    assert!(rt; taker.wait(&rt));
+    drop(indexer);
+    assert!(rt; !taker.wait(&rt));
+    assert_eq!(rt; taker.take(&rt), Some(3));
+    drop(ended);
+    Ok(())
+}
+
+#[test]
+fn no_taker(rt: HostRuntime) -> Result<(), Fail> {
+    let (mut indexer, _, _, taker) = OutQueue::open::<u32>(rt.alloc(), 2)?;
+    drop(taker);
+    assert!(rt; matches!(indexer.put(&rt, 2), Err(NotPut::Gone(2))));
+    assert!(rt; matches!(indexer.put_wait(&rt, 2), Err(NotPut::Gone(2))));
+    Ok(())
+}
+
+/// A writer whose calls fail after so many.
+#[derive(Drop)]
+struct Failing {
+    left: u32,
+    bytes: usize,
+}
+
+impl Write for Failing {
+    fn write(&mut self, buf: &[u8]) -> io::Result<usize> {
+        if self.left == 0 {
+            return Err(io::Error::from(ErrorKind::BrokenPipe));
+        }
+        self.left -= 1;
+        self.bytes = self.bytes.saturating_add(buf.len());
+        Ok(buf.len())
+    }
+
+    fn flush(&mut self) -> io::Result<()> {
+        Ok(())
+    }
+}
+
+/// Whether a writer whose calls fail after so many, with four large messages in the queue, writes all; and how many bytes.
+fn write_failing<R: Wait>(rt: &R, alloc: Global, calls: u32) -> Result<(bool, usize), Fail> {
+    let (mut indexer, server, requester, mut taker) = OutQueue::open::<Message>(alloc, 4)?;
+    for id in 0..4 {
+        let payload = Octets::from_vec(vec![in alloc; 7u8; 40_000]?);
+        let message = Message::Response(Response {
+            id,
+            payload,
+            code: 0,
+        });
+        put_one(rt, &mut indexer, message);
+    }
+    drop(indexer.end());
+    drop(server);
+    drop(requester);
+    let mut writer = Failing {
+        left: calls,
+        bytes: 0,
+    };
+    let end = run_writer(rt, alloc, &hello(alloc), &mut taker, &mut writer);
+    Ok((end.is_ok(), writer.bytes))
+}
+
+#[test]
+fn a_writer_that_fails(rt: HostRuntime) -> Result<(), Fail> {
+    let alloc = rt.alloc();
+    // the Hello has 6 bytes, and two messages go out together, with 8 bytes of header and length, and 4 of fields, each,
+    // and 2 more for an id other than 0
+    assert_eq!(rt; write_failing(&rt, alloc, 0)?, (false, 0));
+    assert_eq!(rt; write_failing(&rt, alloc, 1)?, (false, 6));
+    assert_eq!(rt; write_failing(&rt, alloc, 2)?, (false, 80_032));
+    assert_eq!(rt; write_failing(&rt, alloc, 3)?, (true, 160_060));
+    Ok(())
+}
