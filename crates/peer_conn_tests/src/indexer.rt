@@ -30,12 +30,12 @@ type Short = (&'static str, usize, i64, i64);
 const INDEX_ID: u64 = 7;
 
 /// The device of which each byte is this number. This one is 9, and the peer 1.
-fn device(number: u8) -> DeviceId {
+pub(crate) fn device(number: u8) -> DeviceId {
     DeviceId::new([number; 32])
 }
 
 /// The peer's ClusterConfig, which says up to which sequence of which index of this device it has the folder.
-fn peers_config(
+pub(crate) fn peers_config(
     alloc: Global,
     folder: &str,
     index_id: u64,
@@ -86,8 +86,8 @@ fn take_some<R: Wait + Abort>(
     taken
 }
 
-/// The folder of device 9 in which the directories n1, n2 and so on were recorded, in this order; and the pass by which they were.
-fn recorded<R: AllocGlobal + Abort + Wait>(
+/// The folder of device 9 in which the directories n000001, n000002 and so on were recorded, in this order; and the pass by which they were.
+pub(crate) fn recorded<R: AllocGlobal + Abort + Wait>(
     rt: &R,
     folder: &SharedFolder<PlainFolder>,
     pass: Pass<PlainFolder>,
@@ -98,15 +98,19 @@ fn recorded<R: AllocGlobal + Abort + Wait>(
 {
     let mut member = Member::new(folder, rt, pass);
     for number in 0..count {
-        let text = format!(in rt.alloc(); "n{}", number.saturating_add(1)).expect(rt, "a text");
-        let name = SafeName::from_string(text).expect(rt, "a name");
-        records(rt, &mut member, &name);
+        records(rt, &mut member, &numbered(rt, number.saturating_add(1)));
     }
     member.into_pass()
 }
 
+/// The name `n` with this number, in six digits: so names are in byte order by their numbers.
+pub(crate) fn numbered<R: AllocGlobal + Abort>(rt: &R, number: u64) -> SafeName {
+    let text = format!(in rt.alloc(); "n{number:06}").expect(rt, "a text");
+    SafeName::from_string(text).expect(rt, "a name")
+}
+
 /// Records a directory where nothing was.
-fn records<W: FolderCalls>(rt: &impl Abort, calls: &mut W, name: &SafeName) {
+pub(crate) fn records<W: FolderCalls>(rt: &impl Abort, calls: &mut W, name: &SafeName) {
     let moment = Moment::new(0).expect(rt, "a moment");
     let scanned = calls.scan_found(name, None, &directory(), moment);
     match scanned.expect(rt, "an answer").value {
@@ -158,7 +162,7 @@ fn first_messages<R: AllocGlobal + Abort + Clock + Sync + Threads + Wait>(
     (taken, end)
 }
 
-fn index<R: Abort + Clock + Wait, W: FolderCalls + Drop>(
+pub(crate) fn index<R: Abort + Clock + Wait, W: FolderCalls + Drop>(
     rt: &R,
     alloc: Global,
     calls: W,

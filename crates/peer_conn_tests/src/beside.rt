@@ -1,0 +1,155 @@
+//! An index of 100,000 records that is told while another thread changes the folder. Out of memory ends a test.
+use crate::indexer::{device, index, numbered, peers_config, recorded, records};
+use bep_frames::Message;
+use bep_messages::{ClusterConfig, FileInfo};
+use crossbeam_channel::{Sender, bounded};
+use folder_calls::FolderCalls;
+use folder_core::{FolderCore, PlainFolder, ScanAnswer};
+use folder_shared::{Member, SharedFolder};
+use peer_conn::{OutQueue, Taker};
+use std::alloc::Global;
+use std::process::Abort;
+use std::sync::Wait;
+use std::test::*;
+use std::thread::{Threads, join};
+use std::time::Clock;
+use sync_version::Moment;
+
+/// How many directories are recorded before the indexer begins.
+const RECORDED: u64 = 100_000;
+
+/// Of how many of these the deletion is recorded beside it, from the first one on.
+const DELETED: u64 = 1_000;
+
+/// How many more directories are recorded after that.
+const ADDED: u64 = 500;
+
+/// The sequence of the last change.
+const LAST: i64 = 101_500;
+
+/// What was told of a name last: the sequence of its record, 0 where nothing was told, and whether it says that nothing is there.
+type Told = (i64, bool);
+
+/// What was told last of the names `n000000` to `n100500`, at their numbers, until the last change was told; then it ends the indexer.
+fn take_all<R: AllocGlobal + Wait + Abort>(
+    rt: &R,
+    mut taker: Taker<Message>,
+    to_indexer: Sender<ClusterConfig>,
+) -> Vec<Told> {
+    let mut told = vec![in rt.alloc(); (0i64, false); 100_501].expect(rt, "memory");
+    let mut reached = 0;
+    while reached < LAST && taker.wait(rt) {
+        while let Some(message) = taker.take(rt) {
+            reached = lay_over(rt, told.as_mut_slice(), reached, &message);
+        }
+    }
+    drop(to_indexer);
+    told
+}
+
+/// Lays what a message tells over what was told before it, up to a sequence. Returns the sequence up to which all is told now.
+fn lay_over(rt: &impl Abort, told: &mut [Told], reached: i64, message: &Message) -> i64 {
+    let mut reached = reached;
+    for info in files_of(message) {
+        assert!(rt; info.sequence > reached);
+        reached = info.sequence;
+        told[number_of(rt, info)] = (info.sequence, info.deleted);
+    }
+    reached
+}
+
+fn files_of(message: &Message) -> &[FileInfo] {
+    match message {
+        Message::Index(index) => index.files.as_slice(),
+        Message::IndexUpdate(update) => update.files.as_slice(),
+        _ => &[],
+    }
+}
+
+fn number_of(rt: &impl Abort, info: &FileInfo) -> usize {
+    let digits = info.name.as_str().strip_prefix('n').expect(rt, "a name");
+    let number = digits.parse::<usize>().expect(rt, "a number");
+    assert!(rt; number <= 100_500);
+    number
+}
+
+/// Records that the first directories are gone, and then some more directories.
+fn change<R: AllocGlobal + Abort, W: FolderCalls>(rt: &R, calls: &mut W) {
+    for number in 1..=DELETED {
+        deletes(rt, calls, number);
+    }
+    for number in 0..ADDED {
+        let number = RECORDED.saturating_add(1).saturating_add(number);
+        records(rt, calls, &numbered(rt, number));
+    }
+}
+
+/// Records that nothing is where a directory was.
+fn deletes<R: AllocGlobal + Abort, W: FolderCalls>(rt: &R, calls: &mut W, number: u64) {
+    let name = numbered(rt, number);
+    let local = calls.local(&name).expect(rt, "an answer").value;
+    let record = local.expect(rt, "a record");
+    let moment = Moment::new(0).expect(rt, "a moment");
+    let scanned = calls.scan_gone(&name, Some(record.version()), moment);
+    match scanned.expect(rt, "an answer").value {
+        Ok(ScanAnswer::Recorded(_)) => {}
+        _ => panic!(rt; "not recorded"),
+    }
+}
+
+/// What an indexer told of a folder of 100,000 directories, while another thread changed it.
+fn told_beside_changes<R: AllocGlobal + Abort + Clock + Sync + Threads + Wait>(
+    rt: &R,
+    peer: ClusterConfig,
+) -> Vec<Told> {
+    let alloc = rt.alloc();
+    let core = PlainFolder::new(alloc, device(9));
+    assert!(rt; core.counts().pulls == 0);
+    let Ok(folder) = SharedFolder::open(rt, alloc, core, 200_000) else {
+        panic!(rt; "OutOfMemory");
+    };
+    let (Ok(pass), Ok(other)) = (folder.pass(rt), folder.pass(rt)) else {
+        panic!(rt; "PassesFull");
+    };
+    let pass = recorded(rt, &folder, pass, RECORDED);
+    let (indexer, server, requester, taker) = OutQueue::open::<Message>(alloc, 64).expect(
+        rt, "a queue",
+    );
+    drop(server);
+    drop(requester);
+    let (to_indexer, configs) = bounded::<ClusterConfig, Global>(alloc, 1).expect(rt, "a channel");
+    assert!(rt; to_indexer.send(rt, peer).is_ok());
+    let member = Member::new(&folder, rt, pass);
+    let mut changer = Member::new(&folder, rt, other);
+    let (_, (told, ())) = join(
+        rt,
+        || index(rt, alloc, member, &configs, indexer),
+        || {
+            join(
+                rt,
+                || take_all(rt, taker, to_indexer),
+                || change(rt, &mut changer),
+            )
+        },
+    );
+    told
+}
+
+#[test]
+fn pages_are_the_folder(rt: HostRuntime) -> Result<(), Fail> {
+    let peer = peers_config(rt.alloc(), "f", 0, 0)?;
+    let told = told_beside_changes(&rt, peer);
+    assert_eq!(rt; told[0], (0, false));
+    for (number, of_name) in told.iter().enumerate().skip(1) {
+        let sequence = i64::try_from(number).unwrap_or(0);
+        let wanted = match number {
+            // (its deletion is the change after the 100,000 and the deletions before it)
+            ..=1_000 => (sequence.saturating_add(100_000), true),
+            1_001..=100_000 => (sequence, false),
+            // (after 1,000 deletions)
+            _ => (sequence.saturating_add(1_000), false),
+        };
+        assert_eq!(rt; *of_name, wanted);
+    }
+    Ok(())
+}
