@@ -7,4 +7,5 @@ pub mod Runs
 pub mod Takes
 pub mod Counts
 pub mod Written
+pub mod Fronts
 pub mod Lemmas

@@ -10,6 +10,7 @@ mod carried;
 mod fault;
 mod found;
 mod frame;
+mod front;
 pub mod laws;
 mod reader;
 mod run;
@@ -18,6 +19,7 @@ mod writing;
 
 pub use fault::{FrameFault, WriteFault};
 pub use frame::{Frame, Message};
+pub use front::write_response_front;
 pub use reader::FrameReader;
 pub use run::{FrameStream, frames_of};
 pub use size::{MAX_HELLO_BYTES, MAX_MESSAGE_BYTES};

@@ -1,8 +1,9 @@
 //! Frames made by hand from the protocol's rules. Each call is made once: out of memory ends a test.
 use bep_frames::{
     Frame, FrameFault, FrameReader, Message, WriteFault, frames_of, write_frame, write_hello,
+    write_response_front,
 };
-use bep_messages::{Hello, Text};
+use bep_messages::{Hello, Octets, Response, Text};
 use std::alloc::{AllocError, Global};
 use std::process::Abort;
 use std::test::Fail;
@@ -185,6 +186,33 @@ fn messages_written(rt: HostRuntime) -> Result<(), Fail> {
     let response = [0, 2, 8, 4, 0, 0, 0, 7, 8, 1, 0x12, 3, 0x61, 0x62, 0x63];
     expect_written(&rt, alloc, &response)?;
     expect_written(&rt, alloc, &[0, 2, 8, 4, 0, 0, 0, 4, 8, 2, 0x18, 3])?;
+    Ok(())
+}
+
+/// The frame of a Response up to its data, after a byte.
+fn front(alloc: Global, id: i32, payload: &[u8]) -> Result<Vec<u8>, Fail> {
+    let response = Response {
+        id,
+        payload: Octets::from_slice(alloc, payload)?,
+        code: 0,
+    };
+    let mut out = vec![in alloc; 9u8; 1]?;
+    write_response_front(alloc, &response, &mut out)?;
+    Ok(out)
+}
+
+#[test]
+fn fronts_written(rt: HostRuntime) -> Result<(), Fail> {
+    let alloc = rt.alloc();
+    let with_data = front(alloc, 1, b"abc")?;
+    let expected = [9, 0, 2, 8, 4, 0, 0, 0, 7, 8, 1, 0x12, 3];
+    assert_eq!(rt; with_data.as_slice(), expected.as_slice());
+    let without_id = front(alloc, 0, b"abc")?;
+    let expected = [9, 0, 2, 8, 4, 0, 0, 0, 5, 0x12, 3];
+    assert_eq!(rt; without_id.as_slice(), expected.as_slice());
+    let without_data = front(alloc, 1, b"")?;
+    let expected = [9, 0, 2, 8, 4, 0, 0, 0, 2, 8, 1];
+    assert_eq!(rt; without_data.as_slice(), expected.as_slice());
     Ok(())
 }
 

@@ -1,14 +1,17 @@
 -- What a writer sends (Block Exchange Protocol v1, "Pre-authentication Messages" and "Post-authentication Messages").
-use Rattle.std.specs.Prelude.{◌≡◌, ◌⊎◌, ℕ, ◌<◌, List, [], ◌∷◌, ◌++◌, length, Option, flat_map}
+use Rattle.std.specs.Prelude.{◌≡◌, ◌⊎◌, ℕ, ◌<◌, List, [], ◌∷◌, ◌++◌, length, Bool, if◌then◌else◌, Option, Some, None, flat_map}
 use Rattle.std.specs.Io.KnownBytes.{Appends}
 use Rattle.bep_messages.specs.declared.hello.Hello.{Hello}
 use Rattle.bep_frames.specs.declared.frame.Message.{Message}
+use Rattle.bep_frames.specs.declared.frame.Message.TheVariants.{Response}
 use Rattle.bep_frames.specs.declared.fault.WriteFault.{WriteFault}
 use Rattle.bep_frames.specs.declared.fault.WriteFault.TheVariants.{TooLong}
 use Rattle.bep_frames.specs.Grammar.{max_hello_bytes, max_message_bytes}
 use Rattle.bep_frames.specs.Written.{hello_body, hello_frame, body_of, message_frame}
 use Rattle.peer_conn.specs.declared.known.SeatName.TheVariants.{Indexer, Server, Requester}
 use Rattle.peer_conn.specs.declared.known.Sent.{Sent}
+use Rattle.peer_conn.specs.declared.writer.Filled.{Filled}
+use Rattle.peer_conn.specs.declared.writer.Filled.TheVariants.{All, Enough, UpTo}
 use Rattle.peer_conn.specs.declared.writer.WriterFault.{WriterFault}
 use Rattle.peer_conn.specs.declared.writer.WriterFault.TheVariants.{Frame, Write}
 use Rattle.peer_conn.specs.Rule.{of}
@@ -53,3 +56,21 @@ pub record IsAll (taken : List (Sent Message)) (indexer server requester : List 
   pub indexer_is : of Indexer taken ≡ indexer
   pub server_is : of Server taken ≡ server
   pub requester_is : of Requester taken ≡ requester
+
+-- the data that the frame of a message ends with (Block Exchange Protocol v1, "Response"), which are a Response's
+abbrev pub data_of : Message → List ℕ
+data_of (Response m) = m.payload
+data_of _ = []
+
+-- the data that a filled buffer ends before
+abbrev pub data_if : Bool → Message → List ℕ
+data_if is_lent m = if is_lent then data_of m else []
+
+abbrev pub given_of : Option Message → List ℕ
+given_of None = []
+given_of (Some m) = data_of m
+
+abbrev pub lent_of : Filled → List ℕ
+lent_of All = []
+lent_of Enough = []
+lent_of (UpTo m) = data_of m

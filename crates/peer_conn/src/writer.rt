@@ -1,23 +1,38 @@
 //! The writer of a connection.
-ghost use Rattle.std.specs.Prelude.{◌≡◌, ◌<◌, ◌++◌, [], Some, Ok, false, IfErr, IsErrOf, OnErr, OnOk, length};
+ghost use Rattle.std.specs.Prelude.{◌≡◌, ◌<◌, ◌++◌, [], pos, true, Some, IfErr, IfOk, IsErrOf, OnErr, OnOk, length};
 ghost use Rattle.std.specs.Io.KnownBytes.{Appends};
 ghost use Rattle.bep_frames.specs.Grammar.{max_message_bytes};
 ghost use Rattle.bep_frames.specs.Written.{body_of, hello_frame, message_frame};
 ghost use Rattle.peer_conn.specs.declared.known.SeatName.TheVariants.{Indexer, Server, Requester};
+ghost use Rattle.peer_conn.specs.declared.writer.Filled.TheVariants.{All};
 ghost use Rattle.peer_conn.specs.declared.writer.WriterFault.TheVariants.{Frame, Write as WriteFailed};
 ghost use Rattle.peer_conn.specs.Words.{all_of, taken_of, IsEndedOf, IsSameQueue, IsSameTaker, IsWhole};
-ghost use Rattle.peer_conn.specs.Sending.{HasWritten, IsAll, Stops, StopsAt, StopsOrBegins};
+ghost use Rattle.peer_conn.specs.Sending.{HasWritten, IsAll, Stops, StopsAt, StopsOrBegins, data_if, data_of, given_of, lent_of};
 
 use crate::ends::{Ended, Taker};
 use crate::known::Sent;
-use bep_frames::{Message, WriteFault, write_frame, write_hello};
-use bep_messages::Hello;
+use bep_frames::{Message, WriteFault, write_frame, write_hello, write_response_front};
+use bep_messages::{Hello, Response};
 use std::alloc::Global;
 use std::io::{self, Write};
 use std::sync::Wait;
 
 /// Frames are written together until they have this many bytes.
 const BATCH_BYTES: usize = 65_536;
+
+/// The data of a Response are written from where they lie if they have this many bytes; fewer are copied, to go out with other frames.
+const LENT_BYTES: usize = 16_384;
+
+/// What a buffer was filled with.
+#[derive(Drop)]
+enum Filled {
+    /// The frames of all that stood in the queue.
+    All,
+    /// So many frames that they are to be written.
+    Enough,
+    /// Frames of which the last is this message's, but for its data.
+    UpTo(Message),
+}
 
 /// Why a writer stopped before it had written all.
 #[derive(Debug, Drop)]
@@ -47,10 +62,12 @@ impl From<io::Error> for WriterFault {
 /// Writes a Hello and then the frame of each message that is taken, in order, until each seat has ended or was dropped.
 /// Then [`finish_writer`] writes what is left.
 ///
-/// Frames of messages that stand in the queue together go out in one write, up to 64 KiB and the frame that passes it.
+/// Frames of messages that stand in the queue together go out in one write, up to 64 KiB and the frame that passes it. The data of a
+/// Response, from 16 KiB on, go out in a write of their own, from where they lie.
 /// Sleeps while the queue is empty. Stops with `TooLong` at a message over the limit, or with `OutOfMemory`, once the
 /// frames of the messages before it were written; or with the failure of a write. The caller then drops the taker, so that
-/// no seat waits for it. O(n) for n bytes written; memory for the greatest frame and 64 KiB.
+/// no seat waits for it. O(n) for n bytes written; memory for the greatest frame
+/// but a Response's, and 64 KiB.
 pub fn run_writer<R: Wait, W: Write>(
     rt: &R,
     alloc: Global,
@@ -68,7 +85,7 @@ pub fn run_writer<R: Wait, W: Write>(
     write_hello(hello, &mut buffer)?;
     write_out(&mut buffer, writer)?;
     for _ in rt.forever() {
-        drain(rt, taker, &mut buffer, writer)?;
+        drain(rt, alloc, taker, &mut buffer, writer)?;
         if !taker.wait(rt) {
             return Ok(());
         }
@@ -101,12 +118,13 @@ pub fn finish_writer<R: Wait, W: Write>(
 {
     taker.last(indexer, server, requester);
     let mut buffer = Vec::new(alloc);
-    drain(rt, taker, &mut buffer, writer)
+    drain(rt, alloc, taker, &mut buffer, writer)
 }
 
 /// Takes until the queue is empty, and writes the frames.
 fn drain<R: Wait, W: Write>(
     rt: &R,
+    alloc: Global,
     taker: &mut Taker<Message>,
     buffer: &mut Vec<u8>,
     writer: &mut W,
@@ -121,47 +139,102 @@ fn drain<R: Wait, W: Write>(
         (W.contents writer.old) (W.contents writer.new)) }
 {
     for _ in rt.forever() {
-        let filled = fill(rt, taker, buffer);
-        write_out(buffer, writer)?;
-        if !filled? {
-            return Ok(());
+        match fill(rt, alloc, taker, buffer) {
+            Ok(Filled::All) => {
+                write_out(buffer, writer)?;
+                return Ok(());
+            }
+            Ok(Filled::Enough) => write_out(buffer, writer)?,
+            Ok(Filled::UpTo(message)) => write_with(buffer, data_in(&message), writer)?,
+            Err(why) => {
+                write_out(buffer, writer)?;
+                return Err(WriterFault::Frame(why));
+            }
         }
     }
     unreachable!()
 }
 
-/// Takes messages and appends their frames, until the queue is empty (false) or the buffer is full enough (true).
+/// Takes messages and appends their frames, until the queue is empty, the buffer is full enough, or data follow that are not copied.
 fn fill<R: Wait>(
     rt: &R,
+    alloc: Global,
     taker: &mut Taker<Message>,
     buffer: &mut Vec<u8>,
-) -> Result<bool, WriteFault>
+) -> Result<Filled, WriteFault>
     ensures same { IsSameTaker taker.old taker.new }
-    ensures filled { OnOk result (HasWritten (taken_of taker.old) (taken_of taker.new) []
-        (Some buffer.old.items) (Some buffer.new.items)) }
-    ensures whole { result ≡ Ok false → IsWhole taker.new }
+    ensures filled { IfOk result (λ filled. HasWritten (taken_of taker.old) (taken_of taker.new) []
+        (Some buffer.old.items) (Some (buffer.new.items ++ lent_of filled))) }
+    ensures whole { IfOk result (λ filled. filled ≡ All → IsWhole taker.new) }
     ensures stopped { IfErr result (StopsAt (taken_of taker.old) (taken_of taker.new) []
         (Some buffer.old.items) (Some buffer.new.items)) }
 {
     for _ in rt.forever() {
         if buffer.len() >= BATCH_BYTES {
-            return Ok(true);
+            return Ok(Filled::Enough);
         }
-        match taker.take_named(rt) {
-            Some(sent) => push_frame(sent, buffer)?,
-            None => return Ok(false),
+        let Some(sent) = taker.take_named(rt) else {
+            return Ok(Filled::All);
+        };
+        if let Some(message) = push_frame(alloc, sent, buffer)? {
+            return Ok(Filled::UpTo(message));
         }
     }
     unreachable!()
 }
 
-/// Appends the frame of a message, and drops the message.
-fn push_frame(sent: Sent<Message>, buffer: &mut Vec<u8>) -> Result<(), WriteFault>
-    ensures pushed { OnOk result (buffer.new.items ≡ buffer.old.items ++ message_frame sent.message) }
+/// Appends the frame of a message, but for its data where they are not to be copied: then the message is returned.
+fn push_frame(
+    alloc: Global,
+    sent: Sent<Message>,
+    buffer: &mut Vec<u8>,
+) -> Result<Option<Message>, WriteFault>
+    ensures pushed { IfOk result (λ lent.
+        buffer.new.items ++ given_of lent ≡ buffer.old.items ++ message_frame sent.message) }
     ensures long { IsErrOf result WriteFault.TooLong → max_message_bytes < length (body_of sent.message) }
     ensures kept { OnErr result (buffer.new.items ≡ buffer.old.items) }
 {
-    write_frame(&sent.message, buffer)
+    let Sent { message, .. } = sent;
+    if push_message(alloc, &message, buffer)? {
+        return Ok(Some(message));
+    }
+    Ok(None)
+}
+
+/// Appends the frame of a message, but for its data where they are not to be copied. Returns whether they were left out.
+fn push_message(alloc: Global, message: &Message, buffer: &mut Vec<u8>) -> Result<bool, WriteFault>
+    ensures pushed { IfOk result (λ is_lent. buffer.new.items ++ data_if is_lent message.now
+        ≡ buffer.old.items ++ message_frame message.now) }
+    ensures long { IsErrOf result WriteFault.TooLong → max_message_bytes < length (body_of message.now) }
+    ensures kept { OnErr result (buffer.new.items ≡ buffer.old.items) }
+{
+    match message {
+        Message::Response(response) if is_lent(response) => {
+            write_response_front(alloc, response, buffer)?;
+            Ok(true)
+        }
+        _ => {
+            write_frame(message, buffer)?;
+            Ok(false)
+        }
+    }
+}
+
+/// Whether the data of a Response are to be written from where they lie.
+fn is_lent(response: &Response) -> bool
+    ensures { result ≡ true → response.now.code ≡ pos 0 }
+{
+    response.code == 0 && response.payload.as_slice().len() >= LENT_BYTES
+}
+
+/// The data that a message ends with.
+fn data_in(message: &Message) -> &[u8]
+    ensures { result.now ≡ data_of message.now }
+{
+    match message {
+        Message::Response(response) => response.payload.as_slice(),
+        _ => &[],
+    }
 }
 
 /// Writes what the buffer holds, and empties it.
@@ -173,4 +246,15 @@ fn write_out<W: Write>(buffer: &mut Vec<u8>, writer: &mut W) -> io::Result<()>
     writer.flush()?;
     buffer.clear();
     Ok(())
+}
+
+/// Writes what the buffer holds, and these data after it, and empties the buffer.
+fn write_with<W: Write>(buffer: &mut Vec<u8>, data: &[u8], writer: &mut W) -> io::Result<()>
+    ensures written { OnOk result (Appends (W.contents writer.old) (W.contents writer.new)
+        (buffer.old.items ++ data.now)) }
+    ensures emptied { OnOk result (buffer.new.items ≡ []) }
+{
+    write_out(buffer, writer)?;
+    writer.write_all(data)?;
+    writer.flush()
 }

@@ -2,12 +2,13 @@
 ghost use Rattle.peer_conn.specs.Words.{IsSameEnded, IsSameQueue, IsSameSeat};
 
 use bep_frames::{Frame, Message, frames_of};
-use bep_messages::{Hello, Octets, Response, Text};
+use bep_messages::{Hello, Octets, Ping, Response, Text};
 use peer_conn::{
     Ended, NotPut, OutQueue, Seat, SeatName, Taker, WriterFault, finish_writer, run_writer,
 };
 use std::alloc::{AllocError, Global};
 use std::io::{self, ErrorKind, Write};
+use std::process::Abort;
 use std::sync::Wait;
 use std::test::*;
 use std::thread::{Threads, join};
@@ -192,37 +193,87 @@ impl Write for Failing {
     }
 }
 
-/// Whether a writer whose calls fail after so many, with four large messages in the queue, writes all; and how many bytes.
-fn write_failing<R: Wait>(rt: &R, alloc: Global, calls: u32) -> Result<(bool, usize), Fail> {
-    let (mut indexer, server, requester, mut taker) = OutQueue::open::<Message>(alloc, 4)?;
+/// How many messages [`put_six`] puts.
+const SIX: usize = 6;
+
+/// Puts two Pings, and four Responses of 40,000 bytes.
+fn put_six<R: Wait>(rt: &R, alloc: Global, seat: &mut Seat<Message>) -> Result<(), AllocError>
+    ensures { IsSameSeat seat.old seat.new }
+{
+    put_one(rt, seat, Message::Ping(Ping {}));
+    put_one(rt, seat, Message::Ping(Ping {}));
     for id in 0..4 {
-        let payload = Octets::from_vec(vec![in alloc; 7u8; 40_000]?);
-        let message = Message::Response(Response {
-            id,
-            payload,
-            code: 0,
-        });
-        put_one(rt, &mut indexer, message);
+        put_large(rt, alloc, seat, id)?;
     }
+    Ok(())
+}
+
+fn put_large<R: Wait>(
+    rt: &R,
+    alloc: Global,
+    seat: &mut Seat<Message>,
+    id: i32,
+) -> Result<(), AllocError>
+    ensures { IsSameSeat seat.old seat.new }
+{
+    let payload = Octets::from_vec(vec![in alloc; 7u8; 40_000]?);
+    let message = Message::Response(Response {
+        id,
+        payload,
+        code: 0,
+    });
+    put_one(rt, seat, message);
+    Ok(())
+}
+
+/// How many bytes a writer writes whose calls fail after so many, with the six messages in the queue; and whether a seat is then told that
+/// the taker is gone.
+fn write_failing<R: Wait + Abort>(
+    rt: &R,
+    alloc: Global,
+    calls: u32,
+) -> Result<(usize, bool), Fail> {
+    let (mut indexer, mut server, requester, mut taker) = OutQueue::open::<Message>(alloc, SIX)?;
+    put_six(rt, alloc, &mut indexer)?;
     drop(indexer.end());
-    drop(server);
     drop(requester);
     let mut writer = Failing {
         left: calls,
         bytes: 0,
     };
     let end = run_writer(rt, alloc, &hello(alloc), &mut taker, &mut writer);
-    Ok((end.is_ok(), writer.bytes))
+    assert!(rt; end.is_err());
+    drop(taker);
+    let put = server.put_wait(rt, answer(alloc, 1));
+    Ok((writer.bytes, matches!(put, Err(NotPut::Gone(_)))))
+}
+
+/// How many bytes a writer writes of which no call fails, with the six messages in the queue.
+fn write_six<R: Wait + Abort>(rt: &R, alloc: Global) -> Result<usize, Fail> {
+    let (mut indexer, server, requester, mut taker) = OutQueue::open::<Message>(alloc, SIX)?;
+    put_six(rt, alloc, &mut indexer)?;
+    drop(indexer.end());
+    drop(server);
+    drop(requester);
+    let mut writer = Failing {
+        left: u32::MAX,
+        bytes: 0,
+    };
+    let end = run_writer(rt, alloc, &hello(alloc), &mut taker, &mut writer);
+    assert!(rt; end.is_ok());
+    Ok(writer.bytes)
 }
 
 #[test]
 fn a_writer_that_fails(rt: HostRuntime) -> Result<(), Fail> {
     let alloc = rt.alloc();
-    // the Hello has 6 bytes, and two messages go out together, with 8 bytes of header and length, and 4 of fields, each,
-    // and 2 more for an id other than 0
-    assert_eq!(rt; write_failing(&rt, alloc, 0)?, (false, 0));
-    assert_eq!(rt; write_failing(&rt, alloc, 1)?, (false, 6));
-    assert_eq!(rt; write_failing(&rt, alloc, 2)?, (false, 80_032));
-    assert_eq!(rt; write_failing(&rt, alloc, 3)?, (true, 160_060));
+    // The Hello has 6 bytes and a Ping 8. Before the data a Response has 8 bytes of header and length, 4 of the data's key and length, and 2
+    // of its id, unless that is 0. Both Pings and the front of the first Response go out in one call.
+    let written = [0, 6, 34, 40_034, 40_048, 80_048, 80_062, 120_062, 120_076];
+    for (calls, bytes) in written.iter().enumerate() {
+        let calls = u32::try_from(calls).unwrap_or(0);
+        assert_eq!(rt; write_failing(&rt, alloc, calls)?, (*bytes, true));
+    }
+    assert_eq!(rt; write_six(&rt, alloc)?, 160_076);
     Ok(())
 }
