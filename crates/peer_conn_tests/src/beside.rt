@@ -1,10 +1,12 @@
 //! An index of 100,000 records that is told while another thread changes the folder. Out of memory ends a test.
-use crate::indexer::{device, index, numbered, peers_config, recorded, records};
+ghost use Rattle.std.specs.Prelude.{◌≡◌, ◌≤◌, length};
+
+use crate::indexer::{given, index, numbered, peers_config, recorded, records, shared};
 use bep_frames::Message;
 use bep_messages::{ClusterConfig, FileInfo};
 use crossbeam_channel::{Sender, bounded};
 use folder_calls::FolderCalls;
-use folder_core::{FolderCore, PlainFolder, ScanAnswer};
+use folder_core::{FolderCore, ScanAnswer};
 use folder_shared::{Member, SharedFolder};
 use peer_conn::{OutQueue, Taker};
 use std::alloc::Global;
@@ -37,18 +39,49 @@ fn take_all<R: AllocGlobal + Wait + Abort>(
     to_indexer: Sender<ClusterConfig>,
 ) -> Vec<Told> {
     let mut told = vec![in rt.alloc(); (0i64, false); 100_501].expect(rt, "memory");
-    let mut reached = 0;
-    while reached < LAST && taker.wait(rt) {
-        while let Some(message) = taker.take(rt) {
-            reached = lay_over(rt, told.as_mut_slice(), reached, &message);
-        }
-    }
+    take_until_last(rt, &mut taker, told.as_mut_slice());
     drop(to_indexer);
     told
 }
 
+/// Lays what is told over what was told before it, until the last change was told or the seats have ended.
+fn take_until_last<R: Wait + Abort>(rt: &R, taker: &mut Taker<Message>, told: &mut [Told])
+    requires { length told.old ≡ 100501 }
+{
+    let mut reached = 0;
+    for _ in rt.forever() {
+        if reached >= LAST || !taker.wait(rt) {
+            return;
+        }
+        reached = lay_waiting(rt, taker, told, reached);
+    }
+}
+
+/// The same of the messages that stand in the queue. Returns the sequence up to which all is told.
+fn lay_waiting<R: Wait + Abort>(
+    rt: &R,
+    taker: &mut Taker<Message>,
+    told: &mut [Told],
+    before: i64,
+) -> i64
+    requires { length told.old ≡ 100501 }
+    ensures { length told.new ≡ length told.old }
+{
+    let mut reached = before;
+    for _ in rt.forever() {
+        let Some(message) = taker.take(rt) else {
+            return reached;
+        };
+        reached = lay_over(rt, told, reached, &message);
+    }
+    reached
+}
+
 /// Lays what a message tells over what was told before it, up to a sequence. Returns the sequence up to which all is told now.
-fn lay_over(rt: &impl Abort, told: &mut [Told], reached: i64, message: &Message) -> i64 {
+fn lay_over(rt: &impl Abort, told: &mut [Told], reached: i64, message: &Message) -> i64
+    requires { length told.old ≡ 100501 }
+    ensures { length told.new ≡ length told.old }
+{
     let mut reached = reached;
     for info in files_of(message) {
         assert!(rt; info.sequence > reached);
@@ -66,7 +99,9 @@ fn files_of(message: &Message) -> &[FileInfo] {
     }
 }
 
-fn number_of(rt: &impl Abort, info: &FileInfo) -> usize {
+fn number_of(rt: &impl Abort, info: &FileInfo) -> usize
+    ensures { result ≤ 100500 }
+{
     let digits = info.name.as_str().strip_prefix('n').expect(rt, "a name");
     let number = digits.parse::<usize>().expect(rt, "a number");
     assert!(rt; number <= 100_500);
@@ -74,13 +109,13 @@ fn number_of(rt: &impl Abort, info: &FileInfo) -> usize {
 }
 
 /// Records that the first directories are gone, and then some more directories.
-fn change<R: AllocGlobal + Abort, W: FolderCalls>(rt: &R, calls: &mut W) {
+fn change<R: AllocGlobal + Abort, W: FolderCalls + Drop>(rt: &R, mut calls: W) {
     for number in 1..=DELETED {
-        deletes(rt, calls, number);
+        deletes(rt, &mut calls, number);
     }
     for number in 0..ADDED {
         let number = RECORDED.saturating_add(1).saturating_add(number);
-        records(rt, calls, &numbered(rt, number));
+        records(rt, &mut calls, &numbered(rt, number));
     }
 }
 
@@ -98,20 +133,22 @@ fn deletes<R: AllocGlobal + Abort, W: FolderCalls>(rt: &R, calls: &mut W, number
 }
 
 /// What an indexer told of a folder of 100,000 directories, while another thread changed it.
-fn told_beside_changes<R: AllocGlobal + Abort + Clock + Sync + Threads + Wait>(
-    rt: &R,
-    peer: ClusterConfig,
-) -> Vec<Told> {
+fn told_of<
+    C: FolderCore + Drop + Sync + Send,
+    R: AllocGlobal + Abort + Clock + Sync + Threads + Wait,
+>(rt: &R, folder: &SharedFolder<C>, peer: ClusterConfig) -> Vec<Told> {
+    let pass = recorded(rt, folder, given(rt, folder), RECORDED);
+    let changer = Member::new(folder, rt, given(rt, folder));
+    exchange(rt, Member::new(folder, rt, pass), changer, peer)
+}
+
+/// What an indexer of some calls told, while the others made changes.
+fn exchange<
+    R: AllocGlobal + Abort + Clock + Sync + Threads + Wait,
+    V: FolderCalls + Drop + Send,
+    W: FolderCalls + Drop + Send,
+>(rt: &R, calls: V, changer: W, peer: ClusterConfig) -> Vec<Told> {
     let alloc = rt.alloc();
-    let core = PlainFolder::new(alloc, device(9));
-    assert!(rt; core.counts().pulls == 0);
-    let Ok(folder) = SharedFolder::open(rt, alloc, core, 200_000) else {
-        panic!(rt; "OutOfMemory");
-    };
-    let (Ok(pass), Ok(other)) = (folder.pass(rt), folder.pass(rt)) else {
-        panic!(rt; "PassesFull");
-    };
-    let pass = recorded(rt, &folder, pass, RECORDED);
     let (indexer, server, requester, taker) = OutQueue::open::<Message>(alloc, 64).expect(
         rt, "a queue",
     );
@@ -119,16 +156,14 @@ fn told_beside_changes<R: AllocGlobal + Abort + Clock + Sync + Threads + Wait>(
     drop(requester);
     let (to_indexer, configs) = bounded::<ClusterConfig, Global>(alloc, 1).expect(rt, "a channel");
     assert!(rt; to_indexer.send(rt, peer).is_ok());
-    let member = Member::new(&folder, rt, pass);
-    let mut changer = Member::new(&folder, rt, other);
     let (_, (told, ())) = join(
         rt,
-        || index(rt, alloc, member, &configs, indexer),
+        || index(rt, alloc, calls, &configs, indexer),
         || {
             join(
                 rt,
                 || take_all(rt, taker, to_indexer),
-                || change(rt, &mut changer),
+                || change(rt, changer),
             )
         },
     );
@@ -138,7 +173,8 @@ fn told_beside_changes<R: AllocGlobal + Abort + Clock + Sync + Threads + Wait>(
 #[test]
 fn pages_are_the_folder(rt: HostRuntime) -> Result<(), Fail> {
     let peer = peers_config(rt.alloc(), "f", 0, 0)?;
-    let told = told_beside_changes(&rt, peer);
+    let folder = shared(&rt, 200_000);
+    let told = told_of(&rt, &folder, peer);
     assert_eq!(rt; told[0], (0, false));
     for (number, of_name) in told.iter().enumerate().skip(1) {
         let sequence = i64::try_from(number).unwrap_or(0);

@@ -23,8 +23,16 @@ use sync_names::SafeName;
 use sync_record::DeviceId;
 use sync_version::Moment;
 
-/// A message in short: its kind, how many records it has, and the sequences of the first and of the last.
-type Short = (&'static str, usize, i64, i64);
+/// A message in short: its type number, how many records it has (or a ClusterConfig folders), and the sequences of the first and of the last.
+type Short = (i32, usize, i64, i64);
+
+const CONFIG: i32 = 0;
+
+const INDEX: i32 = 1;
+
+const INDEX_UPDATE: i32 = 2;
+
+const OTHER: i32 = -1;
 
 /// The number of this device's index.
 const INDEX_ID: u64 = 7;
@@ -51,7 +59,7 @@ pub(crate) fn peers_config(
     Ok(cluster_config(alloc, device(1), "peer", device(9), [told].as_slice())?)
 }
 
-fn short(kind: &'static str, infos: &[FileInfo]) -> Short {
+fn short(kind: i32, infos: &[FileInfo]) -> Short {
     match infos {
         [] => (kind, 0, 0, 0),
         [only] => (kind, 1, only.sequence, only.sequence),
@@ -61,10 +69,10 @@ fn short(kind: &'static str, infos: &[FileInfo]) -> Short {
 
 fn short_of(message: &Message) -> Short {
     match message {
-        Message::ClusterConfig(config) => ("ClusterConfig", config.folders.as_slice().len(), 0, 0),
-        Message::Index(index) => short("Index", index.files.as_slice()),
-        Message::IndexUpdate(update) => short("IndexUpdate", update.files.as_slice()),
-        _ => ("other", 0, 0, 0),
+        Message::ClusterConfig(config) => (CONFIG, config.folders.as_slice().len(), 0, 0),
+        Message::Index(index) => short(INDEX, index.files.as_slice()),
+        Message::IndexUpdate(update) => short(INDEX_UPDATE, update.files.as_slice()),
+        _ => (OTHER, 0, 0, 0),
     }
 }
 
@@ -77,30 +85,82 @@ fn take_some<R: Wait + Abort>(
     to_indexer: Sender<ClusterConfig>,
 ) -> Vec<Short> {
     let mut taken = Vec::new(alloc);
-    while taken.len() < count && taker.wait(rt) {
-        while let Some(message) = taker.take(rt) {
-            taken.push(short_of(&message)).expect(rt, "memory");
-        }
-    }
+    take_until(rt, &mut taker, count, &mut taken);
     drop(to_indexer);
     taken
 }
 
-/// The folder of device 9 in which the directories n000001, n000002 and so on were recorded, in this order; and the pass by which they were.
-pub(crate) fn recorded<R: AllocGlobal + Abort + Wait>(
+/// Takes messages until there are so many, or until the seats have ended.
+fn take_until<R: Wait + Abort>(
     rt: &R,
-    folder: &SharedFolder<PlainFolder>,
-    pass: Pass<PlainFolder>,
+    taker: &mut Taker<Message>,
+    count: usize,
+    taken: &mut Vec<Short>,
+) {
+    for _ in rt.forever() {
+        if taken.len() >= count || !taker.wait(rt) {
+            return;
+        }
+        take_waiting(rt, taker, taken);
+    }
+}
+
+/// Takes the messages that stand in the queue.
+fn take_waiting<R: Wait + Abort>(rt: &R, taker: &mut Taker<Message>, taken: &mut Vec<Short>) {
+    for _ in rt.forever() {
+        let Some(message) = taker.take(rt) else {
+            return;
+        };
+        taken.push(short_of(&message)).expect(rt, "memory");
+    }
+}
+
+/// The empty folder of device 9, whose history takes so many entries.
+pub(crate) fn shared(
+    rt: &(impl AllocGlobal + Abort + Wait),
+    limit: u64,
+) -> SharedFolder<PlainFolder> {
+    let core = PlainFolder::new(rt.alloc(), device(9));
+    assert!(rt; core.counts().pulls == 0);
+    match SharedFolder::open(rt, rt.alloc(), core, limit) {
+        Ok(folder) => folder,
+        Err(_) => panic!(rt; "OutOfMemory"),
+    }
+}
+
+/// One more pass.
+pub(crate) fn given<C: FolderCore + Drop>(
+    rt: &(impl Abort + Wait),
+    folder: &SharedFolder<C>,
+) -> Pass<C>
+    ensures { IsPassOf folder.now.locked result }
+{
+    match folder.pass(rt) {
+        Ok(pass) => pass,
+        Err(_) => panic!(rt; "PassesFull"),
+    }
+}
+
+/// The pass, by which the directories n000001, n000002 and so on were recorded, in this order.
+pub(crate) fn recorded<C: FolderCore + Drop, R: AllocGlobal + Abort + Wait>(
+    rt: &R,
+    folder: &SharedFolder<C>,
+    pass: Pass<C>,
     count: u64,
-) -> Pass<PlainFolder>
+) -> Pass<C>
     requires { IsPassOf folder.now.locked pass }
     ensures { IsPassOf folder.now.locked result }
 {
     let mut member = Member::new(folder, rt, pass);
-    for number in 0..count {
-        records(rt, &mut member, &numbered(rt, number.saturating_add(1)));
-    }
+    record_all(rt, &mut member, count);
     member.into_pass()
+}
+
+/// Records so many directories.
+fn record_all<R: AllocGlobal + Abort, W: FolderCalls>(rt: &R, calls: &mut W, count: u64) {
+    for number in 0..count {
+        records(rt, calls, &numbered(rt, number.saturating_add(1)));
+    }
 }
 
 /// The name `n` with this number, in six digits: so names are in byte order by their numbers.
@@ -129,23 +189,39 @@ fn directory() -> Finding
     }
 }
 
-/// What an indexer of the folder puts first, and how it ends after that.
+/// What an indexer of a folder of so many directories puts first, and how it ends after that.
 fn first_messages<R: AllocGlobal + Abort + Clock + Sync + Threads + Wait>(
     rt: &R,
     count: u64,
     peer: ClusterConfig,
     messages: usize,
 ) -> (Vec<Short>, IndexerEnd) {
+    let folder = shared(rt, 2_000);
+    first_of(rt, &folder, count, peer, messages)
+}
+
+fn first_of<
+    C: FolderCore + Drop + Sync + Send,
+    R: AllocGlobal + Abort + Clock + Sync + Threads + Wait,
+>(
+    rt: &R,
+    folder: &SharedFolder<C>,
+    count: u64,
+    peer: ClusterConfig,
+    messages: usize,
+) -> (Vec<Short>, IndexerEnd) {
+    let pass = recorded(rt, folder, given(rt, folder), count);
+    exchange(rt, Member::new(folder, rt, pass), peer, messages)
+}
+
+/// What an indexer of these calls puts first, and how it ends after that.
+fn exchange<R: AllocGlobal + Abort + Clock + Sync + Threads + Wait, W: FolderCalls + Drop + Send>(
+    rt: &R,
+    calls: W,
+    peer: ClusterConfig,
+    messages: usize,
+) -> (Vec<Short>, IndexerEnd) {
     let alloc = rt.alloc();
-    let core = PlainFolder::new(alloc, device(9));
-    assert!(rt; core.counts().pulls == 0);
-    let Ok(folder) = SharedFolder::open(rt, alloc, core, 2_000) else {
-        panic!(rt; "OutOfMemory");
-    };
-    let Ok(pass) = folder.pass(rt) else {
-        panic!(rt; "PassesFull");
-    };
-    let pass = recorded(rt, &folder, pass, count);
     let (indexer, server, requester, taker) = OutQueue::open::<Message>(alloc, 64).expect(
         rt, "a queue",
     );
@@ -153,10 +229,9 @@ fn first_messages<R: AllocGlobal + Abort + Clock + Sync + Threads + Wait>(
     drop(requester);
     let (to_indexer, configs) = bounded::<ClusterConfig, Global>(alloc, 1).expect(rt, "a channel");
     assert!(rt; to_indexer.send(rt, peer).is_ok());
-    let member = Member::new(&folder, rt, pass);
     let (end, taken) = join(
         rt,
-        || index(rt, alloc, member, &configs, indexer),
+        || index(rt, alloc, calls, &configs, indexer),
         || take_some(rt, alloc, taker, messages, to_indexer),
     );
     (taken, end)
@@ -182,7 +257,8 @@ pub(crate) fn index<R: Abort + Clock + Wait, W: FolderCalls + Drop>(
         index_id: INDEX_ID,
         calls,
     };
-    let mut folders = [folder];
+    let mut folders = Vec::new(alloc);
+    folders.push(folder).expect(rt, "memory");
     let (_, end) = run_indexer(
         rt,
         alloc,
@@ -199,9 +275,9 @@ fn indexer_pages(rt: HostRuntime) -> Result<(), Fail> {
     let peer = peers_config(rt.alloc(), "f", 0, 0)?;
     let (taken, end) = first_messages(&rt, 1_001, peer, 3);
     assert_eq!(rt; taken.len(), 3);
-    assert_eq!(rt; taken[0], ("ClusterConfig", 1, 0, 0));
-    assert_eq!(rt; taken[1], ("Index", 1_000, 1, 1_000));
-    assert_eq!(rt; taken[2], ("IndexUpdate", 1, 1_001, 1_001));
+    assert_eq!(rt; taken[0], (CONFIG, 1, 0, 0));
+    assert_eq!(rt; taken[1], (INDEX, 1_000, 1, 1_000));
+    assert_eq!(rt; taken[2], (INDEX_UPDATE, 1, 1_001, 1_001));
     assert_eq!(rt; end, IndexerEnd::Closed);
     Ok(())
 }
@@ -211,7 +287,7 @@ fn indexer_goes_on_where_the_peer_is(rt: HostRuntime) -> Result<(), Fail> {
     let peer = peers_config(rt.alloc(), "f", INDEX_ID, 2)?;
     let (taken, end) = first_messages(&rt, 3, peer, 2);
     assert_eq!(rt; taken.len(), 2);
-    assert_eq!(rt; taken[1], ("IndexUpdate", 1, 3, 3));
+    assert_eq!(rt; taken[1], (INDEX_UPDATE, 1, 3, 3));
     assert_eq!(rt; end, IndexerEnd::Closed);
     Ok(())
 }
