@@ -4,16 +4,25 @@ use crate::peer::Peer;
 use file_store::{FileStore, Stat};
 use std::alloc::Global;
 use sync_names::SafeName;
+use sync_version::Moment;
 
-/// Puts a file with this text in place of a file that is there. Missing parents are made.
-pub(crate) fn put(alloc: Global, peer: &mut Peer, name: &str, text: &str) -> Result<(), Refused> {
+/// Puts a file with this text, modified at the moment, in place of a file that is there. Missing parents are made.
+pub(crate) fn put(
+    alloc: Global,
+    peer: &mut Peer,
+    name: &str,
+    text: &str,
+    moment: Moment,
+) -> Result<(), Refused> {
     let name = SafeName::parse(alloc, name)?;
     if peer.store.stat(&name)? == Stat::Directory {
         return Err(Refused::UnknownCommand);
     }
     peer.store.make_temp(&name)?;
     peer.store.write_at(&name, 0, text.as_bytes())?;
-    Ok(peer.store.commit_temp(&name)?)
+    peer.store.commit_temp(&name)?;
+    let _ = peer.store.set_modified(&name, moment);
+    Ok(())
 }
 
 /// Makes a directory, and missing parents. One that is there stays.

@@ -286,7 +286,7 @@ fn act<T: Threads + Sync>(
     output: &mut Output,
 ) -> Result<(), Refused> {
     match action {
-        Action::Put(name, text) => files::put(alloc, peer, name, text),
+        Action::Put(name, text) => files::put(alloc, peer, name, text, moment),
         Action::MakeDir(name) => files::make_dir(alloc, peer, name),
         Action::Delete(name) => files::delete(alloc, peer, name),
         Action::Conflicts(most) => {
