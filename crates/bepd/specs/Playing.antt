@@ -1,7 +1,7 @@
 -- How `bepd pair` ends (own rule).
 use Rattle.std.specs.Prelude.{Result, Ok, Err}
-use Rattle.bepd_pair.specs.declared.pair.PairFailure.{PairFailure}
-use Rattle.bepd_pair.specs.declared.pair.PairFailure.TheVariants as pair
+use Rattle.bepd_pair.specs.declared.playing.PairFailure.{PairFailure}
+use Rattle.bepd_pair.specs.declared.playing.PairFailure.TheVariants as pair
 use Rattle.bepd.specs.declared.ending.Ending.{Ending}
 use Rattle.bepd.specs.declared.ending.Ending.TheVariants.{Done, Failed}
 use Rattle.bepd.specs.declared.ending.Failure.TheVariants.{OutOfMemory, Read, Write}

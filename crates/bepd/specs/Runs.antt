@@ -12,7 +12,8 @@ use Rattle.bepd.specs.declared.run.Outcome.{Outcome}
 use Rattle.bepd.specs.Endings.{IsEndOf, IsListed, ending_text, status_of}
 use Rattle.bepd.specs.Listing.{Answers, listing}
 use Rattle.bepd.specs.Playing.{played_ending}
-use Rattle.bepd_pair.specs.declared.pair.PairFailure.{PairFailure}
+use Rattle.bepd_pair.specs.Playing.{Plays as AnyPlays}
+use Rattle.bepd_pair.specs.declared.playing.PairFailure.{PairFailure}
 
 -- The standard streams: the bytes that the input has left, and those that the output and the errors have, where they are known.
 pub record Streams : Type 0 where
@@ -46,6 +47,7 @@ pub record Lists (folder : List ℕ) (outcome : Outcome) (old new : Streams) : T
 -- two peers did the commands of the input
 pub record Plays (outcome : Outcome) (old new : Streams) : Type 0 where
   pub played : Result (Unit {0}) PairFailure
+  pub plays : AnyPlays played old.input new.input old.output new.output
   pub ends : Ends (played_ending played) outcome old.errors new.errors
 
 -- the text goes to standard output, or can't be written

@@ -10,9 +10,10 @@ mod indexes;
 mod input;
 mod link;
 mod output;
-mod pair;
 mod peer;
+mod playing;
 mod pulls;
+mod refused;
 mod scans;
 
-pub use pair::{PairFailure, pair};
+pub use playing::{PairFailure, pair};

@@ -1,7 +1,8 @@
 //! Rounds of pulls.
 use crate::link::Link;
-use crate::output::{Output, Refused};
+use crate::output::push_pull;
 use crate::peer::Peer;
+use crate::refused::Refused;
 use bep_session::Session;
 use file_store::OpenGate;
 use folder_calls::FolderCalls;
@@ -28,7 +29,7 @@ pub(crate) fn pull<R: Threads + Sync>(
     other: &mut Peer,
     other_session: &mut Session,
     moment: Moment,
-    output: &mut Output,
+    lines: &mut Vec<u8>,
 ) -> Result<(), Refused> {
     let round = round_of(alloc, peer)?;
     for name in &round.live {
@@ -41,7 +42,7 @@ pub(crate) fn pull<R: Threads + Sync>(
             other_session,
             name,
             moment,
-            output,
+            lines,
         )?;
     }
     for name in round.deleted.iter().rev() {
@@ -54,7 +55,7 @@ pub(crate) fn pull<R: Threads + Sync>(
             other_session,
             name,
             moment,
-            output,
+            lines,
         )?;
     }
     Ok(())
@@ -88,10 +89,10 @@ fn pull_one<R: Threads + Sync>(
     other_session: &mut Session,
     name: &SafeName,
     moment: Moment,
-    output: &mut Output,
+    lines: &mut Vec<u8>,
 ) -> Result<(), AllocError> {
     let answer = answer_of(rt, alloc, peer, session, other, other_session, name, moment);
-    output.push_pull(peer.side, answer, name)
+    push_pull(lines, peer.side, answer, name)
 }
 
 fn answer_of<R: Threads + Sync>(

@@ -1,6 +1,7 @@
 //! Scans of a peer's store, and its local records.
-use crate::output::{Output, Refused};
+use crate::output::{push_local, push_scan};
 use crate::peer::Peer;
+use crate::refused::Refused;
 use bep_messages::Items;
 use file_store::OpenGate;
 use folder_calls::FolderCalls;
@@ -16,7 +17,7 @@ pub(crate) fn scan<R: Threads + Sync>(
     alloc: Global,
     peer: &mut Peer,
     moment: Moment,
-    output: &mut Output,
+    lines: &mut Vec<u8>,
 ) -> Result<(), Refused> {
     let sum = scan_all(
         rt,
@@ -29,16 +30,16 @@ pub(crate) fn scan<R: Threads + Sync>(
     );
     match sum.stopped {
         Some(stop) => Err(Refused::Scan(stop)),
-        None => Ok(output.push_scan(peer.side, sum)?),
+        None => Ok(push_scan(lines, peer.side, sum)?),
     }
 }
 
 /// Tells each local record, in byte order of the names.
-pub(crate) fn show(alloc: Global, peer: &mut Peer, output: &mut Output) -> Result<(), Refused> {
+pub(crate) fn show(alloc: Global, peer: &mut Peer, lines: &mut Vec<u8>) -> Result<(), Refused> {
     let mut records = local_records(alloc, peer)?;
     records.sort_by(|a, b| a.name().cmp(b.name()))?;
     for record in &records {
-        output.push_local(peer.side, record)?;
+        push_local(lines, peer.side, record)?;
     }
     Ok(())
 }

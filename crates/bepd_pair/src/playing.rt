@@ -3,8 +3,9 @@ use crate::command::{Action, Command, Side, command_of};
 use crate::indexes::send_all;
 use crate::input::Line;
 use crate::link::greet;
-use crate::output::{Output, Refused};
+use crate::output::{push_refused, push_sync};
 use crate::peer::Peer;
+use crate::refused::Refused;
 use crate::{files, pulls, scans};
 use bep_session::Session;
 use std::alloc::{AllocError, Global};
@@ -147,13 +148,13 @@ fn end_line<T: Threads + Sync, W: Write>(
     line: &Line,
     writer: &mut W,
 ) -> Result<(), PairFailure> {
-    let mut output = Output::new(alloc);
-    match run(rt, alloc, peers, line, &mut output) {
+    let mut lines = Vec::new(alloc);
+    match run(rt, alloc, peers, line, &mut lines) {
         Ok(()) => {}
         Err(Refused::OutOfMemory) => return Err(PairFailure::OutOfMemory),
-        Err(refused) => output.push_refused(refused)?,
+        Err(refused) => push_refused(&mut lines, refused)?,
     }
-    write(writer, output.as_bytes())
+    write(writer, lines.as_slice())
 }
 
 fn run<T: Threads + Sync>(
@@ -161,7 +162,7 @@ fn run<T: Threads + Sync>(
     alloc: Global,
     peers: &mut Peers,
     line: &Line,
-    output: &mut Output,
+    lines: &mut Vec<u8>,
 ) -> Result<(), Refused> {
     let Some(bytes) = line.bytes() else {
         return Err(Refused::UnknownCommand);
@@ -174,8 +175,8 @@ fn run<T: Threads + Sync>(
             peers.moment = *moment;
             Ok(())
         }
-        Command::Sync => peers.sync(alloc, output),
-        Command::At(side, action) => peers.act_at(rt, alloc, *side, action, output),
+        Command::Sync => peers.sync(alloc, lines),
+        Command::At(side, action) => peers.act_at(rt, alloc, *side, action, lines),
     }
 }
 
@@ -197,7 +198,7 @@ impl Peers {
     }
 
     // Sends all pages of A to B, and then all of B to A.
-    fn sync(&mut self, alloc: Global, output: &mut Output) -> Result<(), Refused> {
+    fn sync(&mut self, alloc: Global, lines: &mut Vec<u8>) -> Result<(), Refused> {
         let to_b = send_all(
             alloc,
             &mut self.a,
@@ -214,7 +215,7 @@ impl Peers {
             &mut self.a_session,
             self.moment,
         )?;
-        Ok(output.push_sync(to_b, to_a)?)
+        Ok(push_sync(lines, to_b, to_a)?)
     }
 
     // Has the peer of this letter do something.
@@ -224,11 +225,11 @@ impl Peers {
         alloc: Global,
         side: Side,
         action: &Action,
-        output: &mut Output,
+        lines: &mut Vec<u8>,
     ) -> Result<(), Refused> {
         match side {
-            Side::A => self.act_at_a(rt, alloc, action, output),
-            Side::B => self.act_at_b(rt, alloc, action, output),
+            Side::A => self.act_at_a(rt, alloc, action, lines),
+            Side::B => self.act_at_b(rt, alloc, action, lines),
         }
     }
 
@@ -237,7 +238,7 @@ impl Peers {
         rt: &T,
         alloc: Global,
         action: &Action,
-        output: &mut Output,
+        lines: &mut Vec<u8>,
     ) -> Result<(), Refused> {
         act(
             rt,
@@ -248,7 +249,7 @@ impl Peers {
             &mut self.b,
             &mut self.b_session,
             self.moment,
-            output,
+            lines,
         )
     }
 
@@ -257,7 +258,7 @@ impl Peers {
         rt: &T,
         alloc: Global,
         action: &Action,
-        output: &mut Output,
+        lines: &mut Vec<u8>,
     ) -> Result<(), Refused> {
         act(
             rt,
@@ -268,7 +269,7 @@ impl Peers {
             &mut self.a,
             &mut self.a_session,
             self.moment,
-            output,
+            lines,
         )
     }
 }
@@ -283,17 +284,17 @@ fn act<T: Threads + Sync>(
     other: &mut Peer,
     other_session: &mut Session,
     moment: Moment,
-    output: &mut Output,
+    lines: &mut Vec<u8>,
 ) -> Result<(), Refused> {
     match action {
-        Action::Put(name, text) => files::put(alloc, peer, name, text, moment),
-        Action::MakeDir(name) => files::make_dir(alloc, peer, name),
-        Action::Delete(name) => files::delete(alloc, peer, name),
+        Action::Put(name, text) => files::put(alloc, &mut peer.store, name, text, moment),
+        Action::MakeDir(name) => files::make_dir(alloc, &mut peer.store, name),
+        Action::Delete(name) => files::delete(alloc, &mut peer.store, name),
         Action::Conflicts(most) => {
             peer.most = *most;
             Ok(())
         }
-        Action::Scan => scans::scan(rt, alloc, peer, moment, output),
+        Action::Scan => scans::scan(rt, alloc, peer, moment, lines),
         Action::Pull => pulls::pull(
             rt,
             alloc,
@@ -302,9 +303,9 @@ fn act<T: Threads + Sync>(
             other,
             other_session,
             moment,
-            output,
+            lines,
         ),
-        Action::Show => scans::show(alloc, peer, output),
+        Action::Show => scans::show(alloc, peer, lines),
     }
 }
 
