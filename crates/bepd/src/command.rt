@@ -1,7 +1,7 @@
 //! The command line.
 ghost use Rattle.std.specs.Prelude.{◌≡◌, ◌⊎◌, Some, IfErr, IfOk, map, option_map};
 ghost use Rattle.std.specs.String.{string_bytes};
-ghost use Rattle.bepd.specs.CommandLine.{IsAnswered, IsNamed, IsRequested, IsErrorAt, bepd_app, folder_at, is_pair};
+ghost use Rattle.bepd.specs.CommandLine.{IsAnswered, IsNamed, IsRequested, IsErrorAt, bepd_app, best_app, folder_at, is_pair, pair_app};
 ghost use Rattle.clap.specs.Words.{app_of, kind_of, subcommand_rows_of};
 
 mod pair_help;
@@ -170,20 +170,34 @@ fn error_in(command: &mut Command<'_>, kind: ErrorKind, message: &str) -> Error
     }
 }
 
-/// The commands and what they take.
-fn program<'a>(alloc: Global) -> Result<Command<'a>, AllocError>
-    ensures { IfOk result (λ command. app_of command ≡ bepd_app) }
+/// The command `best`, and what it takes.
+fn best_command<'a>(alloc: Global) -> Result<Command<'a>, AllocError>
+    ensures { IfOk result (λ command. app_of command ≡ best_app) }
 {
     let folder = Arg::new(alloc, "FOLDER").required(true).help(BEST_FOLDER);
-    let best = Command::new(alloc, "best")
+    Command::new(alloc, "best")
         .about(BEST_ABOUT)
         .long_about(BEST_LONG_ABOUT)
         .after_help(BEST_STATUSES)
-        .arg(folder)?;
-    let pair = Command::new(alloc, "pair")
+        .arg(folder)
+}
+
+/// The command `pair`, which takes nothing.
+fn pair_command<'a>(alloc: Global) -> Command<'a>
+    ensures { app_of result ≡ pair_app }
+{
+    Command::new(alloc, "pair")
         .about(PAIR_ABOUT)
         .long_about(PAIR_LONG_ABOUT)
-        .after_help(PAIR_STATUSES);
+        .after_help(PAIR_STATUSES)
+}
+
+/// The program with its commands.
+fn program<'a>(alloc: Global) -> Result<Command<'a>, AllocError>
+    ensures { IfOk result (λ command. app_of command ≡ bepd_app) }
+{
+    let best = best_command(alloc)?;
+    let pair = pair_command(alloc);
     Command::new(alloc, "bepd")
         .bin_name("bepd")?
         .version("0.1.0")

@@ -4,3 +4,9 @@ pub mod Input
 pub mod Refusals
 pub mod Files
 pub mod Lines
+pub mod Devices
+pub mod Scans
+pub mod Pulls
+pub mod Following
+pub mod Playing
+pub mod Progress

@@ -4,6 +4,7 @@
 //! frames. What a command comes to is written as lines. [`pair`] reads the commands and does them.
 #![tactic(auto)]
 
+mod actions;
 mod command;
 mod files;
 mod indexes;
@@ -11,6 +12,7 @@ mod input;
 mod link;
 mod output;
 mod peer;
+mod peers;
 mod playing;
 mod pulls;
 mod refused;

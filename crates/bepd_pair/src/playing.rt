@@ -1,17 +1,19 @@
-//! The two peers, and what commands do to them.
-use crate::command::{Action, Command, Side, command_of};
-use crate::indexes::send_all;
+//! The commands of an input, one after another.
+ghost use Rattle.std.specs.Prelude.{◌≡◌, ◌<◌, ◌≤◌, ◌++◌, ◌∷◌, [], ℕ, List, Option, Err, IfErr, IfOk, MatchResult, OnOk, length, take};
+ghost use Rattle.std.specs.Io.KnownBytes.{Appends, Consumes, IsAtEnd, Keeps};
+ghost use Rattle.bepd_pair.specs.Following.{FollowsLine};
+ghost use Rattle.bepd_pair.specs.Input.{HasCome};
+ghost use Rattle.bepd_pair.specs.Playing.{FollowsBytes, Plays, WritesUnlessFailed};
+ghost use Rattle.bepd_pair.specs.Progress.{HasPlayed};
+ghost use Rattle.bepd_pair.specs.Words.{Text};
+ghost use Rattle.bepd_pair.specs.declared.peers.Peers.{Peers as AnyPeers};
+ghost use Rattle.bepd_pair.specs.declared.playing.PairFailure.TheVariants.{OutOfMemory};
+
 use crate::input::Line;
-use crate::link::greet;
-use crate::output::{push_refused, push_sync};
-use crate::peer::Peer;
-use crate::refused::Refused;
-use crate::{files, pulls, scans};
-use bep_session::Session;
+use crate::peers::Peers;
 use std::alloc::{AllocError, Global};
 use std::io::{ErrorKind, Read, Write};
 use std::thread::Threads;
-use sync_version::Moment;
 
 /// How many bytes are read at once at most.
 const PIECE_BYTES: usize = 65_536;
@@ -31,19 +33,11 @@ pub enum PairFailure {
 }
 
 impl From<AllocError> for PairFailure {
+    ghost from_gives = { λ _ failure. failure ≡ OutOfMemory };
+
     fn from(_failed: AllocError) -> PairFailure {
         PairFailure::OutOfMemory
     }
-}
-
-/// Two peers, A and B, their ends of the connection, and the moment at which commands are given.
-#[derive(Drop)]
-struct Peers {
-    a: Peer,
-    b: Peer,
-    a_session: Session,
-    b_session: Session,
-    moment: Moment,
 }
 
 /// Reads commands, one a line, does each, and writes what it comes to, until the input ends.
@@ -53,27 +47,35 @@ struct Peers {
 /// does a line of more than 65,536 bytes.
 ///
 /// Fails if out of memory, if a read fails other than by an interrupt, after which it is tried again, or if a write does; what
-/// the commands so far printed is written, unless that failed.
+/// the commands so far printed is written, unless that failed. The input is read in pieces of 64 KiB. Memory for the peers' files and
+/// folders, and for one line and what it prints.
 pub fn pair<T: Threads + Sync, R: Read, W: Write>(
     rt: &T,
     alloc: Global,
     reader: &mut R,
     writer: &mut W,
-) -> Result<(), PairFailure> {
+) -> Result<(), PairFailure>
+    ensures { Plays result (R.remaining reader.old) (R.remaining reader.new)
+        (W.contents writer.old) (W.contents writer.new) }
+{
     let mut peers = Peers::new(alloc)?;
     follow(rt, alloc, &mut peers, reader, writer)
 }
 
-// Does the commands of the input.
+/// Follows the commands of the input to its end.
 fn follow<T: Threads + Sync, R: Read, W: Write>(
     rt: &T,
     alloc: Global,
     peers: &mut Peers,
     reader: &mut R,
     writer: &mut W,
-) -> Result<(), PairFailure> {
+) -> Result<(), PairFailure>
+    ensures follows { (bytes : List ℕ) × Consumes (R.remaining reader.old) (R.remaining reader.new) bytes
+        × FollowsBytes result peers.old bytes (W.contents writer.old) (W.contents writer.new) }
+    ensures whole { OnOk result (IsAtEnd (R.remaining reader.new)) }
+{
     let mut line = Line::new(alloc);
-    let mut bytes = vec![in alloc; 0u8; PIECE_BYTES]?;
+    let mut bytes = make_buffer(alloc, PIECE_BYTES)?;
     let buffer = bytes.as_mut_slice();
     let mut total = 0u64;
     for _ in 0..u64::MAX {
@@ -85,14 +87,26 @@ fn follow<T: Threads + Sync, R: Read, W: Write>(
         if total > MAX_INPUT_BYTES {
             return Err(PairFailure::Read);
         }
-        let piece = buffer.get(..count).unwrap_or(&[]);
-        take(rt, alloc, peers, &mut line, piece, writer)?;
+        take(rt, alloc, peers, &mut line, &buffer[..count], writer)?;
     }
     Err(PairFailure::Read)
 }
 
-// Reads the next bytes; none at the end.
-fn read<R: Read>(reader: &mut R, buffer: &mut [u8]) -> Result<usize, PairFailure> {
+/// A buffer of so many bytes.
+fn make_buffer(alloc: Global, size: usize) -> Result<Vec<u8>, AllocError>
+    ensures { IfOk result (λ buffer. length buffer.items ≡ size) }
+{
+    vec![in alloc; 0u8; size]
+}
+
+/// Reads the next bytes, after an interrupt again; none at the end.
+fn read<R: Read>(reader: &mut R, buffer: &mut [u8]) -> Result<usize, PairFailure>
+    ensures { MatchResult result
+        (λ count. (count ≤ length buffer.new)
+        × Consumes (R.remaining reader.old) (R.remaining reader.new) (take count buffer.new)
+        × (count ≡ 0 → 0 < length buffer.new → IsAtEnd (R.remaining reader.new)))
+        (λ failure. (failure ≡ PairFailure.Read) × Keeps (R.remaining reader.old) (R.remaining reader.new)) }
+{
     for _ in 0..u64::MAX {
         match reader.read(buffer) {
             Ok(count) => return Ok(count),
@@ -106,7 +120,7 @@ fn read<R: Read>(reader: &mut R, buffer: &mut [u8]) -> Result<usize, PairFailure
     Err(PairFailure::Read)
 }
 
-// Takes the next bytes of the input, and does the commands whose lines end there.
+/// Takes the next bytes of the input, and follows the commands whose lines end there.
 fn take<T: Threads + Sync, W: Write>(
     rt: &T,
     alloc: Global,
@@ -114,202 +128,85 @@ fn take<T: Threads + Sync, W: Write>(
     line: &mut Line,
     piece: &[u8],
     writer: &mut W,
-) -> Result<(), PairFailure> {
+) -> Result<(), PairFailure>
+    ensures taken { OnOk result ((start : AnyPeers) (bytes : List ℕ) (out : Option (List ℕ)) →
+        HasPlayed start bytes line.old peers.old out (W.contents writer.old) →
+        HasPlayed start (bytes ++ piece.now) line.new peers.new out (W.contents writer.new)) }
+    ensures failed { IfErr result (λ failure. (start : AnyPeers) (bytes : List ℕ) (out : Option (List ℕ)) →
+        HasPlayed start bytes line.old peers.old out (W.contents writer.old) →
+        FollowsBytes (Err failure) start (bytes ++ piece.now) out (W.contents writer.new)) }
+{
     for byte in piece {
-        if *byte == b'\n' {
-            end_line(rt, alloc, peers, line, writer)?;
-            line.clear();
-        } else {
-            line.push(*byte)?;
-        }
+        take_byte(rt, alloc, peers, line, *byte, writer)?;
     }
     Ok(())
 }
 
-// Ends the input: a last line may have no line feed.
+/// Takes the next byte of the input. A line feed ends a line, which is followed.
+fn take_byte<T: Threads + Sync, W: Write>(
+    rt: &T,
+    alloc: Global,
+    peers: &mut Peers,
+    line: &mut Line,
+    byte: u8,
+    writer: &mut W,
+) -> Result<(), PairFailure>
+    ensures taken { OnOk result ((start : AnyPeers) (bytes : List ℕ) (out : Option (List ℕ)) →
+        HasPlayed start bytes line.old peers.old out (W.contents writer.old) →
+        HasPlayed start (bytes ++ byte ∷ []) line.new peers.new out (W.contents writer.new)) }
+    ensures failed { IfErr result (λ failure. (start : AnyPeers) (bytes : List ℕ) (out : Option (List ℕ)) →
+        HasPlayed start bytes line.old peers.old out (W.contents writer.old) →
+        FollowsBytes (Err failure) start bytes out (W.contents writer.new)) }
+{
+    if byte == b'\n' {
+        end_line(rt, alloc, peers, line, writer)?;
+        line.clear();
+    } else {
+        line.push(byte)?;
+    }
+    Ok(())
+}
+
+/// Ends the input: a last line may have no line feed.
 fn end<T: Threads + Sync, W: Write>(
     rt: &T,
     alloc: Global,
     peers: &mut Peers,
     line: &Line,
     writer: &mut W,
-) -> Result<(), PairFailure> {
+) -> Result<(), PairFailure>
+    ensures { (start : AnyPeers) (bytes : List ℕ) (out : Option (List ℕ)) →
+        HasPlayed start bytes line.now peers.old out (W.contents writer.old) →
+        FollowsBytes result start bytes out (W.contents writer.new) }
+{
     if line.is_empty() {
         return Ok(());
     }
     end_line(rt, alloc, peers, line, writer)
 }
 
-// Does the command of the line, and writes what it prints.
+/// Follows the line, and writes what it prints.
 fn end_line<T: Threads + Sync, W: Write>(
     rt: &T,
     alloc: Global,
     peers: &mut Peers,
     line: &Line,
     writer: &mut W,
-) -> Result<(), PairFailure> {
-    let mut lines = Vec::new(alloc);
-    match run(rt, alloc, peers, line, &mut lines) {
-        Ok(()) => {}
-        Err(Refused::OutOfMemory) => return Err(PairFailure::OutOfMemory),
-        Err(refused) => push_refused(&mut lines, refused)?,
-    }
-    write(writer, lines.as_slice())
+) -> Result<(), PairFailure>
+    ensures followed { OnOk result ((text : Text) → HasCome line.now text →
+        (printed : List ℕ) × FollowsLine text peers.old printed peers.new
+        × Appends (W.contents writer.old) (W.contents writer.new) printed) }
+    ensures failed { IfErr result (λ failure.
+        WritesUnlessFailed (Err failure) [] (W.contents writer.old) (W.contents writer.new)) }
+{
+    let printed = peers.follow_line(rt, alloc, line.bytes())?;
+    write(writer, printed.as_slice())
 }
 
-fn run<T: Threads + Sync>(
-    rt: &T,
-    alloc: Global,
-    peers: &mut Peers,
-    line: &Line,
-    lines: &mut Vec<u8>,
-) -> Result<(), Refused> {
-    let Some(bytes) = line.bytes() else {
-        return Err(Refused::UnknownCommand);
-    };
-    let Some(command) = command_of(bytes) else {
-        return Err(Refused::UnknownCommand);
-    };
-    match &command {
-        Command::Time(moment) => {
-            peers.moment = *moment;
-            Ok(())
-        }
-        Command::Sync => peers.sync(alloc, lines),
-        Command::At(side, action) => peers.act_at(rt, alloc, *side, action, lines),
-    }
-}
-
-impl Peers {
-    // Two peers that have greeted each other.
-    fn new(alloc: Global) -> Result<Peers, AllocError> {
-        let moment = Moment::new(0).unwrap();
-        let mut a_session = Session::new(alloc, moment);
-        let mut b_session = Session::new(alloc, moment);
-        greet(alloc, Side::A, &mut a_session, &mut b_session, moment)?;
-        greet(alloc, Side::B, &mut b_session, &mut a_session, moment)?;
-        Ok(Peers {
-            a: Peer::new(alloc, Side::A)?,
-            b: Peer::new(alloc, Side::B)?,
-            a_session,
-            b_session,
-            moment,
-        })
-    }
-
-    // Sends all pages of A to B, and then all of B to A.
-    fn sync(&mut self, alloc: Global, lines: &mut Vec<u8>) -> Result<(), Refused> {
-        let to_b = send_all(
-            alloc,
-            &mut self.a,
-            &mut self.a_session,
-            &mut self.b,
-            &mut self.b_session,
-            self.moment,
-        )?;
-        let to_a = send_all(
-            alloc,
-            &mut self.b,
-            &mut self.b_session,
-            &mut self.a,
-            &mut self.a_session,
-            self.moment,
-        )?;
-        Ok(push_sync(lines, to_b, to_a)?)
-    }
-
-    // Has the peer of this letter do something.
-    fn act_at<T: Threads + Sync>(
-        &mut self,
-        rt: &T,
-        alloc: Global,
-        side: Side,
-        action: &Action,
-        lines: &mut Vec<u8>,
-    ) -> Result<(), Refused> {
-        match side {
-            Side::A => self.act_at_a(rt, alloc, action, lines),
-            Side::B => self.act_at_b(rt, alloc, action, lines),
-        }
-    }
-
-    fn act_at_a<T: Threads + Sync>(
-        &mut self,
-        rt: &T,
-        alloc: Global,
-        action: &Action,
-        lines: &mut Vec<u8>,
-    ) -> Result<(), Refused> {
-        act(
-            rt,
-            alloc,
-            action,
-            &mut self.a,
-            &mut self.a_session,
-            &mut self.b,
-            &mut self.b_session,
-            self.moment,
-            lines,
-        )
-    }
-
-    fn act_at_b<T: Threads + Sync>(
-        &mut self,
-        rt: &T,
-        alloc: Global,
-        action: &Action,
-        lines: &mut Vec<u8>,
-    ) -> Result<(), Refused> {
-        act(
-            rt,
-            alloc,
-            action,
-            &mut self.b,
-            &mut self.b_session,
-            &mut self.a,
-            &mut self.a_session,
-            self.moment,
-            lines,
-        )
-    }
-}
-
-// Has a peer do something.
-fn act<T: Threads + Sync>(
-    rt: &T,
-    alloc: Global,
-    action: &Action,
-    peer: &mut Peer,
-    session: &mut Session,
-    other: &mut Peer,
-    other_session: &mut Session,
-    moment: Moment,
-    lines: &mut Vec<u8>,
-) -> Result<(), Refused> {
-    match action {
-        Action::Put(name, text) => files::put(alloc, &mut peer.store, name, text, moment),
-        Action::MakeDir(name) => files::make_dir(alloc, &mut peer.store, name),
-        Action::Delete(name) => files::delete(alloc, &mut peer.store, name),
-        Action::Conflicts(most) => {
-            peer.most = *most;
-            Ok(())
-        }
-        Action::Scan => scans::scan(rt, alloc, peer, moment, lines),
-        Action::Pull => pulls::pull(
-            rt,
-            alloc,
-            peer,
-            session,
-            other,
-            other_session,
-            moment,
-            lines,
-        ),
-        Action::Show => scans::show(alloc, peer, lines),
-    }
-}
-
-fn write<W: Write>(writer: &mut W, bytes: &[u8]) -> Result<(), PairFailure> {
+fn write<W: Write>(writer: &mut W, bytes: &[u8]) -> Result<(), PairFailure>
+    ensures written { OnOk result (Appends (W.contents writer.old) (W.contents writer.new) bytes.now) }
+    ensures failed { IfErr result (λ failure. failure ≡ PairFailure.Write) }
+{
     if bytes.is_empty() {
         return Ok(());
     }

@@ -1,7 +1,7 @@
-use Rattle.std.proofs.Common.{map, Some}
+use Rattle.std.proofs.Common.{map, Some, true, sym, ◌∙◌}
 use Rattle.std.specs.String.{string_bytes}
 use Rattle.clap.specs.Words.{app_of}
-use Rattle.bepd.proofs.Matching.{at_error, error_at, found_at, no_faults, pair_at, no_command}
+use Rattle.bepd.proofs.Matching.{at_error, error_at, found_at, no_faults, pair_at}
 use Rattle.bepd.proofs.command.command_of.Goals as goal
 
 pub returns-in_err-matches-clause-error : goal.returns-in_err-matches-clause-error
@@ -19,4 +19,9 @@ returns-in-Some-clause-named c =
     )
 
 pub returns-then-is_pair-clause-named : goal.returns-then-is_pair-clause-named
-returns-then-is_pair-clause-named c = ?
+returns-then-is_pair-clause-named c =
+    let words = map string_bytes c.args.words.now in
+    let app = app_of c.in_ok-command.command in (
+      no_faults app words c.in_ok-command.ensures c.in_ok-matches.ensures.kinds,
+      pair_at app words c.in_ok-matches.matches true c.in_ok-command.ensures c.in_ok-matches.ensures.ok.2 (sym c.if-is_pair.true ∙ c.is_pair.ensures),
+    )
