@@ -1,7 +1,8 @@
 //! The command line.
-ghost use Rattle.std.specs.Prelude.{◌≡◌, ◌⊎◌, Some, IfErr, IfOk, map, option_map};
+ghost use Rattle.std.specs.Prelude.{◌≡◌, ◌⊎◌, false, Some, IfErr, IfOk, map, option_map};
 ghost use Rattle.std.specs.String.{string_bytes};
 ghost use Rattle.bepd.specs.CommandLine.{IsAnswered, IsNamed, IsRequested, IsErrorAt, bepd_app, best_app, folder_at, is_pair, pair_app};
+ghost use Rattle.clap.specs.declared.builder.command.Command.{out-Command};
 ghost use Rattle.clap.specs.Words.{app_of, kind_of, subcommand_rows_of};
 
 mod pair_help;
@@ -172,7 +173,8 @@ fn error_in(command: &mut Command<'_>, kind: ErrorKind, message: &str) -> Error
 
 /// The command `best`, and what it takes.
 fn best_command<'a>(alloc: Global) -> Result<Command<'a>, AllocError>
-    ensures { IfOk result (λ command. app_of command ≡ best_app) }
+    ensures { IfOk result (λ command.
+        (app_of command ≡ best_app) × ((out-Command command).has_globals ≡ false)) }
 {
     let folder = Arg::new(alloc, "FOLDER").required(true).help(BEST_FOLDER);
     Command::new(alloc, "best")
@@ -184,7 +186,8 @@ fn best_command<'a>(alloc: Global) -> Result<Command<'a>, AllocError>
 
 /// The command `pair`, which takes nothing.
 fn pair_command<'a>(alloc: Global) -> Command<'a>
-    ensures { app_of result ≡ pair_app }
+    ensures app { app_of result ≡ pair_app }
+    ensures local { (out-Command result).has_globals ≡ false }
 {
     Command::new(alloc, "pair")
         .about(PAIR_ABOUT)

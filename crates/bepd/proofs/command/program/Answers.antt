@@ -10,5 +10,5 @@ pub returns : goal.returns
 returns c =
     let above : app_of c.after_help.result ≡ on_top (λ s. record s { has_version = true }) (new_app (codes "bepd")) = search rules in
     let first : app_of c.in_ok-subcommand.field-0 ≡ with_subcommand (on_top (λ s. record s { has_version = true }) (new_app (codes "bepd"))) best_app.top =
-    c.in_ok-subcommand.ensures.shape (search rules) ∙ ap₂ with_subcommand above (ap (λ (a : App). a.top) c.in_ok-best.ensures) in
-    IfOk-weaker c.subcommand-2.result _ _ (λ command h. h.shape (search rules) ∙ ap₂ with_subcommand first (ap (λ (a : App). a.top) c.pair_command-pair.ensures)) c.subcommand-2.ensures
+    c.in_ok-subcommand.ensures.shape c.in_ok-best.ensures.1 ∙ ap₂ with_subcommand above (ap (λ (a : App). a.top) c.in_ok-best.ensures.0) in
+    IfOk-weaker c.subcommand-2.result _ _ (λ command h. h.shape c.pair_command-pair.ensures.local ∙ ap₂ with_subcommand first (ap (λ (a : App). a.top) c.pair_command-pair.ensures.app)) c.subcommand-2.ensures
