@@ -20,7 +20,7 @@ use Rattle.clap.specs.declared.parser.matches.ArgMatches.{ArgMatches}
 use Rattle.std.specs.Result.{IsErrAnd}
 use Rattle.clap.specs.declared.parser.matches.Found.{Found}
 use Rattle.clap.proofs.OnLiterals.{clap_on_literals}
-use Rattle.bepd.specs.CommandLine.{IsAsked, IsCommandLine, IsErrorAt, IsGiven, IsRequested, begins_with_hyphen, bepd_app, faults, folder_at}
+use Rattle.bepd.specs.CommandLine.{IsAsked, IsCommandLine, IsErrorAt, IsGiven, IsPairGiven, IsRequested, begins_with_hyphen, bepd_app, faults, folder_at, is_pair}
 
 pub bepd_is_simple : is_simple_and_free bepd_app ≡ true
 unfolding clap_on_literals
@@ -83,6 +83,19 @@ map_map f g (Some x) = refl
 pub name_of_rows : (m : ArgMatches) → option_map (λ p. p.0) (subcommand_rows_of m) ≡ subcommand_name_of m
 name_of_rows m = map_map (λ p. p.0) _ _
 
+-- ---- two peers
+
+-- the command entered is `pair`
+pub pair_entered : (b : Bool) (c : Option (Text × List Row)) → (b ≡ true → option_map (λ p. p.0) c ≡ Some (codes "pair")) → (option_map (λ p. p.0) c ≡ Some (codes "pair") → b ≡ true) → b ≡ is_pair c
+pair_entered true None to from = absurd (some_none (codes "pair") (sym (to refl)))
+pair_entered false None to from = refl
+pair_entered true (Some c) to from = sym ((bytes_eq-Decides c.0 (codes "pair")).1 (some_is c.0 (codes "pair") (to refl)))
+pair_entered false (Some c) to from = go (bytes_eq c.0 (codes "pair")) refl
+  where
+    go : (b : Bool) → bytes_eq c.0 (codes "pair") ≡ b → false ≡ is_pair (Some c)
+    go true h = absurd (true≢false (sym (from (ap Some ((bytes_eq-Decides c.0 (codes "pair")).0 h)))))
+    go false h = sym h
+
 -- ---- the words
 
 bepd_is_plain : is_simple bepd_app ≡ true
@@ -94,6 +107,13 @@ error_at app words e same fails = elim (fails (ap is_simple_and_free same ∙ be
   | inl out ↦ inl out
   | inr among ↦ inr (inl (subst (λ a. IsAmong (kind_of e) (fault_of a words)) same among))
 ]
+
+-- whether a parse that succeeds found `pair` is what the words say
+pub pair_at : (app : App) (words : List Text) (m : ArgMatches) (b : Bool) → app ≡ bepd_app → HasMatchesOf app words m → b ≡ is_pair (subcommand_rows_of m)
+    → is_pair (subcommand_of bepd_app words) ≡ b
+pair_at app words m b same found is =
+    let rows : subcommand_rows_of m ≡ subcommand_of app words = (found (ap is_simple same ∙ bepd_is_plain)).1 in
+    ap (λ a. is_pair (subcommand_of a words)) (sym same) ∙ ap is_pair (sym rows) ∙ sym is
 
 -- what a parse that succeeds found is what the words say
 pub found_at : (app : App) (words : List Text) (m : ArgMatches) (folder : Option Text) → app ≡ bepd_app → HasMatchesOf app words m → folder ≡ folder_at (subcommand_rows_of m)
@@ -138,8 +158,20 @@ no_mistake words folder kind given (inl out) not = not out
 no_mistake words folder kind given (inr (inl among)) not = subst (IsAmong kind) given.0 among
 no_mistake words folder kind given (inr (inr none)) not = some_none folder (sym given.1 ∙ none.0)
 
+-- the words cannot call for a listing and for two peers
+one_command : (c : Option (Text × List Row)) (folder : Text) → folder_at c ≡ Some folder → is_pair c ≡ true → ⊥
+one_command None folder f p = some_none folder (sym f)
+one_command (Some c) folder f p =
+    let name : c.0 ≡ codes "pair" = (bytes_eq-Decides c.0 (codes "pair")).0 p in
+    let other : folder_at (Some c) ≡ None = no_folder (Some c) (λ e. pair_not_best (sym name ∙ some_is c.0 (codes "best") e)) in
+    some_none folder (sym f ∙ other)
+  where
+    pair_not_best : codes "pair" ≡ codes "best" → ⊥
+    pair_not_best e = true≢false (ap (λ word. bytes_eq (codes "pair") word) e)
+
 asked_at : (words : List Text) (folder : Text) (asked : Request) → IsGiven words folder → IsAsked words asked → IsBestOf folder asked
 asked_at words folder (request.Best f) given h = is_some_of (folder_at (subcommand_of bepd_app words)) f.now folder h.1 given.1
+asked_at words folder request.Pair given h = one_command (subcommand_of bepd_app words) folder given.1 h.1
 asked_at words folder (request.Text t) given h = no_mistake words folder h.0 given h.1 (λ out. elim h.2 [
   | inl help ↦ help_not (sym help ∙ out)
   | inr version ↦ version_not (sym version ∙ out)
@@ -153,3 +185,35 @@ pub asked_best : (words : Result (Vec (String Global) Global) IoError) (asked : 
 asked_best (Ok words) asked program folder line plain h =
     asked_at (program ∷ codes "best" ∷ folder ∷ []) folder asked (plain_line program folder plain) (subst (λ l. IsAsked l asked) line h)
 asked_best (Err e) asked program folder line plain h = absurd line
+
+-- ---- `PROGRAM pair`
+
+pair_line : (program : Text) → IsPairGiven (program ∷ codes "pair" ∷ [])
+unfolding clap_on_literals
+pair_line program = (refl, refl)
+
+-- the request is for two peers, or memory ran out
+abbrev pub IsPairRequest : Request → Type 0
+IsPairRequest request.Pair = Unit {0}
+IsPairRequest request.OutOfMemory = Unit {0}
+IsPairRequest _ = ⊥
+
+no_pair_mistake : (words : List Text) (kind : ErrorKind) → IsPairGiven words → IsErrorAt words kind → (kind ≡ OutOfMemory → ⊥) → ⊥
+no_pair_mistake words kind given (inl out) not = not out
+no_pair_mistake words kind given (inr (inl among)) not = subst (IsAmong kind) given.0 among
+no_pair_mistake words kind given (inr (inr none)) not = true≢false (sym given.1 ∙ none.1)
+
+pair_asked_at : (words : List Text) (asked : Request) → IsPairGiven words → IsAsked words asked → IsPairRequest asked
+pair_asked_at words (request.Best f) given h = one_command (subcommand_of bepd_app words) f.now h.1 given.1
+pair_asked_at words request.Pair given h = tt
+pair_asked_at words (request.Text t) given h = no_pair_mistake words h.0 given h.1 (λ out. elim h.2 [
+  | inl help ↦ help_not (sym help ∙ out)
+  | inr version ↦ version_not (sym version ∙ out)
+])
+pair_asked_at words (request.Refused t) given h = no_pair_mistake words h.0 given h.1 h.2.2
+pair_asked_at words request.OutOfMemory given h = tt
+
+-- the request of the words `PROGRAM pair`
+pub asked_pair : (words : Result (Vec (String Global) Global) IoError) (asked : Request) (program : Text) → IsCommandLine words (program ∷ codes "pair" ∷ []) → IsRequested words asked → IsPairRequest asked
+asked_pair (Ok words) asked program line h = pair_asked_at (program ∷ codes "pair" ∷ []) asked (pair_line program) (subst (λ l. IsAsked l asked) line h)
+asked_pair (Err e) asked program line h = absurd line

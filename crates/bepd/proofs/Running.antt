@@ -1,12 +1,13 @@
 -- What a run does that lists nothing.
-use Rattle.std.proofs.Common.{ℕ, List, [], Option, Some, None, IfSome}
+use Rattle.std.proofs.Common.{ℕ, List, [], Option, Some, None, Err, inl, IfSome}
 use Rattle.std.proofs.KnownBytes.{Appends-nil, Consumes-nil}
 use Rattle.std.proofs.Common.{refl}
 use Rattle.bepd.specs.declared.ending.Ending.TheVariants.{Failed}
 use Rattle.bepd.specs.declared.ending.Failure.TheVariants.{OutOfMemory}
 use Rattle.bepd.specs.declared.run.Outcome.{Outcome}
 use Rattle.bepd.specs.Listing.{listing}
-use Rattle.bepd.specs.Runs.{Ends, Lists, streams}
+use Rattle.bepd.specs.Runs.{Ends, Lists, Plays, streams}
+use Rattle.bepd_pair.specs.declared.playing.PairFailure.TheVariants as pair
 
 each : {A : Type 0} (o : Option A) (P : A → Type 0) → ((x : A) → P x) → IfSome o P
 each None P h = tt
@@ -21,5 +22,14 @@ lists_nothing folder outcome input output old new ends = record {
   taken = Consumes-nil input;
   answers = ([], listing folder [], refl, Appends-nil output);
   known = each input _ (λ _ listed. absurd listed);
+  ends = ends;
+}
+
+-- and before any command was done
+pub plays_nothing : (outcome : Outcome) (input output old new : Option (List ℕ)) → Ends (Failed OutOfMemory) outcome old new
+    → Plays outcome (streams input output old) (streams input output new)
+plays_nothing outcome input output old new ends = record {
+  played = Err pair.OutOfMemory;
+  plays = inl (refl, refl, refl);
   ends = ends;
 }

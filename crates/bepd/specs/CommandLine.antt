@@ -1,4 +1,4 @@
--- The command lines of `bepd` (own rule): `best FOLDER`, and calls for help and the version. How words become commands and
+-- The command lines of `bepd` (own rule): `best FOLDER`, `pair`, and calls for help and the version. How words become commands and
 -- values is the rule of `clap`.
 use Rattle.std.specs.Prelude.{◌≡◌, ◌≢◌, ◌⊎◌, ⊤, Bool, true, false, ◌==◌, List, [], ◌∷◌, Option, Some, None, Result, Ok, Err, String, Vec, option_and_then, codes, map, if◌then◌else◌, bytes_eq}
 use Rattle.std.specs.declared.alloc.Global.{Global}
@@ -19,12 +19,20 @@ folder_rule = record (new_rule (codes "FOLDER")) { required = true }
 abbrev pub best_app : App
 best_app = with_rule (new_app (codes "best")) folder_rule
 
+abbrev pub pair_app : App
+pair_app = new_app (codes "pair")
+
 abbrev pub bepd_app : App
-bepd_app = with_subcommand (on_top (λ s. record s { has_version = true }) (new_app (codes "bepd"))) best_app.top
+bepd_app = with_subcommand (with_subcommand (on_top (λ s. record s { has_version = true }) (new_app (codes "bepd"))) best_app.top) pair_app.top
 
 -- the value of FOLDER, where the command is `best`
 abbrev pub folder_at : Option (Text × List Row) → Option Text
 folder_at command = option_and_then (λ c. if bytes_eq c.0 (codes "best") then first_of (codes "FOLDER") c.1 else None) command
+
+-- the command is `pair`
+abbrev pub is_pair : Option (Text × List Row) → Bool
+is_pair None = false
+is_pair (Some c) = bytes_eq c.0 (codes "pair")
 
 -- what is wrong with the words; help and the version count as wrong here
 abbrev pub faults : List Text → Kinds
@@ -34,15 +42,26 @@ faults words = fault_of bepd_app words
 abbrev pub IsGiven : List Text → Text → Type 0
 IsGiven words folder = (faults words ≡ []) × (folder_at (subcommand_of bepd_app words) ≡ Some folder)
 
--- the words name no folder, for this reason
+-- the words call for two peers
+abbrev pub IsPairGiven : List Text → Type 0
+IsPairGiven words = (faults words ≡ []) × (is_pair (subcommand_of bepd_app words) ≡ true)
+
+-- the words name this command
+abbrev pub IsNamed : List Text → Request → Type 0
+IsNamed words (request.Best folder) = IsGiven words folder.now
+IsNamed words request.Pair = IsPairGiven words
+IsNamed words _ = ⊥
+
+-- the words name no command, for this reason
 abbrev pub IsErrorAt : List Text → ErrorKind → Type 0
 IsErrorAt words kind = (kind ≡ OutOfMemory)
     ⊎ (IsAmong kind (faults words)
-    ⊎ ((folder_at (subcommand_of bepd_app words) ≡ None) × (kind ≡ MissingSubcommand)))
+    ⊎ ((folder_at (subcommand_of bepd_app words) ≡ None) × (is_pair (subcommand_of bepd_app words) ≡ false) × (kind ≡ MissingSubcommand)))
 
 -- the answer to such words
 abbrev pub IsAnswered : ErrorKind → Request → Type 0
 IsAnswered kind (request.Best folder) = ⊥
+IsAnswered kind request.Pair = ⊥
 IsAnswered kind (request.Text text) = (kind ≡ DisplayHelp) ⊎ (kind ≡ DisplayVersion)
 IsAnswered kind (request.Refused text) = (kind ≢ DisplayHelp) × (kind ≢ DisplayVersion) × (kind ≢ OutOfMemory)
 IsAnswered kind request.OutOfMemory = ⊤
@@ -50,6 +69,7 @@ IsAnswered kind request.OutOfMemory = ⊤
 -- what the words ask for
 abbrev pub IsAsked : List Text → Request → Type 0
 IsAsked words (request.Best folder) = IsGiven words folder.now
+IsAsked words request.Pair = IsPairGiven words
 IsAsked words asked = (kind : ErrorKind) × IsErrorAt words kind × IsAnswered kind asked
 
 -- and words that can't be read: only out of memory isn't their fault

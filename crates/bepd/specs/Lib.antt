@@ -4,4 +4,5 @@ pub mod Endings
 pub mod Listing
 pub mod Progress
 pub mod CommandLine
+pub mod Playing
 pub mod Runs

@@ -1,16 +1,19 @@
 -- What the program does for a command line (own rule).
-use Rattle.std.specs.Prelude.{◌≡◌, ℕ, ◌⊎◌, false, List, [], ◌++◌, Option, OnOk, IfSome, codes}
+use Rattle.std.specs.Prelude.{◌≡◌, ℕ, ◌⊎◌, false, List, [], ◌++◌, Option, Result, OnOk, IfSome, codes}
 use Rattle.std.specs.Io.KnownBytes.{Appends, Consumes}
 use Rattle.std.specs.String.{string_bytes}
 use Rattle.bep_frames.specs.Stream.{stream}
 use Rattle.bepd.specs.declared.command.Request.{Request}
-use Rattle.bepd.specs.declared.command.Request.TheVariants.{Best, Text, Refused, OutOfMemory}
+use Rattle.bepd.specs.declared.command.Request.TheVariants.{Best, Pair, Text, Refused, OutOfMemory}
 use Rattle.bepd.specs.declared.ending.Ending.{Ending}
 use Rattle.bepd.specs.declared.ending.Ending.TheVariants.{Done, Failed}
 use Rattle.bepd.specs.declared.ending.Failure.TheVariants as failure
 use Rattle.bepd.specs.declared.run.Outcome.{Outcome}
 use Rattle.bepd.specs.Endings.{IsEndOf, IsListed, ending_text, status_of}
 use Rattle.bepd.specs.Listing.{Answers, listing}
+use Rattle.bepd.specs.Playing.{played_ending}
+use Rattle.bepd_pair.specs.Playing.{Plays as AnyPlays}
+use Rattle.bepd_pair.specs.declared.playing.PairFailure.{PairFailure}
 
 -- The standard streams: the bytes that the input has left, and those that the output and the errors have, where they are known.
 pub record Streams : Type 0 where
@@ -41,6 +44,12 @@ pub record Lists (folder : List ℕ) (outcome : Outcome) (old new : Streams) : T
       IsEndOf (stream false input).end ending × Appends old.output new.output (listing folder input))
   pub ends : Ends ending outcome old.errors new.errors
 
+-- two peers did the commands of the input
+pub record Plays (outcome : Outcome) (old new : Streams) : Type 0 where
+  pub played : Result (Unit {0}) PairFailure
+  pub plays : AnyPlays played old.input new.input old.output new.output
+  pub ends : Ends (played_ending played) outcome old.errors new.errors
+
 -- the text goes to standard output, or can't be written
 abbrev pub Shows : List ℕ → Outcome → Option (List ℕ) → Option (List ℕ) → Option (List ℕ) → Option (List ℕ) → Type 0
 Shows text outcome old_output new_output old_errors new_errors =
@@ -49,6 +58,7 @@ Shows text outcome old_output new_output old_errors new_errors =
 -- what is done for a request: nothing is read or written but this
 abbrev pub Does : Request → Outcome → Streams → Streams → Type 0
 Does (Best folder) outcome old new = Lists folder.now outcome old new
+Does Pair outcome old new = Plays outcome old new
 Does (Text text) outcome old new =
     (new.input ≡ old.input) × Shows (string_bytes text) outcome old.output new.output old.errors new.errors
 Does (Refused text) outcome old new = (new.input ≡ old.input) × (new.output ≡ old.output) × (outcome.status ≡ 1)

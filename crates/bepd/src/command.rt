@@ -1,26 +1,31 @@
 //! The command line.
-ghost use Rattle.std.specs.Prelude.{◌≡◌, ◌⊎◌, Some, IfErr, IfOk, map, option_map};
+ghost use Rattle.std.specs.Prelude.{◌≡◌, ◌⊎◌, false, Some, IfErr, IfOk, map, option_map};
 ghost use Rattle.std.specs.String.{string_bytes};
-ghost use Rattle.bepd.specs.CommandLine.{IsAnswered, IsGiven, IsRequested, IsErrorAt, bepd_app, folder_at};
+ghost use Rattle.bepd.specs.CommandLine.{IsAnswered, IsNamed, IsRequested, IsErrorAt, bepd_app, best_app, folder_at, is_pair, pair_app};
+ghost use Rattle.clap.specs.declared.builder.command.Command.{out-Command};
 ghost use Rattle.clap.specs.Words.{app_of, kind_of, subcommand_rows_of};
 
+mod pair_help;
 #[cfg(test)]
 mod tests;
 
 use clap::error::ErrorKind;
 use clap::{Arg, ArgMatches, Command, Error};
+use pair_help::{PAIR_ABOUT, PAIR_LONG_ABOUT, PAIR_STATUSES};
 use std::alloc::{AllocError, Global};
 use std::io;
 
 const PROGRAM_ABOUT: &str = "\
 Lists the best version of each name of a folder, from the bytes that a Syncthing
-device sent, as a proxy recorded them. It does not sync folders yet.";
+device sent, as a proxy recorded them; and plays two peers in memory that sync a
+folder with each other, by commands. It does not sync folders on disk yet.";
 
 const PROGRAM_STATUSES: &str = "\
 Exit status: 0 for this help and the version, 1 for a command line that is refused;
 the help of a command has the others.
 
-Example: bepd best docs < docs.frames";
+Examples: bepd best docs < docs.frames
+          bepd pair < commands";
 
 const BEST_ABOUT: &str = "List the best version of each name of a folder, from what one peer sent";
 
@@ -69,6 +74,8 @@ Exit status; from 2 on a line on standard error says why:
 pub(crate) enum Request<'a> {
     /// The listing of this folder.
     Best(&'a str),
+    /// Two peers in memory, by commands.
+    Pair,
     /// This text: the help or the version.
     Text(String),
     /// Nothing that the program does. The text says why.
@@ -83,8 +90,8 @@ pub(crate) fn request_of<'a>(alloc: Global, words: &'a io::Result<Vec<String>>) 
     ensures { IsRequested words.now result }
 {
     match words {
-        Ok(words) => match folder_of(alloc, words.as_slice()) {
-            Ok(folder) => Request::Best(folder),
+        Ok(words) => match command_of(alloc, words.as_slice()) {
+            Ok(command) => command,
             Err(error) => request_at(alloc, &error),
         },
         Err(error) if error.kind() == io::ErrorKind::OutOfMemory => Request::OutOfMemory,
@@ -106,21 +113,31 @@ fn request_at<'a>(alloc: Global, error: &Error) -> Request<'a>
     }
 }
 
-/// The folder's id in the words `PROGRAM best FOLDER`.
-fn folder_of<'a>(alloc: Global, words: &'a [String]) -> Result<&'a str, Error>
-    ensures given { IfOk result (λ folder. IsGiven (map string_bytes words.now) folder.now) }
+/// The command in the words: `PROGRAM best FOLDER`, or `PROGRAM pair`.
+fn command_of<'a>(alloc: Global, words: &'a [String]) -> Result<Request<'a>, Error>
+    ensures named { IfOk result (λ command. IsNamed (map string_bytes words.now) command) }
     ensures error { IfErr result (λ e. IsErrorAt (map string_bytes words.now) (kind_of e)) }
 {
     let mut command = program(alloc)?;
     let matches = command.try_get_matches_from_mut(words)?;
+    if is_pair(&matches) {
+        return Ok(Request::Pair);
+    }
     match folder_in(&matches) {
-        Some(folder) => Ok(folder),
+        Some(folder) => Ok(Request::Best(folder)),
         None => Err(error_in(
             &mut command,
             ErrorKind::MissingSubcommand,
             "a command is required",
         )),
     }
+}
+
+/// Whether the command is `pair`.
+fn is_pair(matches: &ArgMatches<'_>) -> bool
+    ensures { result ≡ is_pair (subcommand_rows_of matches.now) }
+{
+    matches.subcommand_matches("pair").is_some()
 }
 
 /// The value of FOLDER, where the command is `best`.
@@ -154,21 +171,42 @@ fn error_in(command: &mut Command<'_>, kind: ErrorKind, message: &str) -> Error
     }
 }
 
-/// The commands and what they take.
-fn program<'a>(alloc: Global) -> Result<Command<'a>, AllocError>
-    ensures { IfOk result (λ command. app_of command ≡ bepd_app) }
+/// The command `best`, and what it takes.
+fn best_command<'a>(alloc: Global) -> Result<Command<'a>, AllocError>
+    ensures { IfOk result (λ command.
+        (app_of command ≡ best_app) × ((out-Command command).has_globals ≡ false)) }
 {
     let folder = Arg::new(alloc, "FOLDER").required(true).help(BEST_FOLDER);
-    let best = Command::new(alloc, "best")
+    Command::new(alloc, "best")
         .about(BEST_ABOUT)
         .long_about(BEST_LONG_ABOUT)
         .after_help(BEST_STATUSES)
-        .arg(folder)?;
+        .arg(folder)
+}
+
+/// The command `pair`, which takes nothing.
+fn pair_command<'a>(alloc: Global) -> Command<'a>
+    ensures app { app_of result ≡ pair_app }
+    ensures local { (out-Command result).has_globals ≡ false }
+{
+    Command::new(alloc, "pair")
+        .about(PAIR_ABOUT)
+        .long_about(PAIR_LONG_ABOUT)
+        .after_help(PAIR_STATUSES)
+}
+
+/// The program with its commands.
+fn program<'a>(alloc: Global) -> Result<Command<'a>, AllocError>
+    ensures { IfOk result (λ command. app_of command ≡ bepd_app) }
+{
+    let best = best_command(alloc)?;
+    let pair = pair_command(alloc);
     Command::new(alloc, "bepd")
         .bin_name("bepd")?
         .version("0.1.0")
         .override_usage("bepd <COMMAND>")
         .about(PROGRAM_ABOUT)
         .after_help(PROGRAM_STATUSES)
-        .subcommand(best)
+        .subcommand(best)?
+        .subcommand(pair)
 }

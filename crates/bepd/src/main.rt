@@ -7,6 +7,7 @@ mod ending;
 mod input;
 mod line;
 mod listing;
+mod playing;
 mod received;
 mod run;
 #[cfg(test)]
@@ -20,7 +21,14 @@ use std::process::ExitCode;
 fn main(rt: HostRuntime) -> ExitCode {
     let words = words(&rt);
     let (mut input, mut output, mut errors) = (rt.reader(), rt.stdout(), rt.stderr());
-    let outcome = run(rt.alloc(), &words, &mut input, &mut output, &mut errors);
+    let outcome = run(
+        &rt,
+        rt.alloc(),
+        &words,
+        &mut input,
+        &mut output,
+        &mut errors,
+    );
     ExitCode::from(outcome.status)
 }
 

@@ -2,17 +2,20 @@
 ghost use Rattle.std.specs.Prelude.{◌≡◌, ◌∷◌, [], List, ℕ, OnOk, codes, false};
 ghost use Rattle.std.specs.Io.KnownBytes.{Appends};
 ghost use Rattle.bepd.specs.CommandLine.{IsCommandLine, IsRequested, begins_with_hyphen};
-ghost use Rattle.bepd.specs.Runs.{Does, Ends, Lists, Shows, streams};
+ghost use Rattle.bepd.specs.Runs.{Does, Ends, Lists, Plays, Shows, streams};
 ghost use Rattle.bepd.specs.declared.command.Request.{Request as AnyRequest};
 ghost use Rattle.bepd.specs.declared.ending.Ending.TheVariants.{Done};
 
 use crate::best::best;
 use crate::command::{Request, request_of};
 use crate::ending::{Ending, Failure};
+use crate::playing::ending_of;
 use crate::received::own_device;
+use bepd_pair::pair;
 use folder_core::PlainFolder;
 use std::alloc::Global;
 use std::io::{self, Read, Write};
+use std::thread::Threads;
 
 /// The exit status of a refused command line.
 const REFUSED_STATUS: u8 = 1;
@@ -28,9 +31,11 @@ pub(crate) struct Outcome {
 
 /// Does what the words of the command line ask for, of which the first is the program's name.
 ///
-/// `best FOLDER` reads the input and lists on the output. The help and the version go to the output, and why words are
+/// `best FOLDER` reads the input and lists on the output; `pair` reads commands from the input and writes what they come to on the
+/// output. The help and the version go to the output, and why words are
 /// refused to `errors`, as does the line of each ending with a status above 0.
-pub(crate) fn run<R: Read, W: Write, E: Write>(
+pub(crate) fn run<T: Threads + Sync, R: Read, W: Write, E: Write>(
+    rt: &T,
     alloc: Global,
     words: &io::Result<Vec<String>>,
     input: &mut R,
@@ -42,8 +47,14 @@ pub(crate) fn run<R: Read, W: Write, E: Write>(
         (streams (R.remaining input.old) (W.contents output.old) (E.contents errors.old))
         (streams (R.remaining input.new) (W.contents output.new) (E.contents errors.new)) }
     // The words `PROGRAM best FOLDER` ask for the listing of just that folder.
-    ensures best { (program folder : List ℕ) → IsCommandLine words.now (program ∷ codes "best" ∷ folder ∷ []) → begins_with_hyphen folder ≡ false
+    ensures best { (program folder : List ℕ)
+        → IsCommandLine words.now (program ∷ codes "best" ∷ folder ∷ []) → begins_with_hyphen folder ≡ false
         → Lists folder result
+        (streams (R.remaining input.old) (W.contents output.old) (E.contents errors.old))
+        (streams (R.remaining input.new) (W.contents output.new) (E.contents errors.new)) }
+    // The words `PROGRAM pair` ask for two peers.
+    ensures pair { (program : List ℕ) → IsCommandLine words.now (program ∷ codes "pair" ∷ [])
+        → Plays result
         (streams (R.remaining input.old) (W.contents output.old) (E.contents errors.old))
         (streams (R.remaining input.new) (W.contents output.new) (E.contents errors.new)) }
     // Standard error stays as it was where the status is 0.
@@ -55,6 +66,7 @@ pub(crate) fn run<R: Read, W: Write, E: Write>(
             let ending = best(alloc, folder, empty, input, output);
             end(ending, errors)
         }
+        Request::Pair => end(ending_of(pair(rt, alloc, input, output)), errors),
         Request::Text(text) => show(text.as_str(), output, errors),
         Request::Refused(text) => Outcome {
             status: REFUSED_STATUS,

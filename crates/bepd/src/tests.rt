@@ -2,6 +2,7 @@
 //! that fail. Each stream is read once. Where an allocation fails, a front of the listing was written, and the test ends.
 mod captured;
 mod failing;
+mod pairs;
 mod rows;
 mod runs;
 

@@ -1,4 +1,12 @@
 //! The commands, as lines.
+ghost use Rattle.std.specs.Prelude.{◌≡◌, ◌≢◌, ◌≤◌, ◌<◌, ◌^◌, ℕ, ℤ, MatchOption, codes};
+ghost use Rattle.sync_version.specs.declared.moment.TheConstants.Moment.{MAX_SECONDS};
+ghost use Rattle.bepd_pair.specs.Words.{IsDecimal, IsLimit, IsWord, spaced};
+ghost use Rattle.bepd_pair.specs.Commands.{IsArgument, IsLineOf, IsPlain, IsRest, IsTextOf, letter_of, word_of};
+ghost use Rattle.bepd_pair.specs.declared.command.Side.{Side as AnySide};
+ghost use Rattle.bepd_pair.specs.declared.command.Action.{Action as AnyAction};
+ghost use Rattle.bepd_pair.specs.declared.command.Command.{Command as AnyCommand};
+
 use std::str;
 use sync_pull::MaxConflicts;
 use sync_version::Moment;
@@ -20,7 +28,9 @@ impl Side {
     }
 
     /// Its letter.
-    pub(crate) fn letter(self) -> &'static str {
+    pub(crate) fn letter(self) -> &'static str
+        ensures { result.now ≡ letter_of self }
+    {
         match self {
             Side::A => "A",
             Side::B => "B",
@@ -58,70 +68,126 @@ pub(crate) enum Action<'a> {
     Show,
 }
 
-/// The command of a line without its line feed; `None` if it is none. Words are separated by one space. O(n).
-pub(crate) fn command_of(line: &[u8]) -> Option<Command<'_>> {
-    let Ok(line) = str::from_utf8(line) else {
+/// The command of a line without its line feed; `None` if it is none. Words are separated by one space. O(n) for n bytes; does not
+/// allocate.
+pub(crate) fn command_of(line: &[u8]) -> Option<Command<'_>>
+    ensures { MatchOption result ((c : AnyCommand) → IsLineOf line.now c → ⊥) (IsLineOf line.now) }
+{
+    let Ok(text) = str::from_utf8(line) else {
         return None;
     };
-    match line.split_once(' ') {
-        None if line == "sync" => Some(Command::Sync),
-        None => None,
+    match first_word(text) {
         Some((word, rest)) => command_with(word, rest),
+        None if text == "sync" => Some(Command::Sync),
+        None => None,
     }
 }
 
-fn command_with<'a>(word: &str, rest: &'a str) -> Option<Command<'a>> {
-    match word {
-        "time" => Some(Command::Time(moment_of(rest)?)),
-        "scan" => Some(Command::At(side_of(rest)?, Action::Scan)),
-        "pull" => Some(Command::At(side_of(rest)?, Action::Pull)),
-        "show" => Some(Command::At(side_of(rest)?, Action::Show)),
-        _ => {
-            let (side, rest) = rest.split_once(' ')?;
-            let side = side_of(side)?;
-            match action_with(word, rest) {
-                Some(action) => Some(Command::At(side, action)),
-                None => None,
-            }
-        }
+/// The first word and what follows the space after it; `None` if there is no space.
+fn first_word(text: &str) -> Option<(&str, &str)>
+    ensures { MatchOption result (IsWord text.now)
+        (λ parts. (text.now ≡ spaced parts.0.now parts.1.now) × IsWord parts.0.now) }
+{
+    text.split_once(' ')
+}
+
+/// The command of a line that begins with this word and a space.
+fn command_with<'a>(word: &str, rest: &'a str) -> Option<Command<'a>>
+    requires { IsWord word.now }
+    ensures { MatchOption result ((c : AnyCommand) → IsTextOf (spaced word.now rest.now) c → ⊥)
+        (IsTextOf (spaced word.now rest.now)) }
+{
+    if word == "time" {
+        return Some(Command::Time(moment_of(rest)?));
+    }
+    match action_with(word, rest) {
+        Some((side, action)) => Some(Command::At(side, action)),
+        None => None,
     }
 }
 
-// What a peer is to do with something that is named.
-fn action_with<'a>(word: &str, rest: &'a str) -> Option<Action<'a>> {
-    match word {
-        "put" => {
-            let (name, text) = rest.split_once(' ')?;
-            Some(Action::Put(name, text))
-        }
-        "mkdir" => Some(Action::MakeDir(word_of(rest)?)),
-        "del" => Some(Action::Delete(word_of(rest)?)),
-        "conflicts" => Some(Action::Conflicts(most_of(rest)?)),
-        _ => None,
+/// Which peer is to do what, by the first word of the line and what follows it.
+fn action_with<'a>(word: &str, rest: &'a str) -> Option<(Side, Action<'a>)>
+    ensures { MatchOption result ((side : AnySide) (action : AnyAction) → word.now ≡ word_of action → IsRest side action rest.now → ⊥)
+        (λ found. (word.now ≡ word_of found.1) × IsRest found.0 found.1 rest.now) }
+{
+    if let Some(action) = plain_action(word) {
+        return Some((side_of(rest)?, action));
+    }
+    let (side, argument) = first_word(rest)?;
+    let side = side_of(side)?;
+    match named_action(word, argument) {
+        Some(action) => Some((side, action)),
+        None => None,
     }
 }
 
-fn side_of(word: &str) -> Option<Side> {
-    match word {
-        "A" => Some(Side::A),
-        "B" => Some(Side::B),
-        _ => None,
+/// What a peer is to do with nothing named.
+fn plain_action<'a>(word: &str) -> Option<Action<'a>>
+    ensures { MatchOption result ((action : AnyAction) → IsPlain action → word.now ≡ word_of action → ⊥)
+        (λ action. IsPlain action × (word.now ≡ word_of action)) }
+{
+    if word == "scan" {
+        return Some(Action::Scan);
     }
+    if word == "pull" {
+        return Some(Action::Pull);
+    }
+    if word == "show" {
+        return Some(Action::Show);
+    }
+    None
 }
 
-// The text, if it is one word.
-fn word_of(text: &str) -> Option<&str> {
-    if text.contains(' ') {
+/// What a peer is to do with what the argument names.
+fn named_action<'a>(word: &str, argument: &'a str) -> Option<Action<'a>>
+    ensures { MatchOption result ((action : AnyAction) → word.now ≡ word_of action → IsArgument action argument.now → ⊥)
+        (λ action. (word.now ≡ word_of action) × IsArgument action argument.now) }
+{
+    if word == "put" {
+        let (name, text) = first_word(argument)?;
+        return Some(Action::Put(name, text));
+    }
+    if word == "conflicts" {
+        return Some(Action::Conflicts(limit_of(argument)?));
+    }
+    if first_word(argument).is_some() {
         return None;
     }
-    Some(text)
+    if word == "mkdir" {
+        return Some(Action::MakeDir(argument));
+    }
+    if word == "del" {
+        return Some(Action::Delete(argument));
+    }
+    None
 }
 
-fn moment_of(word: &str) -> Option<Moment> {
+/// The peer of a letter.
+fn side_of(word: &str) -> Option<Side>
+    ensures { MatchOption result ((side : AnySide) → word.now ≡ letter_of side → ⊥) (λ side. word.now ≡ letter_of side) }
+{
+    if word == "A" {
+        return Some(Side::A);
+    }
+    if word == "B" {
+        return Some(Side::B);
+    }
+    None
+}
+
+/// The moment of a number.
+fn moment_of(word: &str) -> Option<Moment>
+    ensures { MatchOption result ((n : ℕ) → IsDecimal word.now n → n ≤ MAX_SECONDS → ⊥)
+        (λ moment. IsDecimal word.now moment × (moment ≤ MAX_SECONDS)) }
+{
     Moment::new(number_of(word)?)
 }
 
-fn most_of(word: &str) -> Option<MaxConflicts> {
+/// How many conflict copies are kept, by a number.
+fn limit_of(word: &str) -> Option<MaxConflicts>
+    ensures { MatchOption result ((most : ℤ) → IsLimit word.now most → ⊥) (IsLimit word.now) }
+{
     if word == "-1" {
         return MaxConflicts::new(-1);
     }
@@ -129,9 +195,11 @@ fn most_of(word: &str) -> Option<MaxConflicts> {
     MaxConflicts::new(most)
 }
 
-// The number of plain digits.
-fn number_of(word: &str) -> Option<u64> {
-    if !word.as_bytes().iter().all(|b| b.is_ascii_digit()) {
+/// The number of plain digits, if it fits.
+fn number_of(word: &str) -> Option<u64>
+    ensures { MatchOption result ((n : ℕ) → IsDecimal word.now n → n < 2 ^ 64 → ⊥) (IsDecimal word.now) }
+{
+    if word.starts_with('+') {
         return None;
     }
     word.parse::<u64>().ok()

@@ -1,7 +1,7 @@
 //! Pages of one peer's records that go to the other.
 use crate::link::{FOLDER, said};
-use crate::output::Refused;
 use crate::peer::{Peer, device_of};
+use crate::refused::Refused;
 use bep_frames::Message;
 use bep_messages::{FileInfo, Index, IndexUpdate, Items, Text};
 use bep_session::{Event, Session};

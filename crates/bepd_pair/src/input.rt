@@ -1,4 +1,7 @@
 //! The lines of an input that comes in pieces.
+ghost use Rattle.std.specs.Prelude.{◌≡◌, ◌++◌, ◌∷◌, [], ◌↔◌, OnOk, IsTrue, option_copied};
+ghost use Rattle.bepd_pair.specs.Words.{Text};
+
 use std::alloc::{AllocError, Global};
 
 /// The most bytes of a line, without its line feed.
@@ -12,15 +15,22 @@ pub(crate) struct Line {
 }
 
 impl Line {
-    pub(crate) fn new(alloc: Global) -> Line {
+    ghost use Rattle.bepd_pair.specs.Input.{HasCome, kept_line};
+
+    /// Nothing has come of it. Does not allocate.
+    pub(crate) fn new(alloc: Global) -> Line
+        ensures { HasCome result [] }
+    {
         Line {
             bytes: Vec::new(alloc),
             is_long: false,
         }
     }
 
-    /// Adds the next byte of the line.
-    pub(crate) fn push(&mut self, byte: u8) -> Result<(), AllocError> {
+    /// Adds the next byte of the line. Returns `Err` only if out of memory.
+    pub(crate) fn push(&mut self, byte: u8) -> Result<(), AllocError>
+        ensures { OnOk result ((bytes : Text) → HasCome self.old bytes → HasCome self.new (bytes ++ byte ∷ [])) }
+    {
         if self.bytes.len() >= MAX_LINE_BYTES {
             self.is_long = true;
             return Ok(());
@@ -30,12 +40,16 @@ impl Line {
     }
 
     /// Whether nothing has come of it.
-    pub(crate) fn is_empty(&self) -> bool {
+    pub(crate) fn is_empty(&self) -> bool
+        ensures { (bytes : Text) → HasCome self.now bytes → (IsTrue result ↔ (bytes ≡ [])) }
+    {
         self.bytes.is_empty() && !self.is_long
     }
 
     /// Its bytes, unless it is too long.
-    pub(crate) fn bytes(&self) -> Option<&[u8]> {
+    pub(crate) fn bytes(&self) -> Option<&[u8]>
+        ensures { (bytes : Text) → HasCome self.now bytes → option_copied result ≡ kept_line bytes }
+    {
         if self.is_long {
             return None;
         }
@@ -43,7 +57,9 @@ impl Line {
     }
 
     /// Begins the next line.
-    pub(crate) fn clear(&mut self) {
+    pub(crate) fn clear(&mut self)
+        ensures { HasCome self.new [] }
+    {
         self.bytes.clear();
         self.is_long = false;
     }

@@ -1,148 +1,116 @@
-//! What commands print.
+//! What commands print, as lines that are appended to a buffer.
+ghost use Rattle.std.specs.Prelude.{◌≡◌, ◌++◌, OnOk, decimal};
+ghost use Rattle.bepd_pair.specs.Lines.{answer_text, counts_text, local_line, pull_line, refused_line, scan_line, sync_line};
+
 use crate::command::Side;
-use file_store::StoreRefusal;
-use record_lines::push_record;
-use std::alloc::{AllocError, Global};
-use std::fmt::{self, Display, Formatter};
-use sync_names::{NameFault, SafeName};
+use crate::refused::Refused;
+use itoa::Buffer;
+use record_lines::{push_name, push_record};
+use std::alloc::AllocError;
+use sync_names::SafeName;
 use sync_pull::PullAnswer;
 use sync_record::Record;
-use sync_scan::{ScanStop, ScanSum};
+use sync_scan::ScanSum;
 
-/// Why a command was not done, or not to its end. Displayed, it is what is printed.
-#[derive(Clone, Copy, Debug, PartialEq, Eq)]
-pub(crate) enum Refused {
-    /// It is none, or does not fit what is there.
-    UnknownCommand,
-    /// Its name is not safe.
-    Name(NameFault),
-    /// The scan was stopped.
-    Scan(ScanStop),
-    /// The history of the other peer's folder is full.
-    HistoryFull,
-    /// Memory is out.
-    OutOfMemory,
+/// Appends the line of a refusal. Returns `Err` only if out of memory, as each of these functions does.
+pub(crate) fn push_refused(lines: &mut Vec<u8>, refused: Refused) -> Result<(), AllocError>
+    ensures { OnOk result (lines.new.items ≡ lines.old.items ++ refused_line «refused») }
+{
+    let line = format!(in *lines.allocator(); "{refused}\n")?;
+    push_text(lines, line.as_str())
 }
 
-impl From<AllocError> for Refused {
-    fn from(_failed: AllocError) -> Refused {
-        Refused::OutOfMemory
+/// Appends `scan P recorded R unchanged U other O`.
+pub(crate) fn push_scan(lines: &mut Vec<u8>, side: Side, sum: ScanSum) -> Result<(), AllocError>
+    ensures { OnOk result (lines.new.items ≡ lines.old.items ++ scan_line side sum) }
+{
+    push_text(lines, "scan ")?;
+    push_text(lines, side.letter())?;
+    push_counts(lines, sum)?;
+    push_text(lines, "\n")
+}
+
+/// Appends ` recorded R unchanged U other O`.
+fn push_counts(lines: &mut Vec<u8>, sum: ScanSum) -> Result<(), AllocError>
+    ensures { OnOk result (lines.new.items ≡ lines.old.items ++ counts_text sum) }
+{
+    push_with(lines, " recorded ", sum.recorded)?;
+    push_with(lines, " unchanged ", sum.unchanged)?;
+    push_with(lines, " other ", sum.other)
+}
+
+/// Appends `sync A>B N B>A M`.
+pub(crate) fn push_sync(lines: &mut Vec<u8>, to_b: u64, to_a: u64) -> Result<(), AllocError>
+    ensures { OnOk result (lines.new.items ≡ lines.old.items ++ sync_line to_b to_a) }
+{
+    push_text(lines, "sync A>B ")?;
+    push_number(lines, to_b)?;
+    push_text(lines, " B>A ")?;
+    push_number(lines, to_a)?;
+    push_text(lines, "\n")
+}
+
+/// Appends `pull P ANSWER NAME`.
+pub(crate) fn push_pull(
+    lines: &mut Vec<u8>,
+    side: Side,
+    answer: PullAnswer,
+    name: &SafeName,
+) -> Result<(), AllocError>
+    ensures { OnOk result (lines.new.items ≡ lines.old.items ++ pull_line side answer name.now) }
+{
+    push_text(lines, "pull ")?;
+    push_text(lines, side.letter())?;
+    push_text(lines, " ")?;
+    push_answer(lines, answer)?;
+    push_text(lines, " ")?;
+    push_name(lines, name)?;
+    push_text(lines, "\n")
+}
+
+/// Appends `local P KIND SIZE VERSION NAME`.
+pub(crate) fn push_local(lines: &mut Vec<u8>, side: Side, record: &Record) -> Result<(), AllocError>
+    ensures { OnOk result (lines.new.items ≡ lines.old.items ++ local_line side «record».now) }
+{
+    push_text(lines, "local ")?;
+    push_text(lines, side.letter())?;
+    push_text(lines, " ")?;
+    push_record(lines, record)?;
+    push_text(lines, "\n")
+}
+
+fn push_answer(lines: &mut Vec<u8>, answer: PullAnswer) -> Result<(), AllocError>
+    ensures { OnOk result (lines.new.items ≡ lines.old.items ++ answer_text answer) }
+{
+    match answer {
+        PullAnswer::Done(sequence) => push_with(lines, "done ", sequence),
+        PullAnswer::NotNeeded => push_text(lines, "notneeded"),
+        PullAnswer::Busy => push_text(lines, "busy"),
+        PullAnswer::Unsupported => push_text(lines, "unsupported"),
+        PullAnswer::LocalMoved => push_text(lines, "moved"),
+        PullAnswer::Superseded => push_text(lines, "superseded"),
+        PullAnswer::Refused(refusal) => push_with(lines, "refused ", u64::from(refusal.number())),
+        PullAnswer::Failed(failure) => push_with(lines, "failed ", u64::from(failure.number())),
     }
 }
 
-impl From<NameFault> for Refused {
-    fn from(fault: NameFault) -> Refused {
-        match fault {
-            NameFault::OutOfMemory => Refused::OutOfMemory,
-            fault => Refused::Name(fault),
-        }
-    }
+/// Appends a text and a number.
+fn push_with(lines: &mut Vec<u8>, text: &str, number: u64) -> Result<(), AllocError>
+    ensures { OnOk result (lines.new.items ≡ lines.old.items ++ (text.now ++ decimal number)) }
+{
+    push_text(lines, text)?;
+    push_number(lines, number)
 }
 
-impl From<StoreRefusal> for Refused {
-    fn from(refusal: StoreRefusal) -> Refused {
-        match refusal {
-            StoreRefusal::OutOfMemory => Refused::OutOfMemory,
-            _ => Refused::UnknownCommand,
-        }
-    }
+fn push_text(lines: &mut Vec<u8>, text: &str) -> Result<(), AllocError>
+    ensures { OnOk result (lines.new.items ≡ lines.old.items ++ text.now) }
+{
+    lines.extend_from_slice(text.as_bytes())
 }
 
-impl Display for Refused {
-    fn fmt<W: fmt::Write>(&self, f: &mut Formatter<W>) -> fmt::Result {
-        match self {
-            Refused::UnknownCommand => f.write_str("error unknown command"),
-            Refused::Name(fault) => write!(f, "error {} {fault}", fault.number()),
-            Refused::Scan(stop) => write!(f, "error {} {stop}", stop.number()),
-            Refused::HistoryFull => f.write_str("error 32 HistoryFull"),
-            Refused::OutOfMemory => f.write_str("error 33 OutOfMemory"),
-        }
-    }
-}
-
-/// The lines of a command, before they are written.
-#[derive(Drop)]
-pub(crate) struct Output {
-    alloc: Global,
-    bytes: Vec<u8>,
-}
-
-impl Output {
-    pub(crate) fn new(alloc: Global) -> Output {
-        Output {
-            alloc,
-            bytes: Vec::new(alloc),
-        }
-    }
-
-    pub(crate) fn as_bytes(&self) -> &[u8] {
-        self.bytes.as_slice()
-    }
-
-    /// Adds the line of a refusal.
-    pub(crate) fn push_refused(&mut self, refused: Refused) -> Result<(), AllocError> {
-        let line = format!(in self.alloc; "{refused}\n")?;
-        self.bytes.extend_from_slice(line.as_bytes())?;
-        Ok(())
-    }
-
-    /// Adds `scan P recorded R unchanged U other O`.
-    pub(crate) fn push_scan(&mut self, side: Side, sum: ScanSum) -> Result<(), AllocError> {
-        let line = format!(in self.alloc;
-            "scan {} recorded {} unchanged {} other {}\n",
-            side.letter(),
-            sum.recorded,
-            sum.unchanged,
-            sum.other
-        )?;
-        self.bytes.extend_from_slice(line.as_bytes())?;
-        Ok(())
-    }
-
-    /// Adds `sync A>B N B>A M`.
-    pub(crate) fn push_sync(&mut self, to_b: u64, to_a: u64) -> Result<(), AllocError> {
-        let line = format!(in self.alloc; "sync A>B {to_b} B>A {to_a}\n")?;
-        self.bytes.extend_from_slice(line.as_bytes())?;
-        Ok(())
-    }
-
-    /// Adds `pull P ANSWER NAME`.
-    pub(crate) fn push_pull(
-        &mut self,
-        side: Side,
-        answer: PullAnswer,
-        name: &SafeName,
-    ) -> Result<(), AllocError> {
-        let front = format!(in self.alloc; "pull {} ", side.letter())?;
-        self.bytes.extend_from_slice(front.as_bytes())?;
-        self.push_answer(answer)?;
-        self.bytes.push(b' ')?;
-        record_lines::push_name(&mut self.bytes, name)?;
-        self.bytes.push(b'\n')?;
-        Ok(())
-    }
-
-    fn push_answer(&mut self, answer: PullAnswer) -> Result<(), AllocError> {
-        let text = match answer {
-            PullAnswer::Done(sequence) => format!(in self.alloc; "done {sequence}")?,
-            PullAnswer::NotNeeded => format!(in self.alloc; "notneeded")?,
-            PullAnswer::Busy => format!(in self.alloc; "busy")?,
-            PullAnswer::Unsupported => format!(in self.alloc; "unsupported")?,
-            PullAnswer::LocalMoved => format!(in self.alloc; "moved")?,
-            PullAnswer::Superseded => format!(in self.alloc; "superseded")?,
-            PullAnswer::Refused(refusal) => format!(in self.alloc; "refused {}", refusal.number())?,
-            PullAnswer::Failed(failure) => format!(in self.alloc; "failed {}", failure.number())?,
-        };
-        self.bytes.extend_from_slice(text.as_bytes())?;
-        Ok(())
-    }
-
-    /// Adds `local P KIND SIZE VERSION NAME`.
-    pub(crate) fn push_local(&mut self, side: Side, record: &Record) -> Result<(), AllocError> {
-        let front = format!(in self.alloc; "local {} ", side.letter())?;
-        self.bytes.extend_from_slice(front.as_bytes())?;
-        push_record(&mut self.bytes, record)?;
-        self.bytes.push(b'\n')?;
-        Ok(())
-    }
+fn push_number(lines: &mut Vec<u8>, number: u64) -> Result<(), AllocError>
+    ensures { OnOk result (lines.new.items ≡ lines.old.items ++ decimal number) }
+{
+    let mut digits = Buffer::new();
+    lines.extend_from_slice(digits.format(number).as_bytes())
 }

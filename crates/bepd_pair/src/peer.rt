@@ -1,4 +1,7 @@
 //! A peer: its folder, and its store.
+ghost use Rattle.std.specs.Prelude.{◌≡◌, IfOk};
+ghost use Rattle.bepd_pair.specs.Devices.{identity_of};
+
 use crate::command::Side;
 use file_store::MemStore;
 use folder_calls::Lone;
@@ -11,6 +14,7 @@ use sync_record::DeviceId;
 /// How many changes a folder's history takes.
 const HISTORY_LIMIT: u64 = 1_000_000;
 
+/// A peer of a folder.
 #[derive(Drop)]
 pub(crate) struct Peer {
     pub(crate) side: Side,
@@ -21,8 +25,12 @@ pub(crate) struct Peer {
 }
 
 impl Peer {
+    ghost use Rattle.bepd_pair.specs.Playing.{IsNewPeer};
+
     /// A peer of an empty folder, with no file. Fails if out of memory.
-    pub(crate) fn new(alloc: Global, side: Side) -> Result<Peer, AllocError> {
+    pub(crate) fn new(alloc: Global, side: Side) -> Result<Peer, AllocError>
+        ensures { IfOk result (IsNewPeer side) }
+    {
         let folder = PlainFolder::new(alloc, device_of(side));
         if folder.counts().pulls != 0 {
             return Err(AllocError);
@@ -41,7 +49,9 @@ impl Peer {
 }
 
 /// The identity of a peer: its number in the first eight bytes, and then 0.
-pub(crate) fn device_of(side: Side) -> DeviceId {
+pub(crate) fn device_of(side: Side) -> DeviceId
+    ensures { result ≡ identity_of side }
+{
     let mut bytes = [0; 32];
     bytes[7] = match side {
         Side::A => 1,

@@ -1,7 +1,13 @@
 //! Rounds of pulls.
+ghost use Rattle.std.specs.Prelude.{◌≡◌, ◌++◌, OnOk, map};
+ghost use Rattle.bepd_pair.specs.Lines.{pull_line};
+ghost use Rattle.bepd_pair.specs.Pulls.{PullsOne, PullsRound, PullsUnlessFull};
+ghost use Rattle.sync_pull.specs.declared.answer.PullAnswer.{PullAnswer as AnyAnswer};
+
 use crate::link::Link;
-use crate::output::{Output, Refused};
+use crate::output::push_pull;
 use crate::peer::Peer;
+use crate::refused::Refused;
 use bep_session::Session;
 use file_store::OpenGate;
 use folder_calls::FolderCalls;
@@ -11,15 +17,7 @@ use sync_names::SafeName;
 use sync_pull::{PullAnswer, pull_name};
 use sync_version::Moment;
 
-/// The names that a round pulls: those with a live best, in byte order, and then those with a deleted one, in the reverse
-/// order, so that what is in a directory goes before it.
-#[derive(Drop)]
-struct Round {
-    live: Vec<SafeName>,
-    deleted: Vec<SafeName>,
-}
-
-/// Pulls each needed name once, and tells what it came to.
+/// Pulls each needed name once, and prints what it came to.
 pub(crate) fn pull<R: Threads + Sync>(
     rt: &R,
     alloc: Global,
@@ -28,39 +26,29 @@ pub(crate) fn pull<R: Threads + Sync>(
     other: &mut Peer,
     other_session: &mut Session,
     moment: Moment,
-    output: &mut Output,
-) -> Result<(), Refused> {
-    let round = round_of(alloc, peer)?;
-    for name in &round.live {
-        pull_one(
-            rt,
-            alloc,
-            peer,
-            session,
-            other,
-            other_session,
-            name,
-            moment,
-            output,
-        )?;
-    }
-    for name in round.deleted.iter().rev() {
-        pull_one(
-            rt,
-            alloc,
-            peer,
-            session,
-            other,
-            other_session,
-            name,
-            moment,
-            output,
-        )?;
-    }
-    Ok(())
+    lines: &mut Vec<u8>,
+) -> Result<(), Refused>
+    ensures { PullsUnlessFull moment peer.old result lines.old.items lines.new.items peer.new }
+{
+    let names = round_of(alloc, peer)?;
+    Ok(pull_each(
+        rt,
+        alloc,
+        peer,
+        session,
+        other,
+        other_session,
+        names.as_slice(),
+        moment,
+        lines,
+    )?)
 }
 
-fn round_of(alloc: Global, peer: &mut Peer) -> Result<Round, AllocError> {
+/// The names that a round pulls: those with a live best, in byte order, and then those with a deleted one, in the reverse
+/// order, so that what is in a directory goes before it.
+fn round_of(alloc: Global, peer: &mut Peer) -> Result<Vec<SafeName>, AllocError>
+    ensures { peer.new ≡ record peer.old { calls = peer.new.calls } }
+{
     let needed = peer.calls.need(None, usize::MAX)?.value;
     let mut live = Vec::new(alloc);
     let mut deleted = Vec::new(alloc);
@@ -76,7 +64,41 @@ fn round_of(alloc: Global, peer: &mut Peer) -> Result<Round, AllocError> {
             live.push(name)?;
         }
     }
-    Ok(Round { live, deleted })
+    while let Some(name) = deleted.pop() {
+        live.push(name)?;
+    }
+    Ok(live)
+}
+
+/// Pulls these names, one after another.
+fn pull_each<R: Threads + Sync>(
+    rt: &R,
+    alloc: Global,
+    peer: &mut Peer,
+    session: &mut Session,
+    other: &mut Peer,
+    other_session: &mut Session,
+    names: &[SafeName],
+    moment: Moment,
+    lines: &mut Vec<u8>,
+) -> Result<(), AllocError>
+    ensures others { peer.new ≡ record peer.old { store = peer.new.store; calls = peer.new.calls } }
+    ensures pulls { OnOk result (PullsRound moment names.now peer.old lines.old.items lines.new.items peer.new) }
+{
+    for name in names {
+        pull_one(
+            rt,
+            alloc,
+            peer,
+            session,
+            other,
+            other_session,
+            name,
+            moment,
+            lines,
+        )?;
+    }
+    Ok(())
 }
 
 fn pull_one<R: Threads + Sync>(
@@ -88,10 +110,14 @@ fn pull_one<R: Threads + Sync>(
     other_session: &mut Session,
     name: &SafeName,
     moment: Moment,
-    output: &mut Output,
-) -> Result<(), AllocError> {
+    lines: &mut Vec<u8>,
+) -> Result<(), AllocError>
+    ensures others { peer.new ≡ record peer.old { store = peer.new.store; calls = peer.new.calls } }
+    ensures pulls { OnOk result ((answer : AnyAnswer) × PullsOne moment peer.old name.now answer peer.new
+        × (lines.new.items ≡ lines.old.items ++ pull_line peer.old.side answer name.now)) }
+{
     let answer = answer_of(rt, alloc, peer, session, other, other_session, name, moment);
-    output.push_pull(peer.side, answer, name)
+    push_pull(lines, peer.side, answer, name)
 }
 
 fn answer_of<R: Threads + Sync>(
@@ -103,7 +129,9 @@ fn answer_of<R: Threads + Sync>(
     other_session: &mut Session,
     name: &SafeName,
     moment: Moment,
-) -> PullAnswer {
+) -> PullAnswer
+    ensures { PullsOne moment peer.old name.now result peer.new }
+{
     let mut link = Link {
         alloc,
         session,

@@ -33,6 +33,19 @@ fn reads_the_folder(rt: HostRuntime) -> Result<(), AllocError> {
     Ok(())
 }
 
+#[test]
+fn calls_for_two_peers(rt: HostRuntime) -> Result<(), AllocError> {
+    for line in ["bepd pair", "another/name pair"] {
+        let words = words(&rt, line);
+        match request_of(rt.alloc(), &words) {
+            Request::Pair => {}
+            Request::OutOfMemory => return Err(AllocError),
+            _ => assert!(rt; false, "{line}"),
+        }
+    }
+    Ok(())
+}
+
 /// Whether the text that the line is answered with is an error.
 fn is_refused(rt: &(impl AllocGlobal + Abort), line: &str, text: &str) -> Result<bool, AllocError> {
     let words = words(rt, line);
@@ -46,7 +59,7 @@ fn is_refused(rt: &(impl AllocGlobal + Abort), line: &str, text: &str) -> Result
             Ok(true)
         }
         Request::OutOfMemory => Err(AllocError),
-        Request::Best(_) => {
+        Request::Best(_) | Request::Pair => {
             assert!(rt; false, "{line}");
             Ok(false)
         }
@@ -64,6 +77,9 @@ fn refuses_other_lines(rt: HostRuntime) -> Result<(), AllocError> {
         "bepd best --version",
         "bepd --best docs",
         "bepd help docs",
+        "bepd pair f",
+        "bepd pair --version",
+        "bepd -pair",
     ];
     for line in lines {
         assert!(rt; is_refused(&rt, line, "Usage: bepd")?, "{line}");
@@ -80,6 +96,8 @@ fn answers_calls_for_help(rt: HostRuntime) -> Result<(), AllocError> {
         ("bepd help best", "Usage: bepd best <FOLDER>"),
         ("bepd best -h", "Usage: bepd best <FOLDER>"),
         ("bepd best --help", "Usage: bepd best <FOLDER>"),
+        ("bepd help pair", "Usage: bepd pair"),
+        ("bepd pair --help", "Usage: bepd pair"),
         ("bepd -V", "bepd 0.1.0"),
         ("bepd --version", "bepd 0.1.0"),
     ];

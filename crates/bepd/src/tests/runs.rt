@@ -5,6 +5,7 @@ use std::alloc::{AllocError, Global};
 use std::io;
 use std::process::Abort;
 use std::test::Fail;
+use std::thread::Threads;
 
 const LISTING: &str = "best file 0 0000000000000001:1 a\nskipped 0\n";
 
@@ -18,7 +19,7 @@ fn words(alloc: Global, line: &str) -> io::Result<Vec<String>> {
 
 /// Runs the line on the bytes, and returns the status. Out of memory must be reported, and ends the test.
 fn status(
-    rt: &(impl AllocGlobal + Abort),
+    rt: &(impl AllocGlobal + Abort + Threads + Sync),
     line: &str,
     mut bytes: &[u8],
     output: &str,
@@ -27,7 +28,14 @@ fn status(
     let mut written = Vec::with_capacity(rt.alloc(), MOST)?;
     let mut reported = Vec::with_capacity(rt.alloc(), MOST)?;
     let words = words(rt.alloc(), line);
-    let outcome = run(rt.alloc(), &words, &mut bytes, &mut written, &mut reported);
+    let outcome = run(
+        rt,
+        rt.alloc(),
+        &words,
+        &mut bytes,
+        &mut written,
+        &mut reported,
+    );
     if outcome.status == 4 {
         assert_eq!(rt;
             reported.as_slice(),
@@ -75,7 +83,14 @@ fn reports_help_that_cannot_be_written(rt: HostRuntime) -> Result<(), AllocError
         let mut reported = Vec::with_capacity(rt.alloc(), MOST)?;
         let words = words(rt.alloc(), "bepd --version");
         let mut input: &[u8] = &[];
-        let outcome = run(rt.alloc(), &words, &mut input, &mut sink, &mut reported);
+        let outcome = run(
+            &rt,
+            rt.alloc(),
+            &words,
+            &mut input,
+            &mut sink,
+            &mut reported,
+        );
         if outcome.status == 4 {
             return Err(AllocError);
         }

@@ -1,7 +1,7 @@
 use Rattle.std.proofs.Common.{subst}
 use Rattle.bepd.specs.Runs.{Lists, streams}
-use Rattle.bepd.proofs.Matching.{asked_best}
-use Rattle.bepd.proofs.Running.{lists_nothing}
+use Rattle.bepd.proofs.Matching.{asked_best, asked_pair}
+use Rattle.bepd.proofs.Running.{lists_nothing, plays_nothing}
 use Rattle.bepd.proofs.run.run.Goals as goal
 
 pub returns-in-Best-clause-best : goal.returns-in-Best-clause-best
@@ -28,4 +28,21 @@ returns-in-Refused-clause-best g c = λ program folder line plain. absurd (asked
 pub returns-in-OutOfMemory-clause-best : goal.returns-in-OutOfMemory-clause-best
 returns-in-OutOfMemory-clause-best g c = λ program folder line plain.
     lists_nothing folder c.end-in-OutOfMemory.result (g.R.Read.remaining c.args.input.now) (g.W.Write.contents c.args.output.now)
+    (g.E.Write.contents c.args.errors.now) (g.E.Write.contents c.end-in-OutOfMemory.new.errors) c.end-in-OutOfMemory.ensures.ends
+
+pub returns-in-Pair-clause-best : goal.returns-in-Pair-clause-best
+returns-in-Pair-clause-best g c = λ program folder line plain. absurd (asked_best c.args.words.now _ program folder line plain c.in-Pair.ensures)
+
+pub returns-in-Best-clause-pair : goal.returns-in-Best-clause-pair
+returns-in-Best-clause-pair g c = λ program line. absurd (asked_pair c.args.words.now _ program line c.in-Best.ensures)
+
+pub returns-in-Text-clause-pair : goal.returns-in-Text-clause-pair
+returns-in-Text-clause-pair g c = λ program line. absurd (asked_pair c.args.words.now _ program line c.in-Text.ensures)
+
+pub returns-in-Refused-clause-pair : goal.returns-in-Refused-clause-pair
+returns-in-Refused-clause-pair g c = λ program line. absurd (asked_pair c.args.words.now _ program line c.in-Refused.ensures)
+
+pub returns-in-OutOfMemory-clause-pair : goal.returns-in-OutOfMemory-clause-pair
+returns-in-OutOfMemory-clause-pair g c = λ program line.
+    plays_nothing c.end-in-OutOfMemory.result (g.R.Read.remaining c.args.input.now) (g.W.Write.contents c.args.output.now)
     (g.E.Write.contents c.args.errors.now) (g.E.Write.contents c.end-in-OutOfMemory.new.errors) c.end-in-OutOfMemory.ensures.ends

@@ -1,0 +1,12 @@
+pub mod Words
+pub mod Commands
+pub mod Input
+pub mod Refusals
+pub mod Files
+pub mod Lines
+pub mod Devices
+pub mod Scans
+pub mod Pulls
+pub mod Following
+pub mod Playing
+pub mod Progress
