@@ -15,6 +15,7 @@ use peer_conn::{
 };
 use std::alloc::Global;
 use std::process::Abort;
+use std::slice;
 use std::sync::Wait;
 use std::test::*;
 use std::thread::{Threads, join};
@@ -157,7 +158,9 @@ pub(crate) fn recorded<C: FolderCore + Drop, R: AllocGlobal + Abort + Wait>(
 }
 
 /// Records so many directories.
-fn record_all<R: AllocGlobal + Abort, W: FolderCalls>(rt: &R, calls: &mut W, count: u64) {
+fn record_all<R: AllocGlobal + Abort, W: FolderCalls>(rt: &R, calls: &mut W, count: u64)
+    ensures { W.folder calls.new ≡ W.folder calls.old }
+{
     for number in 0..count {
         records(rt, calls, &numbered(rt, number.saturating_add(1)));
     }
@@ -170,7 +173,9 @@ pub(crate) fn numbered<R: AllocGlobal + Abort>(rt: &R, number: u64) -> SafeName 
 }
 
 /// Records a directory where nothing was.
-pub(crate) fn records<W: FolderCalls>(rt: &impl Abort, calls: &mut W, name: &SafeName) {
+pub(crate) fn records<W: FolderCalls>(rt: &impl Abort, calls: &mut W, name: &SafeName)
+    ensures { W.folder calls.new ≡ W.folder calls.old }
+{
     let moment = Moment::new(0).expect(rt, "a moment");
     let scanned = calls.scan_found(name, None, &directory(), moment);
     match scanned.expect(rt, "an answer").value {
@@ -210,14 +215,17 @@ fn first_of<
     peer: ClusterConfig,
     messages: usize,
 ) -> (Vec<Short>, IndexerEnd) {
-    let pass = recorded(rt, folder, given(rt, folder), count);
-    exchange(rt, Member::new(folder, rt, pass), peer, messages)
+    let _ = recorded(rt, folder, given(rt, folder), count);
+    exchange(rt, folder, peer, messages)
 }
 
-/// What an indexer of these calls puts first, and how it ends after that.
-fn exchange<R: AllocGlobal + Abort + Clock + Sync + Threads + Wait, W: FolderCalls + Drop + Send>(
+/// What an indexer of the folder puts first, and how it ends after that.
+fn exchange<
+    C: FolderCore + Drop + Sync + Send,
+    R: AllocGlobal + Abort + Clock + Sync + Threads + Wait,
+>(
     rt: &R,
-    calls: W,
+    folder: &SharedFolder<C>,
     peer: ClusterConfig,
     messages: usize,
 ) -> (Vec<Short>, IndexerEnd) {
@@ -231,16 +239,34 @@ fn exchange<R: AllocGlobal + Abort + Clock + Sync + Threads + Wait, W: FolderCal
     assert!(rt; to_indexer.send(rt, peer).is_ok());
     let (end, taken) = join(
         rt,
-        || index(rt, alloc, calls, &configs, indexer),
+        || index_by_pass(rt, alloc, folder, &configs, indexer),
         || take_some(rt, alloc, taker, messages, to_indexer),
     );
     (taken, end)
 }
 
-pub(crate) fn index<R: Abort + Clock + Wait, W: FolderCalls + Drop>(
+/// Indexes the folder by a new pass.
+pub(crate) fn index_by_pass<C: FolderCore + Drop, R: Abort + Clock + Wait>(
     rt: &R,
     alloc: Global,
-    calls: W,
+    folder: &SharedFolder<C>,
+    configs: &Receiver<ClusterConfig>,
+    seat: Seat<Message>,
+) -> IndexerEnd {
+    let pass = given(rt, folder);
+    let calls = Member::new(folder, rt, pass);
+    let mut folder = IndexedFolder {
+        id: Text::from_str(alloc, "f").expect(rt, "a text"),
+        index_id: INDEX_ID,
+        calls,
+    };
+    index(rt, alloc, slice::from_mut(&mut folder), configs, seat)
+}
+
+fn index<R: Abort + Clock + Wait, W: FolderCalls>(
+    rt: &R,
+    alloc: Global,
+    folders: &mut [IndexedFolder<W>],
     configs: &Receiver<ClusterConfig>,
     seat: Seat<Message>,
 ) -> IndexerEnd {
@@ -252,19 +278,12 @@ pub(crate) fn index<R: Abort + Clock + Wait, W: FolderCalls + Drop>(
         peer_sequence: 0,
     };
     let config = cluster_config(alloc, device(9), "me", device(1), [mine].as_slice());
-    let folder = IndexedFolder {
-        id: Text::from_str(alloc, "f").expect(rt, "a text"),
-        index_id: INDEX_ID,
-        calls,
-    };
-    let mut folders = Vec::new(alloc);
-    folders.push(folder).expect(rt, "memory");
     let (_, end) = run_indexer(
         rt,
         alloc,
         config.expect(rt, "a ClusterConfig"),
         configs,
-        folders.as_mut_slice(),
+        folders,
         seat,
     );
     end

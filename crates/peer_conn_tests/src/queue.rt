@@ -197,9 +197,7 @@ impl Write for Failing {
 const SIX: usize = 6;
 
 /// Puts two Pings, and four Responses of 40,000 bytes.
-fn put_six<R: Wait>(rt: &R, alloc: Global, seat: &mut Seat<Message>) -> Result<(), AllocError>
-    ensures { IsSameSeat seat.old seat.new }
-{
+fn put_six<R: Wait>(rt: &R, alloc: Global, seat: &mut Seat<Message>) -> Result<(), AllocError> {
     put_one(rt, seat, Message::Ping(Ping {}));
     put_one(rt, seat, Message::Ping(Ping {}));
     for id in 0..4 {
@@ -213,9 +211,7 @@ fn put_large<R: Wait>(
     alloc: Global,
     seat: &mut Seat<Message>,
     id: i32,
-) -> Result<(), AllocError>
-    ensures { IsSameSeat seat.old seat.new }
-{
+) -> Result<(), AllocError> {
     let payload = Octets::from_vec(vec![in alloc; 7u8; 40_000]?);
     let message = Message::Response(Response {
         id,
