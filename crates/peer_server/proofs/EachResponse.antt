@@ -1,17 +1,16 @@
 -- Each response that was put is the right one for its request.
-use Rattle.std.proofs.Common.{◌≡◌, ◌⊎◌, ℕ, zero, suc, ◌+◌, ◌<◌, ◌≤◌, Bool, true, List, [], ◌∷◌, ◌++◌, length, refl, sym, ap, subst, ◌∙◌, inl, inr, arith, length-append}
-use Rattle.std.specs.Prelude.{Option, Some, None, IfSome, Result, slice_get, unwrap_or}
+use Rattle.std.proofs.Common.{◌≡◌, ℕ, zero, suc, ◌≤◌, Bool, List, [], ◌∷◌, ◌++◌, length, refl, sym, ap, subst, ◌∙◌, inl, inr, arith, length-append}
+use Rattle.std.specs.Prelude.{Some, IfSome, Result, slice_get, unwrap_or}
 use Rattle.std.specs.List.{AllZip}
 use Rattle.std.proofs.lemmas.List.Elements.{length_all_zip}
 use Rattle.bep_messages.specs.declared.response.Response.{Response}
-use Rattle.folder_core.specs.States.{local}
-use Rattle.folder_calls.specs.Shared.{CallerView, now}
+use Rattle.folder_calls.specs.Shared.{CallerView}
 use Rattle.file_store.specs.Asked.{Call, Value}
 use Rattle.file_store.specs.Trees.{Tree, bytes_of}
 use Rattle.file_store.specs.declared.refusal.StoreRefusal.{StoreRefusal}
-use Rattle.block_server.specs.Served.{Serves, answers_code, asked_of}
+use Rattle.block_server.specs.Served.{answers_code, asked_of}
 use Rattle.block_server.specs.declared.code.Code.TheVariants.{NoSuchFile}
-use Rattle.peer_server.specs.Answered.{Answers, OneGoesOn, Refuses, Responds, Stays}
+use Rattle.peer_server.specs.Answered.{Answers, Responds, Stays}
 use Rattle.peer_server.specs.Served.{AnswersEach, IsAnswerOf}
 use Rattle.peer_server.specs.declared.request.PeerRequest.{PeerRequest}
 use Rattle.peer_server.specs.declared.request.ServedFolder.{ServedFolder}

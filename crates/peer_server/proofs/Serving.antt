@@ -1,25 +1,19 @@
 -- Requests that are answered one after the other.
-use Rattle.std.proofs.Common.{◌≡◌, ◌⊎◌, ℕ, zero, suc, ◌<◌, Bool, true, false, List, [], ◌∷◌, ◌++◌, length, get_or, set, map, refl, sym, ap, subst, ◌∙◌, append_assoc, append-nil, inl, inr, arith}
-use Rattle.std.specs.Prelude.{IfErr, IfOk, IsOk, IsSome, Option, Some, None, Result, Ok, Err}
+use Rattle.std.proofs.Common.{◌≡◌, ℕ, zero, suc, ◌<◌, Bool, List, [], ◌∷◌, ◌++◌, length, get_or, set, map, refl, sym, ap, subst, ◌∙◌, append_assoc, append-nil, inl, inr, arith}
+use Rattle.std.specs.Prelude.{IfErr, IfOk, Some, Result, Ok, Err}
 use Rattle.std.specs.List.{AllZip}
 use mathlib.Core.List.{IsPrefix}
 use Rattle.bep_frames.specs.declared.frame.Message.{Message}
 use Rattle.bep_frames.specs.declared.frame.Message.TheVariants as message
-use Rattle.bep_messages.specs.declared.request.Request.{Request}
 use Rattle.bep_messages.specs.declared.response.Response.{Response}
-use Rattle.sync_names.specs.Refusal.{shape_refusal}
-use Rattle.sync_names.specs.declared.fault.NameFault.{NameFault}
-use Rattle.folder_core.specs.States.{local}
 use Rattle.folder_calls.specs.Histories.{own_entries}
-use Rattle.folder_calls.specs.Shared.{CallerView, Sees, now, seeing}
+use Rattle.folder_calls.specs.Shared.{CallerView, Sees}
 use Rattle.folder_calls.specs.declared.entry.Entry.{Entry}
 use Rattle.file_store.specs.Asked.{Call, Value}
-use Rattle.file_store.specs.Trees.{Tree, bytes_of}
+use Rattle.file_store.specs.Trees.{Tree}
 use Rattle.file_store.specs.declared.refusal.StoreRefusal.{StoreRefusal}
-use Rattle.block_server.specs.PartsGiven.{ServesGiven}
-use Rattle.block_server.specs.Served.{Serves}
-use Rattle.peer_server.specs.Answered.{Answers, OneGoesOn, Refuses, Responds, RunsOut, Stays}
-use Rattle.peer_server.specs.Served.{AnswersEach, HasServed, Leaves, LeavesOff, PutsAnswer, ServesPeer, message_of}
+use Rattle.peer_server.specs.Answered.{Answers, OneGoesOn, Responds, RunsOut, Stays}
+use Rattle.peer_server.specs.Served.{AnswersEach, HasServed, Leaves, PutsAnswer, ServesPeer, message_of}
 use Rattle.peer_server.specs.declared.request.PeerRequest.{PeerRequest}
 use Rattle.peer_server.specs.declared.request.ServedFolder.{ServedFolder}
 use Rattle.peer_server.specs.declared.server.ServerEnd.{ServerEnd}

@@ -1,6 +1,6 @@
 -- What a request of a peer is answered (Block Exchange Protocol v1, "Request" and "Response"; what a folder that is not shared is
 -- answered is own rule).
-use Rattle.std.specs.Prelude.{◌≡◌, ◌⊎◌, ℕ, ◌≤◌, Bool, true, false, List, ◌∷◌, ◌++◌, length, Option, Some, None, Result}
+use Rattle.std.specs.Prelude.{◌≡◌, ◌⊎◌, ℕ, ◌≤◌, Bool, true, false, List, ◌∷◌, ◌++◌, length, Some, None, Result}
 use Rattle.bep_messages.specs.declared.request.Request.{Request}
 use Rattle.bep_messages.specs.declared.response.Response.{Response}
 use Rattle.sync_names.specs.Refusal.{shape_refusal}
@@ -16,7 +16,7 @@ use Rattle.peer_server.specs.declared.request.PeerRequest.{PeerRequest}
 use Rattle.peer_server.specs.declared.request.ServedFolder.{ServedFolder}
 
 module _ {S W : Type 0} where
-  -- Of the folders only the one at the place that is asked for goes on, and so.
+  -- Only the folder at the place that is asked for goes on, as `goes` says; the others stay as they are.
   pub record OneGoesOn (goes : ServedFolder S W → ServedFolder S W → Type 0) (old : List (ServedFolder S W)) (asked : PeerRequest) (new : List (ServedFolder S W)) : Type 0 where
     pub front : List (ServedFolder S W)
     pub before : ServedFolder S W
