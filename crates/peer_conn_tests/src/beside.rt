@@ -8,7 +8,7 @@ use crossbeam_channel::{Sender, bounded};
 use folder_calls::FolderCalls;
 use folder_core::{FolderCore, ScanAnswer};
 use folder_shared::{Member, SharedFolder};
-use peer_conn::{OutQueue, Taker};
+use peer_conn::{IndexerEnd, OutQueue, Taker};
 use std::alloc::Global;
 use std::process::Abort;
 use std::sync::Wait;
@@ -154,7 +154,7 @@ fn exchange<
     drop(requester);
     let (to_indexer, configs) = bounded::<ClusterConfig, Global>(alloc, 1).expect(rt, "a channel");
     assert!(rt; to_indexer.send(rt, peer).is_ok());
-    let (_, (told, ())) = join(
+    let (end, (told, ())) = join(
         rt,
         || index_by_pass(rt, alloc, folder, &configs, indexer),
         || {
@@ -165,6 +165,7 @@ fn exchange<
             )
         },
     );
+    assert_eq!(rt; end, IndexerEnd::Closed);
     told
 }
 

@@ -293,11 +293,11 @@ fn index<R: Abort + Clock + Wait, W: FolderCalls>(
 fn indexer_pages(rt: HostRuntime) -> Result<(), Fail> {
     let peer = peers_config(rt.alloc(), "f", 0, 0)?;
     let (taken, end) = first_messages(&rt, 1_001, peer, 3);
+    assert_eq!(rt; end, IndexerEnd::Closed);
     assert_eq!(rt; taken.len(), 3);
     assert_eq!(rt; taken[0], (CONFIG, 1, 0, 0));
     assert_eq!(rt; taken[1], (INDEX, 1_000, 1, 1_000));
     assert_eq!(rt; taken[2], (INDEX_UPDATE, 1, 1_001, 1_001));
-    assert_eq!(rt; end, IndexerEnd::Closed);
     Ok(())
 }
 
@@ -305,9 +305,9 @@ fn indexer_pages(rt: HostRuntime) -> Result<(), Fail> {
 fn indexer_goes_on_where_the_peer_is(rt: HostRuntime) -> Result<(), Fail> {
     let peer = peers_config(rt.alloc(), "f", INDEX_ID, 2)?;
     let (taken, end) = first_messages(&rt, 3, peer, 2);
+    assert_eq!(rt; end, IndexerEnd::Closed);
     assert_eq!(rt; taken.len(), 2);
     assert_eq!(rt; taken[1], (INDEX_UPDATE, 1, 3, 3));
-    assert_eq!(rt; end, IndexerEnd::Closed);
     Ok(())
 }
 

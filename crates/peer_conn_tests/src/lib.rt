@@ -8,4 +8,6 @@ mod beside;
 #[cfg(test)]
 mod indexer;
 #[cfg(test)]
+mod long;
+#[cfg(test)]
 mod queue;
