@@ -4,6 +4,8 @@
 #![tactic(auto)]
 
 #[cfg(test)]
+mod begun;
+#[cfg(test)]
 mod beside;
 #[cfg(test)]
 mod indexer;

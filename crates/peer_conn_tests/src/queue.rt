@@ -2,8 +2,10 @@
 ghost use Rattle.std.specs.Prelude.{IfOk};
 ghost use Rattle.peer_conn.specs.Words.{IsSameEnded, IsSameQueue, IsSameSeat};
 
+use crate::begun::expect_begun;
 use bep_frames::{Frame, Message, WriteFault, frames_of};
 use bep_messages::{Hello, Octets, Ping, Response, Text};
+use crossbeam_channel::{Receiver, Sender, bounded};
 use peer_conn::{
     Ended, NotPut, OutQueue, Seat, SeatName, Taker, WriterFault, finish_writer, run_writer,
 };
@@ -13,6 +15,7 @@ use std::process::Abort;
 use std::sync::Wait;
 use std::test::*;
 use std::thread::{Threads, join};
+use std::time::Clock;
 
 /// How many messages each thread puts.
 const EACH: i32 = 3_000;
@@ -54,10 +57,16 @@ fn put_ids<R: Wait>(rt: &R, alloc: Global, mut seat: Seat<Message>, first: i32) 
 /// The taker, and what was written.
 type Written = (Taker<Message>, Vec<u8>);
 
-/// Writes until the seats have ended. The taker of a writer that fails is dropped, so that no seat waits for it.
-fn write<R: Wait>(rt: &R, alloc: Global, mut taker: Taker<Message>) -> Result<Written, WriterFault>
+/// Says that it begins, and writes until the seats have ended. The taker of a writer that fails is dropped, so that no seat waits for it.
+fn write<R: Wait>(
+    rt: &R,
+    alloc: Global,
+    begins: Sender<()>,
+    mut taker: Taker<Message>,
+) -> Result<Written, WriterFault>
     ensures { IfOk result (λ written. IsSameQueue taker written.0) }
 {
+    let _ = begins.send(rt, ());
     let mut out = Vec::new(alloc);
     run_writer(rt, alloc, &hello(alloc), &mut taker, &mut out)?;
     Ok((taker, out))
@@ -65,9 +74,11 @@ fn write<R: Wait>(rt: &R, alloc: Global, mut taker: Taker<Message>) -> Result<Wr
 
 type Three = (Ended<Message>, (Ended<Message>, Ended<Message>));
 
-fn put_all<R: Threads + Wait + Sync>(
+/// Puts from three threads once the writer has begun.
+fn put_all<R: Abort + Clock + Threads + Wait + Sync>(
     rt: &R,
     alloc: Global,
+    begun: &Receiver<()>,
     indexer: Seat<Message>,
     server: Seat<Message>,
     requester: Seat<Message>,
@@ -76,6 +87,7 @@ fn put_all<R: Threads + Wait + Sync>(
     ensures server { IsSameEnded server result.1.0 }
     ensures requester { IsSameEnded requester result.1.1 }
 {
+    expect_begun(rt, begun);
     join(
         rt,
         || -> Ended<Message>
@@ -99,18 +111,22 @@ fn put_all<R: Threads + Wait + Sync>(
 }
 
 /// What a writer writes while three threads put.
-fn exchange<R: Threads + Wait + Sync>(rt: &R, alloc: Global) -> Result<Vec<u8>, Fail> {
+fn exchange<R: Abort + Clock + Threads + Wait + Sync>(
+    rt: &R,
+    alloc: Global,
+) -> Result<Vec<u8>, Fail> {
     let (indexer, server, requester, taker) = OutQueue::open::<Message>(alloc, 16)?;
+    let (begins, begun) = bounded::<(), Global>(alloc, 1)?;
     let (written, (indexer, (server, requester))) = join(
         rt,
         || -> Result<Written, WriterFault>
             ensures { IfOk result (λ written. IsSameQueue taker written.0) }
-        { write(rt, alloc, taker) },
+        { write(rt, alloc, begins, taker) },
         || -> Three
             ensures indexer { IsSameEnded indexer result.0 }
             ensures server { IsSameEnded server result.1.0 }
             ensures requester { IsSameEnded requester result.1.1 }
-        { put_all(rt, alloc, indexer, server, requester) },
+        { put_all(rt, alloc, &begun, indexer, server, requester) },
     );
     let (mut taker, mut out) = written?;
     finish_writer(rt, alloc, &mut taker, indexer, server, requester, &mut out)?;
