@@ -1,6 +1,6 @@
 /* Preloaded into a test program by tools/refusals: lets the REFUSE-th allocation of the process fail (none where it
    is 0), or with a + behind the number that one and all after it, and keeps the number of allocations so far in the
-   file COUNT. For programs of one thread. */
+   file COUNT. Of a program of several threads the order of allocations, and so which one fails, may differ from run to run. */
 #define _GNU_SOURCE
 #include <dlfcn.h>
 #include <errno.h>
@@ -28,9 +28,10 @@ __attribute__((constructor)) static void begin(void) {
 
 static int is_refused(void) {
     char text[24];
-    int len = snprintf(text, sizeof text, "%lu\n", ++seen);
+    unsigned long nth = __atomic_add_fetch(&seen, 1, __ATOMIC_SEQ_CST);
+    int len = snprintf(text, sizeof text, "%lu\n", nth);
     if (count >= 0 && pwrite(count, text, len, 0) != len) abort();
-    if (all_after ? seen < refuse : seen != refuse) return 0;
+    if (all_after ? nth < refuse : nth != refuse) return 0;
     errno = ENOMEM;
     return 1;
 }

@@ -1,14 +1,15 @@
 //! An index of 100,000 records that is told while another thread changes the folder. Out of memory ends a test.
 ghost use Rattle.std.specs.Prelude.{◌≡◌, ◌≤◌, length};
 
+use crate::begun::expect_begun;
 use crate::indexer::{given, index_by_pass, numbered, peers_config, recorded, records, shared};
 use bep_frames::Message;
 use bep_messages::{ClusterConfig, FileInfo};
-use crossbeam_channel::{Sender, bounded};
+use crossbeam_channel::{Receiver, Sender, bounded};
 use folder_calls::FolderCalls;
 use folder_core::{FolderCore, ScanAnswer};
 use folder_shared::{Member, SharedFolder};
-use peer_conn::{OutQueue, Taker};
+use peer_conn::{IndexerEnd, OutQueue, Taker};
 use std::alloc::Global;
 use std::process::Abort;
 use std::sync::Wait;
@@ -32,12 +33,15 @@ const LAST: i64 = 101_500;
 /// What was told of a name last: the sequence of its record, 0 where nothing was told, and whether it says that nothing is there.
 type Told = (i64, bool);
 
-/// What was told last of the names `n000000` to `n100500`, at their numbers, until the last change was told; then it ends the indexer.
-fn take_all<R: AllocGlobal + Wait + Abort>(
+/// What an indexer that begins told last of the names `n000000` to `n100500`, at their numbers, until it told the last change; then
+/// it is ended.
+fn take_all<R: Abort + AllocGlobal + Clock + Wait>(
     rt: &R,
+    begun: &Receiver<()>,
     mut taker: Taker<Message>,
     to_indexer: Sender<ClusterConfig>,
 ) -> Vec<Told> {
+    expect_begun(rt, begun);
     let mut told = vec![in rt.alloc(); (0i64, false); 100_501].expect(rt, "memory");
     take_until_last(rt, &mut taker, told.as_mut_slice());
     drop(to_indexer);
@@ -154,17 +158,19 @@ fn exchange<
     drop(requester);
     let (to_indexer, configs) = bounded::<ClusterConfig, Global>(alloc, 1).expect(rt, "a channel");
     assert!(rt; to_indexer.send(rt, peer).is_ok());
-    let (_, (told, ())) = join(
+    let (begins, begun) = bounded::<(), Global>(alloc, 1).expect(rt, "a channel");
+    let (end, (told, ())) = join(
         rt,
-        || index_by_pass(rt, alloc, folder, &configs, indexer),
+        || index_by_pass(rt, alloc, begins, folder, &configs, indexer),
         || {
             join(
                 rt,
-                || take_all(rt, taker, to_indexer),
+                || take_all(rt, &begun, taker, to_indexer),
                 || change_by_pass(rt, folder),
             )
         },
     );
+    assert_eq!(rt; end, IndexerEnd::Closed);
     told
 }
 

@@ -3,6 +3,7 @@ ghost use Rattle.std.specs.Prelude.{◌≡◌, IsTrue};
 ghost use Rattle.folder_core.specs.Steps.{is_recordable};
 ghost use Rattle.folder_shared.specs.Passes.{IsPassOf};
 
+use crate::begun::expect_begun;
 use bep_frames::Message;
 use bep_messages::{ClusterConfig, FileInfo, Text};
 use crossbeam_channel::{Receiver, Sender, bounded};
@@ -77,14 +78,16 @@ fn short_of(message: &Message) -> Short {
     }
 }
 
-/// Takes so many messages, and then ends the indexer.
-fn take_some<R: Wait + Abort>(
+/// Takes so many messages of an indexer that begins, and then ends it.
+fn take_some<R: Abort + Clock + Wait>(
     rt: &R,
     alloc: Global,
+    begun: &Receiver<()>,
     mut taker: Taker<Message>,
     count: usize,
     to_indexer: Sender<ClusterConfig>,
 ) -> Vec<Short> {
+    expect_begun(rt, begun);
     let mut taken = Vec::new(alloc);
     take_until(rt, &mut taker, count, &mut taken);
     drop(to_indexer);
@@ -237,22 +240,25 @@ fn exchange<
     drop(requester);
     let (to_indexer, configs) = bounded::<ClusterConfig, Global>(alloc, 1).expect(rt, "a channel");
     assert!(rt; to_indexer.send(rt, peer).is_ok());
+    let (begins, begun) = bounded::<(), Global>(alloc, 1).expect(rt, "a channel");
     let (end, taken) = join(
         rt,
-        || index_by_pass(rt, alloc, folder, &configs, indexer),
-        || take_some(rt, alloc, taker, messages, to_indexer),
+        || index_by_pass(rt, alloc, begins, folder, &configs, indexer),
+        || take_some(rt, alloc, &begun, taker, messages, to_indexer),
     );
     (taken, end)
 }
 
-/// Indexes the folder by a new pass.
+/// Says that it begins, and indexes the folder by a new pass.
 pub(crate) fn index_by_pass<C: FolderCore + Drop, R: Abort + Clock + Wait>(
     rt: &R,
     alloc: Global,
+    begins: Sender<()>,
     folder: &SharedFolder<C>,
     configs: &Receiver<ClusterConfig>,
     seat: Seat<Message>,
 ) -> IndexerEnd {
+    let _ = begins.send(rt, ());
     let pass = given(rt, folder);
     let calls = Member::new(folder, rt, pass);
     let mut folder = IndexedFolder {
@@ -293,11 +299,11 @@ fn index<R: Abort + Clock + Wait, W: FolderCalls>(
 fn indexer_pages(rt: HostRuntime) -> Result<(), Fail> {
     let peer = peers_config(rt.alloc(), "f", 0, 0)?;
     let (taken, end) = first_messages(&rt, 1_001, peer, 3);
+    assert_eq!(rt; end, IndexerEnd::Closed);
     assert_eq!(rt; taken.len(), 3);
     assert_eq!(rt; taken[0], (CONFIG, 1, 0, 0));
     assert_eq!(rt; taken[1], (INDEX, 1_000, 1, 1_000));
     assert_eq!(rt; taken[2], (INDEX_UPDATE, 1, 1_001, 1_001));
-    assert_eq!(rt; end, IndexerEnd::Closed);
     Ok(())
 }
 
@@ -305,9 +311,9 @@ fn indexer_pages(rt: HostRuntime) -> Result<(), Fail> {
 fn indexer_goes_on_where_the_peer_is(rt: HostRuntime) -> Result<(), Fail> {
     let peer = peers_config(rt.alloc(), "f", INDEX_ID, 2)?;
     let (taken, end) = first_messages(&rt, 3, peer, 2);
+    assert_eq!(rt; end, IndexerEnd::Closed);
     assert_eq!(rt; taken.len(), 2);
     assert_eq!(rt; taken[1], (INDEX_UPDATE, 1, 3, 3));
-    assert_eq!(rt; end, IndexerEnd::Closed);
     Ok(())
 }
 

@@ -4,8 +4,12 @@
 #![tactic(auto)]
 
 #[cfg(test)]
+mod begun;
+#[cfg(test)]
 mod beside;
 #[cfg(test)]
 mod indexer;
+#[cfg(test)]
+mod long;
 #[cfg(test)]
 mod queue;

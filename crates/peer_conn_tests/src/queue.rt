@@ -1,8 +1,11 @@
 //! Threads that put while a writer takes; a full queue; a writer that fails. Out of memory ends a test.
+ghost use Rattle.std.specs.Prelude.{IfOk};
 ghost use Rattle.peer_conn.specs.Words.{IsSameEnded, IsSameQueue, IsSameSeat};
 
-use bep_frames::{Frame, Message, frames_of};
+use crate::begun::expect_begun;
+use bep_frames::{Frame, Message, WriteFault, frames_of};
 use bep_messages::{Hello, Octets, Ping, Response, Text};
+use crossbeam_channel::{Receiver, Sender, bounded};
 use peer_conn::{
     Ended, NotPut, OutQueue, Seat, SeatName, Taker, WriterFault, finish_writer, run_writer,
 };
@@ -12,11 +15,12 @@ use std::process::Abort;
 use std::sync::Wait;
 use std::test::*;
 use std::thread::{Threads, join};
+use std::time::Clock;
 
 /// How many messages each thread puts.
 const EACH: i32 = 3_000;
 
-fn hello(alloc: Global) -> Hello {
+pub(crate) fn hello(alloc: Global) -> Hello {
     Hello {
         device_name: Text::new(alloc),
         client_name: Text::new(alloc),
@@ -50,21 +54,31 @@ fn put_ids<R: Wait>(rt: &R, alloc: Global, mut seat: Seat<Message>, first: i32) 
     seat.end()
 }
 
-type Written = (Taker<Message>, Vec<u8>, Result<(), WriterFault>);
+/// The taker, and what was written.
+type Written = (Taker<Message>, Vec<u8>);
 
-fn write<R: Wait>(rt: &R, alloc: Global, mut taker: Taker<Message>) -> Written
-    ensures { IsSameQueue taker result.0 }
+/// Says that it begins, and writes until the seats have ended. The taker of a writer that fails is dropped, so that no seat waits for it.
+fn write<R: Wait>(
+    rt: &R,
+    alloc: Global,
+    begins: Sender<()>,
+    mut taker: Taker<Message>,
+) -> Result<Written, WriterFault>
+    ensures { IfOk result (λ written. IsSameQueue taker written.0) }
 {
+    let _ = begins.send(rt, ());
     let mut out = Vec::new(alloc);
-    let end = run_writer(rt, alloc, &hello(alloc), &mut taker, &mut out);
-    (taker, out, end)
+    run_writer(rt, alloc, &hello(alloc), &mut taker, &mut out)?;
+    Ok((taker, out))
 }
 
 type Three = (Ended<Message>, (Ended<Message>, Ended<Message>));
 
-fn put_all<R: Threads + Wait + Sync>(
+/// Puts from three threads once the writer has begun.
+fn put_all<R: Abort + Clock + Threads + Wait + Sync>(
     rt: &R,
     alloc: Global,
+    begun: &Receiver<()>,
     indexer: Seat<Message>,
     server: Seat<Message>,
     requester: Seat<Message>,
@@ -73,6 +87,7 @@ fn put_all<R: Threads + Wait + Sync>(
     ensures server { IsSameEnded server result.1.0 }
     ensures requester { IsSameEnded requester result.1.1 }
 {
+    expect_begun(rt, begun);
     join(
         rt,
         || -> Ended<Message>
@@ -96,23 +111,25 @@ fn put_all<R: Threads + Wait + Sync>(
 }
 
 /// What a writer writes while three threads put.
-fn exchange<R: Threads + Wait + Sync>(rt: &R, alloc: Global) -> Result<Vec<u8>, AllocError> {
+fn exchange<R: Abort + Clock + Threads + Wait + Sync>(
+    rt: &R,
+    alloc: Global,
+) -> Result<Vec<u8>, Fail> {
     let (indexer, server, requester, taker) = OutQueue::open::<Message>(alloc, 16)?;
-    let ((mut taker, mut out, end), (indexer, (server, requester))) = join(
+    let (begins, begun) = bounded::<(), Global>(alloc, 1)?;
+    let (written, (indexer, (server, requester))) = join(
         rt,
-        || -> Written
-            ensures { IsSameQueue taker result.0 }
-        { write(rt, alloc, taker) },
+        || -> Result<Written, WriterFault>
+            ensures { IfOk result (λ written. IsSameQueue taker written.0) }
+        { write(rt, alloc, begins, taker) },
         || -> Three
             ensures indexer { IsSameEnded indexer result.0 }
             ensures server { IsSameEnded server result.1.0 }
             ensures requester { IsSameEnded requester result.1.1 }
-        { put_all(rt, alloc, indexer, server, requester) },
+        { put_all(rt, alloc, &begun, indexer, server, requester) },
     );
-    let rest = finish_writer(rt, alloc, &mut taker, indexer, server, requester, &mut out);
-    if end.is_err() || rest.is_err() {
-        return Err(AllocError);
-    }
+    let (mut taker, mut out) = written?;
+    finish_writer(rt, alloc, &mut taker, indexer, server, requester, &mut out)?;
     Ok(out)
 }
 
@@ -175,7 +192,18 @@ fn no_taker(rt: HostRuntime) -> Result<(), Fail> {
 #[derive(Drop)]
 struct Failing {
     left: u32,
-    bytes: usize,
+    // bytes that were written and not yet flushed
+    held: usize,
+    flushed: usize,
+}
+
+/// Of which so many calls do not fail.
+fn failing_after(calls: u32) -> Failing {
+    Failing {
+        left: calls,
+        held: 0,
+        flushed: 0,
+    }
 }
 
 impl Write for Failing {
@@ -184,11 +212,13 @@ impl Write for Failing {
             return Err(io::Error::from(ErrorKind::BrokenPipe));
         }
         self.left -= 1;
-        self.bytes = self.bytes.saturating_add(buf.len());
+        self.held = self.held.saturating_add(buf.len());
         Ok(buf.len())
     }
 
     fn flush(&mut self) -> io::Result<()> {
+        self.flushed = self.flushed.saturating_add(self.held);
+        self.held = 0;
         Ok(())
     }
 }
@@ -222,8 +252,17 @@ fn put_large<R: Wait>(
     Ok(())
 }
 
-/// How many bytes a writer writes whose calls fail after so many, with the six messages in the queue; and whether a seat is then told that
-/// the taker is gone.
+/// Fails with out of memory where a writer ended by that, and ends the test where it ended otherwise than by a failed write.
+fn expect_failed_write(rt: &impl Abort, end: Result<(), WriterFault>) -> Result<(), AllocError> {
+    match end {
+        Err(WriterFault::Write(_)) => Ok(()),
+        Err(WriterFault::Frame(WriteFault::OutOfMemory)) => Err(AllocError),
+        _ => panic!(rt; "no write failed"),
+    }
+}
+
+/// How many bytes a writer writes and flushes whose calls fail after so many, with the six messages in the queue; and whether a
+/// seat is then told that the taker is gone.
 fn write_failing<R: Wait + Abort>(
     rt: &R,
     alloc: Global,
@@ -233,31 +272,24 @@ fn write_failing<R: Wait + Abort>(
     put_six(rt, alloc, &mut indexer)?;
     drop(indexer.end());
     drop(requester);
-    let mut writer = Failing {
-        left: calls,
-        bytes: 0,
-    };
+    let mut writer = failing_after(calls);
     let end = run_writer(rt, alloc, &hello(alloc), &mut taker, &mut writer);
-    assert!(rt; end.is_err());
     drop(taker);
+    expect_failed_write(rt, end)?;
     let put = server.put_wait(rt, answer(alloc, 1));
-    Ok((writer.bytes, matches!(put, Err(NotPut::Gone(_)))))
+    Ok((writer.flushed, matches!(put, Err(NotPut::Gone(_)))))
 }
 
-/// How many bytes a writer writes of which no call fails, with the six messages in the queue.
-fn write_six<R: Wait + Abort>(rt: &R, alloc: Global) -> Result<usize, Fail> {
+/// How many bytes a writer writes and flushes of which no call fails, with the six messages in the queue.
+fn write_six<R: Wait>(rt: &R, alloc: Global) -> Result<usize, Fail> {
     let (mut indexer, server, requester, mut taker) = OutQueue::open::<Message>(alloc, SIX)?;
     put_six(rt, alloc, &mut indexer)?;
     drop(indexer.end());
     drop(server);
     drop(requester);
-    let mut writer = Failing {
-        left: u32::MAX,
-        bytes: 0,
-    };
-    let end = run_writer(rt, alloc, &hello(alloc), &mut taker, &mut writer);
-    assert!(rt; end.is_ok());
-    Ok(writer.bytes)
+    let mut writer = failing_after(u32::MAX);
+    run_writer(rt, alloc, &hello(alloc), &mut taker, &mut writer)?;
+    Ok(writer.flushed)
 }
 
 #[test]
