@@ -21,36 +21,59 @@ use Rattle.sync_scan.specs.declared.scanned.Scanned.{Scanned}
 use Rattle.sync_scan.specs.declared.scanned.Scanned.TheVariants.{Answered, Skipped, Changing}
 use Rattle.sync_scan.specs.declared.sum.ScanStop.{ScanStop}
 use Rattle.sync_scan.specs.declared.sum.ScanSum.{ScanSum}
+use Rattle.sync_scan.specs.Scans.{GoesOn}
+use Rattle.sync_scan.proofs.OnLemmas.{goes-itself, goes-then, one-goes}
 use Rattle.sync_scan.proofs.ScanLemmas.{sees-itself, sees-on}
 
 -- a name that is skipped is not looked at
 pub skipped : (v : CallerView) (n : Name) (moment : ℕ) (unread : List Name) (may : Name → Option FileRecord → Look → Type 0) (fails : StoreRefusal → Type 0)
-    → is_below_any unread n ≡ true → ScansOne v n moment (UnlessBelow unread may n) fails (Ok Skipped) v
+    → is_below_any unread n ≡ true → ScansOne v v n moment (UnlessBelow unread may n) fails (Ok Skipped) v
 skipped v n moment unread may fails below = record {
   read = v;
-  sees = sees-itself v;
+  since = goes-itself v;
   found = look.Skipped;
   may_be = (λ e. refl, λ e. absurd (true≢false (sym below ∙ e)));
+  point = v;
+  until = goes-itself v;
+  sees = sees-itself v;
   asks = refl;
 }
 
 -- what may be found is said in other words
-pub one-weaker : (old new : CallerView) (n : Name) (moment : ℕ) (may other : Option FileRecord → Look → Type 0) (fails : StoreRefusal → Type 0) (r : Result Scanned StoreRefusal)
-    → ((local : Option FileRecord) (look : Look) → may local look → other local look) → ScansOne old n moment may fails r new → ScansOne old n moment other fails r new
-one-weaker old new n moment may other fails (Ok s) weaker scans = record {
+pub one-weaker : (first old new : CallerView) (n : Name) (moment : ℕ) (may other : Option FileRecord → Look → Type 0) (fails : StoreRefusal → Type 0) (r : Result Scanned StoreRefusal)
+    → ((local : Option FileRecord) (look : Look) → may local look → other local look) → ScansOne first old n moment may fails r new → ScansOne first old n moment other fails r new
+one-weaker first old new n moment may other fails (Ok s) weaker scans = record {
   read = scans.read;
-  sees = scans.sees;
+  since = scans.since;
   found = scans.found;
   may_be = weaker (local (now scans.read) n) scans.found scans.may_be;
+  point = scans.point;
+  until = scans.until;
+  sees = scans.sees;
   asks = scans.asks;
 }
-one-weaker old new n moment may other fails (Err e) weaker scans = scans
+one-weaker first old new n moment may other fails (Err e) weaker scans = scans
 
-pub each-weaker : (tried : List Tried) (old new : CallerView) (moment : ℕ) (may other : Name → Option FileRecord → Look → Type 0) (fails : Name → StoreRefusal → Type 0)
-    → ((n : Name) (local : Option FileRecord) (look : Look) → may n local look → other n local look) → ScansEach old moment may fails tried new → ScansEach old moment other fails tried new
-each-weaker [] old new moment may other fails weaker sees = sees
-each-weaker (x ∷ xs) old new moment may other fails weaker each =
-    (each.0, one-weaker old each.0 x.0 moment (may x.0) (other x.0) (fails x.0) x.1 (weaker x.0) each.1, each-weaker xs each.0 new moment may other fails weaker each.2)
+-- the names were begun with at an earlier point
+pub one-earlier : (before first old new : CallerView) (n : Name) (moment : ℕ) (may : Option FileRecord → Look → Type 0) (fails : StoreRefusal → Type 0) (r : Result Scanned StoreRefusal)
+    → GoesOn before first → ScansOne first old n moment may fails r new → ScansOne before old n moment may fails r new
+one-earlier before first old new n moment may fails (Ok s) goes scans = record {
+  read = scans.read;
+  since = goes-then before first scans.read goes scans.since;
+  found = scans.found;
+  may_be = scans.may_be;
+  point = scans.point;
+  until = scans.until;
+  sees = scans.sees;
+  asks = scans.asks;
+}
+one-earlier before first old new n moment may fails (Err e) goes scans = scans
+
+pub each-weaker : (tried : List Tried) (first old new : CallerView) (moment : ℕ) (may other : Name → Option FileRecord → Look → Type 0) (fails : Name → StoreRefusal → Type 0)
+    → ((n : Name) (local : Option FileRecord) (look : Look) → may n local look → other n local look) → ScansEach first old moment may fails tried new → ScansEach first old moment other fails tried new
+each-weaker [] first old new moment may other fails weaker sees = sees
+each-weaker (x ∷ xs) first old new moment may other fails weaker each =
+    (each.0, one-weaker first old each.0 x.0 moment (may x.0) (other x.0) (fails x.0) x.1 (weaker x.0) each.1, each-weaker xs first each.0 new moment may other fails weaker each.2)
 
 -- the store's tree is as it was
 pub may-moved : {S : Type 0} (gives : Giving S) (keeps : Type 0) (t u : Tree) → (keeps → t ≡ u) → (n : Name) (local : Option FileRecord) (look : Look)
@@ -66,20 +89,23 @@ pub not-below : (unread : List Name) (may : Name → Option FileRecord → Look 
     → (local : Option FileRecord) (look : Look) → may n local look → UnlessBelow unread may n local look
 not-below unread may n apart local look found = (λ e. absurd (true≢false (sym e ∙ apart)), λ e. found)
 
-module _ (moment : ℕ) (may : Name → Option FileRecord → Look → Type 0) (fails : Name → StoreRefusal → Type 0) where
-  after-seen : (a b c : CallerView) (n : Name) (r : Result Scanned StoreRefusal) → Sees a b → ScansOne b n moment (may n) (fails n) r c → ScansOne a n moment (may n) (fails n) r c
+module _ (first : CallerView) (moment : ℕ) (may : Name → Option FileRecord → Look → Type 0) (fails : Name → StoreRefusal → Type 0) where
+  pub after-seen : (a b c : CallerView) (n : Name) (r : Result Scanned StoreRefusal) → Sees a b → ScansOne first b n moment (may n) (fails n) r c → ScansOne first a n moment (may n) (fails n) r c
   after-seen a b c n (Ok s) sees scans = record {
     read = scans.read;
-    sees = sees-on a b scans.read sees scans.sees;
+    since = scans.since;
     found = scans.found;
     may_be = scans.may_be;
+    point = scans.point;
+    until = scans.until;
+    sees = sees-on a b scans.point sees scans.sees;
     asks = scans.asks;
   }
   after-seen a b c n (Err e) sees later = (sees-on a b c sees later.0, later.1)
 
   -- one name more was scanned
-  pub each-more : (tried : List Tried) (a b c : CallerView) (n : Name) (r : Result Scanned StoreRefusal) → ScansEach a moment may fails tried b
-      → ScansOne b n moment (may n) (fails n) r c → ScansEach a moment may fails (tried ++ (n, r) ∷ []) c
+  pub each-more : (tried : List Tried) (a b c : CallerView) (n : Name) (r : Result Scanned StoreRefusal) → ScansEach first a moment may fails tried b
+      → ScansOne first b n moment (may n) (fails n) r c → ScansEach first a moment may fails (tried ++ (n, r) ∷ []) c
   each-more [] a b c n r sees one = (c, after-seen a b c n r sees one, sees-itself c)
   each-more (t ∷ ts) a b c n r each one = (each.0, each.1, each-more ts each.0 b c n r each.2 one)
 
@@ -133,18 +159,18 @@ counted-stop sum (Err OutOfMemory) on = refl
 
 -- some names were gone over, none of which stops the scan, and counted
 abbrev pub Goes : CallerView → ℕ → (Name → Option FileRecord → Look → Type 0) → (Name → StoreRefusal → Type 0) → List Name → ScanSum → ScanSum → CallerView → Type 0
-Goes old moment may fails ns first sum new = (tried : List Tried) × ScansEach old moment may fails tried new × GoesOver ns tried None × (sum ≡ sum_after first tried)
+Goes old moment may fails ns first sum new = (tried : List Tried) × ScansEach old old moment may fails tried new × GoesOver ns tried None × (sum ≡ sum_after first tried)
 
 -- the same of all of them, or those up to one that stops it
 abbrev pub Ends : CallerView → ℕ → (Name → Option FileRecord → Look → Type 0) → (Name → StoreRefusal → Type 0) → List Name → ScanSum → ScanSum → CallerView → Type 0
-Ends old moment may fails ns first sum new = (tried : List Tried) × ScansEach old moment may fails tried new × GoesOver ns tried sum.stopped × (sum ≡ sum_after first tried)
+Ends old moment may fails ns first sum new = (tried : List Tried) × ScansEach old old moment may fails tried new × GoesOver ns tried sum.stopped × (sum ≡ sum_after first tried)
 
 -- the scan of a name, and its count
-abbrev pub Next : CallerView → ℕ → (Name → Option FileRecord → Look → Type 0) → (Name → StoreRefusal → Type 0) → Name → ScanSum → ScanSum → CallerView → Type 0
-Next old moment may fails n sum more new = (r : Result Scanned StoreRefusal) × ScansOne old n moment (may n) (fails n) r new × (more ≡ counted sum r)
+abbrev pub Next : CallerView → CallerView → ℕ → (Name → Option FileRecord → Look → Type 0) → (Name → StoreRefusal → Type 0) → Name → ScanSum → ScanSum → CallerView → Type 0
+Next first old moment may fails n sum more new = (r : Result Scanned StoreRefusal) × ScansOne first old n moment (may n) (fails n) r new × (more ≡ counted sum r)
 
 module _ (old v w : CallerView) (moment : ℕ) (may : Name → Option FileRecord → Look → Type 0) (fails : Name → StoreRefusal → Type 0) (ns : List Name) (n : Name) (first sum more : ScanSum)
-    (goes : Goes old moment may fails ns first sum v) (next : Next v moment may fails n sum more w) (on : sum.stopped ≡ None) where
+    (goes : Goes old moment may fails ns first sum v) (next : Next old v moment may fails n sum more w) (on : sum.stopped ≡ None) where
   stop-is : more.stopped ≡ stop_of next.0
   stop-is = ap (λ (s : ScanSum). s.stopped) next.2 ∙ counted-stop sum next.0 on
 
@@ -154,7 +180,7 @@ module _ (old v w : CallerView) (moment : ℕ) (may : Name → Option FileRecord
   pub goes-on : more.stopped ≡ None → Goes old moment may fails (ns ++ n ∷ []) first more w
   goes-on off = (
     goes.0 ++ (n, next.0) ∷ [],
-    each-more moment may fails goes.0 old v w n next.0 goes.1 next.1,
+    each-more old moment may fails goes.0 old v w n next.0 goes.1 next.1,
     over-more ns goes.0 n next.0 goes.2 (sym stop-is ∙ off),
     counts,
   )
@@ -166,14 +192,18 @@ module _ (old v w : CallerView) (moment : ℕ) (may : Name → Option FileRecord
       by None e some = absurd (cc)
       by (Some s) e some = (
         goes.0 ++ (n, next.0) ∷ [],
-        each-more moment may fails goes.0 old v w n next.0 goes.1 next.1,
+        each-more old moment may fails goes.0 old v w n next.0 goes.1 next.1,
         subst (GoesOver (ns ++ n ∷ rest) (goes.0 ++ (n, next.0) ∷ [])) (sym e) (over-stop ns rest goes.0 n next.0 s goes.2 (sym stop-is ∙ e)),
         counts,
       )
 
-pub next-weaker : (old new : CallerView) (n : Name) (moment : ℕ) (may other : Name → Option FileRecord → Look → Type 0) (fails : Name → StoreRefusal → Type 0) (sum more : ScanSum)
-    → ((local : Option FileRecord) (look : Look) → may n local look → other n local look) → Next old moment may fails n sum more new → Next old moment other fails n sum more new
-next-weaker old new n moment may other fails sum more weaker (r, one, e) = (r, one-weaker old new n moment (may n) (other n) (fails n) r weaker one, e)
+pub next-weaker : (first old new : CallerView) (n : Name) (moment : ℕ) (may other : Name → Option FileRecord → Look → Type 0) (fails : Name → StoreRefusal → Type 0) (sum more : ScanSum)
+    → ((local : Option FileRecord) (look : Look) → may n local look → other n local look) → Next first old moment may fails n sum more new → Next first old moment other fails n sum more new
+next-weaker first old new n moment may other fails sum more weaker (r, one, e) = (r, one-weaker first old new n moment (may n) (other n) (fails n) r weaker one, e)
+
+pub next-earlier : (before old new : CallerView) (n : Name) (moment : ℕ) (may : Name → Option FileRecord → Look → Type 0) (fails : Name → StoreRefusal → Type 0) (sum more : ScanSum)
+    → GoesOn before old → Next old old moment may fails n sum more new → Next before old moment may fails n sum more new
+next-earlier before old new n moment may fails sum more goes (r, one, e) = (r, one-earlier before old old new n moment (may n) (fails n) r goes one, e)
 
 pub goes-nowhere : (v : CallerView) (moment : ℕ) (may : Name → Option FileRecord → Look → Type 0) (fails : Name → StoreRefusal → Type 0) (sum : ScanSum) → Goes v moment may fails [] sum sum v
 goes-nowhere v moment may fails sum = ([], sees-itself v, refl, refl)
@@ -191,7 +221,14 @@ is-none None e = refl
 is-none (Some x) e = absurd (cc)
 
 -- the caller saw the history go on after the names were scanned
-pub each-seen : (tried : List Tried) (moment : ℕ) (may : Name → Option FileRecord → Look → Type 0) (fails : Name → StoreRefusal → Type 0) (a b c : CallerView) → ScansEach a moment may fails tried b → Sees b c
-    → ScansEach a moment may fails tried c
-each-seen [] moment may fails a b c first later = sees-on a b c first later
-each-seen (t ∷ ts) moment may fails a b c each later = (each.0, each.1, each-seen ts moment may fails each.0 b c each.2 later)
+pub each-seen : (tried : List Tried) (moment : ℕ) (may : Name → Option FileRecord → Look → Type 0) (fails : Name → StoreRefusal → Type 0) (first a b c : CallerView) → ScansEach first a moment may fails tried b → Sees b c
+    → ScansEach first a moment may fails tried c
+each-seen [] moment may fails first a b c seen later = sees-on a b c seen later
+each-seen (t ∷ ts) moment may fails first a b c each later = (each.0, each.1, each-seen ts moment may fails first each.0 b c each.2 later)
+
+-- the history goes on where names are scanned
+pub each-goes : (tried : List Tried) (moment : ℕ) (may : Name → Option FileRecord → Look → Type 0) (fails : Name → StoreRefusal → Type 0) (first a b : CallerView) → ScansEach first a moment may fails tried b
+    → GoesOn a b
+each-goes [] moment may fails first a b seen = record { longer = seen.longer; same = seen.same }
+each-goes (t ∷ ts) moment may fails first a b each =
+    goes-then a each.0 b (one-goes first a each.0 t.0 moment (may t.0) (fails t.0) t.1 each.1) (each-goes ts moment may fails first each.0 b each.2)

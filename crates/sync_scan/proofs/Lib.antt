@@ -7,3 +7,6 @@ pub mod EachLemmas
 pub mod ToldLemmas
 pub mod FoundLemmas
 pub mod GoneLemmas
+pub mod OnLemmas
+pub mod SeenLemmas
+pub mod CutLemmas

@@ -19,7 +19,7 @@ use Rattle.sync_scan.specs.declared.scanned.Scanned.{Scanned}
 pub sees-itself : (v : CallerView) → Sees v v
 sees-itself v = record { longer = ([], append-nil v.seen); own = refl; same = refl }
 
-prefix-on : (xs ys zs : List Entry) → IsPrefix xs ys → IsPrefix ys zs → IsPrefix xs zs
+pub prefix-on : (xs ys zs : List Entry) → IsPrefix xs ys → IsPrefix ys zs → IsPrefix xs zs
 prefix-on xs ys zs first second = (first.0 ++ second.0, sym (append_assoc xs first.0 second.0) ∙ ap (λ l. l ++ second.0) first.1 ∙ second.1)
 
 pub sees-on : (a b c : CallerView) → Sees a b → Sees b c → Sees a c

@@ -11,7 +11,7 @@ use Rattle.sync_scan.specs.Told.{Giving}
 use Rattle.file_store.specs.Names.{is_parent}
 use Rattle.file_store.specs.declared.node.Listing.{Listing}
 use Rattle.file_store.specs.declared.refusal.StoreRefusal.{StoreRefusal}
-use Rattle.sync_scan.specs.Scans.{Scans}
+use Rattle.sync_scan.specs.Scans.{ScansSince}
 use Rattle.sync_scan.specs.Stops.{counted, empty_sum, stop_by, stop_of}
 use Rattle.sync_scan.specs.declared.scanned.Look.{Look}
 use Rattle.sync_scan.specs.declared.scanned.Look.TheVariants.{Skipped}
@@ -24,16 +24,17 @@ use Rattle.sync_scan.specs.declared.sum.ScanSum.{ScanSum}
 abbrev pub Tried : Type 0
 Tried = Name × Result Scanned StoreRefusal
 
--- the scan of one name; or why it was not looked at to the end, and then nothing was asked of the folder
-abbrev pub ScansOne : CallerView → Name → ℕ → (Option FileRecord → Look → Type 0) → (StoreRefusal → Type 0) → Result Scanned StoreRefusal → CallerView → Type 0
-ScansOne old n moment may fails (Ok scanned) new = Scans old n moment may scanned new
-ScansOne old n moment may fails (Err refusal) new = Sees old new × fails refusal
+-- the scan of one name of several; or why it was not looked at to the end, and then nothing was asked of the folder
+abbrev pub ScansOne : CallerView → CallerView → Name → ℕ → (Option FileRecord → Look → Type 0) → (StoreRefusal → Type 0) → Result Scanned StoreRefusal → CallerView → Type 0
+ScansOne first old n moment may fails (Ok scanned) new = ScansSince first old n moment may scanned new
+ScansOne first old n moment may fails (Err refusal) new = Sees old new × fails refusal
 
--- these names were scanned, one after another
-abbrev pub ScansEach : CallerView → ℕ → (Name → Option FileRecord → Look → Type 0) → (Name → StoreRefusal → Type 0) → List Tried → CallerView → Type 0
-ScansEach old moment may fails [] new = Sees old new
-ScansEach old moment may fails (t ∷ ts) new =
-    (next : CallerView) × ScansOne old t.0 moment (may t.0) (fails t.0) t.1 next × ScansEach next moment may fails ts new
+-- These names were scanned, their changes one after another. A local record and a content may be read while those of names before it
+-- are still to be changed, but not before the first point.
+abbrev pub ScansEach : CallerView → CallerView → ℕ → (Name → Option FileRecord → Look → Type 0) → (Name → StoreRefusal → Type 0) → List Tried → CallerView → Type 0
+ScansEach first old moment may fails [] new = Sees old new
+ScansEach first old moment may fails (t ∷ ts) new =
+    (next : CallerView) × ScansOne first old t.0 moment (may t.0) (fails t.0) t.1 next × ScansEach first next moment may fails ts new
 
 -- the names in their order, all of them, or those up to the first that stops the scan
 abbrev pub GoesOver : List Name → List Tried → Option ScanStop → Type 0
@@ -86,14 +87,14 @@ pub data ScansAll (lists : Result Listing StoreRefusal → Type 0) (may : Name �
   not_listed : (refusal : StoreRefusal) → lists (Err refusal) → new ≡ old → sum ≡ record empty_sum { stopped = Some (stop_by refusal) }
       → ScansAll lists may fails old moment sum new
   -- the scan of a listed name stops it
-  stopped : (listing : Listing) (tried : List Tried) (stop : ScanStop) → lists (Ok listing) → ScansEach old moment may fails tried new
+  stopped : (listing : Listing) (tried : List Tried) (stop : ScanStop) → lists (Ok listing) → ScansEach old old moment may fails tried new
       → GoesOver (names_of listing) tried (Some stop) → sum ≡ sum_after empty_sum tried → ScansAll lists may fails old moment sum new
   -- memory is out while the other local names are looked for
-  not_read : (listing : Listing) (tried : List Tried) → lists (Ok listing) → ScansEach old moment may fails tried new
+  not_read : (listing : Listing) (tried : List Tried) → lists (Ok listing) → ScansEach old old moment may fails tried new
       → GoesOver (names_of listing) tried None → sum ≡ record (sum_after empty_sum tried) { stopped = Some OutOfMemory }
       → ScansAll lists may fails old moment sum new
   -- all, or those up to one that is not listed
   scanned : (listing : Listing) (missing : List Name) (tried later : List Tried) (done point : CallerView) (stop : Option ScanStop) → lists (Ok listing)
-      → ScansEach old moment may fails tried done → GoesOver (names_of listing) tried None → Sees done point
-      → AreMissing done point (names_of listing) missing → ScansEach point moment (UnlessBelow listing.unread.items may) fails later new
+      → ScansEach old old moment may fails tried done → GoesOver (names_of listing) tried None → Sees done point
+      → AreMissing done point (names_of listing) missing → ScansEach point point moment (UnlessBelow listing.unread.items may) fails later new
       → GoesOver missing later stop → sum ≡ sum_after (sum_after empty_sum tried) later → ScansAll lists may fails old moment sum new

@@ -3,3 +3,4 @@ pub mod Looks
 pub mod Scans
 pub mod Stops
 pub mod AllNames
+pub mod Ahead

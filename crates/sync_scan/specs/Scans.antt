@@ -6,7 +6,8 @@ use Rattle.folder_core.specs.States.{local, local_version}
 use Rattle.folder_core.specs.declared.change.Change.{Change}
 use Rattle.folder_core.specs.declared.change.Change.TheVariants.{ScanFound, ScanGone}
 use Rattle.folder_calls.specs.Calls.{scan_value}
-use Rattle.folder_calls.specs.Shared.{CallerView, Gets, Sees, now}
+use mathlib.Core.List.{IsPrefix}
+use Rattle.folder_calls.specs.Shared.{CallerView, Gets, Sees, now, seeing}
 use Rattle.sync_scan.specs.declared.scanned.Look.{Look}
 use Rattle.sync_scan.specs.declared.scanned.Look.TheVariants as look
 use Rattle.sync_scan.specs.declared.scanned.Scanned.{Scanned}
@@ -31,6 +32,23 @@ pub record Scans (old : CallerView) (n : Name) (moment : ℕ) (may : Option File
   pub found : Look
   pub may_be : may (local (now read) n) found
   pub asks : AsksFor read n (local_version (now read) n) moment found result new
+
+-- the caller saw the history go on, maybe by entries of its own
+pub record GoesOn (old new : CallerView) : Type 0 where
+  pub longer : IsPrefix old.seen new.seen
+  pub same : new ≡ seeing old new.seen
+
+-- The same of one of several names: its local record was read at a point since the first of them was begun with, and changes of the
+-- others may have been made between that and its own.
+pub record ScansSince (first old : CallerView) (n : Name) (moment : ℕ) (may : Option FileRecord → Look → Type 0) (result : Scanned) (new : CallerView) : Type 0 where
+  pub read : CallerView
+  pub since : GoesOn first read
+  pub found : Look
+  pub may_be : may (local (now read) n) found
+  pub point : CallerView
+  pub until : GoesOn read point
+  pub sees : Sees old point
+  pub asks : AsksFor point n (local_version (now read) n) moment found result new
 
 -- the change is a scan of the name at the moment
 abbrev pub IsScanOf : Name → ℕ → Change → Type 0

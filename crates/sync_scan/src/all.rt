@@ -7,8 +7,9 @@ ghost use Rattle.sync_scan.specs.Looks.{MayFind};
 ghost use Rattle.sync_scan.specs.Told.{Fails};
 ghost use Rattle.sync_scan.specs.Stops.{counted, empty_sum};
 
+use crate::ahead::{Ahead, next_seen};
 use crate::missing::missing_names;
-use crate::name::scan_one;
+use crate::name::{scan_one, scan_seen};
 use crate::sum::stop_by;
 use crate::{Progress, ScanStop, ScanSum, Scanned};
 use file_store::{FileStore, Gate, Listed, StoreRefusal, is_below};
@@ -91,26 +92,39 @@ fn scan_listed<S: FileStore, W: FolderCalls, G: Gate, P: Progress>(
     progress: &mut P,
 ) -> ScanSum
     ensures folder { W.folder calls.new ≡ W.folder calls.old }
-    ensures scans { (tried : List Tried) × ScansEach (W.view calls.old) moment
+    ensures scans { (tried : List Tried) × ScansEach (W.view calls.old) (W.view calls.old) moment
         (MayFind S.gives (IsTrue S.keeps) (S.tree store.old)) (Fails S.gives) tried (W.view calls.new)
         × GoesOver (map (λ e. e.name) entries.now) tried result.stopped
         × (result ≡ sum_after empty_sum tried) }
     ensures kept { S.keeps ≡ true → S.tree store.new ≡ S.tree store.old }
 {
     let mut sum = ScanSum::new();
+    let mut ahead = Ahead::none(alloc);
     for (index, entry) in entries.iter().enumerate() {
-        scan_next(
+        let seen = next_seen(
+            rt,
+            alloc,
+            store,
+            calls,
+            gate,
+            &entries[index..],
+            &mut ahead,
+            buffer,
+        );
+        let came_to = scan_seen(
             rt,
             alloc,
             store,
             calls,
             gate,
             &entry.name,
+            seen,
+            &ahead.blocks,
             moment,
             buffer,
             progress,
-            &mut sum,
         );
+        sum.count(&came_to);
         progress.scanned(index as u64 + 1, entries.len() as u64);
         if sum.stopped.is_some() {
             return sum;
@@ -136,7 +150,7 @@ fn scan_missing<S: FileStore, W: FolderCalls, G: Gate, P: Progress>(
 ) -> ScanSum
     requires { sum.stopped ≡ None }
     ensures folder { W.folder calls.new ≡ W.folder calls.old }
-    ensures scans { (tried : List Tried) × ScansEach (W.view calls.old) moment
+    ensures scans { (tried : List Tried) × ScansEach (W.view calls.old) (W.view calls.old) moment
         (UnlessBelow unread.now (MayFind S.gives (IsTrue S.keeps) (S.tree store.old)))
         (Fails S.gives) tried (W.view calls.new)
         × GoesOver names.now tried result.stopped
@@ -170,7 +184,7 @@ fn scan_missing_name<S: FileStore, W: FolderCalls, G: Gate, P: Progress>(
     sum: &mut ScanSum,
 )
     ensures folder { W.folder calls.new ≡ W.folder calls.old }
-    ensures scans { (r : Result Scanned StoreRefusal) × ScansOne (W.view calls.old) name.now moment
+    ensures scans { (r : Result Scanned StoreRefusal) × ScansOne (W.view calls.old) (W.view calls.old) name.now moment
         (UnlessBelow unread.now (MayFind S.gives (IsTrue S.keeps) (S.tree store.old)) name.now)
         (Fails S.gives name.now) r (W.view calls.new)
         × (sum.new ≡ counted sum.old r) }
@@ -199,7 +213,7 @@ fn scan_next<S: FileStore, W: FolderCalls, G: Gate, P: Progress>(
     sum: &mut ScanSum,
 )
     ensures folder { W.folder calls.new ≡ W.folder calls.old }
-    ensures scans { (r : Result Scanned StoreRefusal) × ScansOne (W.view calls.old) name.now moment
+    ensures scans { (r : Result Scanned StoreRefusal) × ScansOne (W.view calls.old) (W.view calls.old) name.now moment
         (MayFind S.gives (IsTrue S.keeps) (S.tree store.old) name.now)
         (Fails S.gives name.now) r (W.view calls.new)
         × (sum.new ≡ counted sum.old r) }

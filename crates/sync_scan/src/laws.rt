@@ -15,7 +15,7 @@ ghost use Rattle.sync_scan.specs.Looks.{IsTold, LeadsTo, MayFind};
 ghost use Rattle.sync_scan.specs.Told.{HasNoOtherParent, Says};
 ghost use Rattle.sync_scan.specs.declared.scanned.Look.{Look};
 ghost use Rattle.sync_scan.specs.declared.scanned.Look.TheVariants.{Gone, Skipped};
-ghost use Rattle.sync_scan.specs.Scans.{IsScanOf, Scans};
+ghost use Rattle.sync_scan.specs.Scans.{IsScanOf, Scans, ScansSince};
 ghost use Rattle.sync_scan.specs.declared.scanned.Scanned.{Scanned};
 
 use file_store::FileStore;
@@ -24,8 +24,13 @@ use folder_calls::laws::{changes_are_asked_in_order, entries_add_up};
 /// The scan of a name adds at most one entry to those of its caller: that of a scan of this name, with its answer, if it was
 /// accepted.
 pub fn a_scan_adds_one_entry_at_most<S: FileStore>()
-    ensures { (old new : CallerView) (n : Name) (moment : ℕ) (tree : Tree)
+    ensures alone { (old new : CallerView) (n : Name) (moment : ℕ) (tree : Tree)
         (result : Scanned) → Scans old n moment (MayFind S.gives (IsTrue S.keeps) tree n) result new →
+        Adds old [] new
+        ⊎ ((c : Change) × (a : Answer) × IsScanOf n moment c × (is_accepted a ≡ true)
+        × Adds old ((c, a) ∷ []) new) }
+    ensures of_several { (first old new : CallerView) (n : Name) (moment : ℕ) (tree : Tree)
+        (result : Scanned) → ScansSince first old n moment (MayFind S.gives (IsTrue S.keeps) tree n) result new →
         Adds old [] new
         ⊎ ((c : Change) × (a : Answer) × IsScanOf n moment c × (is_accepted a ≡ true)
         × Adds old ((c, a) ∷ []) new) }

@@ -5,8 +5,10 @@
 //! recorded over. The definitions in `specs/` say what is found and what is asked of the folder.
 #![tactic(auto)]
 
+mod ahead;
 mod all;
 mod asking;
+mod cuts;
 mod hashing;
 pub mod laws;
 mod looking;

@@ -114,8 +114,7 @@ fn look_at_file<S: FileStore, G: Gate, P: Progress>(
     Ok(found_file(size, own, blocks, modified))
 }
 
-fn found_file(size: u64, block_size: u32, blocks: Vec<Block>, modified: Moment) -> Look
-    requires { size ≤ 2 ^ 46 }
+pub(crate) fn found_file(size: u64, block_size: u32, blocks: Vec<Block>, modified: Moment) -> Look
     ensures { (bytes : List ℕ) → length bytes ≡ size → blocks.items ≡ block_list bytes block_size →
         result ≡ Look.Found (file_finding block_size bytes modified) }
 {
@@ -131,7 +130,7 @@ fn found_file(size: u64, block_size: u32, blocks: Vec<Block>, modified: Moment) 
 }
 
 // The block size of the local record, if that is of a live file of this size.
-fn recorded_block_size(local: Option<&Record>, size: u64) -> Option<u32>
+pub(crate) fn recorded_block_size(local: Option<&Record>, size: u64) -> Option<u32>
     requires { size ≤ 2 ^ 46 }
     ensures value { result ≡ recorded_block_size (option_copied local.entry) size }
     ensures is { IfSome result (λ n. is_block_size n ≡ true) }

@@ -1,19 +1,25 @@
 //! The scan of a name.
-ghost use Rattle.std.specs.Prelude.{◌≡◌, IfErr, IfOk, IsTrue, true};
+ghost use Rattle.std.specs.Prelude.{◌≡◌, ℕ, IfErr, IfOk, IsTrue, List, length, true};
+ghost use Rattle.sync_blocks.specs.Sizes.{block_size_for};
 ghost use Rattle.file_store.specs.Refusals.{IsPlain, count_after};
-ghost use Rattle.folder_calls.specs.Shared.{Sees};
-ghost use Rattle.sync_scan.specs.Looks.{MayFind};
-ghost use Rattle.sync_scan.specs.Scans.{Scans};
+ghost use Rattle.folder_calls.specs.Shared.{CallerView, Sees};
+ghost use Rattle.sync_scan.specs.Ahead.{HasBlocks, IsSeen};
+ghost use Rattle.sync_scan.specs.AllNames.{ScansOne};
+ghost use Rattle.sync_scan.specs.Looks.{MayFind, file_finding};
+ghost use Rattle.sync_scan.specs.Scans.{GoesOn, Scans};
 ghost use Rattle.sync_scan.specs.Told.{Fails};
 
+use crate::ahead::{Part, Seen, Sight};
 use crate::asking::{ask, version_of};
-use crate::looking::look_at;
-use crate::{NoProgress, Progress, Scanned};
+use crate::cuts::blocks_in;
+use crate::looking::{found_file, look_at};
+use crate::{Look, NoProgress, Progress, Scanned};
 use file_store::{FileStore, Gate, GatePlace, StoreRefusal};
 use folder_calls::FolderCalls;
-use std::alloc::Global;
+use std::alloc::{AllocError, Global};
 use std::thread::Threads;
 use sync_blocks::laws::block_list_tiles;
+use sync_blocks::{Block, block_size_for};
 use sync_names::SafeName;
 use sync_version::Moment;
 
@@ -89,4 +95,56 @@ pub(crate) fn scan_one<S: FileStore, W: FolderCalls, G: Gate, P: Progress>(
     )?;
     let expected = version_of(local.as_ref());
     Ok(ask(calls, gate, name, expected, look, moment)?)
+}
+
+/// As [`scan_one`], of a name that was seen ahead of its turn, with the blocks of the files that were read then.
+pub(crate) fn scan_seen<S: FileStore, W: FolderCalls, G: Gate, P: Progress>(
+    rt: &(impl Threads + Sync),
+    alloc: Global,
+    store: &mut S,
+    calls: &mut W,
+    gate: &G,
+    name: &SafeName,
+    seen: Seen,
+    blocks: &[Block],
+    moment: Moment,
+    buffer: &mut Vec<u8>,
+    progress: &mut P,
+) -> Result<Scanned, StoreRefusal>
+    requires seen { (first : CallerView) × IsSeen (HasBlocks blocks.now) first (W.view calls.old)
+        (MayFind S.gives (IsTrue S.keeps) (S.tree store.old)) (Fails S.gives) name.now seen }
+    ensures folder { W.folder calls.new ≡ W.folder calls.old }
+    ensures scans { (first : CallerView) → GoesOn first (W.view calls.old) → IsSeen (HasBlocks blocks.now) first (W.view calls.old)
+        (MayFind S.gives (IsTrue S.keeps) (S.tree store.old)) (Fails S.gives) name.now seen →
+        ScansOne first (W.view calls.old) name.now moment
+        (MayFind S.gives (IsTrue S.keeps) (S.tree store.old) name.now) (Fails S.gives name.now)
+        result (W.view calls.new) }
+    ensures kept { S.keeps ≡ true → S.tree store.new ≡ S.tree store.old }
+{
+    block_list_tiles();
+    let Seen { local, sight } = seen;
+    match sight {
+        Sight::Read(part) => {
+            let look = read_look(alloc, blocks, part)?;
+            progress.hashed(part.size as u64);
+            let version = version_of(local.as_ref());
+            Ok(ask(calls, gate, name, version, look, moment)?)
+        }
+        Sight::Changing => Ok(Scanned::Changing),
+        Sight::Failed(refusal) => Err(refusal),
+        Sight::Later => scan_one(
+            rt, alloc, store, calls, gate, name, moment, buffer, progress,
+        ),
+    }
+}
+
+// A file that was read, with its blocks of those of several.
+fn read_look(alloc: Global, blocks: &[Block], part: Part) -> Result<Look, AllocError>
+    ensures { IfOk result (λ look. (bytes : List ℕ) → length bytes ≡ part.size → HasBlocks blocks.now part bytes →
+        look ≡ Look.Found (file_finding (block_size_for part.size) bytes part.modified)) }
+{
+    let block_size = block_size_for(part.size as u64);
+    let count = part.size.div_ceil(block_size as usize).max(1);
+    let own = blocks_in(alloc, blocks, part.first, count)?;
+    Ok(found_file(part.size as u64, block_size, own, part.modified))
 }

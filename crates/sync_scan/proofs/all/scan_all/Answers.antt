@@ -26,7 +26,7 @@ returns-then-is_some-clause-scans g c =
     let scans = c.scan_listed-sum.ensures.scans in
     let stop = is-some c.scan_listed-sum.result.stopped (sym c.is_some.ensures ∙ c.if-is_some.true) in
     stopped c.in-Ok.listing scans.0 stop.0 (c.list.new.self, c.in-Ok.ensures.gives, c.in-Ok.ensures.order, c.in-Ok.ensures.lists)
-    (each-weaker scans.0 _ _ c.args.moment (MayFind gives keeps then) (MayFind gives keeps tree) (Fails gives) (may-moved gives keeps then tree c.in-Ok.ensures.kept) scans.1)
+    (each-weaker scans.0 _ _ _ c.args.moment (MayFind gives keeps then) (MayFind gives keeps tree) (Fails gives) (may-moved gives keeps then tree c.in-Ok.ensures.kept) scans.1)
     (subst (λ ns. GoesOver ns scans.0 (Some stop.0)) same (subst (GoesOver (map (λ (e : Listed). e.name) c.deref.result.now) scans.0) stop.1 scans.2)) scans.3
 
 pub returns-clause-scans : goal.returns-clause-scans
@@ -39,8 +39,8 @@ returns-clause-scans g c =
     let scans = c.scan_listed-sum.ensures.scans in
     let on = is-none c.scan_listed-sum.result.stopped (sym c.is_some.ensures ∙ c.if-is_some.false) in
     not_read c.in-Ok.listing scans.0 (c.list.new.self, c.in-Ok.ensures.gives, c.in-Ok.ensures.order, c.in-Ok.ensures.lists)
-    (each-seen scans.0 c.args.moment (MayFind gives keeps tree) (Fails gives) _ _ _
-    (each-weaker scans.0 _ _ c.args.moment (MayFind gives keeps then) (MayFind gives keeps tree) (Fails gives) (may-moved gives keeps then tree c.in-Ok.ensures.kept) scans.1)
+    (each-seen scans.0 c.args.moment (MayFind gives keeps tree) (Fails gives) _ _ _ _
+    (each-weaker scans.0 _ _ _ c.args.moment (MayFind gives keeps then) (MayFind gives keeps tree) (Fails gives) (may-moved gives keeps then tree c.in-Ok.ensures.kept) scans.1)
     c.in-Err-missing_names.ensures.sees)
     (subst (λ ns. GoesOver ns scans.0 None) same (subst (GoesOver (map (λ (e : Listed). e.name) c.deref.result.now) scans.0) on scans.2))
     (c.stopped_by-in-Err-missing_names.ensures ∙ ap (λ (s : ScanSum). record s { stopped = Some OutOfMemory }) scans.3)
@@ -64,12 +64,12 @@ returns-in-Ok-missing_names-clause-scans g c =
     let below = UnlessBelow unread (MayFind gives keeps last) in
     scanned c.in-Ok.listing missing scans.0 later.0 done point c.scan_missing.result.stopped
     (c.list.new.self, c.in-Ok.ensures.gives, c.in-Ok.ensures.order, c.in-Ok.ensures.lists)
-    (each-weaker scans.0 _ _ c.args.moment (MayFind gives keeps then) (MayFind gives keeps tree) (Fails gives) (may-moved gives keeps then tree c.in-Ok.ensures.kept) scans.1)
+    (each-weaker scans.0 _ _ _ c.args.moment (MayFind gives keeps then) (MayFind gives keeps tree) (Fails gives) (may-moved gives keeps then tree c.in-Ok.ensures.kept) scans.1)
     (subst (λ ns. GoesOver ns scans.0 None) same (subst (GoesOver (map (λ (e : Listed). e.name) c.deref.result.now) scans.0) on scans.2))
     c.in-Ok-missing_names.ensures.sees
     (subst (AreMissing done point (names_of c.in-Ok.listing)) (sym c.deref-in-Ok-missing_names.ensures.value)
     (subst (λ ns. AreMissing done point ns items) (ap (map (λ (e : Listed). e.name)) c.deref-2.ensures.value) c.in-Ok-missing_names.ensures.missing))
-    (each-weaker later.0 _ _ c.args.moment below (UnlessBelow unread (MayFind gives keeps tree)) (Fails gives)
+    (each-weaker later.0 _ _ _ c.args.moment below (UnlessBelow unread (MayFind gives keeps tree)) (Fails gives)
     (below-moved gives keeps last tree unread (λ k. c.scan_listed-sum.ensures.kept k ∙ c.in-Ok.ensures.kept k))
-    (subst (λ (u : List Name). ScansEach point c.args.moment (UnlessBelow u (MayFind gives keeps last)) (Fails gives) later.0 (g.W.FolderCalls.view c.scan_missing.new.calls)) c.deref-in-Ok-missing_names-2.ensures.value later.1))
+    (subst (λ (u : List Name). ScansEach point point c.args.moment (UnlessBelow u (MayFind gives keeps last)) (Fails gives) later.0 (g.W.FolderCalls.view c.scan_missing.new.calls)) c.deref-in-Ok-missing_names-2.ensures.value later.1))
     later.2 (later.3 ∙ ap (λ s. sum_after s later.0) scans.3)

@@ -1,5 +1,6 @@
-use Rattle.std.proofs.Common.{◌≡◌, List, None, map, take, true}
+use Rattle.std.proofs.Common.{◌≡◌, List, None, drop, map, take, true}
 use Rattle.std.specs.Prelude.{IsTrue}
+use Rattle.sync_scan.specs.Ahead.{AreSeen}
 use Rattle.sync_scan.specs.AllNames.{GoesOver, ScansEach, Tried, sum_after}
 use Rattle.sync_scan.specs.Told.{Fails}
 use Rattle.sync_scan.specs.Looks.{MayFind}
@@ -10,8 +11,10 @@ abbrev pub invariant-loop-index : goal.invariant-loop-index
 invariant-loop-index g l = record {
   folder : g.W.FolderCalls.folder l.calls ≡ g.W.FolderCalls.folder l.initial.calls;
   scans : (tried : List Tried)
-      × ScansEach (g.W.FolderCalls.view l.initial.calls) l.moment (MayFind g.S.FileStore.gives (IsTrue g.S.FileStore.keeps) (g.S.FileStore.tree l.initial.store)) (Fails g.S.FileStore.gives) tried (g.W.FolderCalls.view l.calls)
+      × ScansEach (g.W.FolderCalls.view l.initial.calls) (g.W.FolderCalls.view l.initial.calls) l.moment (MayFind g.S.FileStore.gives (IsTrue g.S.FileStore.keeps) (g.S.FileStore.tree l.initial.store)) (Fails g.S.FileStore.gives) tried (g.W.FolderCalls.view l.calls)
       × GoesOver (take l.index (map (λ e. e.name) l.entries)) tried None × (l.sum ≡ sum_after empty_sum tried);
+  ahead : AreSeen l.ahead (g.W.FolderCalls.view l.initial.calls) (g.W.FolderCalls.view l.calls) (MayFind g.S.FileStore.gives (IsTrue g.S.FileStore.keeps) (g.S.FileStore.tree l.initial.store)) (Fails g.S.FileStore.gives)
+      (drop l.index (map (λ e. e.name) l.entries));
   stopped : l.sum.stopped ≡ None;
   kept : g.S.FileStore.keeps ≡ true → g.S.FileStore.tree l.store ≡ g.S.FileStore.tree l.initial.store;
 }

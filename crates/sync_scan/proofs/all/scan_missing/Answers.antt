@@ -4,7 +4,7 @@ use Rattle.std.proofs.lemmas.List.{take_more}
 use Rattle.sync_scan.specs.AllNames.{UnlessBelow}
 use Rattle.sync_scan.specs.Told.{Fails}
 use Rattle.sync_scan.specs.Looks.{MayFind}
-use Rattle.sync_scan.proofs.EachLemmas.{Ends, Goes, divided-at, ends, goes-nowhere, goes-on, is-none, below-moved, next-weaker}
+use Rattle.sync_scan.proofs.EachLemmas.{Ends, Goes, divided-at, ends, goes-nowhere, goes-on, is-none, below-moved, next-earlier, each-goes, next-weaker}
 use Rattle.sync_scan.proofs.all.scan_missing.Goals as goal
 
 pub returns-then-is_some-clause-scans : goal.returns-then-is_some-clause-scans
@@ -24,7 +24,8 @@ returns-then-is_some-clause-scans g c =
     let whole = divided-at names i n c.loop-name-test.true ∙ ap (λ y. take i names ++ y ∷ drop (suc i) names) (sym c.name-item.is) in
     subst (λ ns. Ends old c.args.moment may fails ns c.args.sum c.scan_missing_name.new.sum new) (sym whole)
     (ends _ _ _ c.args.moment may fails (take i names) n c.args.sum c.loop-name.sum c.scan_missing_name.new.sum c.loop-name.invariant.scans
-    (next-weaker _ _ n c.args.moment (UnlessBelow unread (MayFind gives keeps then)) may fails c.loop-name.sum c.scan_missing_name.new.sum (below-moved gives keeps then tree unread c.loop-name.invariant.kept n) c.scan_missing_name.ensures.scans)
+    (next-earlier old _ _ n c.args.moment may fails c.loop-name.sum c.scan_missing_name.new.sum (each-goes _ c.args.moment may fails _ old _ c.loop-name.invariant.scans.1)
+    (next-weaker _ _ _ n c.args.moment (UnlessBelow unread (MayFind gives keeps then)) may fails c.loop-name.sum c.scan_missing_name.new.sum (below-moved gives keeps then tree unread c.loop-name.invariant.kept n) c.scan_missing_name.ensures.scans))
     c.loop-name.invariant.stopped (drop (suc i) names) (sym c.is_some.ensures ∙ c.if-is_some.true))
 
 pub loop-name-preserved : goal.loop-name-preserved
@@ -47,7 +48,8 @@ loop-name-preserved g c =
       folder = c.scan_missing_name.ensures.folder ∙ c.loop-name.invariant.folder;
       scans = subst (λ ns. Goes old c.args.moment may fails ns c.args.sum c.scan_missing_name.new.sum new) (sym more)
           (goes-on _ _ _ c.args.moment may fails (take i names) n c.args.sum c.loop-name.sum c.scan_missing_name.new.sum c.loop-name.invariant.scans
-          (next-weaker _ _ n c.args.moment (UnlessBelow unread (MayFind gives keeps then)) may fails c.loop-name.sum c.scan_missing_name.new.sum (below-moved gives keeps then tree unread c.loop-name.invariant.kept n) c.scan_missing_name.ensures.scans)
+          (next-earlier old _ _ n c.args.moment may fails c.loop-name.sum c.scan_missing_name.new.sum (each-goes _ c.args.moment may fails _ old _ c.loop-name.invariant.scans.1)
+          (next-weaker _ _ _ n c.args.moment (UnlessBelow unread (MayFind gives keeps then)) may fails c.loop-name.sum c.scan_missing_name.new.sum (below-moved gives keeps then tree unread c.loop-name.invariant.kept n) c.scan_missing_name.ensures.scans))
           c.loop-name.invariant.stopped off);
       stopped = off;
       kept = λ k. c.scan_missing_name.ensures.kept k ∙ c.loop-name.invariant.kept k;

@@ -9,7 +9,7 @@ abbrev pub invariant-loop-name : goal.invariant-loop-name
 invariant-loop-name g l = record {
   folder : g.W.FolderCalls.folder l.calls ≡ g.W.FolderCalls.folder l.initial.calls;
   scans : (tried : List Tried)
-      × ScansEach (g.W.FolderCalls.view l.initial.calls) l.moment (UnlessBelow l.unread (MayFind g.S.FileStore.gives (IsTrue g.S.FileStore.keeps) (g.S.FileStore.tree l.initial.store))) (Fails g.S.FileStore.gives) tried (g.W.FolderCalls.view l.calls)
+      × ScansEach (g.W.FolderCalls.view l.initial.calls) (g.W.FolderCalls.view l.initial.calls) l.moment (UnlessBelow l.unread (MayFind g.S.FileStore.gives (IsTrue g.S.FileStore.keeps) (g.S.FileStore.tree l.initial.store))) (Fails g.S.FileStore.gives) tried (g.W.FolderCalls.view l.calls)
       × GoesOver (take l.name-index l.names) tried None × (l.sum ≡ sum_after l.initial.sum tried);
   stopped : l.sum.stopped ≡ None;
   kept : g.S.FileStore.keeps ≡ true → g.S.FileStore.tree l.store ≡ g.S.FileStore.tree l.initial.store;

@@ -23,4 +23,4 @@ returns-clause-scans g c =
     let n = c.args.name.now in
     let unread = c.args.unread.now in
     let may = MayFind gives (IsTrue g.S.FileStore.keeps) (g.S.FileStore.tree c.args.store.now) in
-    next-weaker _ _ n c.args.moment may (UnlessBelow unread may) (Fails gives) _ _ (not-below unread may n (sym c.is_below_any.ensures ∙ c.if-is_below_any.false)) c.scan_next.ensures.scans
+    next-weaker _ _ _ n c.args.moment may (UnlessBelow unread may) (Fails gives) _ _ (not-below unread may n (sym c.is_below_any.ensures ∙ c.if-is_below_any.false)) c.scan_next.ensures.scans

@@ -1,0 +1,57 @@
+-- What is known of the Requests of one connection (own rule).
+use Rattle.std.specs.Prelude.{◌≡◌, ◌≢◌, ◌⊎◌, ℕ, suc, ◌<◌, ℤ, pos, Bool, true, false, List, [], ◌∷◌, Some, None, ◌++◌, length, get_or, slice_set, ⊤}
+use Rattle.std.specs.List.{position}
+use Rattle.bep_messages.specs.declared.response.Response.{Response}
+use Rattle.bep_session.specs.Ids.{max_asks}
+use Rattle.peer_asks.specs.declared.table.AskState.{AskState}
+use Rattle.peer_asks.specs.declared.table.AskState.TheVariants.{Free, Waits, LetGo, Came, NoneCame}
+use Rattle.peer_asks.specs.declared.table.Arrival.{Arrival}
+use Rattle.peer_asks.specs.declared.table.Arrival.TheVariants.{Data, Refused, WrongSize, Late, Unknown}
+use Rattle.peer_asks.specs.declared.table.Taken.{Taken}
+use Rattle.peer_asks.specs.declared.table.Taken.TheVariants.{NotYet, Bytes, Nothing}
+
+-- what is known of the Request at a place, which is its id but for 1
+abbrev pub state_at : List AskState → ℕ → AskState
+state_at states k = get_or states k Free
+
+-- the id is that of the place
+abbrev pub IsAt : ℤ → ℕ → Type 0
+IsAt id k = id ≡ pos (suc k)
+
+-- whether there is none
+abbrev pub is_free : AskState → Bool
+is_free Free = true
+is_free _ = false
+
+-- a Request is at the least place at which there was none, or at the end where there was one at each
+abbrev pub HasOpened : List AskState → ℤ → AskState → List AskState → Type 0
+HasOpened old id state new = (k : ℕ) × IsAt id k × (k < max_asks)
+    × (((position is_free old ≡ Some k) × (new ≡ slice_set old k state))
+    ⊎ ((position is_free old ≡ None) × (k ≡ length old) × (new ≡ old ++ state ∷ [])))
+
+-- no Response comes for it
+abbrev pub IsOver : AskState → Type 0
+IsOver (Waits size) = ⊥
+IsOver LetGo = ⊥
+IsOver _ = ⊤
+
+-- what is known of a Request once its Response came
+abbrev pub IsAfter : Arrival → AskState → Response → AskState → Type 0
+IsAfter Data (Waits size) r (Came bytes) = (r.code ≡ pos 0) × (length r.payload ≡ size) × (bytes.items ≡ r.payload)
+IsAfter Refused (Waits size) r NoneCame = r.code ≢ pos 0
+IsAfter WrongSize (Waits size) r NoneCame = (r.code ≡ pos 0) × (length r.payload ≢ size)
+IsAfter Late LetGo r Free = ⊤
+IsAfter _ _ _ _ = ⊥
+
+-- a Response was taken, and this is what it brought
+abbrev pub HasAnswered : List AskState → Response → List AskState → Arrival → Type 0
+HasAnswered old r new Unknown = (new ≡ old) × ((k : ℕ) → IsAt r.id k → IsOver (state_at old k))
+HasAnswered old r new arrival = (k : ℕ) × IsAt r.id k × (state : AskState)
+    × IsAfter arrival (state_at old k) r state × (new ≡ slice_set old k state)
+
+-- what is there for an id was taken
+abbrev pub HasTaken : List AskState → ℤ → List AskState → Taken → Type 0
+HasTaken old id new NotYet = (k : ℕ) × IsAt id k × (size : ℕ) × (state_at old k ≡ Waits size) × (new ≡ old)
+HasTaken old id new (Bytes bytes) = (k : ℕ) × IsAt id k × (state_at old k ≡ Came bytes) × (new ≡ slice_set old k Free)
+HasTaken old id new Nothing = ((k : ℕ) × IsAt id k × (state_at old k ≡ NoneCame) × (new ≡ slice_set old k Free))
+    ⊎ ((new ≡ old) × ((k : ℕ) → IsAt id k → (state_at old k ≡ Free) ⊎ (state_at old k ≡ LetGo)))

@@ -1,0 +1,221 @@
+//! The Requests under way over the connection with a peer.
+use crate::counts::AskCounts;
+use crate::fault::AskFault;
+use crate::table::{Arrival, AskTable, Taken};
+use bep_messages::{Request, Response, ShortOctets, Text};
+use crossbeam_channel::Sender;
+use std::alloc::{AllocError, Global};
+use std::sync::{Condvar, Mutex, Wait};
+use std::time::{Clock, Duration};
+use sync_blocks::Block;
+use sync_names::SafeName;
+
+/// For how long who asked waits while no Response comes.
+const WAIT_SECONDS: u64 = 300;
+
+/// A Request that is under way, or was.
+#[derive(Clone, Copy, Debug, PartialEq, Eq)]
+pub struct AskId {
+    // The connection's number, and the Request's.
+    connection: u64,
+    id: i32,
+}
+
+/// The Requests under way over the connection with one peer, for as many threads as like: those that ask, and the reader of the
+/// connection, which hands in the Responses. A book lasts longer than a connection; all waits end with each of them.
+///
+/// An id is the least positive one that no Request has, as a session chooses it. So at most [`MAX_ASKS`](bep_session::MAX_ASKS) are under
+/// way, and a peer is asked no more while they are.
+#[derive(Drop)]
+pub struct AskBook {
+    shared: Mutex<Shared>,
+    // Rung where something came, or the connection ended.
+    arrived: Condvar,
+}
+
+// What stands under the lock.
+#[derive(Drop)]
+struct Shared {
+    // Where Requests go, while there is a connection.
+    requests: Option<Sender<Request>>,
+    // How many connections there were.
+    connection: u64,
+    table: AskTable,
+    counts: AskCounts,
+    // How many Responses came.
+    arrivals: u64,
+}
+
+impl AskBook {
+    /// There is no connection. Does not allocate.
+    pub fn new(alloc: Global) -> AskBook {
+        AskBook {
+            shared: Mutex::new(Shared {
+                requests: None,
+                connection: 0,
+                table: AskTable::new(alloc),
+                counts: AskCounts::new(),
+                arrivals: 0,
+            }),
+            arrived: Condvar::new(),
+        }
+    }
+
+    /// A connection begins, whose requester takes Requests from the other end of this channel.
+    pub fn begin<R: Wait>(&self, rt: &R, requests: Sender<Request>) {
+        let mut shared = self.shared.lock(rt);
+        shared.table.clear();
+        shared.connection = shared.connection.wrapping_add(1);
+        shared.requests = Some(requests);
+        drop(shared);
+        self.arrived.notify_all();
+    }
+
+    /// The connection ends: its channel is dropped, and whoever waits for a Response gets none.
+    pub fn end<R: Wait>(&self, rt: &R) {
+        let mut shared = self.shared.lock(rt);
+        shared.requests = None;
+        shared.table.clear();
+        shared.connection = shared.connection.wrapping_add(1);
+        drop(shared);
+        self.arrived.notify_all();
+    }
+
+    /// Asks the peer for a block of a file of the folder. Does not wait.
+    ///
+    /// Fails with `NotConnected` without a connection, with `TooManyAsks` where no more may be under way, with `TooLarge` where no Request
+    /// can name the block, and where memory runs out. O(n) for n ids under way and n bytes of the folder's id and the name.
+    pub fn ask<R: Wait>(
+        &self,
+        rt: &R,
+        alloc: Global,
+        folder: &str,
+        name: &SafeName,
+        block: &Block,
+    ) -> Result<AskId, AskFault> {
+        let request = request_for(alloc, folder, name, block)?;
+        let mut shared = self.shared.lock(rt);
+        shared.send(rt, request, block.size)
+    }
+
+    /// Waits until the Response of the Request came, and leaves its bytes in `bytes`, in place of what is there. Returns `false`, and
+    /// leaves `bytes` as it is, where the Response had an error or another number of bytes than were asked for, where the connection ended,
+    /// and where no Response at all came for 300 seconds. The Request is then over; what comes later for it is counted as late.
+    pub fn wait_for<R: Wait + Clock>(&self, rt: &R, ask: AskId, bytes: &mut Vec<u8>) -> bool {
+        let mut shared = self.shared.lock(rt);
+        for _ in rt.forever() {
+            let seen = shared.arrivals;
+            match shared.take(ask) {
+                Taken::Bytes(came) => {
+                    *bytes = came;
+                    return true;
+                }
+                Taken::Nothing => return false,
+                Taken::NotYet => {}
+            }
+            let (guard, waited) = self.arrived.wait_timeout_while(
+                rt,
+                shared,
+                Duration::from_secs(WAIT_SECONDS),
+                |shared| shared.arrivals == seen && shared.connection == ask.connection,
+            );
+            shared = guard;
+            if waited.timed_out() {
+                shared.let_go(ask);
+                return false;
+            }
+        }
+        unreachable!()
+    }
+
+    /// Nobody will wait for the Response of the Request.
+    pub fn let_go<R: Wait>(&self, rt: &R, ask: AskId) {
+        self.shared.lock(rt).let_go(ask);
+    }
+
+    /// An id of a Request under way that this did not return before, if there is one: the reader of the connection opens it in its
+    /// session, before it feeds what it reads next.
+    pub fn next_ask<R: Wait>(&self, rt: &R) -> Option<i32> {
+        self.shared.lock(rt).table.next_untold()
+    }
+
+    /// Hands in a Response, for who asked. Does not allocate.
+    pub fn answer<R: Wait>(&self, rt: &R, response: Response) {
+        let mut shared = self.shared.lock(rt);
+        shared.answer(response);
+        drop(shared);
+        self.arrived.notify_all();
+    }
+
+    /// Counts a Response to an id that is not open.
+    pub fn count_unknown<R: Wait>(&self, rt: &R) {
+        let mut shared = self.shared.lock(rt);
+        shared.counts.count(Arrival::Unknown);
+    }
+
+    /// What was counted since the book was made.
+    pub fn counts<R: Wait>(&self, rt: &R) -> AskCounts {
+        self.shared.lock(rt).counts
+    }
+}
+
+impl Shared {
+    // Gives the Request an id, and sends it.
+    fn send<R: Wait>(&mut self, rt: &R, request: Request, size: u32) -> Result<AskId, AskFault> {
+        let Some(requests) = &self.requests else {
+            return Err(AskFault::NotConnected);
+        };
+        let id = self.table.open(size)?;
+        let mut request = request;
+        request.id = id;
+        // (the channel has room for as many Requests as may be under way, so this never waits)
+        if requests.try_send(rt, request).is_err() {
+            self.table.take_back(id);
+            return Err(AskFault::TooManyAsks);
+        }
+        Ok(AskId {
+            connection: self.connection,
+            id,
+        })
+    }
+
+    fn take(&mut self, ask: AskId) -> Taken {
+        if ask.connection != self.connection {
+            return Taken::Nothing;
+        }
+        self.table.take(ask.id)
+    }
+
+    fn let_go(&mut self, ask: AskId) {
+        if ask.connection == self.connection {
+            self.table.let_go(ask.id);
+        }
+    }
+
+    fn answer(&mut self, response: Response) {
+        let arrival = self.table.answer(response);
+        self.counts.count(arrival);
+        self.arrivals = self.arrivals.wrapping_add(1);
+    }
+}
+
+// The Request for the block, without its id.
+fn request_for(
+    alloc: Global,
+    folder: &str,
+    name: &SafeName,
+    block: &Block,
+) -> Result<Request, AskFault> {
+    let (Ok(offset), Ok(size)) = (i64::try_from(block.offset), i32::try_from(block.size)) else {
+        return Err(AskFault::TooLarge);
+    };
+    Ok(Request {
+        id: 0,
+        folder: Text::from_str(alloc, folder)?,
+        name: Text::from_str(alloc, name.as_str())?,
+        offset,
+        size,
+        hash: ShortOctets::from_slice(alloc, &block.hash)?,
+        from_temporary: false,
+    })
+}

@@ -1,0 +1,30 @@
+use std::alloc::AllocError;
+use thiserror::Error;
+
+/// Why a peer is not asked.
+#[derive(Clone, Copy, Debug, PartialEq, Eq, Error)]
+pub enum AskFault {
+    /// There is no connection with the peer, or it is ending.
+    #[error("NotConnected")]
+    NotConnected,
+    /// [`MAX_ASKS`](bep_session::MAX_ASKS) Requests wait for their Response.
+    #[error("TooManyAsks")]
+    TooManyAsks,
+    /// The block ends at 2^63 or later, or has 2^31 bytes or more, so no Request can name it.
+    #[error("TooLarge")]
+    TooLarge,
+    /// Memory is out.
+    #[error("OutOfMemory")]
+    OutOfMemory,
+}
+
+impl From<AllocError> for AskFault {
+    ghost use Rattle.std.specs.Prelude.{◌≡◌};
+    ghost use Rattle.peer_asks.specs.declared.fault.AskFault.TheVariants.{OutOfMemory};
+
+    ghost from_gives = { λ error fault. fault ≡ OutOfMemory };
+
+    fn from(_error: AllocError) -> AskFault {
+        AskFault::OutOfMemory
+    }
+}

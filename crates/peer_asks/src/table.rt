@@ -1,0 +1,200 @@
+//! The Requests of one connection that wait for their Response, or whose answer waits for who asked.
+ghost use Rattle.std.specs.Prelude.{◌≡◌, ◌<◌, ℕ, IfNone, IfOk, IfSome, None, OnErr, length};
+ghost use Rattle.std.specs.List.{position};
+ghost use Rattle.peer_asks.specs.Asks.{HasAnswered, HasOpened, HasTaken, IsAt, is_free};
+ghost use Rattle.peer_asks.specs.declared.table.AskState.TheVariants.{Waits};
+
+use crate::fault::AskFault;
+use bep_messages::Response;
+use bep_session::MAX_ASKS;
+use std::alloc::{AllocError, Global};
+use std::mem;
+
+/// What is known of the Request with an id.
+#[derive(Debug, Drop)]
+pub(crate) enum AskState {
+    /// There is none.
+    Free,
+    /// It waits for its Response, of so many bytes.
+    Waits(u32),
+    /// It waits, and nobody wants its bytes any more.
+    LetGo,
+    /// These bytes came, as many as were asked for.
+    Came(Vec<u8>),
+    /// A Response came without them.
+    NoneCame,
+}
+
+/// What a Response brought.
+#[derive(Clone, Copy, Debug, PartialEq, Eq)]
+pub(crate) enum Arrival {
+    /// As many bytes as were asked for.
+    Data,
+    /// An error of the peer, and no bytes.
+    Refused,
+    /// No error, and another number of bytes.
+    WrongSize,
+    /// Something that nobody wants any more.
+    Late,
+    /// Something for which no Request waits.
+    Unknown,
+}
+
+/// What is there for who asked.
+#[derive(Debug, Drop)]
+pub(crate) enum Taken {
+    /// Nothing yet.
+    NotYet,
+    /// These bytes.
+    Bytes(Vec<u8>),
+    /// Nothing, and nothing will come.
+    Nothing,
+}
+
+/// The states of the Requests by their ids, from 1 on.
+#[derive(Debug, Drop)]
+pub(crate) struct AskTable {
+    states: Vec<AskState>,
+    // The ids of which the reader was not told yet.
+    untold: Vec<i32>,
+}
+
+impl AskTable {
+    pub(crate) fn new(alloc: Global) -> AskTable {
+        AskTable {
+            states: Vec::new(alloc),
+            untold: Vec::new(alloc),
+        }
+    }
+
+    /// Forgets all Requests.
+    pub(crate) fn clear(&mut self) {
+        self.states.clear();
+        self.untold.clear();
+    }
+
+    /// Opens the least positive id of which there is no Request, for a Response of so many bytes. O(n) for n ids.
+    pub(crate) fn open(&mut self, size: u32) -> Result<i32, AskFault>
+        ensures opened { IfOk result (λ id. HasOpened self.old.states.items id (Waits size) self.new.states.items) }
+        ensures err { OnErr result (self.new.states.items ≡ self.old.states.items) }
+    {
+        let place = match self.free_place() {
+            Some(place) => place,
+            None => return self.add(size),
+        };
+        if place >= MAX_ASKS {
+            return Err(AskFault::TooManyAsks);
+        }
+        let id = place as i32 + 1;
+        self.untold.push(id).map_err(AllocError::from)?;
+        self.states[place] = AskState::Waits(size);
+        Ok(id)
+    }
+
+    // Opens the id after all others.
+    fn add(&mut self, size: u32) -> Result<i32, AskFault>
+        requires { position is_free self.old.states.items ≡ None }
+        ensures opened { IfOk result (λ id. HasOpened self.old.states.items id (Waits size) self.new.states.items) }
+        ensures err { OnErr result (self.new.states.items ≡ self.old.states.items) }
+    {
+        let place = self.states.len();
+        if place >= MAX_ASKS {
+            return Err(AskFault::TooManyAsks);
+        }
+        let id = place as i32 + 1;
+        self.untold.push(id).map_err(AllocError::from)?;
+        if self.states.push(AskState::Waits(size)).is_err() {
+            let _ = self.untold.pop();
+            return Err(AskFault::OutOfMemory);
+        }
+        Ok(id)
+    }
+
+    /// Takes back the id that was opened last, whose Request does not go out.
+    pub(crate) fn take_back(&mut self, id: i32) {
+        let _ = self.untold.pop();
+        if let Some(place) = self.place_of(id) {
+            self.states[place] = AskState::Free;
+        }
+    }
+
+    /// An id of which the reader was not told yet; it now is.
+    pub(crate) fn next_untold(&mut self) -> Option<i32> {
+        self.untold.pop()
+    }
+
+    /// Takes a Response to the Request with its id. Does not allocate. O(1).
+    pub(crate) fn answer(&mut self, response: Response) -> Arrival
+        ensures { HasAnswered self.old.states.items response self.new.states.items result }
+    {
+        let Response { id, payload, code } = response;
+        let Some(place) = self.place_of(id) else {
+            return Arrival::Unknown;
+        };
+        let (state, arrival) = match self.states[place] {
+            AskState::Waits(_) if code != 0 => (AskState::NoneCame, Arrival::Refused),
+            AskState::Waits(size) => {
+                let bytes = payload.into_vec();
+                if bytes.len() as u64 == u64::from(size) {
+                    (AskState::Came(bytes), Arrival::Data)
+                } else {
+                    (AskState::NoneCame, Arrival::WrongSize)
+                }
+            }
+            AskState::LetGo => (AskState::Free, Arrival::Late),
+            _ => return Arrival::Unknown,
+        };
+        self.states[place] = state;
+        arrival
+    }
+
+    /// What is there for who asked by this id; the id is then free, unless nothing is there yet. Does not allocate. O(1).
+    pub(crate) fn take(&mut self, id: i32) -> Taken
+        ensures { HasTaken self.old.states.items id self.new.states.items result }
+    {
+        let Some(place) = self.place_of(id) else {
+            return Taken::Nothing;
+        };
+        match self.states[place] {
+            AskState::Waits(_) => return Taken::NotYet,
+            AskState::LetGo => return Taken::Nothing,
+            _ => {}
+        }
+        match mem::replace(&mut self.states[place], AskState::Free) {
+            AskState::Came(bytes) => Taken::Bytes(bytes),
+            _ => Taken::Nothing,
+        }
+    }
+
+    /// Nobody wants the bytes of this id any more. It is free at once if they are there, else once its Response came.
+    pub(crate) fn let_go(&mut self, id: i32) {
+        let Some(place) = self.place_of(id) else {
+            return;
+        };
+        let state = match self.states[place] {
+            AskState::Waits(_) | AskState::LetGo => AskState::LetGo,
+            _ => AskState::Free,
+        };
+        self.states[place] = state;
+    }
+
+    // Where the id stands, if it does.
+    fn place_of(&self, id: i32) -> Option<usize>
+        ensures place { IfSome result (λ k. IsAt id k × (k < length self.now.states.items)) }
+        ensures none { IfNone result ((k : ℕ) → k < length self.now.states.items → IsAt id k → ⊥) }
+    {
+        if id < 1 || id as usize > self.states.len() {
+            return None;
+        }
+        Some(id as usize - 1)
+    }
+
+    // The least place at which there is no Request.
+    fn free_place(&self) -> Option<usize>
+        ensures { result ≡ position is_free self.now.states.items }
+    {
+        self.states
+            .iter()
+            .position(|state| matches!(state, AskState::Free))
+    }
+}

@@ -1,0 +1,189 @@
+//! What each worker of a connection is given, and what it leaves.
+ghost use Rattle.std.specs.Prelude.{All, IfOk};
+ghost use Rattle.peer_conn.specs.Words.{IsSameEnded, IsSameQueue};
+ghost use Rattle.peer_link.specs.Links.{HasReadAll};
+ghost use Rattle.peer_reader.specs.Hears.{IsApart};
+
+use crate::inbox::LinkInbox;
+use crate::line::Line;
+use bep_frames::Message;
+use bep_messages::{ClusterConfig, Hello, Request};
+use crossbeam_channel::Receiver;
+use file_store::{FileStore, Gate};
+use folder_calls::FolderCalls;
+use peer_asks::{RequesterEnd, run_requester};
+use peer_conn::{
+    Ended, IndexedFolder, IndexerEnd, Seat, Taker, WriterFault, run_indexer, run_writer,
+};
+use peer_reader::{PeerFolder, ReaderEnd, run_reader};
+use peer_server::{PeerRequest, ServedFolder, ServerEnd, run_server};
+use std::alloc::Global;
+use std::io::{Read, Write};
+use std::sync::Wait;
+use std::time::Clock;
+use sync_record::DeviceId;
+
+#[derive(Drop)]
+pub(crate) struct ReadJob<'a, R, I, W> {
+    pub(crate) peer: DeviceId,
+    pub(crate) reader: I,
+    pub(crate) folders: Vec<PeerFolder<W>>,
+    pub(crate) inbox: LinkInbox<'a, R>,
+}
+
+#[derive(Drop)]
+pub(crate) struct HasRead<W> {
+    pub(crate) end: ReaderEnd,
+    pub(crate) folders: Vec<PeerFolder<W>>,
+}
+
+/// Reads until there is a reason to end. Then no one waits for a Response any more, and the line is hung up.
+pub(crate) fn read<R, I, W, G, L>(
+    rt: &R,
+    alloc: Global,
+    job: ReadJob<R, I, W>,
+    gate: &G,
+    line: &L,
+) -> HasRead<W>
+where
+    R: Clock + Wait,
+    I: Read + Drop,
+    W: FolderCalls + Drop,
+    G: Gate,
+    L: Line,
+    requires { All (IsApart W.view job.peer) job.folders.items }
+    ensures { HasReadAll W.view W.folder job.peer (I.remaining job.reader) job.folders.items result.end result.folders.items }
+{
+    let ReadJob {
+        peer,
+        mut reader,
+        mut folders,
+        mut inbox,
+    } = job;
+    let end = run_reader(
+        rt,
+        alloc,
+        &mut reader,
+        peer,
+        folders.as_mut_slice(),
+        gate,
+        &mut inbox,
+    );
+    inbox.close();
+    line.hang_up();
+    HasRead { end, folders }
+}
+
+#[derive(Drop)]
+pub(crate) struct IndexJob<W> {
+    pub(crate) config: ClusterConfig,
+    pub(crate) configs: Receiver<ClusterConfig>,
+    pub(crate) folders: Vec<IndexedFolder<W>>,
+    pub(crate) seat: Seat<Message>,
+}
+
+#[derive(Drop)]
+pub(crate) struct HasIndexed<W> {
+    pub(crate) seat: Ended<Message>,
+    pub(crate) end: IndexerEnd,
+    pub(crate) folders: Vec<IndexedFolder<W>>,
+}
+
+pub(crate) fn index<R: Clock + Wait, W: FolderCalls + Drop>(
+    rt: &R,
+    alloc: Global,
+    job: IndexJob<W>,
+) -> HasIndexed<W>
+    ensures { IsSameEnded job.seat result.seat }
+{
+    let IndexJob {
+        config,
+        configs,
+        mut folders,
+        seat,
+    } = job;
+    let (seat, end) = run_indexer(
+        rt,
+        alloc,
+        config,
+        &configs,
+        folders.as_mut_slice(),
+        seat,
+    );
+    HasIndexed { seat, end, folders }
+}
+
+#[derive(Drop)]
+pub(crate) struct ServeJob<S, W> {
+    pub(crate) requests: Receiver<PeerRequest>,
+    pub(crate) folders: Vec<ServedFolder<S, W>>,
+    pub(crate) seat: Seat<Message>,
+}
+
+#[derive(Drop)]
+pub(crate) struct HasServed<S, W> {
+    pub(crate) seat: Ended<Message>,
+    pub(crate) end: ServerEnd,
+    pub(crate) folders: Vec<ServedFolder<S, W>>,
+}
+
+pub(crate) fn serve<R: Wait, S: FileStore + Drop, W: FolderCalls + Drop, G: Gate>(
+    rt: &R,
+    alloc: Global,
+    job: ServeJob<S, W>,
+    gate: &G,
+) -> HasServed<S, W>
+    ensures { IsSameEnded job.seat result.seat }
+{
+    let ServeJob {
+        requests,
+        mut folders,
+        seat,
+    } = job;
+    let (seat, end) = run_server(rt, alloc, requests, folders.as_mut_slice(), gate, seat);
+    HasServed { seat, end, folders }
+}
+
+#[derive(Drop)]
+pub(crate) struct RequestJob {
+    pub(crate) requests: Receiver<Request>,
+    pub(crate) seat: Seat<Message>,
+}
+
+#[derive(Drop)]
+pub(crate) struct HasRequested {
+    pub(crate) seat: Ended<Message>,
+    pub(crate) end: RequesterEnd,
+}
+
+pub(crate) fn request<R: Wait>(rt: &R, job: RequestJob) -> HasRequested
+    ensures { IsSameEnded job.seat result.seat }
+{
+    let (seat, end) = run_requester(rt, job.requests, job.seat);
+    HasRequested { seat, end }
+}
+
+/// The taker and the stream, or why the writer stopped.
+pub(crate) type HasWritten<O> = Result<(Taker<Message>, O), WriterFault>;
+
+/// Writes until the seats have ended. A writer that fails hangs the line up, and drops its taker, so that no seat waits for it.
+pub(crate) fn write<R: Wait, O: Write + Drop, L: Line>(
+    rt: &R,
+    alloc: Global,
+    hello: &Hello,
+    taker: Taker<Message>,
+    writer: O,
+    line: &L,
+) -> HasWritten<O>
+    ensures { IfOk result (λ written. IsSameQueue taker written.0) }
+{
+    let mut taker = taker;
+    let mut writer = writer;
+    match run_writer(rt, alloc, hello, &mut taker, &mut writer) {
+        Ok(()) => Ok((taker, writer)),
+        Err(fault) => {
+            line.hang_up();
+            Err(fault)
+        }
+    }
+}

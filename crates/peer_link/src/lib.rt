@@ -1,0 +1,16 @@
+//! A connection with a peer, put together: its reader, writer, indexer, server and requester, each on a thread of its own.
+#![tactic(auto)]
+
+mod end;
+mod folders;
+mod inbox;
+mod jobs;
+mod line;
+mod link;
+mod limits;
+
+pub use end::LinkEnd;
+pub use folders::LinkFolders;
+pub use limits::{MAX_QUEUED_REQUESTS, MAX_REQUEST_NAME_BYTES, QUEUE_MESSAGES};
+pub use line::Line;
+pub use link::run_link;

@@ -1,0 +1,6 @@
+/// What a connection goes over.
+pub trait Line {
+    /// Ends it: a read or a write of it that waits, and each one that is made later, ends at once, as at the end of the stream or with a
+    /// failure. It may be called more than once, by any thread.
+    fn hang_up(&self);
+}

@@ -1,0 +1,227 @@
+//! The workers of a connection.
+ghost use Rattle.std.specs.Prelude.{◌≡◌, All, IfOk};
+ghost use Rattle.peer_conn.specs.Words.{IsSameEnded, IsSameQueue};
+ghost use Rattle.peer_link.specs.Links.{AreEnded, HasReadAll};
+ghost use Rattle.peer_reader.specs.Hears.{IsApart};
+
+use crate::end::LinkEnd;
+use crate::folders::LinkFolders;
+use crate::inbox::LinkInbox;
+use crate::jobs::{
+    HasIndexed, HasRead, HasRequested, HasServed, HasWritten, IndexJob, ReadJob, RequestJob,
+    ServeJob, index, read, request, serve, write,
+};
+use crate::limits::{MAX_QUEUED_REQUESTS, QUEUE_MESSAGES};
+use crate::line::Line;
+use bep_frames::Message;
+use bep_messages::{ClusterConfig, Hello, Request};
+use bep_session::MAX_ASKS;
+use crossbeam_channel::bounded;
+use file_store::{FileStore, Gate};
+use folder_calls::FolderCalls;
+use peer_asks::AskBook;
+use peer_conn::{Ended, OutQueue, WriterFault, finish_writer};
+use peer_server::PeerRequest;
+use std::alloc::{AllocError, Global};
+use std::io::{Read, Write};
+use std::sync::Wait;
+use std::thread::{Threads, join};
+use std::time::Clock;
+use sync_record::DeviceId;
+
+/// Runs a connection until its peer, either stream or a worker ends it, and returns how the workers ended. Five threads work on it: the
+/// reader makes the peer's changes, the server answers its Requests, the indexer tells it the folders, the requester puts the Requests of
+/// the book, and the writer writes what these put. The book begins and ends with the connection.
+///
+/// Once the reader ended, or the writer failed, the line is hung up, and so the other workers end too. To end it from this side, hang up.
+/// Returns `Err` only where memory for the channels runs out; then nothing was read or written.
+pub fn run_link<R, I, O, S, W, G, L>(
+    rt: &R,
+    alloc: Global,
+    peer: DeviceId,
+    hello: &Hello,
+    config: ClusterConfig,
+    folders: LinkFolders<S, W>,
+    gate: &G,
+    book: &AskBook,
+    reader: I,
+    writer: O,
+    line: &L,
+) -> Result<LinkEnd<S, W>, AllocError>
+where
+    R: Clock + Sync + Threads + Wait,
+    I: Read + Drop + Send,
+    O: Write + Drop + Send,
+    S: FileStore + Drop + Send,
+    W: FolderCalls + Drop + Send,
+    G: Gate + Sync,
+    L: Line + Sync,
+    requires { All (IsApart W.view peer) folders.read.items }
+    ensures { IfOk result (λ end. HasReadAll W.view W.folder peer (I.remaining reader) folders.read.items
+        end.reader end.folders.read.items) }
+{
+    let (indexer, server, requester, taker) = OutQueue::open::<Message>(alloc, QUEUE_MESSAGES)?;
+    let (to_indexer, configs) = bounded::<ClusterConfig, Global>(alloc, 1)?;
+    let (to_server, requests) = bounded::<PeerRequest, Global>(alloc, MAX_QUEUED_REQUESTS)?;
+    let (to_requester, asks) = bounded::<Request, Global>(alloc, MAX_ASKS)?;
+    book.begin(rt, to_requester);
+    let inbox = LinkInbox::new(rt, alloc, to_indexer, to_server, book);
+    let reading = ReadJob {
+        peer,
+        reader,
+        folders: folders.read,
+        inbox,
+    };
+    let indexing = IndexJob {
+        config,
+        configs,
+        folders: folders.indexed,
+        seat: indexer,
+    };
+    let serving = ServeJob {
+        requests,
+        folders: folders.served,
+        seat: server,
+    };
+    let requesting = RequestJob {
+        requests: asks,
+        seat: requester,
+    };
+    let (written, (has_read, (has_indexed, (has_served, has_requested)))) = join(
+        rt,
+        || -> HasWritten<O>
+            ensures { IfOk result (λ written. IsSameQueue taker written.0) }
+        { write(rt, alloc, hello, taker, writer, line) },
+        || -> Workers<S, W>
+            ensures read { HasReadAll W.view W.folder reading.peer (I.remaining reading.reader)
+                reading.folders.items result.0.end result.0.folders.items }
+            ensures indexer { IsSameEnded indexing.seat result.1.0.seat }
+            ensures server { IsSameEnded serving.seat result.1.1.0.seat }
+            ensures requester { IsSameEnded requesting.seat result.1.1.1.seat }
+        {
+            work(
+                rt, alloc, reading, indexing, serving, requesting, gate, line,
+            )
+        },
+    );
+    let written = finish(
+        rt,
+        alloc,
+        written,
+        has_indexed.seat,
+        has_served.seat,
+        has_requested.seat,
+    );
+    Ok(LinkEnd {
+        reader: has_read.end,
+        indexer: has_indexed.end,
+        server: has_served.end,
+        requester: has_requested.end,
+        written,
+        folders: LinkFolders {
+            read: has_read.folders,
+            served: has_served.folders,
+            indexed: has_indexed.folders,
+        },
+    })
+}
+
+type Putters<S, W> = (HasIndexed<W>, (HasServed<S, W>, HasRequested));
+
+type Workers<S, W> = (HasRead<W>, Putters<S, W>);
+
+// Reads, and puts messages, each on a thread of its own.
+fn work<R, I, S, W, G, L>(
+    rt: &R,
+    alloc: Global,
+    reading: ReadJob<R, I, W>,
+    indexing: IndexJob<W>,
+    serving: ServeJob<S, W>,
+    requesting: RequestJob,
+    gate: &G,
+    line: &L,
+) -> Workers<S, W>
+where
+    R: Clock + Sync + Threads + Wait,
+    I: Read + Drop + Send,
+    S: FileStore + Drop + Send,
+    W: FolderCalls + Drop + Send,
+    G: Gate + Sync,
+    L: Line + Sync,
+    requires { All (IsApart W.view reading.peer) reading.folders.items }
+    ensures read { HasReadAll W.view W.folder reading.peer (I.remaining reading.reader)
+        reading.folders.items result.0.end result.0.folders.items }
+    ensures indexer { IsSameEnded indexing.seat result.1.0.seat }
+    ensures server { IsSameEnded serving.seat result.1.1.0.seat }
+    ensures requester { IsSameEnded requesting.seat result.1.1.1.seat }
+{
+    join(
+        rt,
+        || -> HasRead<W>
+            ensures { HasReadAll W.view W.folder reading.peer (I.remaining reading.reader)
+                reading.folders.items result.end result.folders.items }
+        { read(rt, alloc, reading, gate, line) },
+        || -> Putters<S, W>
+            ensures indexer { IsSameEnded indexing.seat result.0.seat }
+            ensures server { IsSameEnded serving.seat result.1.0.seat }
+            ensures requester { IsSameEnded requesting.seat result.1.1.seat }
+        { put(rt, alloc, indexing, serving, requesting, gate) },
+    )
+}
+
+// Indexes, serves and requests, each on a thread of its own.
+fn put<R, S, W, G>(
+    rt: &R,
+    alloc: Global,
+    indexing: IndexJob<W>,
+    serving: ServeJob<S, W>,
+    requesting: RequestJob,
+    gate: &G,
+) -> Putters<S, W>
+where
+    R: Clock + Sync + Threads + Wait,
+    S: FileStore + Drop + Send,
+    W: FolderCalls + Drop + Send,
+    G: Gate + Sync,
+    ensures indexer { IsSameEnded indexing.seat result.0.seat }
+    ensures server { IsSameEnded serving.seat result.1.0.seat }
+    ensures requester { IsSameEnded requesting.seat result.1.1.seat }
+{
+    join(
+        rt,
+        || -> HasIndexed<W>
+            ensures { IsSameEnded indexing.seat result.seat }
+        { index(rt, alloc, indexing) },
+        || -> (HasServed<S, W>, HasRequested)
+            ensures server { IsSameEnded serving.seat result.0.seat }
+            ensures requester { IsSameEnded requesting.seat result.1.seat }
+        {
+            join(
+                rt,
+                || -> HasServed<S, W>
+                    ensures { IsSameEnded serving.seat result.seat }
+                { serve(rt, alloc, serving, gate) },
+                || -> HasRequested
+                    ensures { IsSameEnded requesting.seat result.seat }
+                { request(rt, requesting) },
+            )
+        },
+    )
+}
+
+// Writes what is left.
+fn finish<R: Wait, O: Write + Drop>(
+    rt: &R,
+    alloc: Global,
+    written: HasWritten<O>,
+    indexer: Ended<Message>,
+    server: Ended<Message>,
+    requester: Ended<Message>,
+) -> Result<(), WriterFault>
+    requires { IfOk written (λ it. AreEnded it.0 indexer server requester) }
+{
+    let (mut taker, mut writer) = written?;
+    finish_writer(
+        rt, alloc, &mut taker, indexer, server, requester, &mut writer,
+    )
+}

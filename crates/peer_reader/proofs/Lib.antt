@@ -1,0 +1,9 @@
+pub mod KeepLemmas
+pub mod EachLemmas
+pub mod EffectLemmas
+pub mod ConfigLemmas
+pub mod RunLemmas
+pub mod ReadingLemmas
+pub mod StreamLemmas
+pub mod IndexLemmas
+pub mod SoFarLemmas

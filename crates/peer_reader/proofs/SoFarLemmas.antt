@@ -1,0 +1,205 @@
+-- How far a reader has come.
+use Rattle.std.proofs.Common.{◌≡◌, ◌++◌, ◌∷◌, [], ℕ, List, Option, map, refl, sym, ◌∙◌, ap, subst, inl, inr, append_assoc, append-nil}
+use Rattle.std.specs.Io.KnownBytes.{Consumes, Keeps}
+use Rattle.std.proofs.KnownBytes.{Consumes-kept, Consumes-trans}
+use Rattle.std.proofs.lemmas.List.{map-append}
+use Rattle.bep_session.specs.declared.event.Event.{Event}
+use Rattle.bep_session.specs.Runs.{Act, Feeds, run}
+use Rattle.bep_session.specs.Sessions.{View, begun, fed}
+use Rattle.folder_calls.specs.Shared.{CallerView}
+use Rattle.peer_reader.proofs.EachLemmas.{GoTogether}
+use Rattle.peer_reader.proofs.ReadingLemmas.{each_together, heard_no_event}
+use Rattle.peer_reader.proofs.RunLemmas.{fed_of-append, run_events-append, run_session-append}
+use Rattle.peer_reader.specs.Counts.{no_counts}
+use Rattle.peer_reader.specs.declared.counts.ReaderCounts.{ReaderCounts}
+use Rattle.peer_reader.specs.declared.folder.PeerFolder.{PeerFolder}
+use Rattle.peer_reader.specs.declared.stop.ReaderStop.{ReaderStop}
+use Rattle.peer_reader.specs.declared.stop.ReaderStop.TheVariants as stop
+use Rattle.peer_reader.specs.Effects.{Heard, after_event}
+use Rattle.peer_reader.specs.Hears.{AsksEach, applied, heard_of}
+use Rattle.peer_reader.specs.Reading.{HasHeardAll, HearsPiece, OnlyOpens, ReadsAll, ReadsTo, ReadsUpTo, StopsIn, StopsInPiece, after_events, fed_of}
+use Rattle.sync_record.specs.Devices.{Identity}
+
+folders-append : (peer : Identity) (fs : List Heard) (xs ys : List Event)
+    → (after_events peer fs (xs ++ ys)).folders ≡ (after_events peer (after_events peer fs xs).folders ys).folders
+folders-append peer fs [] ys = refl
+folders-append peer fs (x ∷ xs) ys = folders-append peer (after_event peer fs x).folders xs ys
+
+made-append : (peer : Identity) (fs : List Heard) (xs ys : List Event)
+    → (after_events peer fs (xs ++ ys)).made ≡ (after_events peer fs xs).made ++ (after_events peer (after_events peer fs xs).folders ys).made
+made-append peer fs [] ys = refl
+made-append peer fs (x ∷ xs) ys =
+    let next = (after_event peer fs x).folders in
+    let one = (after_event peer fs x).made in
+    ap (λ l. one ++ l) (made-append peer next xs ys)
+    ∙ sym (append_assoc one (after_events peer next xs).made (after_events peer (after_events peer next xs).folders ys).made)
+
+count-append : (peer : Identity) (fs : List Heard) (xs ys : List Event) (c : ReaderCounts)
+    → (after_events peer fs (xs ++ ys)).count c ≡ (after_events peer (after_events peer fs xs).folders ys).count ((after_events peer fs xs).count c)
+count-append peer fs [] ys c = refl
+count-append peer fs (x ∷ xs) ys c = count-append peer (after_event peer fs x).folders xs ys ((after_event peer fs x).count c)
+
+-- the pieces that are fed after ids were opened
+feed_session : (v opened : View) (o : OnlyOpens v opened) (piece : List ℕ) (moment : ℕ)
+    → (run v (o.acts ++ Feeds piece moment ∷ [])).session ≡ (fed opened piece moment).session
+unfolding run
+feed_session v opened o piece moment =
+    run_session-append v o.acts (Feeds piece moment ∷ []) ∙ ap (λ (w : View). (fed w piece moment).session) (sym o.session)
+
+feed_events : (v opened : View) (o : OnlyOpens v opened) (piece : List ℕ) (moment : ℕ)
+    → (run v (o.acts ++ Feeds piece moment ∷ [])).events ≡ (fed opened piece moment).events
+unfolding run
+feed_events v opened o piece moment =
+    run_events-append v o.acts (Feeds piece moment ∷ []) ∙ ap (λ l. l ++ ((fed (run v o.acts).session piece moment).events ++ [])) o.events
+    ∙ append-nil (fed (run v o.acts).session piece moment).events ∙ ap (λ (w : View). (fed w piece moment).events) (sym o.session)
+
+feed_bytes : (v opened : View) (o : OnlyOpens v opened) (piece : List ℕ) (moment : ℕ) → fed_of (o.acts ++ Feeds piece moment ∷ []) ≡ piece
+feed_bytes v opened o piece moment = fed_of-append o.acts (Feeds piece moment ∷ []) ∙ ap (λ l. l ++ (piece ++ [])) o.bytes ∙ append-nil piece
+
+module _ {W F : Type 0} (view : W → CallerView) (folder : W → F) where
+  heard_together : GoTogether → (peer : Identity) (xs ys : List Event) (olds mids news : List (PeerFolder W)) (counts before later : ReaderCounts)
+      → HasHeardAll view folder peer xs olds counts mids before → HasHeardAll view folder peer ys mids before news later
+      → HasHeardAll view folder peer (xs ++ ys) olds counts news later
+  heard_together together peer xs ys olds mids news counts before later a b =
+      let fs = map heard_of olds in
+      let now = after_events peer fs xs in
+      let same : map heard_of mids ≡ now.folders = a.heard in
+      let then = after_events peer now.folders ys in
+      let more = subst (λ l. AsksEach view folder 0 (map applied (after_events peer l ys).made) mids news) same b.asks in
+      record {
+        heard = b.heard ∙ ap (λ l. (after_events peer l ys).folders) same ∙ sym (folders-append peer fs xs ys);
+        asks = subst (λ l. AsksEach view folder 0 l olds news) (sym (ap (map applied) (made-append peer fs xs ys) ∙ map-append applied now.made then.made))
+            (each_together view folder together 0 (map applied now.made) (map applied then.made) olds mids news a.asks more);
+        counts_are = b.counts_are ∙ ap (λ l. (after_events peer l ys).count before) same ∙ ap (λ c. then.count c) a.counts_are ∙ sym (count-append peer fs xs ys counts);
+      }
+
+  stops_together : GoTogether → (peer : Identity) (xs ys : List Event) (olds mids news : List (PeerFolder W)) (counts before later : ReaderCounts) (why : ReaderStop)
+      → HasHeardAll view folder peer xs olds counts mids before → StopsIn view folder peer ys mids before why news later
+      → StopsIn view folder peer (xs ++ ys) olds counts why news later
+  stops_together together peer xs ys olds mids news counts before later why a s =
+      record {
+        before = xs ++ s.before;
+        event = s.event;
+        after = s.after;
+        divided = ap (λ l. xs ++ l) s.divided ∙ sym (append_assoc xs s.before (s.event ∷ s.after));
+        mids = s.mids;
+        counts_before = s.counts_before;
+        heard = heard_together together peer xs s.before olds mids s.mids counts before s.counts_before a s.heard;
+        stops = s.stops;
+      }
+
+  -- all that was read was heard
+  pub record IsSoFar (peer : Identity) (given left : Option (List ℕ)) (session : View) (olds news : List (PeerFolder W)) (counts : ReaderCounts) : Type 0 where
+    pub moment : ℕ
+    pub acts : List Act
+    pub taken : Consumes given left (fed_of acts)
+    pub session_is : session ≡ (run (begun moment) acts).session
+    pub heard : HasHeardAll view folder peer (run (begun moment) acts).events olds no_counts news counts
+
+  pub at_first : (peer : Identity) (given : Option (List ℕ)) (moment : ℕ) (session : View) (olds : List (PeerFolder W)) (counts : ReaderCounts)
+      → Consumes given given [] → session ≡ begun moment → counts ≡ no_counts → IsSoFar peer given given session olds olds counts
+  unfolding run
+  at_first peer given moment session olds counts none e c =
+      record {
+        moment = moment;
+        acts = [];
+        taken = none;
+        session_is = e;
+        heard = subst (λ (x : ReaderCounts). HasHeardAll view folder peer [] olds no_counts olds x) (sym c) (heard_no_event view folder peer olds no_counts);
+      }
+
+  -- nothing more was read
+  pub no_more : (peer : Identity) (given left now : Option (List ℕ)) (session : View) (olds news : List (PeerFolder W)) (counts : ReaderCounts)
+      → IsSoFar peer given left session olds news counts → Keeps left now → IsSoFar peer given now session olds news counts
+  no_more peer given left now session olds news counts a kept =
+      record {
+        moment = a.moment;
+        acts = a.acts;
+        taken = Consumes-kept given left now (fed_of a.acts) a.taken kept;
+        session_is = a.session_is;
+        heard = a.heard;
+      }
+
+  pub at_end : (peer : Identity) (given left now : Option (List ℕ)) (session : View) (olds news : List (PeerFolder W)) (counts : ReaderCounts)
+      → IsSoFar peer given left session olds news counts → Consumes left now [] → ReadsAll view folder peer given now [] olds news counts
+  at_end peer given left now session olds news counts a none =
+      record { moment = a.moment; acts = a.acts; taken = Consumes-trans given left now (fed_of a.acts) [] a.taken none; heard = a.heard }
+
+  pub one_piece : GoTogether → (peer : Identity) (given left now : Option (List ℕ)) (session after : View) (olds mids news : List (PeerFolder W)) (counts later : ReaderCounts) (piece : List ℕ) (moment : ℕ)
+      → IsSoFar peer given left session olds mids counts → Consumes left now piece → HearsPiece view folder peer session mids counts piece moment after news later
+      → IsSoFar peer given now after olds news later
+  one_piece together peer given left now session after olds mids news counts later piece moment a taken h =
+      let more = h.opens.acts ++ Feeds piece moment ∷ [] in
+      let start = begun a.moment in
+      let events : (run start (a.acts ++ more)).events ≡ (run start a.acts).events ++ (fed h.opened piece moment).events
+      = run_events-append start a.acts more ∙ ap (λ (v : View). (run start a.acts).events ++ (run v more).events) (sym a.session_is)
+      ∙ ap (λ l. (run start a.acts).events ++ l) (feed_events session h.opened h.opens piece moment) in
+      record {
+        moment = a.moment;
+        acts = a.acts ++ more;
+        taken = subst (λ l. Consumes given now l) (sym (fed_of-append a.acts more ∙ ap (λ l. fed_of a.acts ++ l) (feed_bytes session h.opened h.opens piece moment)))
+            (Consumes-trans given left now (fed_of a.acts) piece a.taken taken);
+        session_is = h.after_is ∙ sym (run_session-append start a.acts more ∙ ap (λ (v : View). (run v more).session) (sym a.session_is) ∙ feed_session session h.opened h.opens piece moment);
+        heard = subst (λ l. HasHeardAll view folder peer l olds no_counts news later) (sym events)
+            (heard_together together peer (run start a.acts).events (fed h.opened piece moment).events olds mids news no_counts counts later a.heard h.heard);
+      }
+
+  -- ---- how it ends
+
+  pub reads_all : (peer : Identity) (given left : Option (List ℕ)) (session : View) (olds news : List (PeerFolder W)) (counts : ReaderCounts)
+      → IsSoFar peer given left session olds news counts → ReadsAll view folder peer given left [] olds news counts
+  reads_all peer given left session olds news counts a =
+      record { moment = a.moment; acts = a.acts; taken = subst (λ l. Consumes given left l) (sym (append-nil (fed_of a.acts))) a.taken; heard = a.heard }
+
+  lost_piece : (peer : Identity) (given left now : Option (List ℕ)) (session : View) (olds news : List (PeerFolder W)) (counts : ReaderCounts) (piece : List ℕ)
+      → IsSoFar peer given left session olds news counts → Consumes left now piece → ReadsAll view folder peer given now piece olds news counts
+  lost_piece peer given left now session olds news counts piece a taken =
+      record { moment = a.moment; acts = a.acts; taken = Consumes-trans given left now (fed_of a.acts) piece a.taken taken; heard = a.heard }
+
+  up_to : GoTogether → (peer : Identity) (given left now : Option (List ℕ)) (session opened : View) (olds mids news : List (PeerFolder W)) (counts later : ReaderCounts) (piece : List ℕ) (moment : ℕ) (why : ReaderStop)
+      → IsSoFar peer given left session olds mids counts → Consumes left now piece → OnlyOpens session opened → StopsIn view folder peer (fed opened piece moment).events mids counts why news later
+      → ReadsUpTo view folder peer given now olds why news later
+  up_to together peer given left now session opened olds mids news counts later piece moment why a taken o s =
+      let more = o.acts ++ Feeds piece moment ∷ [] in
+      let start = begun a.moment in
+      let events : (run start (a.acts ++ more)).events ≡ (run start a.acts).events ++ (fed opened piece moment).events
+      = run_events-append start a.acts more ∙ ap (λ (v : View). (run start a.acts).events ++ (run v more).events) (sym a.session_is)
+      ∙ ap (λ l. (run start a.acts).events ++ l) (feed_events session opened o piece moment) in
+      record {
+        moment = a.moment;
+        acts = a.acts ++ more;
+        taken = subst (λ l. Consumes given now l) (sym (fed_of-append a.acts more ∙ ap (λ l. fed_of a.acts ++ l) (feed_bytes session opened o piece moment)))
+            (Consumes-trans given left now (fed_of a.acts) piece a.taken taken);
+        stops = subst (λ l. StopsIn view folder peer l olds no_counts why news later) (sym events)
+            (stops_together together peer (run start a.acts).events (fed opened piece moment).events olds mids news no_counts counts later why a.heard s);
+      }
+
+  stops_to : (peer : Identity) (given now : Option (List ℕ)) (olds news : List (PeerFolder W)) (later : ReaderCounts) (why : ReaderStop)
+      → ReadsUpTo view folder peer given now olds why news later → ReadsTo view folder peer given now olds why news later
+  stops_to peer given now olds news later stop.InputEnded u = absurd u.stops.stops
+  stops_to peer given now olds news later (stop.Read kind) u = absurd u.stops.stops
+  stops_to peer given now olds news later stop.TimedOut u = absurd u.stops.stops
+  stops_to peer given now olds news later (stop.Closed reason) u = u
+  stops_to peer given now olds news later (stop.Fault fault) u = u
+  stops_to peer given now olds news later stop.HistoryFull u = u
+  stops_to peer given now olds news later stop.OutOfMemory u = inr u
+
+  pub piece_stops : GoTogether → (peer : Identity) (given left now : Option (List ℕ)) (session : View) (olds mids news : List (PeerFolder W)) (counts later : ReaderCounts) (piece : List ℕ) (moment : ℕ) (why : ReaderStop)
+      → IsSoFar peer given left session olds mids counts → Consumes left now piece → StopsInPiece view folder peer session mids counts piece moment why news later
+      → ReadsTo view folder peer given now olds why news later
+  piece_stops together peer given left now session olds mids news counts later piece moment why a taken (inl s) =
+      stops_to peer given now olds news later why (up_to together peer given left now session s.0 olds mids news counts later piece moment why a taken s.1 s.2)
+  piece_stops together peer given left now session olds mids news counts later piece moment why a taken (inr s) =
+      subst (λ (w : ReaderStop). ReadsTo view folder peer given now olds w news later) (sym s.0)
+      (inl (
+        piece,
+        subst (λ (x : List (PeerFolder W) × ReaderCounts). ReadsAll view folder peer given now piece olds x.0 x.1) (λ i. (sym s.1 i, sym s.2 i))
+            (lost_piece peer given left now session olds mids counts piece a taken),
+      ))
+
+  -- the same of values that are equal
+  pub same_so_far : (peer : Identity) (given left : Option (List ℕ)) (v w : View) (olds ms ns : List (PeerFolder W)) (c d : ReaderCounts)
+      → w ≡ v → ns ≡ ms → d ≡ c → IsSoFar peer given left v olds ms c → IsSoFar peer given left w olds ns d
+  same_so_far peer given left v w olds ms ns c d e f h a =
+      subst (λ (x : View). IsSoFar peer given left x olds ns d) (sym e)
+      (subst (λ (x : List (PeerFolder W)). IsSoFar peer given left v olds x d) (sym f) (subst (λ (x : ReaderCounts). IsSoFar peer given left v olds ms x) (sym h) a))

@@ -1,0 +1,74 @@
+use Rattle.std.proofs.Common.{◌≡◌, ◌<◌, [], ℕ, take, length, inl, rules, refl, subst, arith}
+use Rattle.std.specs.Io.KnownBytes.{Consumes}
+use Rattle.std.proofs.KnownBytes.{Consumes-nil}
+use Rattle.std.proofs.lemmas.Result.{err_from_is_err_and}
+use Rattle.bep_session.specs.Sessions.{begun}
+use Rattle.peer_reader.proofs.EachLemmas.{each_apart}
+use Rattle.peer_reader.proofs.ReadingLemmas.{openings}
+use Rattle.peer_reader.proofs.SoFarLemmas.{at_end, at_first, no_more, one_piece, piece_stops, reads_all, same_so_far}
+use Rattle.peer_reader.proofs.reading.read_all.Goals as goal
+use Rattle.peer_reader.proofs.reading.read_all.Goals.{in-Ok+in_ok-hear_piece-in-Ok, in-Err+else-not-is_for_now}
+
+pub returns-in_err-bytes-clause-stopped : goal.returns-in_err-bytes-clause-stopped
+returns-in_err-bytes-clause-stopped g c =
+    let p = err_from_is_err_and c.from_residual.result c.from_residual.ensures.1 in
+    let first = at_first g.W.FolderCalls.view g.W.FolderCalls.folder c.args.peer (g.I.Read.remaining c.args.reader.now) 0 (begun 0) c.args.folders.now c.args.counts.now (Consumes-nil (g.I.Read.remaining c.args.reader.now)) refl c.requires.none in
+    rw (p.1, p.2) (inl ([], reads_all g.W.FolderCalls.view g.W.FolderCalls.folder c.args.peer (g.I.Read.remaining c.args.reader.now) (g.I.Read.remaining c.args.reader.now) (begun 0) c.args.folders.now c.args.folders.now c.args.counts.now first))
+
+pub loop-init : goal.loop-init
+loop-init g c = at_first g.W.FolderCalls.view g.W.FolderCalls.folder c.args.peer (g.I.Read.remaining c.args.reader.now) _ c.new-session.result c.args.folders.now c.args.counts.now (Consumes-nil (g.I.Read.remaining c.args.reader.now)) c.new-session.ensures c.requires.none
+
+pub returns-in-Ok-eq0-clause-ended : goal.returns-in-Ok-eq0-clause-ended
+returns-in-Ok-eq0-clause-ended g c =
+    let none : c.in-Ok-eq0.field-0 ≡ 0 = search (rules, c.in-Ok-eq0.field-0-test) in
+    let room : 0 < length c.read.new.buf = omega arith in (
+      at_end g.W.FolderCalls.view g.W.FolderCalls.folder c.args.peer (g.I.Read.remaining c.args.reader.now) (g.I.Read.remaining c.loop.reader) (g.I.Read.remaining c.read.new.self) c.loop.session c.args.folders.now c.loop.folders c.loop.counts c.loop.invariant
+          (subst (λ (n : ℕ). Consumes (g.I.Read.remaining c.loop.reader) (g.I.Read.remaining c.read.new.self) (take n c.read.new.buf)) none c.in-Ok-eq0.ensures.bytes.0),
+      c.in-Ok-eq0.ensures.bytes.1 none room,
+    )
+
+pub hear_piece-requires : goal.hear_piece-requires
+hear_piece-requires g c =
+    each_apart g.W.FolderCalls.view g.W.FolderCalls.folder (openings c.changes_are_asked_in_order.ensures.adds) c.args.peer 0 _ c.args.folders.now c.loop.folders
+    c.loop.invariant.heard.asks c.requires.apart
+
+pub returns-in_err-hear_piece-in-Ok-clause-stopped : goal.returns-in_err-hear_piece-in-Ok-clause-stopped
+returns-in_err-hear_piece-in-Ok-clause-stopped g c =
+    let p = err_from_is_err_and c.from_residual-in_err-hear_piece-in-Ok.result c.from_residual-in_err-hear_piece-in-Ok.ensures.1 in
+    rw (p.1, p.2) (piece_stops g.W.FolderCalls.view g.W.FolderCalls.folder c.changes_are_asked_in_order.ensures.together c.args.peer (g.I.Read.remaining c.args.reader.now) (g.I.Read.remaining c.loop.reader) (g.I.Read.remaining c.read.new.self)
+    c.loop.session c.args.folders.now c.loop.folders c.hear_piece.new.folders c.loop.counts c.hear_piece.new.counts _ _ c.in_err-hear_piece-in-Ok.field-0.0 c.loop.invariant c.in-Ok.ensures.bytes.0 c.in_err-hear_piece-in-Ok.ensures.stopped)
+
+pub returns-then-not-is_for_now-clause-ended : goal.returns-then-not-is_for_now-clause-ended
+returns-then-not-is_for_now-clause-ended g c =
+    reads_all g.W.FolderCalls.view g.W.FolderCalls.folder c.args.peer (g.I.Read.remaining c.args.reader.now) (g.I.Read.remaining c.read.new.self) c.loop.session c.args.folders.now c.loop.folders c.loop.counts
+    (no_more g.W.FolderCalls.view g.W.FolderCalls.folder c.args.peer (g.I.Read.remaining c.args.reader.now) (g.I.Read.remaining c.loop.reader) (g.I.Read.remaining c.read.new.self) c.loop.session c.args.folders.now c.loop.folders c.loop.counts c.loop.invariant c.in-Err.ensures.bytes)
+
+pub returns-then-eq-clause-ended : goal.returns-then-eq-clause-ended
+returns-then-eq-clause-ended g c =
+    reads_all g.W.FolderCalls.view g.W.FolderCalls.folder c.args.peer (g.I.Read.remaining c.args.reader.now) (g.I.Read.remaining c.read.new.self) c.match-read.session c.args.folders.now c.match-read.folders c.match-read.counts
+    (elim c.match-read.branch [
+      | in-Ok+in_ok-hear_piece-in-Ok w ↦
+          same_so_far g.W.FolderCalls.view g.W.FolderCalls.folder c.args.peer (g.I.Read.remaining c.args.reader.now) (g.I.Read.remaining c.read.new.self) w.hear_piece.new.session c.match-read.session c.args.folders.now
+          w.hear_piece.new.folders c.match-read.folders w.hear_piece.new.counts c.match-read.counts w.session-is w.folders-is w.counts-is
+          (one_piece g.W.FolderCalls.view g.W.FolderCalls.folder c.changes_are_asked_in_order.ensures.together c.args.peer (g.I.Read.remaining c.args.reader.now) (g.I.Read.remaining c.loop.reader) (g.I.Read.remaining c.read.new.self)
+          c.loop.session w.hear_piece.new.session c.args.folders.now c.loop.folders w.hear_piece.new.folders c.loop.counts w.hear_piece.new.counts _ _ c.loop.invariant w.in-Ok.ensures.bytes.0 w.in_ok-hear_piece-in-Ok.ensures.heard)
+      | in-Err+else-not-is_for_now w ↦
+          same_so_far g.W.FolderCalls.view g.W.FolderCalls.folder c.args.peer (g.I.Read.remaining c.args.reader.now) (g.I.Read.remaining c.read.new.self) c.loop.session c.match-read.session c.args.folders.now
+          c.loop.folders c.match-read.folders c.loop.counts c.match-read.counts w.session-is w.folders-is w.counts-is
+          (no_more g.W.FolderCalls.view g.W.FolderCalls.folder c.args.peer (g.I.Read.remaining c.args.reader.now) (g.I.Read.remaining c.loop.reader) (g.I.Read.remaining c.read.new.self) c.loop.session c.args.folders.now c.loop.folders c.loop.counts
+          c.loop.invariant w.in-Err.ensures.bytes)
+    ])
+
+pub loop-preserved : goal.loop-preserved
+loop-preserved g c = elim c.match-read.branch [
+  | in-Ok+in_ok-hear_piece-in-Ok w ↦
+      same_so_far g.W.FolderCalls.view g.W.FolderCalls.folder c.args.peer (g.I.Read.remaining c.args.reader.now) (g.I.Read.remaining c.read.new.self) w.hear_piece.new.session c.match-read.session c.args.folders.now
+      w.hear_piece.new.folders c.match-read.folders w.hear_piece.new.counts c.match-read.counts w.session-is w.folders-is w.counts-is
+      (one_piece g.W.FolderCalls.view g.W.FolderCalls.folder c.changes_are_asked_in_order.ensures.together c.args.peer (g.I.Read.remaining c.args.reader.now) (g.I.Read.remaining c.loop.reader) (g.I.Read.remaining c.read.new.self)
+      c.loop.session w.hear_piece.new.session c.args.folders.now c.loop.folders w.hear_piece.new.folders c.loop.counts w.hear_piece.new.counts _ _ c.loop.invariant w.in-Ok.ensures.bytes.0 w.in_ok-hear_piece-in-Ok.ensures.heard)
+  | in-Err+else-not-is_for_now w ↦
+      same_so_far g.W.FolderCalls.view g.W.FolderCalls.folder c.args.peer (g.I.Read.remaining c.args.reader.now) (g.I.Read.remaining c.read.new.self) c.loop.session c.match-read.session c.args.folders.now
+      c.loop.folders c.match-read.folders c.loop.counts c.match-read.counts w.session-is w.folders-is w.counts-is
+      (no_more g.W.FolderCalls.view g.W.FolderCalls.folder c.args.peer (g.I.Read.remaining c.args.reader.now) (g.I.Read.remaining c.loop.reader) (g.I.Read.remaining c.read.new.self) c.loop.session c.args.folders.now c.loop.folders c.loop.counts
+      c.loop.invariant w.in-Err.ensures.bytes)
+]

@@ -1,0 +1,417 @@
+//! What a scan of all names reads ahead of the changes.
+ghost use Rattle.std.specs.Prelude.{◌≡◌, ◌≢◌, ◌<◌, ◌≤◌, ◌^◌, [], ◌∷◌, ℕ, IfErr, IfOk, IsTrue, List, OnOk, length, map, false, option_copied, take, true};
+ghost use mathlib.Core.List.{IsPrefix};
+ghost use Rattle.std.specs.List.{AllZip};
+ghost use Rattle.file_store.specs.Calls.{stat_of};
+ghost use Rattle.file_store.specs.Trees.{Tree, bytes_of};
+ghost use Rattle.folder_calls.specs.Shared.{CallerView, Sees};
+ghost use Rattle.sync_blocks.specs.Sizes.{block_size_for};
+ghost use Rattle.sync_record.specs.Records.{Name};
+ghost use Rattle.sync_scan.specs.Ahead.{AreSeen, HasBlocks, HasBytes, IsSeen, SightIs, cut_block};
+ghost use Rattle.sync_scan.specs.Looks.{MayFind};
+ghost use Rattle.sync_scan.specs.Scans.{GoesOn};
+ghost use Rattle.sync_scan.specs.declared.scanned.Look.TheVariants.{Changing};
+ghost use Rattle.sync_scan.specs.Told.{Fails, ReadsOther, ReadsWhole, Says};
+
+use crate::cuts::{Cut, hash_cuts, push_cuts};
+use crate::looking::recorded_block_size;
+use file_store::{FileStore, Gate, GatePlace, Listed, Stat, StoreRefusal, read_full};
+use folder_calls::FolderCalls;
+use std::alloc::{AllocError, Global};
+use std::collections::VecDeque;
+use std::thread::Threads;
+use sync_blocks::{Block, block_size_for};
+use sync_names::SafeName;
+use sync_record::Record;
+use sync_version::Moment;
+
+/// So many names are looked at before the changes of the first of them.
+const MAX_NAMES: usize = 256;
+
+/// As many bytes of files are read before the changes of the first of them.
+const MAX_BYTES: usize = 64 * 1024 * 1024;
+
+/// A larger file waits for its turn.
+const MAX_PART: usize = 8 * 1024 * 1024;
+
+/// Where the content of a file is among what was read of several, and its first block among theirs.
+#[derive(Clone, Copy, Debug, PartialEq, Eq)]
+pub(crate) struct Part {
+    pub(crate) start: usize,
+    pub(crate) size: usize,
+    pub(crate) modified: Moment,
+    pub(crate) first: usize,
+}
+
+/// What was seen of a name ahead of its change.
+#[derive(Debug, Drop)]
+pub(crate) enum Sight {
+    /// A file, which was read.
+    Read(Part),
+    /// A file whose size changed while it was read.
+    Changing,
+    /// The store failed, or memory is out.
+    Failed(StoreRefusal),
+    /// It is looked at when its turn comes.
+    Later,
+}
+
+/// What was seen of a name ahead of its change, after its local record was read.
+#[derive(Debug, Drop)]
+pub(crate) struct Seen {
+    pub(crate) local: Option<Record>,
+    pub(crate) sight: Sight,
+}
+
+/// What was read ahead of the next names, with the blocks of their files.
+#[derive(Debug, Drop)]
+pub(crate) struct Ahead {
+    pub(crate) seen: VecDeque<Seen>,
+    pub(crate) blocks: Vec<Block>,
+}
+
+impl Ahead {
+    ghost use Rattle.std.specs.Prelude.{◌≡◌, []};
+
+    /// Of no name.
+    pub(crate) fn none(alloc: Global) -> Ahead
+        ensures { result.seen.items ≡ [] }
+    {
+        Ahead {
+            seen: VecDeque::new(alloc),
+            blocks: Vec::new(alloc),
+        }
+    }
+}
+
+/// What was seen of the first of these names, the others of which may have been seen too. Where none was seen, it reads ahead.
+pub(crate) fn next_seen<S: FileStore, W: FolderCalls, G: Gate>(
+    rt: &(impl Threads + Sync),
+    alloc: Global,
+    store: &mut S,
+    calls: &mut W,
+    gate: &G,
+    entries: &[Listed],
+    ahead: &mut Ahead,
+    buffer: &mut Vec<u8>,
+) -> Seen
+    ensures folder { W.folder calls.new ≡ W.folder calls.old }
+    ensures sees { Sees (W.view calls.old) (W.view calls.new) }
+    ensures seen { (first : CallerView) (tree : Tree) (n : Name) (rest : List Name) →
+        GoesOn first (W.view calls.old) → (IsTrue S.keeps → S.tree store.old ≡ tree) →
+        map (λ e. e.name) entries.now ≡ n ∷ rest →
+        AreSeen ahead.old first (W.view calls.old) (MayFind S.gives (IsTrue S.keeps) tree) (Fails S.gives) (n ∷ rest) →
+        IsSeen (HasBlocks ahead.new.blocks.items) first (W.view calls.new)
+        (MayFind S.gives (IsTrue S.keeps) tree) (Fails S.gives) n result
+        × AreSeen ahead.new first (W.view calls.new) (MayFind S.gives (IsTrue S.keeps) tree) (Fails S.gives) rest }
+    ensures kept { S.keeps ≡ true → S.tree store.new ≡ S.tree store.old }
+{
+    fill_ahead(rt, alloc, store, calls, gate, entries, ahead, buffer);
+    match ahead.seen.pop_front() {
+        Some(seen) => seen,
+        None => Seen {
+            local: None,
+            sight: Sight::Later,
+        },
+    }
+}
+
+// Reads ahead of these names, unless some of them were seen.
+fn fill_ahead<S: FileStore, W: FolderCalls, G: Gate>(
+    rt: &(impl Threads + Sync),
+    alloc: Global,
+    store: &mut S,
+    calls: &mut W,
+    gate: &G,
+    entries: &[Listed],
+    ahead: &mut Ahead,
+    buffer: &mut Vec<u8>,
+)
+    ensures folder { W.folder calls.new ≡ W.folder calls.old }
+    ensures sees { Sees (W.view calls.old) (W.view calls.new) }
+    ensures seen { (first : CallerView) (tree : Tree) →
+        GoesOn first (W.view calls.old) → (IsTrue S.keeps → S.tree store.old ≡ tree) →
+        AreSeen ahead.old first (W.view calls.old) (MayFind S.gives (IsTrue S.keeps) tree) (Fails S.gives)
+        (map (λ e. e.name) entries.now) →
+        AreSeen ahead.new first (W.view calls.new) (MayFind S.gives (IsTrue S.keeps) tree) (Fails S.gives)
+        (map (λ e. e.name) entries.now) }
+    ensures kept { S.keeps ≡ true → S.tree store.new ≡ S.tree store.old }
+{
+    if !ahead.seen.is_empty() {
+        return;
+    }
+    *ahead = look_ahead(rt, alloc, store, calls, gate, entries, buffer);
+}
+
+/// Reads ahead of the changes of these names, and hashes their files side by side: up to 64 MiB of files of up to 8 MiB, and up
+/// to 256 names. What is out of memory is left for the turn of its name.
+pub(crate) fn look_ahead<S: FileStore, W: FolderCalls, G: Gate>(
+    rt: &(impl Threads + Sync),
+    alloc: Global,
+    store: &mut S,
+    calls: &mut W,
+    gate: &G,
+    entries: &[Listed],
+    buffer: &mut Vec<u8>,
+) -> Ahead
+    ensures folder { W.folder calls.new ≡ W.folder calls.old }
+    ensures sees { Sees (W.view calls.old) (W.view calls.new) }
+    ensures seen { AreSeen result (W.view calls.old) (W.view calls.new)
+        (MayFind S.gives (IsTrue S.keeps) (S.tree store.old)) (Fails S.gives)
+        (map (λ e. e.name) entries.now) }
+    ensures kept { S.keeps ≡ true → S.tree store.new ≡ S.tree store.old }
+{
+    let mut cuts = Vec::new(alloc);
+    let mut filled = 0;
+    let Ok(seen) = read_ahead(
+        alloc,
+        store,
+        calls,
+        gate,
+        entries,
+        buffer,
+        &mut cuts,
+        &mut filled,
+    ) else {
+        return Ahead::none(alloc);
+    };
+    match hash_read(rt, alloc, gate, &buffer[..filled], &cuts) {
+        Ok(blocks) => Ahead { seen, blocks },
+        Err(AllocError) => Ahead::none(alloc),
+    }
+}
+
+// The blocks that the cuts stand for, in order. Of no cut the gate is not passed.
+fn hash_read<G: Gate>(
+    rt: &(impl Threads + Sync),
+    alloc: Global,
+    gate: &G,
+    bytes: &[u8],
+    cuts: &[Cut],
+) -> Result<Vec<Block>, AllocError>
+    ensures { IfOk result (λ v. v.items ≡ map (cut_block bytes.now) cuts.now) }
+{
+    if cuts.is_empty() {
+        return Ok(Vec::new(alloc));
+    }
+    gate.at(GatePlace::Digest);
+    hash_cuts(rt, alloc, bytes, cuts)
+}
+
+// Reads ahead of these names.
+fn read_ahead<S: FileStore, W: FolderCalls, G: Gate>(
+    alloc: Global,
+    store: &mut S,
+    calls: &mut W,
+    gate: &G,
+    entries: &[Listed],
+    buffer: &mut Vec<u8>,
+    cuts: &mut Vec<Cut>,
+    filled: &mut usize,
+) -> Result<VecDeque<Seen>, AllocError>
+    requires empty { filled.old ≡ 0 }
+    ensures folder { W.folder calls.new ≡ W.folder calls.old }
+    ensures sees { Sees (W.view calls.old) (W.view calls.new) }
+    ensures within { IfOk result (λ _. filled.new ≤ length buffer.new.items) }
+    ensures seen { IfOk result (λ seen. (k : ℕ) × AllZip (IsSeen (HasBytes (take filled.new buffer.new.items) cuts.new.items)
+        (W.view calls.old) (W.view calls.new)
+        (MayFind S.gives (IsTrue S.keeps) (S.tree store.old)) (Fails S.gives))
+        (take k (map (λ e. e.name) entries.now)) seen.items) }
+    ensures kept { S.keeps ≡ true → S.tree store.new ≡ S.tree store.old }
+{
+    let mut seen = VecDeque::with_capacity(alloc, MAX_NAMES)?;
+    for entry in entries {
+        if seen.len() == MAX_NAMES || *filled > MAX_BYTES - MAX_PART {
+            return Ok(seen);
+        }
+        let next = see(store, calls, gate, &entry.name, buffer, cuts, filled)?;
+        seen.push_back(next)?;
+    }
+    Ok(seen)
+}
+
+// Reads the local record of a name, and then what is there.
+fn see<S: FileStore, W: FolderCalls, G: Gate>(
+    store: &mut S,
+    calls: &mut W,
+    gate: &G,
+    name: &SafeName,
+    buffer: &mut Vec<u8>,
+    cuts: &mut Vec<Cut>,
+    filled: &mut usize,
+) -> Result<Seen, AllocError>
+    requires within { filled.old ≤ length buffer.old.items }
+    requires room { filled.old ≤ 2 ^ 26 }
+    ensures folder { W.folder calls.new ≡ W.folder calls.old }
+    ensures sees { Sees (W.view calls.old) (W.view calls.new) }
+    ensures within { IfOk result (λ _. filled.new ≤ length buffer.new.items) }
+    ensures bytes { IfOk result (λ _. IsPrefix (take filled.old buffer.old.items) (take filled.new buffer.new.items)) }
+    ensures cuts { IfOk result (λ _. IsPrefix cuts.old.items cuts.new.items) }
+    ensures seen { IfOk result (IsSeen (HasBytes (take filled.new buffer.new.items) cuts.new.items)
+        (W.view calls.old) (W.view calls.new)
+        (MayFind S.gives (IsTrue S.keeps) (S.tree store.old)) (Fails S.gives) name.now) }
+    ensures kept { S.keeps ≡ true → S.tree store.new ≡ S.tree store.old }
+{
+    gate.at(GatePlace::FolderCall);
+    let local = calls.local(name)?.value;
+    let sight = sight_of(store, gate, name, local.as_ref(), buffer, cuts, filled)?;
+    Ok(Seen { local, sight })
+}
+
+// What is at a name. A file of up to 8 MiB is read, unless it is to be cut by another block size than that of new files.
+fn sight_of<S: FileStore, G: Gate>(
+    store: &mut S,
+    gate: &G,
+    name: &SafeName,
+    local: Option<&Record>,
+    buffer: &mut Vec<u8>,
+    cuts: &mut Vec<Cut>,
+    filled: &mut usize,
+) -> Result<Sight, AllocError>
+    requires within { filled.old ≤ length buffer.old.items }
+    requires room { filled.old ≤ 2 ^ 26 }
+    ensures within { IfOk result (λ _. filled.new ≤ length buffer.new.items) }
+    ensures bytes { IfOk result (λ _. IsPrefix (take filled.old buffer.old.items) (take filled.new buffer.new.items)) }
+    ensures cuts { IfOk result (λ _. IsPrefix cuts.old.items cuts.new.items) }
+    ensures sight { IfOk result (SightIs (HasBytes (take filled.new buffer.new.items) cuts.new.items)
+        (MayFind S.gives (IsTrue S.keeps) (S.tree store.old) name.now (option_copied local.entry))
+        (Fails S.gives name.now)) }
+    ensures kept { S.keeps ≡ true → S.tree store.new ≡ S.tree store.old }
+{
+    gate.at(GatePlace::StoreRead);
+    match store.stat(name) {
+        Ok(stat) => sight_of_file(store, gate, name, local, stat, buffer, cuts, filled),
+        Err(refusal) => Ok(Sight::Failed(refusal)),
+    }
+}
+
+// What was said to be at a name. A file is read if it has up to 8 MiB and is to be cut by the block size of new files.
+fn sight_of_file<S: FileStore, G: Gate>(
+    store: &mut S,
+    gate: &G,
+    name: &SafeName,
+    local: Option<&Record>,
+    stat: Stat,
+    buffer: &mut Vec<u8>,
+    cuts: &mut Vec<Cut>,
+    filled: &mut usize,
+) -> Result<Sight, AllocError>
+    requires within { filled.old ≤ length buffer.old.items }
+    requires room { filled.old ≤ 2 ^ 26 }
+    ensures within { IfOk result (λ _. filled.new ≤ length buffer.new.items) }
+    ensures bytes { IfOk result (λ _. IsPrefix (take filled.old buffer.old.items) (take filled.new buffer.new.items)) }
+    ensures cuts { IfOk result (λ _. IsPrefix cuts.old.items cuts.new.items) }
+    ensures sight { Says S.gives name.now stat →
+        (IsTrue S.keeps → stat ≡ stat_of ((S.tree store.old).names name.now)) →
+        IfOk result (SightIs (HasBytes (take filled.new buffer.new.items) cuts.new.items)
+        (MayFind S.gives (IsTrue S.keeps) (S.tree store.old) name.now (option_copied local.entry))
+        (Fails S.gives name.now)) }
+    ensures kept { S.keeps ≡ true → S.tree store.new ≡ S.tree store.old }
+{
+    let Stat::File(size, modified) = stat else {
+        return Ok(Sight::Later);
+    };
+    let own = block_size_for(size);
+    if size > MAX_PART as u64 {
+        return Ok(Sight::Later);
+    }
+    if recorded_block_size(local, size).unwrap_or(own) != own {
+        return Ok(Sight::Later);
+    }
+    read_part(
+        store,
+        gate,
+        name,
+        size as usize,
+        modified,
+        own,
+        buffer,
+        cuts,
+        filled,
+    )
+}
+
+// Reads a file of this size.
+fn read_part<S: FileStore, G: Gate>(
+    store: &mut S,
+    gate: &G,
+    name: &SafeName,
+    size: usize,
+    modified: Moment,
+    block_size: u32,
+    buffer: &mut Vec<u8>,
+    cuts: &mut Vec<Cut>,
+    filled: &mut usize,
+) -> Result<Sight, AllocError>
+    requires own { block_size ≡ block_size_for size }
+    requires some { 1 ≤ block_size }
+    requires small { size ≤ 2 ^ 23 }
+    requires within { filled.old ≤ length buffer.old.items }
+    requires room { filled.old ≤ 2 ^ 26 }
+    ensures within { IfOk result (λ _. filled.new ≤ length buffer.new.items) }
+    ensures bytes { IfOk result (λ _. IsPrefix (take filled.old buffer.old.items) (take filled.new buffer.new.items)) }
+    ensures cuts { IfOk result (λ _. IsPrefix cuts.old.items cuts.new.items) }
+    ensures read { IfOk result (SightIs (λ part bytes. HasBytes (take filled.new buffer.new.items) cuts.new.items part bytes
+        × (part.size ≡ size) × (part.modified ≡ modified)
+        × ReadsWhole S.gives name.now bytes
+        × (S.keeps ≡ true → bytes ≡ bytes_of ((S.tree store.old).names name.now)))
+        (λ look. (look ≡ Changing → ReadsOther S.gives name.now size
+        × (S.keeps ≡ true → length (bytes_of ((S.tree store.old).names name.now)) ≢ size)))
+        (Fails S.gives name.now)) }
+    ensures kept { S.keeps ≡ true → S.tree store.new ≡ S.tree store.old }
+{
+    let (start, first) = (*filled, cuts.len());
+    let end = start + size;
+    grow(buffer, end)?;
+    match read_whole(store, gate, name, &mut buffer[start..end]) {
+        Ok(true) => {}
+        Ok(false) => return Ok(Sight::Changing),
+        Err(refusal) => return Ok(Sight::Failed(refusal)),
+    }
+    push_cuts(cuts, start, size, block_size)?;
+    *filled = end;
+    Ok(Sight::Read(Part {
+        start,
+        size,
+        modified,
+        first,
+    }))
+}
+
+// Adds bytes so that the buffer has so many.
+fn grow(buffer: &mut Vec<u8>, len: usize) -> Result<(), AllocError>
+    ensures grown { OnOk result (len ≤ length buffer.new.items) }
+    ensures front { OnOk result (IsPrefix buffer.old.items buffer.new.items) }
+{
+    if len <= buffer.len() {
+        return Ok(());
+    }
+    buffer.resize(len, 0)
+}
+
+// Reads a file that is as long as the buffer. Returns whether it is.
+fn read_whole<S: FileStore, G: Gate>(
+    store: &mut S,
+    gate: &G,
+    name: &SafeName,
+    part: &mut [u8],
+) -> Result<bool, StoreRefusal>
+    requires { length part.old < 2 ^ 63 }
+    ensures read { result ≡ Ok true → ReadsWhole S.gives name.now part.new }
+    ensures there { result ≡ Ok true → S.keeps ≡ true →
+        part.new ≡ bytes_of ((S.tree store.old).names name.now) }
+    ensures other { result ≡ Ok false → ReadsOther S.gives name.now (length part.old) }
+    ensures not_there { result ≡ Ok false → S.keeps ≡ true →
+        length (bytes_of ((S.tree store.old).names name.now)) ≢ length part.old }
+    ensures failed { IfErr result (Fails S.gives name.now) }
+    ensures kept { S.keeps ≡ true → S.tree store.new ≡ S.tree store.old }
+{
+    let size = part.len();
+    if read_full(store, gate, name, 0, part)? < size {
+        return Ok(false);
+    }
+    if read_full(store, gate, name, size as u64, &mut [0])? > 0 {
+        return Ok(false);
+    }
+    Ok(true)
+}
