@@ -24,7 +24,13 @@ const HISTORY_LIMIT: u64 = 10_000_000;
 
 /// Answers the commands, and runs the connections. The second and the third store are for the servers.
 pub(crate) fn run<
-    R: Clock + Input + Net<Listener = TcpListener, Stream = TcpStream> + Print + Sync + Threads + Wait,
+    R: Clock
+        + Input
+        + Net<Listener = TcpListener, Stream = TcpStream>
+        + Print
+        + Sync
+        + Threads
+        + Wait,
     S: FileStore + Drop + Send,
 >(
     rt: &R,
@@ -47,7 +53,13 @@ pub(crate) fn run<
 // The same over the folder.
 fn run_over<
     C: FolderCore + Drop + Send + Sync,
-    R: Clock + Input + Net<Listener = TcpListener, Stream = TcpStream> + Print + Sync + Threads + Wait,
+    R: Clock
+        + Input
+        + Net<Listener = TcpListener, Stream = TcpStream>
+        + Print
+        + Sync
+        + Threads
+        + Wait,
     S: FileStore + Drop + Send,
 >(
     rt: &R,
@@ -106,7 +118,13 @@ fn run_both<R, S, W>(
     here: Here<S, W>,
 ) -> io::Result<()>
 where
-    R: Clock + Input + Net<Listener = TcpListener, Stream = TcpStream> + Print + Sync + Threads + Wait,
+    R: Clock
+        + Input
+        + Net<Listener = TcpListener, Stream = TcpStream>
+        + Print
+        + Sync
+        + Threads
+        + Wait,
     S: FileStore + Drop + Send,
     W: FolderCalls + Drop + Send,
 {
@@ -121,7 +139,16 @@ where
         || run_links(rt, alloc, peer, first, &gate, book, streams, to_commands),
         || join(
             rt,
-            || run_links(rt, alloc, peer, second, &gate, book, others_streams, from_other),
+            || run_links(
+                rt,
+                alloc,
+                peer,
+                second,
+                &gate,
+                book,
+                others_streams,
+                from_other,
+            ),
             || answer_all(rt, alloc, here, &gate, to_links, reports),
         ),
     );
@@ -138,7 +165,13 @@ fn answer_all<R, S, W>(
     reports: Receiver<Report>,
 ) -> io::Result<()>
 where
-    R: Clock + Input + Net<Listener = TcpListener, Stream = TcpStream> + Print + Sync + Threads + Wait,
+    R: Clock
+        + Input
+        + Net<Listener = TcpListener, Stream = TcpStream>
+        + Print
+        + Sync
+        + Threads
+        + Wait,
     S: FileStore + Drop,
     W: FolderCalls + Drop,
 {

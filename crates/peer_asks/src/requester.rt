@@ -36,11 +36,7 @@ pub fn run_requester<R: Wait>(
 }
 
 // Puts each Request until there is a reason to end.
-fn put_all<R: Wait>(
-    rt: &R,
-    requests: &Receiver<Request>,
-    seat: &mut Seat<Message>,
-) -> RequesterEnd
+fn put_all<R: Wait>(rt: &R, requests: &Receiver<Request>, seat: &mut Seat<Message>) -> RequesterEnd
     ensures same { IsSameSeat seat.old seat.new }
     ensures put { PutsRequests (put_of seat.old) (put_of seat.new) }
 {

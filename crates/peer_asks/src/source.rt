@@ -109,7 +109,11 @@ impl<R: Wait + Clock> BlockSource for PeerSource<'_, R> {
         bytes: &mut Vec<u8>,
     ) -> Result<bool, AllocError> {
         let place = place_of(self.blocks.as_slice(), block);
-        let Some(lane) = self.lanes.iter_mut().find(|lane| lane.peer.device == device) else {
+        let Some(lane) = self
+            .lanes
+            .iter_mut()
+            .find(|lane| lane.peer.device == device)
+        else {
             return Ok(false);
         };
         let asking = Asking {
@@ -233,5 +237,9 @@ fn place_of(blocks: &[Block], block: &Block) -> Option<usize> {
     let place = blocks
         .binary_search_by(|other| other.offset.cmp(&block.offset))
         .ok()?;
-    if blocks[place] == *block { Some(place) } else { None }
+    if blocks[place] == *block {
+        Some(place)
+    } else {
+        None
+    }
 }

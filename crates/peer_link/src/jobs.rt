@@ -102,14 +102,7 @@ pub(crate) fn index<R: Clock + Wait, W: FolderCalls + Drop>(
         mut folders,
         seat,
     } = job;
-    let (seat, end) = run_indexer(
-        rt,
-        alloc,
-        config,
-        &configs,
-        folders.as_mut_slice(),
-        seat,
-    );
+    let (seat, end) = run_indexer(rt, alloc, config, &configs, folders.as_mut_slice(), seat);
     HasIndexed { seat, end, folders }
 }
 

@@ -5,9 +5,9 @@ mod end;
 mod folders;
 mod inbox;
 mod jobs;
+mod limits;
 mod line;
 mod link;
-mod limits;
 
 pub use end::LinkEnd;
 pub use folders::LinkFolders;

@@ -222,6 +222,12 @@ fn finish<R: Wait, O: Write + Drop>(
 {
     let (mut taker, mut writer) = written?;
     finish_writer(
-        rt, alloc, &mut taker, indexer, server, requester, &mut writer,
+        rt,
+        alloc,
+        &mut taker,
+        indexer,
+        server,
+        requester,
+        &mut writer,
     )
 }
