@@ -1,17 +1,19 @@
-/* Preloaded into the program worker_calls by tools/worker_runs: an allocation of 2^45 + N bytes fails, and so does the Nth one after
-   it, none for 0. One of 2^45 bytes also writes into the file COUNT how many came before it since the last such one. For programs
-   of one thread. */
+/* Preloaded into the program worker_calls by tools/worker_runs, and into link_calls by tools/link_runs: an allocation of 2^45 + N bytes
+   fails, and so does the Nth one after it, none for 0. One of 2^45 bytes also writes into the file COUNT how many came before it since the
+   last such one. With OTHERS, allocations of the thread that made such an allocation neither count nor fail. */
 #define _GNU_SOURCE
 #include <dlfcn.h>
 #include <errno.h>
 #include <fcntl.h>
+#include <stdatomic.h>
 #include <stdio.h>
 #include <stdlib.h>
 #include <unistd.h>
 
 #define MARK ((size_t)1 << 45)
 
-static size_t refuse, seen;
+static atomic_size_t refuse, seen;
+static __thread int spared;
 static void *(*next_malloc)(size_t);
 static void *(*next_realloc)(void *, size_t);
 
@@ -20,7 +22,7 @@ static void tell(void) {
     const char *path = getenv("COUNT");
     if (!path) return;
     char text[24];
-    int len = snprintf(text, sizeof text, "%zu\n", seen), file = open(path, O_WRONLY | O_CREAT | O_TRUNC, 0600);
+    int len = snprintf(text, sizeof text, "%zu\n", (size_t)seen), file = open(path, O_WRONLY | O_CREAT | O_TRUNC, 0600);
     if (file < 0 || write(file, text, len) != len) abort();
     close(file);
 }
@@ -28,9 +30,10 @@ static void tell(void) {
 static int is_refused(size_t size) {
     if (size >= MARK) {
         if (size == MARK) tell();
-        refuse = size - MARK;
         seen = 0;
-    } else if (++seen != refuse) {
+        refuse = size - MARK;
+        spared = getenv("OTHERS") != NULL;
+    } else if (spared || ++seen != refuse) {
         return 0;
     }
     errno = ENOMEM;

@@ -19,6 +19,9 @@ use std::thread::{Threads, join};
 use std::time::Clock;
 use sync_record::DeviceId;
 
+/// An allocation of so many bytes and a number fails, where the library of `tools/link_runs` is loaded, and tells it that number.
+const MARK: usize = 1 << 45;
+
 /// How many entries the folder's history takes.
 const HISTORY_LIMIT: u64 = 10_000_000;
 
@@ -129,7 +132,7 @@ where
     W: FolderCalls + Drop + Send,
 {
     let (to_links, streams) = bounded::<TcpStream, Global>(alloc, 2)?;
-    let (to_commands, reports) = bounded::<Report, Global>(alloc, 2)?;
+    let (to_commands, reports) = bounded::<Option<Report>, Global>(alloc, 2)?;
     let others_streams = streams.clone()?;
     let from_other = to_commands.clone()?;
     let book = here.book;
@@ -162,7 +165,7 @@ fn answer_all<R, S, W>(
     here: Here<S, W>,
     gate: &Hold<R>,
     to_links: Sender<TcpStream>,
-    reports: Receiver<Report>,
+    reports: Receiver<Option<Report>>,
 ) -> io::Result<()>
 where
     R: Clock
@@ -203,7 +206,7 @@ fn answer<R, S, W>(
     here: &mut Here<S, W>,
     gate: &Hold<R>,
     to_links: &Sender<TcpStream>,
-    reports: &Receiver<Report>,
+    reports: &Receiver<Option<Report>>,
     streams: &mut Vec<TcpStream>,
     command: Command,
 ) -> io::Result<()>
@@ -228,8 +231,13 @@ where
             gate.release();
             println!(rt; "ok")
         }
+        Command::Refuse(which) => {
+            refuse(alloc, which);
+            println!(rt; "ok")
+        }
         Command::Ended => match reports.recv(rt) {
-            Ok(report) => print_report(rt, &report),
+            Ok(Some(report)) => print_report(rt, &report),
+            Ok(None) => println!(rt; "not begun"),
             Err(_) => println!(rt; "error no connection"),
         },
         Command::Asks => print_asks(rt, here.book.counts(rt)),
@@ -289,4 +297,9 @@ fn hang_up(streams: &[TcpStream]) {
     for stream in streams {
         let _ = stream.shutdown(Shutdown::Both);
     }
+}
+
+// Has an allocation of another thread fail from now on: the first for 1, and none for 0.
+fn refuse(alloc: Global, which: usize) {
+    let _ = Vec::<u8>::with_capacity(alloc, MARK.saturating_add(which));
 }

@@ -73,7 +73,7 @@ pub(crate) fn folders_of<S: Drop, W: FolderCalls + Drop>(
     })
 }
 
-/// Runs a connection over each stream that comes, and sends how it ended.
+/// Runs a connection over each stream that comes, and sends how it ended; `None` where memory for it is out.
 pub(crate) fn run_links<R, S, W>(
     rt: &R,
     alloc: Global,
@@ -82,7 +82,7 @@ pub(crate) fn run_links<R, S, W>(
     gate: &Hold<R>,
     book: &AskBook,
     streams: Receiver<TcpStream>,
-    reports: Sender<Report>,
+    reports: Sender<Option<Report>>,
 )
 where
     R: Clock + Sync + Threads + Wait,
@@ -91,32 +91,38 @@ where
 {
     let mut folders = folders;
     for stream in streams.iter(rt) {
-        let Some(end) = run_once(rt, alloc, peer, folders, gate, book, &stream) else {
-            return;
+        let (left, report) = match run_once(rt, alloc, peer, folders, gate, book, &stream) {
+            Ok(end) => report_of(end),
+            Err(left) => (left, None),
         };
-        let LinkEnd {
-            reader,
-            indexer,
-            server,
-            requester,
-            written,
-            folders: left,
-        } = end;
         folders = left;
-        let report = Report {
-            reader,
-            indexer,
-            server,
-            requester,
-            is_written: written.is_ok(),
-        };
         if reports.send(rt, report).is_err() {
             return;
         }
     }
 }
 
-// Runs a connection over the stream; `None` where memory is out, or the peer has the identity of this device.
+// The folders, and the report.
+fn report_of<S: Drop, W: Drop>(end: LinkEnd<S, W>) -> (LinkFolders<S, W>, Option<Report>) {
+    let LinkEnd {
+        reader,
+        indexer,
+        server,
+        requester,
+        written,
+        folders,
+    } = end;
+    let report = Report {
+        reader,
+        indexer,
+        server,
+        requester,
+        is_written: written.is_ok(),
+    };
+    (folders, Some(report))
+}
+
+// Runs a connection over the stream. Gives the folders back where memory for it is out, or the peer has the identity of this device.
 fn run_once<R, S, W>(
     rt: &R,
     alloc: Global,
@@ -125,26 +131,29 @@ fn run_once<R, S, W>(
     gate: &Hold<R>,
     book: &AskBook,
     stream: &TcpStream,
-) -> Option<LinkEnd<S, W>>
+) -> Result<LinkEnd<S, W>, LinkFolders<S, W>>
 where
     R: Clock + Sync + Threads + Wait,
     S: FileStore + Drop + Send,
     W: FolderCalls + Drop + Send,
 {
     let mut folders = folders;
-    let config = config_of(alloc, peer, &mut folders).ok()?;
-    let hello = hello(alloc).ok()?;
+    if folders.read.iter().any(|folder| folder.calls.me() == peer) {
+        return Err(folders);
+    }
+    let Ok(config) = config_of(alloc, peer, &mut folders) else {
+        return Err(folders);
+    };
+    let Ok(hello) = hello(alloc) else {
+        return Err(folders);
+    };
     // (so that the reader looks at the clock each second)
     let _ = stream.set_read_timeout(Some(Duration::from_secs(1)));
     let _ = stream.set_nodelay(true);
     let line = Socket { stream };
-    if folders.read.iter().any(|folder| folder.calls.me() == peer) {
-        return None;
-    }
     run_link(
         rt, alloc, peer, &hello, config, folders, gate, book, stream, stream, &line,
     )
-    .ok()
 }
 
 fn hello(alloc: Global) -> Result<Hello, AllocError> {

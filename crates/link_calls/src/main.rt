@@ -9,7 +9,8 @@
 //! | `listen` | `port N`, and then a connection of the peer is taken |
 //! | `connect PORT` | a connection to that port of this machine: `connected`, or `error` |
 //! | `hang` | the connection is hung up: `ok` |
-//! | `ended`: waits until a connection ended | `end WHY`, `changes N skipped N unshared N`, and `workers` with how the others ended |
+//! | `refuse N`: the Nth allocation of the other threads fails, where `tools/link_runs` has its library loaded; none for 0 | `ok` |
+//! | `ended`: waits until a connection ended | `end WHY`, `changes N skipped N unshared N`, and `workers` with how the others ended; or `not begun`, out of memory |
 //! | `asks` | `asks unknown N late N wrong-size N refused N` of all connections |
 //! | `hold`: the next read of the store by a server waits | `ok` |
 //! | `release`: it waits no longer | `ok` |

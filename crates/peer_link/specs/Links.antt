@@ -1,6 +1,6 @@
 -- What a connection leaves (own rule).
 use Rattle.std.specs.Prelude.{ℕ, List, Option}
-use Rattle.bep_frames.specs.declared.message.Message.{Message}
+use Rattle.bep_frames.specs.declared.frame.Message.{Message}
 use Rattle.sync_record.specs.Devices.{Identity}
 use Rattle.folder_calls.specs.Shared.{CallerView}
 use Rattle.peer_conn.specs.Words.{IsEndedOf}

@@ -6,7 +6,8 @@ ghost use Rattle.peer_reader.specs.Hears.{IsApart};
 
 use crate::inbox::LinkInbox;
 use crate::line::Line;
-use bep_frames::Message;
+use crate::start::Start;
+use bep_frames::{Message, WriteFault};
 use bep_messages::{ClusterConfig, Hello, Request};
 use crossbeam_channel::Receiver;
 use file_store::{FileStore, Gate};
@@ -41,6 +42,7 @@ pub(crate) struct HasRead<W> {
 pub(crate) fn read<R, I, W, G, L>(
     rt: &R,
     alloc: Global,
+    start: &Start,
     job: ReadJob<R, I, W>,
     gate: &G,
     line: &L,
@@ -60,6 +62,9 @@ where
         mut folders,
         mut inbox,
     } = job;
+    if !start.is_on(rt) {
+        line.hang_up();
+    }
     let end = run_reader(
         rt,
         alloc,
@@ -89,10 +94,13 @@ pub(crate) struct HasIndexed<W> {
     pub(crate) folders: Vec<IndexedFolder<W>>,
 }
 
-pub(crate) fn index<R: Clock + Wait, W: FolderCalls + Drop>(
+/// Tells the peer the folders until there is a reason to end, and hangs the line up.
+pub(crate) fn index<R: Clock + Wait, W: FolderCalls + Drop, L: Line>(
     rt: &R,
     alloc: Global,
+    start: &Start,
     job: IndexJob<W>,
+    line: &L,
 ) -> HasIndexed<W>
     ensures { IsSameEnded job.seat result.seat }
 {
@@ -102,7 +110,15 @@ pub(crate) fn index<R: Clock + Wait, W: FolderCalls + Drop>(
         mut folders,
         seat,
     } = job;
+    if !start.is_on(rt) {
+        return HasIndexed {
+            seat: seat.end(),
+            end: IndexerEnd::OutOfMemory,
+            folders,
+        };
+    }
     let (seat, end) = run_indexer(rt, alloc, config, &configs, folders.as_mut_slice(), seat);
+    line.hang_up();
     HasIndexed { seat, end, folders }
 }
 
@@ -120,12 +136,21 @@ pub(crate) struct HasServed<S, W> {
     pub(crate) folders: Vec<ServedFolder<S, W>>,
 }
 
-pub(crate) fn serve<R: Wait, S: FileStore + Drop, W: FolderCalls + Drop, G: Gate>(
+/// Answers the peer's Requests until there is a reason to end, and hangs the line up.
+pub(crate) fn serve<R, S, W, G, L>(
     rt: &R,
     alloc: Global,
+    start: &Start,
     job: ServeJob<S, W>,
     gate: &G,
+    line: &L,
 ) -> HasServed<S, W>
+where
+    R: Clock + Wait,
+    S: FileStore + Drop,
+    W: FolderCalls + Drop,
+    G: Gate,
+    L: Line,
     ensures { IsSameEnded job.seat result.seat }
 {
     let ServeJob {
@@ -133,7 +158,15 @@ pub(crate) fn serve<R: Wait, S: FileStore + Drop, W: FolderCalls + Drop, G: Gate
         mut folders,
         seat,
     } = job;
+    if !start.is_on(rt) {
+        return HasServed {
+            seat: seat.end(),
+            end: ServerEnd::OutOfMemory,
+            folders,
+        };
+    }
     let (seat, end) = run_server(rt, alloc, requests, folders.as_mut_slice(), gate, seat);
+    line.hang_up();
     HasServed { seat, end, folders }
 }
 
@@ -149,10 +182,18 @@ pub(crate) struct HasRequested {
     pub(crate) end: RequesterEnd,
 }
 
-pub(crate) fn request<R: Wait>(rt: &R, job: RequestJob) -> HasRequested
+/// Puts Requests until the book has another connection or none.
+pub(crate) fn request<R: Clock + Wait>(rt: &R, start: &Start, job: RequestJob) -> HasRequested
     ensures { IsSameEnded job.seat result.seat }
 {
-    let (seat, end) = run_requester(rt, job.requests, job.seat);
+    let RequestJob { requests, seat } = job;
+    if !start.is_on(rt) {
+        return HasRequested {
+            seat: seat.end(),
+            end: RequesterEnd::Gone,
+        };
+    }
+    let (seat, end) = run_requester(rt, requests, seat);
     HasRequested { seat, end }
 }
 
@@ -160,9 +201,10 @@ pub(crate) fn request<R: Wait>(rt: &R, job: RequestJob) -> HasRequested
 pub(crate) type HasWritten<O> = Result<(Taker<Message>, O), WriterFault>;
 
 /// Writes until the seats have ended. A writer that fails hangs the line up, and drops its taker, so that no seat waits for it.
-pub(crate) fn write<R: Wait, O: Write + Drop, L: Line>(
+pub(crate) fn write<R: Clock + Wait, O: Write + Drop, L: Line>(
     rt: &R,
     alloc: Global,
+    start: &Start,
     hello: &Hello,
     taker: Taker<Message>,
     writer: O,
@@ -170,6 +212,10 @@ pub(crate) fn write<R: Wait, O: Write + Drop, L: Line>(
 ) -> HasWritten<O>
     ensures { IfOk result (λ written. IsSameQueue taker written.0) }
 {
+    if !start.is_on(rt) {
+        line.hang_up();
+        return Err(WriterFault::Frame(WriteFault::OutOfMemory));
+    }
     let mut taker = taker;
     let mut writer = writer;
     match run_writer(rt, alloc, hello, &mut taker, &mut writer) {

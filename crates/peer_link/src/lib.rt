@@ -1,6 +1,7 @@
 //! A connection with a peer, put together: its reader, writer, indexer, server and requester, each on a thread of its own.
 #![tactic(auto)]
 
+mod channels;
 mod end;
 mod folders;
 mod inbox;
@@ -8,6 +9,7 @@ mod jobs;
 mod limits;
 mod line;
 mod link;
+mod start;
 
 pub use end::LinkEnd;
 pub use folders::LinkFolders;

@@ -1,9 +1,10 @@
 //! The workers of a connection.
-ghost use Rattle.std.specs.Prelude.{◌≡◌, All, IfOk};
+ghost use Rattle.std.specs.Prelude.{◌≡◌, All, IfErr, IfOk};
 ghost use Rattle.peer_conn.specs.Words.{IsSameEnded, IsSameQueue};
 ghost use Rattle.peer_link.specs.Links.{AreEnded, HasReadAll};
 ghost use Rattle.peer_reader.specs.Hears.{IsApart};
 
+use crate::channels::Channels;
 use crate::end::LinkEnd;
 use crate::folders::LinkFolders;
 use crate::inbox::LinkInbox;
@@ -11,18 +12,16 @@ use crate::jobs::{
     HasIndexed, HasRead, HasRequested, HasServed, HasWritten, IndexJob, ReadJob, RequestJob,
     ServeJob, index, read, request, serve, write,
 };
-use crate::limits::{MAX_QUEUED_REQUESTS, QUEUE_MESSAGES};
+use crate::limits::QUEUE_MESSAGES;
 use crate::line::Line;
+use crate::start::Start;
 use bep_frames::Message;
-use bep_messages::{ClusterConfig, Hello, Request};
-use bep_session::MAX_ASKS;
-use crossbeam_channel::bounded;
+use bep_messages::{ClusterConfig, Hello};
 use file_store::{FileStore, Gate};
 use folder_calls::FolderCalls;
 use peer_asks::AskBook;
 use peer_conn::{Ended, OutQueue, WriterFault, finish_writer};
-use peer_server::PeerRequest;
-use std::alloc::{AllocError, Global};
+use std::alloc::Global;
 use std::io::{Read, Write};
 use std::sync::Wait;
 use std::thread::{Threads, join};
@@ -33,8 +32,10 @@ use sync_record::DeviceId;
 /// reader makes the peer's changes, the server answers its Requests, the indexer tells it the folders, the requester puts the Requests of
 /// the book, and the writer writes what these put. The book begins and ends with the connection.
 ///
-/// Once the reader ended, or the writer failed, the line is hung up, and so the other workers end too. To end it from this side, hang up.
-/// Returns `Err` only where memory for the channels runs out; then nothing was read or written.
+/// Once the reader, the writer, the indexer or the server ended, the line is hung up, and so the others end too. To end the connection from
+/// this side, hang up. Where not all threads
+/// begin within 10 seconds, it ends, and the writer, the indexer and the server say that memory is out.
+/// Returns the folders in `Err` only where memory for the channels runs out; then nothing was read or written.
 pub fn run_link<R, I, O, S, W, G, L>(
     rt: &R,
     alloc: Global,
@@ -47,7 +48,7 @@ pub fn run_link<R, I, O, S, W, G, L>(
     reader: I,
     writer: O,
     line: &L,
-) -> Result<LinkEnd<S, W>, AllocError>
+) -> Result<LinkEnd<S, W>, LinkFolders<S, W>>
 where
     R: Clock + Sync + Threads + Wait,
     I: Read + Drop + Send,
@@ -57,13 +58,26 @@ where
     G: Gate + Sync,
     L: Line + Sync,
     requires { All (IsApart W.view peer) folders.read.items }
-    ensures { IfOk result (λ end. HasReadAll W.view W.folder peer (I.remaining reader) folders.read.items
+    ensures read { IfOk result (λ end. HasReadAll W.view W.folder peer (I.remaining reader) folders.read.items
         end.reader end.folders.read.items) }
+    ensures given_back { IfErr result (λ left. left ≡ folders) }
 {
-    let (indexer, server, requester, taker) = OutQueue::open::<Message>(alloc, QUEUE_MESSAGES)?;
-    let (to_indexer, configs) = bounded::<ClusterConfig, Global>(alloc, 1)?;
-    let (to_server, requests) = bounded::<PeerRequest, Global>(alloc, MAX_QUEUED_REQUESTS)?;
-    let (to_requester, asks) = bounded::<Request, Global>(alloc, MAX_ASKS)?;
+    let Ok((indexer, server, requester, taker)) = OutQueue::open::<Message>(alloc, QUEUE_MESSAGES)
+    else {
+        return Err(folders);
+    };
+    let Ok(channels) = Channels::open(alloc) else {
+        return Err(folders);
+    };
+    let Channels {
+        to_indexer,
+        configs,
+        to_server,
+        requests,
+        to_requester,
+        asks,
+    } = channels;
+    let start = Start::new();
     book.begin(rt, to_requester);
     let inbox = LinkInbox::new(rt, alloc, to_indexer, to_server, book);
     let reading = ReadJob {
@@ -91,7 +105,7 @@ where
         rt,
         || -> HasWritten<O>
             ensures { IfOk result (λ written. IsSameQueue taker written.0) }
-        { write(rt, alloc, hello, taker, writer, line) },
+        { write(rt, alloc, &start, hello, taker, writer, line) },
         || -> Workers<S, W>
             ensures read { HasReadAll W.view W.folder reading.peer (I.remaining reading.reader)
                 reading.folders.items result.0.end result.0.folders.items }
@@ -100,7 +114,7 @@ where
             ensures requester { IsSameEnded requesting.seat result.1.1.1.seat }
         {
             work(
-                rt, alloc, reading, indexing, serving, requesting, gate, line,
+                rt, alloc, &start, reading, indexing, serving, requesting, gate, line,
             )
         },
     );
@@ -134,6 +148,7 @@ type Workers<S, W> = (HasRead<W>, Putters<S, W>);
 fn work<R, I, S, W, G, L>(
     rt: &R,
     alloc: Global,
+    start: &Start,
     reading: ReadJob<R, I, W>,
     indexing: IndexJob<W>,
     serving: ServeJob<S, W>,
@@ -160,29 +175,32 @@ where
         || -> HasRead<W>
             ensures { HasReadAll W.view W.folder reading.peer (I.remaining reading.reader)
                 reading.folders.items result.end result.folders.items }
-        { read(rt, alloc, reading, gate, line) },
+        { read(rt, alloc, start, reading, gate, line) },
         || -> Putters<S, W>
             ensures indexer { IsSameEnded indexing.seat result.0.seat }
             ensures server { IsSameEnded serving.seat result.1.0.seat }
             ensures requester { IsSameEnded requesting.seat result.1.1.seat }
-        { put(rt, alloc, indexing, serving, requesting, gate) },
+        { put(rt, alloc, start, indexing, serving, requesting, gate, line) },
     )
 }
 
 // Indexes, serves and requests, each on a thread of its own.
-fn put<R, S, W, G>(
+fn put<R, S, W, G, L>(
     rt: &R,
     alloc: Global,
+    start: &Start,
     indexing: IndexJob<W>,
     serving: ServeJob<S, W>,
     requesting: RequestJob,
     gate: &G,
+    line: &L,
 ) -> Putters<S, W>
 where
     R: Clock + Sync + Threads + Wait,
     S: FileStore + Drop + Send,
     W: FolderCalls + Drop + Send,
     G: Gate + Sync,
+    L: Line + Sync,
     ensures indexer { IsSameEnded indexing.seat result.0.seat }
     ensures server { IsSameEnded serving.seat result.1.0.seat }
     ensures requester { IsSameEnded requesting.seat result.1.1.seat }
@@ -191,7 +209,7 @@ where
         rt,
         || -> HasIndexed<W>
             ensures { IsSameEnded indexing.seat result.seat }
-        { index(rt, alloc, indexing) },
+        { index(rt, alloc, start, indexing, line) },
         || -> (HasServed<S, W>, HasRequested)
             ensures server { IsSameEnded serving.seat result.0.seat }
             ensures requester { IsSameEnded requesting.seat result.1.seat }
@@ -200,10 +218,10 @@ where
                 rt,
                 || -> HasServed<S, W>
                     ensures { IsSameEnded serving.seat result.seat }
-                { serve(rt, alloc, serving, gate) },
+                { serve(rt, alloc, start, serving, gate, line) },
                 || -> HasRequested
                     ensures { IsSameEnded requesting.seat result.seat }
-                { request(rt, requesting) },
+                { request(rt, start, requesting) },
             )
         },
     )
