@@ -7,7 +7,8 @@ use Rattle.bep_session.specs.declared.event.Event.TheVariants.{PeerHello, PeerCo
 use Rattle.folder_core.specs.declared.answer.Answer.TheVariants.{Applied, HistoryFull}
 use Rattle.folder_core.specs.declared.change.Change.{Change}
 use Rattle.folder_core.specs.declared.change.Change.TheVariants.{Forget}
-use Rattle.folder_calls.specs.Adds.{Asked, Asks}
+use Rattle.folder_core.specs.Steps.{is_accepted}
+use Rattle.folder_calls.specs.Adds.{Adds, Asked, Asks}
 use Rattle.folder_calls.specs.Shared.{CallerView}
 use Rattle.peer_reader.specs.Counts.{one_change}
 use Rattle.peer_reader.specs.Effects.{Effect, Heard, Made, after_config_of, after_event, full_of, is_forgotten, more_of, no_effect, place_of}
@@ -92,6 +93,14 @@ module _ {W F : Type 0} (view : W → CallerView) (folder : W → F) where
   AsksEach k asked (f ∷ fs) [] = ⊥
   AsksEach k asked [] (g ∷ gs) = ⊥
   AsksEach k asked (f ∷ fs) (g ∷ gs) = AsksOne (asked_at k asked) f g × AsksEach (k + 1) asked fs gs
+
+  -- Of the caller of each folder from this place on there are just the entries of its changes that were accepted more, in their order.
+  abbrev pub AddsEach : ℕ → List AskedOf → List (PeerFolder W) → List (PeerFolder W) → Type 0
+  AddsEach k asked [] [] = ⊤
+  AddsEach k asked (f ∷ fs) [] = ⊥
+  AddsEach k asked [] (g ∷ gs) = ⊥
+  AddsEach k asked (f ∷ fs) (g ∷ gs) =
+      Adds (view f.calls) (filter (λ a. is_accepted a.1) (asked_at k asked)) (view g.calls) × AddsEach (k + 1) asked fs gs
 
   -- an event was heard: the folders were asked for its changes, which were made
   pub record HasHeard (peer : Identity) (event : Event) (olds : List (PeerFolder W)) (counts : ReaderCounts) (given : Passed) (news : List (PeerFolder W)) (later : ReaderCounts) : Type 0 where
