@@ -32,7 +32,7 @@ pub fn changes_are_those_of_the_stream()
 /// Where folders are asked for changes, the entries of their callers grow by just those of the accepted ones, in their order: over a
 /// shared folder those of the pass that a reader has.
 pub fn what_is_asked_is_added()
-    ensures { {W F : Type 0} (view : W → CallerView) (folder : W → F) (k : ℕ) (asked : List AskedOf) (olds news : List (PeerFolder W)) →
+    ensures { (W F : Type 0) (view : W → CallerView) (folder : W → F) (k : ℕ) (asked : List AskedOf) (olds news : List (PeerFolder W)) →
         AsksEach view folder k asked olds news → AddsEach view folder k asked olds news }
 {
     changes_are_asked_in_order();

@@ -15,4 +15,4 @@ module _ (law : (asked : List Asked) (old new : CallerView) → Asks old asked n
   each k asked (f ∷ fs) (g ∷ gs) e = (law (asked_at k asked) (view f.calls) (view g.calls) e.0.1, each (k + 1) asked fs gs e.1)
 
 pub returns-clause : goal.returns-clause
-returns-clause c = λ view folder. each c.changes_are_asked_in_order.ensures.adds view folder
+returns-clause c = λ W F view folder. each c.changes_are_asked_in_order.ensures.adds view folder

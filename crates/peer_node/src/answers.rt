@@ -1,0 +1,281 @@
+//! What is answered to commands.
+use crate::command::Command;
+use crate::connections::Connections;
+use crate::host::Host;
+use crate::moments::moment;
+use file_store::{FileStore, Gate};
+use folder_calls::FolderCalls;
+use folder_core::FolderCore;
+use folder_shared::SharedFolder;
+use record_lines::{push_name, push_record};
+use std::alloc::{AllocError, Global};
+use std::io::{self, BufRead, Write};
+use sync_record::{DeviceId, Record};
+use sync_scan::{NoProgress, ScanStop, scan_all};
+
+/// How many names are read at once.
+const PAGE: usize = 1_000;
+
+/// A folder, for the commands.
+#[derive(Drop)]
+pub(crate) struct CommandFolder<'a, C: FolderCore + Drop, S, W> {
+    pub(crate) id: &'a str,
+    pub(crate) shared: &'a SharedFolder<C>,
+    pub(crate) store: S,
+    pub(crate) calls: W,
+}
+
+/// Why a command was not done, or not to its end.
+enum Refused {
+    UnknownFolder,
+    Scan(ScanStop),
+    OutOfMemory,
+    Write(io::Error),
+}
+
+impl From<AllocError> for Refused {
+    fn from(_failed: AllocError) -> Refused {
+        Refused::OutOfMemory
+    }
+}
+
+impl From<io::Error> for Refused {
+    fn from(error: io::Error) -> Refused {
+        Refused::Write(error)
+    }
+}
+
+/// What is asked of bests.
+#[derive(Clone, Copy)]
+enum Listed {
+    // Those of names that are needed or have a local record.
+    Bests,
+    // The local records.
+    Locals,
+}
+
+/// Answers each line of the commands, up to `quit` or their end. Fails where a line can't be read, or an answer can't be written.
+pub(crate) fn answer_all<R, C, S, W, G, I, O>(
+    rt: &R,
+    alloc: Global,
+    connections: &Connections,
+    gate: &G,
+    folders: Vec<CommandFolder<C, S, W>>,
+    peers: &[DeviceId],
+    commands: &mut I,
+    writer: &mut O,
+) -> io::Result<()>
+where
+    R: Host,
+    C: FolderCore + Drop,
+    S: FileStore + Drop,
+    W: FolderCalls + Drop,
+    G: Gate,
+    I: BufRead,
+    O: Write,
+{
+    let mut folders = folders;
+    for line in commands.lines(alloc) {
+        let line = line?;
+        let command = Command::parse(line.as_str());
+        if let Command::Quit = command {
+            break;
+        }
+        let answered = answer(
+            rt,
+            alloc,
+            connections,
+            gate,
+            folders.as_mut_slice(),
+            peers,
+            command,
+            writer,
+        );
+        match answered {
+            Ok(()) => {}
+            Err(Refused::UnknownFolder) => writeln!(writer, "error unknown folder")?,
+            Err(Refused::Scan(stop)) => writeln!(writer, "error {} {stop}", stop.number())?,
+            Err(Refused::OutOfMemory) => writeln!(writer, "error 33 OutOfMemory")?,
+            Err(Refused::Write(error)) => return Err(error),
+        }
+        writer.flush()?;
+    }
+    Ok(())
+}
+
+// Writes what is answered to a command.
+fn answer<R, C, S, W, G, O>(
+    rt: &R,
+    alloc: Global,
+    connections: &Connections,
+    gate: &G,
+    folders: &mut [CommandFolder<C, S, W>],
+    peers: &[DeviceId],
+    command: Command,
+    writer: &mut O,
+) -> Result<(), Refused>
+where
+    R: Host,
+    C: FolderCore + Drop,
+    S: FileStore,
+    W: FolderCalls,
+    G: Gate,
+    O: Write,
+{
+    match command {
+        Command::Scan(id) => scan(rt, alloc, gate, folder_in(folders, id)?, writer),
+        Command::Need(id) => need(alloc, folder_in(folders, id)?, writer),
+        Command::Best(id) => list(alloc, folder_in(folders, id)?, Listed::Bests, writer),
+        Command::Local(id) => list(alloc, folder_in(folders, id)?, Listed::Locals, writer),
+        Command::Peers => tell_peers(rt, alloc, connections, peers, writer),
+        Command::History(id) => history(folder_in(folders, id)?, writer),
+        Command::Verify(id) => verify(rt, folder_in(folders, id)?, writer),
+        Command::Quit => Ok(()),
+        Command::Unknown => Ok(writeln!(writer, "error unknown command")?),
+    }
+}
+
+fn folder_in<'a, 'b, C: FolderCore + Drop, S, W>(
+    folders: &'a mut [CommandFolder<'b, C, S, W>],
+    id: &str,
+) -> Result<&'a mut CommandFolder<'b, C, S, W>, Refused> {
+    match folders.iter_mut().find(|folder| folder.id == id) {
+        Some(folder) => Ok(folder),
+        None => Err(Refused::UnknownFolder),
+    }
+}
+
+fn scan<R: Host, C: FolderCore + Drop, S: FileStore, W: FolderCalls, G: Gate, O: Write>(
+    rt: &R,
+    alloc: Global,
+    gate: &G,
+    folder: &mut CommandFolder<C, S, W>,
+    writer: &mut O,
+) -> Result<(), Refused> {
+    let CommandFolder {
+        id,
+        store,
+        calls,
+        ..
+    } = folder;
+    let sum = scan_all(rt, alloc, store, calls, gate, moment(rt), &mut NoProgress);
+    if let Some(stop) = sum.stopped {
+        return Err(Refused::Scan(stop));
+    }
+    writeln!(
+        writer,
+        "scan {id} recorded {} unchanged {} other {}",
+        sum.recorded, sum.unchanged, sum.other
+    )?;
+    Ok(())
+}
+
+// A page of names at a time.
+fn need<C: FolderCore + Drop, S, W: FolderCalls, O: Write>(
+    alloc: Global,
+    folder: &mut CommandFolder<C, S, W>,
+    writer: &mut O,
+) -> Result<(), Refused> {
+    let mut lines = Vec::new(alloc);
+    let mut page = folder.calls.need(None, PAGE)?.value;
+    while let Some(last) = page.as_slice().last() {
+        lines.clear();
+        for name in page.as_slice() {
+            lines.extend_from_slice(b"need ")?;
+            push_name(&mut lines, name)?;
+            lines.extend_from_slice(b"\n")?;
+        }
+        writer.write_all(lines.as_slice())?;
+        page = folder.calls.need(Some(last), PAGE)?.value;
+    }
+    writer.write_all(b"end\n")?;
+    Ok(())
+}
+
+// A page of bests at a time. Each local record is of a name that has a best.
+fn list<C: FolderCore + Drop, S, W: FolderCalls, O: Write>(
+    alloc: Global,
+    folder: &mut CommandFolder<C, S, W>,
+    listed: Listed,
+    writer: &mut O,
+) -> Result<(), Refused> {
+    let mut lines = Vec::new(alloc);
+    let mut page = folder.calls.bests(None, PAGE)?.value;
+    while let Some(last) = page.as_slice().last() {
+        lines.clear();
+        for best in page.as_slice() {
+            let local = folder.calls.local(best.record.name())?.value;
+            match (listed, &local) {
+                (Listed::Locals, Some(local)) => push_line(&mut lines, "local ", local)?,
+                (Listed::Locals, None) => {}
+                // (a deleted best without a local record isn't needed)
+                (Listed::Bests, local) => {
+                    if local.is_some() || !best.record.is_deleted() {
+                        push_line(&mut lines, "best ", &best.record)?;
+                    }
+                }
+            }
+        }
+        writer.write_all(lines.as_slice())?;
+        page = folder.calls.bests(Some(last.record.name()), PAGE)?.value;
+    }
+    writer.write_all(b"end\n")?;
+    Ok(())
+}
+
+fn push_line(lines: &mut Vec<u8>, word: &str, record: &Record) -> Result<(), AllocError> {
+    lines.extend_from_slice(word.as_bytes())?;
+    push_record(lines, record)?;
+    lines.push(b'\n')?;
+    Ok(())
+}
+
+fn tell_peers<R: Host, O: Write>(
+    rt: &R,
+    alloc: Global,
+    connections: &Connections,
+    peers: &[DeviceId],
+    writer: &mut O,
+) -> Result<(), Refused> {
+    for (place, peer) in peers.iter().enumerate() {
+        let id = hex::encode(alloc, peer.bytes())?;
+        let state = if connections.is_up(rt, place) {
+            "up"
+        } else {
+            "down"
+        };
+        writeln!(writer, "peer {id} {state}")?;
+    }
+    writer.write_all(b"end\n")?;
+    Ok(())
+}
+
+fn history<C: FolderCore + Drop, S, W: FolderCalls, O: Write>(
+    folder: &mut CommandFolder<C, S, W>,
+    writer: &mut O,
+) -> Result<(), Refused> {
+    let counts = folder.calls.counts();
+    writeln!(
+        writer,
+        "history {} changes {} open {}",
+        folder.id, counts.at, counts.value.pulls
+    )?;
+    Ok(())
+}
+
+fn verify<R: Host, C: FolderCore + Drop, S, W, O: Write>(
+    rt: &R,
+    folder: &mut CommandFolder<C, S, W>,
+    writer: &mut O,
+) -> Result<(), Refused> {
+    let Ok(mut pass) = folder.shared.pass(rt) else {
+        return Err(Refused::OutOfMemory);
+    };
+    let word = if folder.shared.verify(rt, &mut pass)? {
+        "yes"
+    } else {
+        "no"
+    };
+    writeln!(writer, "verify {} {word}", folder.id)?;
+    Ok(())
+}

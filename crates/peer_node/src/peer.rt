@@ -1,0 +1,320 @@
+//! One peer: a connection with it, again and again.
+use crate::connections::Connections;
+use crate::host::Host;
+use bep_messages::{ClusterConfig, Hello, Text};
+use crossbeam_channel::{Receiver, Sender, bounded};
+use file_store::{FileStore, Gate};
+use folder_calls::FolderCalls;
+use peer_asks::AskBook;
+use peer_conn::{FolderTold, cluster_config};
+use peer_link::{Line, LinkEnd, LinkFolders, run_link};
+use std::alloc::{AllocError, Global};
+use std::net::{Shutdown, SocketAddr, TcpListener, TcpStream};
+use std::thread::join;
+use std::time::Duration;
+use sync_record::DeviceId;
+
+/// How many seconds a peer is given to take a connection.
+const CONNECT_SECONDS: u64 = 5;
+
+/// After how many seconds a peer is dialled again.
+const DIAL_SECONDS: u64 = 10;
+
+/// How a connection with a peer comes about.
+#[derive(Drop)]
+pub(crate) enum Reach {
+    /// This device makes it.
+    Dial(SocketAddr),
+    /// The peer makes it.
+    Listen(TcpListener),
+}
+
+/// A peer, and the folders that are shared with it.
+#[derive(Drop)]
+pub(crate) struct PeerJob<'a, S, W> {
+    // Among the peers.
+    pub(crate) place: usize,
+    pub(crate) device: DeviceId,
+    // The name of this device.
+    pub(crate) name: &'a str,
+    pub(crate) book: &'a AskBook,
+    pub(crate) reach: Reach,
+    pub(crate) folders: LinkFolders<S, W>,
+}
+
+/// What stays the same for the connections of a peer.
+#[derive(Clone, Copy)]
+struct Peer<'a> {
+    place: usize,
+    device: DeviceId,
+    name: &'a str,
+    book: &'a AskBook,
+    connections: &'a Connections,
+}
+
+/// A socket as a line.
+#[derive(Drop)]
+struct Socket<'a> {
+    stream: &'a TcpStream,
+}
+
+impl Line for Socket<'_> {
+    fn hang_up(&self) {
+        let _ = self.stream.shutdown(Shutdown::Both);
+    }
+}
+
+/// Has connections with a peer, one after another, until the node quits. Returns the folders as these left them.
+pub(crate) fn run_peer<R, S, W, G>(
+    rt: &R,
+    alloc: Global,
+    job: PeerJob<S, W>,
+    connections: &Connections,
+    gate: &G,
+) -> LinkFolders<S, W>
+where
+    R: Host,
+    S: FileStore + Drop + Send,
+    W: FolderCalls + Drop + Send,
+    G: Gate + Sync,
+{
+    let PeerJob {
+        place,
+        device,
+        name,
+        book,
+        reach,
+        folders,
+    } = job;
+    let peer = Peer {
+        place,
+        device,
+        name,
+        book,
+        connections,
+    };
+    match reach {
+        Reach::Dial(address) => dial(rt, alloc, peer, &address, folders, gate),
+        Reach::Listen(listener) => listen(rt, alloc, peer, &listener, folders, gate),
+    }
+}
+
+// Dials, and 10 seconds after a connection ended or could not be made, again.
+fn dial<R, S, W, G>(
+    rt: &R,
+    alloc: Global,
+    peer: Peer,
+    address: &SocketAddr,
+    folders: LinkFolders<S, W>,
+    gate: &G,
+) -> LinkFolders<S, W>
+where
+    R: Host,
+    S: FileStore + Drop + Send,
+    W: FolderCalls + Drop + Send,
+    G: Gate + Sync,
+{
+    let mut folders = folders;
+    for _ in rt.forever() {
+        if peer.connections.is_quitting(rt) {
+            break;
+        }
+        let limit = Duration::from_secs(CONNECT_SECONDS);
+        if let Ok(stream) = TcpStream::connect_timeout(rt, address, limit) {
+            if is_begun(rt, peer, &stream) {
+                folders = connect(rt, alloc, peer, folders, gate, &stream);
+            }
+        }
+        if peer.connections.pause(rt, DIAL_SECONDS) {
+            break;
+        }
+    }
+    folders
+}
+
+// Takes the connections of the peer; one that comes while another is up is closed at once.
+fn listen<R, S, W, G>(
+    rt: &R,
+    alloc: Global,
+    peer: Peer,
+    listener: &TcpListener,
+    folders: LinkFolders<S, W>,
+    gate: &G,
+) -> LinkFolders<S, W>
+where
+    R: Host,
+    S: FileStore + Drop + Send,
+    W: FolderCalls + Drop + Send,
+    G: Gate + Sync,
+{
+    let Ok((to_link, streams)) = bounded::<TcpStream, Global>(alloc, 1) else {
+        return folders;
+    };
+    let ((), folders) = join(
+        rt,
+        || accept(rt, peer, listener, to_link),
+        || connect_each(rt, alloc, peer, folders, gate, streams),
+    );
+    folders
+}
+
+// Takes connections until the node quits.
+fn accept<R: Host>(rt: &R, peer: Peer, listener: &TcpListener, to_link: Sender<TcpStream>) {
+    for _ in rt.forever() {
+        match listener.accept() {
+            Ok((stream, _)) => {
+                if is_begun(rt, peer, &stream) && to_link.send(rt, stream).is_err() {
+                    break;
+                }
+            }
+            // (where no more files can be opened, an accept fails again and again)
+            Err(_) => {
+                if peer.connections.pause(rt, 1) {
+                    break;
+                }
+            }
+        }
+        if peer.connections.is_quitting(rt) {
+            break;
+        }
+    }
+}
+
+// Runs each connection that was taken.
+fn connect_each<R, S, W, G>(
+    rt: &R,
+    alloc: Global,
+    peer: Peer,
+    folders: LinkFolders<S, W>,
+    gate: &G,
+    streams: Receiver<TcpStream>,
+) -> LinkFolders<S, W>
+where
+    R: Host,
+    S: FileStore + Drop + Send,
+    W: FolderCalls + Drop + Send,
+    G: Gate + Sync,
+{
+    let mut folders = folders;
+    for stream in streams.iter(rt) {
+        folders = connect(rt, alloc, peer, folders, gate, &stream);
+    }
+    folders
+}
+
+// Whether the connection is now the peer's: none of it is up yet, and the node does not quit.
+fn is_begun<R: Host>(rt: &R, peer: Peer, stream: &TcpStream) -> bool {
+    match stream.try_clone() {
+        Ok(clone) => peer.connections.begin(rt, peer.place, clone),
+        Err(_) => false,
+    }
+}
+
+// Runs a connection that is the peer's, until it ends.
+fn connect<R, S, W, G>(
+    rt: &R,
+    alloc: Global,
+    peer: Peer,
+    folders: LinkFolders<S, W>,
+    gate: &G,
+    stream: &TcpStream,
+) -> LinkFolders<S, W>
+where
+    R: Host,
+    S: FileStore + Drop + Send,
+    W: FolderCalls + Drop + Send,
+    G: Gate + Sync,
+{
+    let folders = run_once(rt, alloc, peer, folders, gate, stream);
+    let _ = stream.shutdown(Shutdown::Both);
+    peer.connections.end(rt, peer.place);
+    folders
+}
+
+fn run_once<R, S, W, G>(
+    rt: &R,
+    alloc: Global,
+    peer: Peer,
+    folders: LinkFolders<S, W>,
+    gate: &G,
+    stream: &TcpStream,
+) -> LinkFolders<S, W>
+where
+    R: Host,
+    S: FileStore + Drop + Send,
+    W: FolderCalls + Drop + Send,
+    G: Gate + Sync,
+{
+    let mut folders = folders;
+    if folders
+        .read
+        .iter()
+        .any(|folder| folder.calls.me() == peer.device)
+    {
+        return folders;
+    }
+    let Ok(config) = config_of(alloc, peer, &mut folders) else {
+        return folders;
+    };
+    let Ok(hello) = hello(alloc, peer.name) else {
+        return folders;
+    };
+    // (so that the reader looks at the clock each second)
+    let _ = stream.set_read_timeout(Some(Duration::from_secs(1)));
+    let _ = stream.set_nodelay(true);
+    let line = Socket { stream };
+    let ended = run_link(
+        rt,
+        alloc,
+        peer.device,
+        &hello,
+        config,
+        folders,
+        gate,
+        peer.book,
+        stream,
+        stream,
+        &line,
+    );
+    match ended {
+        Ok(LinkEnd { folders, .. }) => folders,
+        Err(folders) => folders,
+    }
+}
+
+fn hello(alloc: Global, name: &str) -> Result<Hello, AllocError> {
+    Ok(Hello {
+        device_name: Text::from_str(alloc, name)?,
+        client_name: Text::from_str(alloc, "bepd")?,
+        client_version: Text::from_str(alloc, "v0.1.0")?,
+    })
+}
+
+// The ClusterConfig of this device for the peer.
+fn config_of<S, W: FolderCalls>(
+    alloc: Global,
+    peer: Peer,
+    folders: &mut LinkFolders<S, W>,
+) -> Result<ClusterConfig, AllocError> {
+    let mut told = Vec::new(alloc);
+    let mut me = None;
+    for (read, indexed) in folders.read.iter_mut().zip(folders.indexed.iter()) {
+        let device = read.calls.me();
+        me = Some(device);
+        let sequence = read.calls.known(device).value;
+        let peer_sequence = read.calls.known(peer.device).value;
+        told.push(FolderTold {
+            id: read.id.as_str(),
+            index_id: indexed.index_id,
+            sequence,
+            peer_index_id: read.kept_index_id,
+            peer_sequence,
+        })?;
+    }
+    match me {
+        Some(me) => cluster_config(alloc, me, peer.name, peer.device, told.as_slice()),
+        None => Ok(ClusterConfig {
+            folders: bep_messages::Items::new(alloc),
+        }),
+    }
+}
