@@ -2,7 +2,6 @@
 ghost use Rattle.std.specs.Prelude.{◌≡◌, ℕ, List};
 ghost use Rattle.bep_session.specs.Runs.{Act, run};
 ghost use Rattle.bep_session.specs.Sessions.{begun};
-ghost use Rattle.folder_calls.specs.Shared.{CallerView};
 ghost use Rattle.peer_reader.specs.declared.counts.ReaderCounts.{ReaderCounts};
 ghost use Rattle.peer_reader.specs.Effects.{Heard};
 ghost use Rattle.peer_reader.specs.Hears.{AddsEach, AskedOf, AsksEach};
@@ -12,6 +11,7 @@ ghost use Rattle.peer_reader.specs.Streams.{stream_effect};
 ghost use Rattle.sync_record.specs.Devices.{Identity};
 
 use bep_session::laws::a_piece_may_be_cut;
+use folder_calls::FolderCalls;
 use folder_calls::laws::changes_are_asked_in_order;
 
 /// What the events of a session come to is what the whole stream comes to that was fed: the same changes in the same order, folders
@@ -31,9 +31,9 @@ pub fn changes_are_those_of_the_stream()
 
 /// Where folders are asked for changes, the entries of their callers grow by just those of the accepted ones, in their order: over a
 /// shared folder those of the pass that a reader has.
-pub fn what_is_asked_is_added()
-    ensures { (W F : Type 0) (view : W → CallerView) (folder : W → F) (k : ℕ) (asked : List AskedOf) (olds news : List (PeerFolder W)) →
-        AsksEach view folder k asked olds news → AddsEach view folder k asked olds news }
+pub fn what_is_asked_is_added<W: FolderCalls>()
+    ensures { (k : ℕ) (asked : List AskedOf) (olds news : List (PeerFolder W)) →
+        AsksEach W.view W.folder k asked olds news → AddsEach W.view W.folder k asked olds news }
 {
     changes_are_asked_in_order();
 }

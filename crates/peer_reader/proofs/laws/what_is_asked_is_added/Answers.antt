@@ -14,5 +14,5 @@ module _ (law : (asked : List Asked) (old new : CallerView) → Asks old asked n
   each k asked [] (g ∷ gs) e = absurd e
   each k asked (f ∷ fs) (g ∷ gs) e = (law (asked_at k asked) (view f.calls) (view g.calls) e.0.1, each (k + 1) asked fs gs e.1)
 
-pub returns-clause : goal.returns-clause
-returns-clause c = λ W F view folder. each c.changes_are_asked_in_order.ensures.adds view folder
+pub returns : goal.returns
+returns g c = each c.changes_are_asked_in_order.ensures.adds _ _
