@@ -1,80 +1,48 @@
-//! A node of one folder and one peer: `node_calls ME PEER ID PATH dial|listen ADDRESS`, with the numbers of the devices.
+//! A node by a configuration: `node_calls FILE` keeps the folders of the configuration FILE alike with its peers, and answers the commands of
+//! standard input, a line each, until `quit` or their end. `tools/node_runs` has several of them sync.
+//!
+//! | Command | Answer |
+//! |---|---|
+//! | `scan F` | `scan F recorded N unchanged N other N` |
+//! | `need F` | `need NAME` for each name that the folder F needs, then `end` |
+//! | `best F` | `best KIND SIZE VERSION NAME` for each name that is needed or has a local record, then `end` |
+//! | `local F` | `local KIND SIZE VERSION NAME` for each local record, then `end` |
+//! | `peers` | `peer ID up` or `peer ID down` for each peer, then `end` |
+//! | `history F` | `history F changes N open N` |
+//! | `verify F` | `verify F yes` or `verify F no` |
+//!
+//! The exit status is 1 for a configuration that is refused, 4 for no memory, 5 for a read or write that failed, 6 for a state that is refused
+//! and 7 for an address; then a line on standard error says why.
 #![tactic(auto)]
 
-use file_store::OpenGate;
-use folder_core::{FolderCore, PlainFolder};
-use peer_node::{Disks, NodeAddress, NodeFolder, NodePeer, Share, run_node};
-use std::alloc::Global;
-use std::fs::Files;
-use std::net::{Net, SocketAddr, TcpListener, TcpStream};
-use std::sync::Wait;
-use std::thread::Threads;
-use std::time::Clock;
-use std::{env, io};
-use sync_pull::MaxConflicts;
-use sync_record::DeviceId;
+mod ending;
+mod files;
+mod playing;
 
-fn main(rt: HostRuntime) -> io::Result<()> {
-    let words = env::args(&rt)?.collect::<Vec<String>>(rt.alloc())?;
-    let (Some(me), Some(peer), Some(id), Some(path), Some(how), Some(address)) = (
-        words.get(1),
-        words.get(2),
-        words.get(3),
-        words.get(4),
-        words.get(5),
-        words.get(6),
-    ) else {
-        return println!(rt; "error node_calls ME PEER ID PATH dial|listen ADDRESS");
-    };
-    let (Ok(me), Ok(peer), Ok(address)) = (
-        me.parse::<u8>(),
-        peer.parse::<u8>(),
-        address.parse::<SocketAddr>(),
-    ) else {
-        return println!(rt; "error");
-    };
-    let address = if how.as_str() == "dial" {
-        NodeAddress::Dial(address)
-    } else {
-        NodeAddress::Listen(address)
-    };
+use playing::play;
+use std::env;
+use std::process::ExitCode;
+
+fn main(rt: HostRuntime) -> ExitCode {
     let alloc = rt.alloc();
-    let (mut input, mut output) = (rt.reader(), rt.stdout());
-    let Some(most) = MaxConflicts::new(MaxConflicts::ANY) else {
-        return Ok(());
+    let Ok(words) = env::args(&rt) else {
+        return ExitCode::from(1);
     };
-    let mut folders = Vec::new(alloc);
-    folders.push(NodeFolder {
-        id: id.as_str(),
-        path: path.as_str(),
-        index_id: 77,
-        history_limit: 1_000_000,
-        most,
-        core: PlainFolder::new(alloc, DeviceId::new([me; 32])),
-    })?;
-    let mut shares = Vec::new(alloc);
-    shares.push(Share {
-        folder: 0,
-        kept_index_id: 0,
-    })?;
-    let mut peers = Vec::new(alloc);
-    peers.push(NodePeer {
-        device: DeviceId::new([peer; 32]),
-        address,
-        shares,
-    })?;
-    match run_node(
+    let Ok(words) = words.collect::<Vec<String>>(alloc) else {
+        return ExitCode::from(4);
+    };
+    let Some(path) = words.get(1) else {
+        let _ = println!(rt; "error node_calls FILE");
+        return ExitCode::from(0);
+    };
+    let (mut input, mut output, mut errors) = (rt.reader(), rt.stdout(), rt.stderr());
+    let status = play(
         &rt,
         alloc,
-        &Disks::new(&rt),
-        "node",
-        folders,
-        peers,
-        &OpenGate,
+        path.as_str(),
         &mut input,
         &mut output,
-    ) {
-        Ok(end) => end.answered,
-        Err(fault) => println!(rt; "fault {} {fault}", fault.number()),
-    }
+        &mut errors,
+    );
+    ExitCode::from(status)
 }

@@ -1,0 +1,2 @@
+pub mod KeyFaults
+pub mod Reading
