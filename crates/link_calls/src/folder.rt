@@ -14,7 +14,7 @@ use sync_blocks::Block;
 use sync_names::SafeName;
 use sync_pull::{MaxConflicts, PullAnswer, pull_name};
 use sync_record::DeviceId;
-use sync_scan::{Progress, scan_all};
+use sync_scan::{NoProgress, scan_all};
 use sync_version::Moment;
 
 /// How many names are read at once.
@@ -28,16 +28,6 @@ pub(crate) struct Here<'a, S, W> {
     pub(crate) id: &'a str,
     pub(crate) peer: DeviceId,
     pub(crate) book: &'a AskBook,
-}
-
-/// Tells nobody.
-#[derive(Drop)]
-struct Silent;
-
-impl Progress for Silent {
-    fn hashed(&mut self, _bytes: u64) {}
-
-    fn scanned(&mut self, _names: u64, _listed: u64) {}
 }
 
 fn moment(rt: &impl Clock) -> Moment {
@@ -55,7 +45,7 @@ pub(crate) fn scan<R: Clock + Print + Sync + Threads, S: FileStore, W: FolderCal
 ) -> io::Result<()> {
     let moment = moment(rt);
     let Here { store, calls, .. } = here;
-    let sum = scan_all(rt, alloc, store, calls, &OpenGate, moment, &mut Silent);
+    let sum = scan_all(rt, alloc, store, calls, &OpenGate, moment, &mut NoProgress);
     println!(rt;
         "scan recorded {} unchanged {} other {}",
         sum.recorded, sum.unchanged, sum.other
