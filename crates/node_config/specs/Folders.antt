@@ -1,0 +1,43 @@
+-- The folders of a document.
+use Rattle.std.specs.Prelude.{ℕ, ◌+◌, pos, negsuc, Bool, List, [], ◌∷◌, ◌++◌, length, bytes_eq, ◌==◌, if◌then◌else◌, unsigned_abs, Result, Ok, Err}
+use Rattle.std.specs.List.{list_any}
+use Rattle.toml.specs.Data.{Data, Items, no_items, item, Members, get_member}
+use Rattle.node_config.specs.Keys.{key_name}
+use Rattle.node_config.specs.Values.{◌>>=◌, text_at, number_at, table_of, tables_of}
+use Rattle.node_config.specs.declared.config.FolderConfig.{FolderConfig}
+use Rattle.node_config.specs.declared.fault.ConfigFault.{ConfigFault}
+use Rattle.node_config.specs.declared.fault.ConfigFault.TheVariants.{BadKey}
+use Rattle.node_config.specs.declared.key.Key.TheVariants.{Folder as FolderKey, Id, Path, HistoryLimit, MaxConflicts}
+use Rattle.node_config.specs.declared.key.Place.{Place}
+use Rattle.node_config.specs.declared.key.Place.TheVariants.{Folder}
+use Rattle.node_config.specs.declared.key.Problem.TheVariants.{Empty, Repeats}
+
+-- the folder has this id
+abbrev pub has_id : List ℕ → FolderConfig → Bool
+has_id id folder = bytes_eq folder.id id
+
+-- an id that is not empty, and not that of an earlier folder
+abbrev pub checked_id : List FolderConfig → Place → List ℕ → Result (List ℕ) ConfigFault
+checked_id earlier place id =
+    if length id == 0 then Err (BadKey place Id Empty)
+    else if list_any (has_id id) earlier then Err (BadKey place Id Repeats)
+    else Ok id
+
+-- the folder of a table, after the earlier ones
+abbrev pub folder_of : List FolderConfig → Data → Result FolderConfig ConfigFault
+folder_of earlier value = do
+  table ← table_of FolderKey value
+  text ← text_at table (Folder (length earlier + 1)) Id
+  id ← checked_id earlier (Folder (length earlier + 1)) text
+  path ← text_at table (Folder (length earlier + 1)) Path
+  history_limit ← number_at table (Folder (length earlier + 1)) HistoryLimit (pos 1) (pos 100000000) (pos 1000000)
+  max_conflicts ← number_at table (Folder (length earlier + 1)) MaxConflicts (negsuc 0) (pos 1000) (negsuc 0)
+  Ok (record { id = id; path = path; history_limit = unsigned_abs history_limit; max_conflicts = max_conflicts })
+
+-- the earlier folders, and those of the tables
+abbrev pub folders_after : List FolderConfig → Items → Result (List FolderConfig) ConfigFault
+folders_after earlier no_items = Ok earlier
+folders_after earlier (item value values) = folder_of earlier value >>= λ folder. folders_after (earlier ++ folder ∷ []) values
+
+abbrev pub folders_at : Members → Result (List FolderConfig) ConfigFault
+folders_at document = tables_of FolderKey (get_member (key_name FolderKey) document) >>= folders_after []

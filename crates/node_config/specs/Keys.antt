@@ -1,0 +1,18 @@
+-- How the document writes its keys.
+use Rattle.std.specs.Prelude.{ℕ, List, codes}
+use Rattle.node_config.specs.declared.key.Key.{Key}
+use Rattle.node_config.specs.declared.key.Key.TheVariants.{Device, Name, State, Folder, Peer, Id, Path, HistoryLimit, MaxConflicts, Folders, Dial, Listen}
+
+abbrev pub key_name : Key → List ℕ
+key_name Device = codes "device"
+key_name Name = codes "name"
+key_name State = codes "state"
+key_name Folder = codes "folder"
+key_name Peer = codes "peer"
+key_name Id = codes "id"
+key_name Path = codes "path"
+key_name HistoryLimit = codes "history_limit"
+key_name MaxConflicts = codes "max_conflicts"
+key_name Folders = codes "folders"
+key_name Dial = codes "dial"
+key_name Listen = codes "listen"

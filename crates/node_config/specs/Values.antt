@@ -1,0 +1,73 @@
+-- The value of a key of a table, or what is wrong with it.
+use Rattle.std.specs.Prelude.{◌≡◌, ℕ, ℤ, List, ◌==◌, ◌&&◌, ◌⊎◌, length, if◌then◌else◌, int_le, Option, Some, None, Result, Ok, Err, MatchResult}
+use Rattle.std.specs.Option.{ok_or}
+use Rattle.std.specs.Result.{result_ok}
+use Rattle.hex.specs.Hex.{decode_of}
+use Rattle.toml.specs.Data.{Data, Items, no_items, Members, get_member, as_str, as_integer, as_array, as_table}
+use Rattle.node_config.specs.Keys.{key_name}
+use Rattle.node_config.specs.declared.fault.ConfigFault.{ConfigFault}
+use Rattle.node_config.specs.declared.fault.ConfigFault.TheVariants.{BadKey, OutOfMemory}
+use Rattle.node_config.specs.declared.key.Key.{Key}
+use Rattle.node_config.specs.declared.key.Key.TheVariants.{Device}
+use Rattle.node_config.specs.declared.key.Place.{Place}
+use Rattle.node_config.specs.declared.key.Place.TheVariants.{Node}
+use Rattle.node_config.specs.declared.key.Problem.TheVariants.{Absent, NotString, NotInteger, NotTables, NotStrings, NotDevice, OutOfRange}
+
+-- the next step, where the one before found a value
+infixl 10 ◌>>=◌
+abbrev pub ◌>>=◌ : {A B : Type 0} → Result A ConfigFault → (A → Result B ConfigFault) → Result B ConfigFault
+Ok x >>= f = f x
+Err e >>= f = Err e
+
+-- a function that does not allocate returns this value, seen through `view`, or this fault
+abbrev pub Finds : {A B : Type 0} → (B → A) → Result A ConfigFault → Result B ConfigFault → Type 0
+Finds view value result = MatchResult result (λ x. value ≡ Ok (view x)) (λ fault. value ≡ Err fault)
+
+-- a function returns this value or this fault, unless it is out of memory
+abbrev pub Reads : {A : Type 0} → Result A ConfigFault → Result A ConfigFault → Type 0
+Reads value result = MatchResult result (λ x. value ≡ Ok x) (λ fault. (fault ≡ OutOfMemory) ⊎ (value ≡ Err fault))
+
+-- the value of a required key
+abbrev pub required_at : Members → Place → Key → Result Data ConfigFault
+required_at table place key = ok_or (get_member (key_name key) table) (BadKey place key Absent)
+
+-- the string that is the value of a key
+abbrev pub text_of : Place → Key → Data → Result (List ℕ) ConfigFault
+text_of place key value = ok_or (as_str value) (BadKey place key NotString)
+
+abbrev pub text_at : Members → Place → Key → Result (List ℕ) ConfigFault
+text_at table place key = required_at table place key >>= text_of place key
+
+-- the array that is the value of a required key
+abbrev pub array_at : Members → Place → Key → Result Items ConfigFault
+array_at table place key = required_at table place key >>= λ value. ok_or (as_array value) (BadKey place key NotStrings)
+
+-- the integer of a key that may be absent, from low to high
+abbrev pub number_of_value : Place → Key → ℤ → ℤ → Data → Result ℤ ConfigFault
+number_of_value place key low high value = do
+  number ← ok_or (as_integer value) (BadKey place key NotInteger)
+  if int_le low number && int_le number high then Ok number else Err (BadKey place key (OutOfRange low high))
+
+abbrev pub number_or_default : Place → Key → ℤ → ℤ → ℤ → Option Data → Result ℤ ConfigFault
+number_or_default place key low high default None = Ok default
+number_or_default place key low high default (Some value) = number_of_value place key low high value
+
+abbrev pub number_at : Members → Place → Key → ℤ → ℤ → ℤ → Result ℤ ConfigFault
+number_at table place key low high default = number_or_default place key low high default (get_member (key_name key) table)
+
+-- the bytes of 64 hexadecimal digits
+abbrev pub device_of : List ℕ → Option (List ℕ)
+device_of text = if length text == 64 then result_ok (decode_of text) else None
+
+abbrev pub device_at : Members → Place → Result (List ℕ) ConfigFault
+device_at table place = do
+  text ← text_at table place Device
+  ok_or (device_of text) (BadKey place Device NotDevice)
+
+-- the tables that are the value of a key, which may be absent
+abbrev pub tables_of : Key → Option Data → Result Items ConfigFault
+tables_of key None = Ok no_items
+tables_of key (Some value) = ok_or (as_array value) (BadKey Node key NotTables)
+
+abbrev pub table_of : Key → Data → Result Members ConfigFault
+table_of key value = ok_or (as_table value) (BadKey Node key NotTables)

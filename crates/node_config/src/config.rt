@@ -1,0 +1,51 @@
+use bep_messages::{Items, Text};
+use sync_record::DeviceId;
+
+/// What a node does: who it is, the folders it keeps and its peers.
+#[derive(Debug, Drop)]
+pub struct Config {
+    /// The identity of this device.
+    pub device: DeviceId,
+    /// The name of this device, which peers see.
+    pub name: Text,
+    /// The path of the state file.
+    pub state: Text,
+    /// The folders, in the order of the document.
+    pub folders: Items<FolderConfig>,
+    /// The peers, in the order of the document.
+    pub peers: Items<PeerConfig>,
+}
+
+/// A folder that a node keeps.
+#[derive(Debug, Drop)]
+pub struct FolderConfig {
+    /// Its id, by which peers speak of it.
+    pub id: Text,
+    /// The path of its files.
+    pub path: Text,
+    /// The most changes that its history keeps: 1 to 100,000,000.
+    pub history_limit: u64,
+    /// The most conflict copies that are kept of a name: 0 to 1,000, or -1 for any number.
+    pub max_conflicts: i32,
+}
+
+/// Another device, with which a node keeps folders alike.
+#[derive(Debug, Drop)]
+pub struct PeerConfig {
+    /// Its identity.
+    pub device: DeviceId,
+    /// The folders that are shared with it, as places in [`Config::folders`], in the order of the document. A folder that is listed
+    /// twice stands here twice.
+    pub folders: Items<usize>,
+    /// How the two devices connect.
+    pub address: PeerAddress,
+}
+
+/// How a node and a peer connect. The text is as in the document: [`crate::read_address`] reads it.
+#[derive(Debug, Drop)]
+pub enum PeerAddress {
+    /// The node dials the peer at this address.
+    Dial(Text),
+    /// The node listens at this address for the peer.
+    Listen(Text),
+}

@@ -1,0 +1,80 @@
+ghost use Rattle.std.specs.Prelude.{◌≡◌, ◌≤◌, ◌==◌, ℕ, suc, count_by, length, take, IfErr, IfOk};
+ghost use Rattle.toml.specs.Errors.{IsMemory, IsWithin};
+ghost use Rattle.toml.specs.View.{table_view};
+ghost use Rattle.node_config.specs.Documents.{IsConfig, IsFaultOf, IsLineOf, config_of};
+ghost use Rattle.node_config.specs.Values.{Reads};
+
+use crate::config::Config;
+use crate::fault::ConfigFault;
+use crate::folders::read_folders;
+use crate::key::{Key, Place};
+use crate::peers::read_peers;
+use crate::values::{copied_text_at, device_at};
+use std::alloc::Global;
+use toml::Table;
+use toml::de::Error;
+
+/// Reads the configuration of a text, which is a TOML document in UTF-8. The crate's page lists the keys.
+///
+/// # Errors
+///
+/// - [`ConfigFault::NotToml`] if the text is no TOML document.
+/// - [`ConfigFault::BadKey`] if a key is absent, has a value of another type or is out of its range; if a folder's id is empty or that of
+///   another folder; if a peer's `folders` has a string that is no folder's id; if two devices, this one and the peers, have the same
+///   identity or the same first 8 bytes of it; if a peer has both `dial` and `listen`, or neither; if two peers have the same text in
+///   `listen`. Of several such keys it is the first, in this order: `device`, `name`, `state`, then each folder and each peer in the
+///   order of the document, with the keys of each in the order of the crate's table.
+/// - [`ConfigFault::OutOfMemory`] if memory ran out.
+///
+/// Whether an address can be read is not tested here: [`crate::read_address`] does that.
+///
+/// O(n + k²) time and O(n) memory, for a text of n bytes with k folders, peers and strings in `folders` in all.
+pub fn read_config(alloc: Global, text: &[u8]) -> Result<Config, ConfigFault>
+    ensures ok { IfOk result (IsConfig text.now) }
+    ensures err { IfErr result (IsFaultOf text.now) }
+{
+    match toml::table_from_slice(alloc, text) {
+        Ok(document) => read_document(alloc, &document),
+        Err(error) => Err(toml_fault(text, &error)),
+    }
+}
+
+/// The configuration of a document.
+fn read_document(alloc: Global, document: &Table) -> Result<Config, ConfigFault>
+    ensures { Reads (config_of (table_view document.now)) result }
+{
+    let device = device_at(document, Place::Node)?;
+    let name = copied_text_at(alloc, document, Place::Node, Key::Name)?;
+    let state = copied_text_at(alloc, document, Place::Node, Key::State)?;
+    let folders = read_folders(alloc, document)?;
+    let peers = read_peers(alloc, device, folders.as_slice(), document)?;
+    Ok(Config {
+        device,
+        name,
+        state,
+        folders,
+        peers,
+    })
+}
+
+/// Why a text is no TOML document.
+fn toml_fault(text: &[u8], error: &Error) -> ConfigFault
+    requires { IsWithin text.now error.now }
+    ensures memory { IsMemory error.now → result ≡ ConfigFault.OutOfMemory }
+    ensures line { ¬ (IsMemory error.now) → (line : ℕ) × (result ≡ ConfigFault.NotToml line) × IsLineOf text.now line }
+{
+    match error.span() {
+        Some(span) => ConfigFault::NotToml {
+            line: line_of(text, span.start),
+        },
+        None => ConfigFault::OutOfMemory,
+    }
+}
+
+/// The line on which the byte at this index is, counted from 1.
+fn line_of(text: &[u8], index: usize) -> usize
+    requires { index ≤ length text.now }
+    ensures { result ≡ suc (count_by (λ byte. byte == 10) (take index text.now)) }
+{
+    text[..index].iter().filter(|byte| **byte == b'\n').count() + 1
+}

@@ -1,0 +1,60 @@
+ghost use Rattle.std.specs.Prelude.{◌≡◌};
+ghost use Rattle.node_config.specs.Faults.{fault_name, number_of};
+ghost use Rattle.node_config.specs.declared.fault.ConfigFault.TheVariants.{OutOfMemory};
+
+use crate::key::{Key, Place, Problem};
+use std::alloc::AllocError;
+use thiserror::Error;
+
+/// Why a text is no configuration. Displayed, it is one line that names the key, or the line of the text, and what is wrong with it, as
+/// `folder 2: history_limit is not from 1 to 100000000`.
+#[derive(Clone, Copy, Debug, PartialEq, Eq, Error)]
+pub enum ConfigFault {
+    /// The text is not TOML, from this line on, counted from 1.
+    #[error("line {line}: not TOML")]
+    NotToml {
+        line: usize,
+    },
+    /// A key of a table of the document has no value that is allowed there.
+    #[error("{place}{key} {problem}")]
+    BadKey {
+        place: Place,
+        key: Key,
+        problem: Problem,
+    },
+    /// Memory ran out.
+    #[error("out of memory")]
+    OutOfMemory,
+}
+
+impl ConfigFault {
+    /// The number under which programs report the fault: 60, or 33 for `OutOfMemory`. O(1).
+    pub fn number(self) -> u8
+        ensures { result ≡ number_of self }
+    {
+        match self {
+            ConfigFault::NotToml { .. } => 60,
+            ConfigFault::BadKey { .. } => 60,
+            ConfigFault::OutOfMemory => 33,
+        }
+    }
+
+    /// The name of the number: `BadConfig` or `OutOfMemory`. O(1).
+    pub fn name(self) -> &'static str
+        ensures { result.now ≡ fault_name self }
+    {
+        match self {
+            ConfigFault::NotToml { .. } => "BadConfig",
+            ConfigFault::BadKey { .. } => "BadConfig",
+            ConfigFault::OutOfMemory => "OutOfMemory",
+        }
+    }
+}
+
+impl From<AllocError> for ConfigFault {
+    ghost from_gives = { λ _ fault. fault ≡ OutOfMemory };
+
+    fn from(_failed: AllocError) -> ConfigFault {
+        ConfigFault::OutOfMemory
+    }
+}

@@ -1,0 +1,120 @@
+//! The folders of a document.
+ghost use Rattle.std.specs.Prelude.{◌≡◌, []};
+ghost use Rattle.toml.specs.View.{items_view, table_view, view};
+ghost use Rattle.node_config.specs.Folders.{checked_id, folder_of, folders_after, folders_at, has_id};
+ghost use Rattle.std.specs.List.{list_any};
+ghost use Rattle.node_config.specs.Values.{Finds, Reads};
+
+use crate::config::FolderConfig;
+use crate::fault::ConfigFault;
+use crate::key::{Key, Place, Problem};
+use crate::values::{number_at, table_of, text_at, value_at};
+use bep_messages::{Items, Text};
+use std::alloc::Global;
+use toml::{Table, Value};
+
+const GREATEST_HISTORY_LIMIT: i64 = 100_000_000;
+
+const DEFAULT_HISTORY_LIMIT: i64 = 1_000_000;
+
+const GREATEST_MAX_CONFLICTS: i64 = 1_000;
+
+const ANY_CONFLICTS: i64 = -1;
+
+/// The folders of a document.
+pub(crate) fn read_folders(
+    alloc: Global,
+    document: &Table,
+) -> Result<Items<FolderConfig>, ConfigFault>
+    ensures { Reads (folders_at (table_view document.now)) result }
+{
+    match value_at(document, Key::Folder) {
+        None => Ok(Items::new(alloc)),
+        Some(Value::Array(values)) => read_each(alloc, values),
+        Some(_) => Err(ConfigFault::BadKey {
+            place: Place::Node,
+            key: Key::Folder,
+            problem: Problem::NotTables,
+        }),
+    }
+}
+
+/// The folders of these tables.
+fn read_each(alloc: Global, values: &[Value]) -> Result<Items<FolderConfig>, ConfigFault>
+    ensures { Reads (folders_after [] (items_view values.now)) result }
+{
+    let mut folders = Items::new(alloc);
+    for value in values {
+        let folder = read_folder(alloc, folders.as_slice(), value)?;
+        folders.push(folder)?;
+    }
+    Ok(folders)
+}
+
+/// The folder of a table, after the earlier ones.
+fn read_folder(
+    alloc: Global,
+    earlier: &[FolderConfig],
+    value: &Value,
+) -> Result<FolderConfig, ConfigFault>
+    ensures { Reads (folder_of earlier.now (view value.now)) result }
+{
+    let table = table_of(value, Key::Folder)?;
+    let place = Place::Folder(earlier.len() + 1);
+    let id = checked_id(earlier, place, text_at(table, place, Key::Id)?)?;
+    let path = text_at(table, place, Key::Path)?;
+    let history_limit = number_at(
+        table,
+        place,
+        Key::HistoryLimit,
+        1,
+        GREATEST_HISTORY_LIMIT,
+        DEFAULT_HISTORY_LIMIT,
+    )?;
+    let max_conflicts = number_at(
+        table,
+        place,
+        Key::MaxConflicts,
+        ANY_CONFLICTS,
+        GREATEST_MAX_CONFLICTS,
+        ANY_CONFLICTS,
+    )?;
+    Ok(FolderConfig {
+        id: Text::from_str(alloc, id)?,
+        path: Text::from_str(alloc, path)?,
+        history_limit: history_limit as u64,
+        max_conflicts: max_conflicts as i32,
+    })
+}
+
+/// An id that is not empty, and not that of an earlier folder.
+fn checked_id<'a>(
+    earlier: &[FolderConfig],
+    place: Place,
+    id: &'a str,
+) -> Result<&'a str, ConfigFault>
+    ensures { Finds (λ text. text.now) (checked_id earlier.now place id.now) result }
+{
+    if id.is_empty() {
+        return Err(ConfigFault::BadKey {
+            place,
+            key: Key::Id,
+            problem: Problem::Empty,
+        });
+    }
+    if is_known(earlier, id) {
+        return Err(ConfigFault::BadKey {
+            place,
+            key: Key::Id,
+            problem: Problem::Repeats,
+        });
+    }
+    Ok(id)
+}
+
+/// Whether one of the folders has this id.
+fn is_known(folders: &[FolderConfig], id: &str) -> bool
+    ensures { result ≡ list_any (has_id id.now) folders.now }
+{
+    folders.iter().any(|folder| folder.id.as_str() == id)
+}

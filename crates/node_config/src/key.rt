@@ -1,0 +1,128 @@
+ghost use Rattle.std.specs.Prelude.{◌≡◌, Some};
+ghost use Rattle.node_config.specs.Keys.{key_name};
+
+use std::fmt::{self, Display, Formatter};
+
+/// A key of the document.
+#[derive(Clone, Copy, Debug, PartialEq, Eq)]
+pub enum Key {
+    Device,
+    Name,
+    State,
+    Folder,
+    Peer,
+    Id,
+    Path,
+    HistoryLimit,
+    MaxConflicts,
+    Folders,
+    Dial,
+    Listen,
+}
+
+impl Key {
+    /// How the document writes it. O(1).
+    pub const fn name(self) -> &'static str
+        ensures { result.now ≡ key_name self }
+    {
+        match self {
+            Key::Device => "device",
+            Key::Name => "name",
+            Key::State => "state",
+            Key::Folder => "folder",
+            Key::Peer => "peer",
+            Key::Id => "id",
+            Key::Path => "path",
+            Key::HistoryLimit => "history_limit",
+            Key::MaxConflicts => "max_conflicts",
+            Key::Folders => "folders",
+            Key::Dial => "dial",
+            Key::Listen => "listen",
+        }
+    }
+}
+
+impl Display for Key {
+    ghost output = { λ key. Some (key_name key) };
+
+    fn fmt<W: fmt::Write>(&self, f: &mut Formatter<W>) -> fmt::Result {
+        f.write_str(self.name())
+    }
+}
+
+/// A table of the document. Displayed, it is what a line on one of its keys begins with.
+#[derive(Clone, Copy, Debug, PartialEq, Eq)]
+pub enum Place {
+    /// The document itself.
+    Node,
+    /// The `[[folder]]` of this number, counted from 1.
+    Folder(usize),
+    /// The `[[peer]]` of this number, counted from 1.
+    Peer(usize),
+}
+
+impl Display for Place {
+    fn fmt<W: fmt::Write>(&self, f: &mut Formatter<W>) -> fmt::Result {
+        match self {
+            Place::Node => Ok(()),
+            Place::Folder(number) => write!(f, "folder {number}: "),
+            Place::Peer(number) => write!(f, "peer {number}: "),
+        }
+    }
+}
+
+/// What is wrong with a key. Displayed, it is how a line on the key ends.
+#[derive(Clone, Copy, Debug, PartialEq, Eq)]
+pub enum Problem {
+    /// It is required and absent.
+    Absent,
+    /// Its value is not a string.
+    NotString,
+    /// Its value is not an integer.
+    NotInteger,
+    /// Its value is not an array of tables.
+    NotTables,
+    /// Its value is not an array of strings.
+    NotStrings,
+    /// Its string is not 64 hexadecimal digits.
+    NotDevice,
+    /// Its integer is below `low` or above `high`.
+    OutOfRange { low: i64, high: i64 },
+    /// Its string is empty.
+    Empty,
+    /// Its string is that of an earlier folder or peer.
+    Repeats,
+    /// Its string is the identity of this device or of an earlier peer.
+    SameDevice,
+    /// The identity differs from that of this device or of an earlier peer, and the first 8 bytes do not.
+    SameShortId,
+    /// The string of this number in its array, counted from 1, is no folder's id.
+    UnknownFolder { entry: usize },
+    /// Both `dial` and `listen` are there.
+    BothAddresses,
+    /// Neither `dial` nor `listen` is there.
+    NoAddress,
+}
+
+impl Display for Problem {
+    fn fmt<W: fmt::Write>(&self, f: &mut Formatter<W>) -> fmt::Result {
+        match self {
+            Problem::Absent => f.write_str("is absent"),
+            Problem::NotString => f.write_str("is not a string"),
+            Problem::NotInteger => f.write_str("is not an integer"),
+            Problem::NotTables => f.write_str("is not an array of tables"),
+            Problem::NotStrings => f.write_str("is not an array of strings"),
+            Problem::NotDevice => f.write_str("is not 64 hexadecimal digits"),
+            Problem::OutOfRange { low, high } => write!(f, "is not from {low} to {high}"),
+            Problem::Empty => f.write_str("is empty"),
+            Problem::Repeats => f.write_str("repeats an earlier one"),
+            Problem::SameDevice => f.write_str("is that of another device"),
+            Problem::SameShortId => f.write_str("begins with the same 8 bytes as another device"),
+            Problem::UnknownFolder { entry } => {
+                write!(f, "has as number {entry} the id of no folder")
+            }
+            Problem::BothAddresses => f.write_str("and listen are both given"),
+            Problem::NoAddress => f.write_str("and listen are both absent"),
+        }
+    }
+}

@@ -1,0 +1,32 @@
+//! The configuration of a node: which folders it keeps, and with which peers it keeps them alike. It is a TOML document.
+//!
+//! | Key | Value |
+//! |---|---|
+//! | `device` | the identity of this device: 64 hexadecimal digits, in either case |
+//! | `name` | a string that peers see |
+//! | `state` | the path of the state file |
+//! | `[[folder]]` `id` | a string that is not empty, unlike that of each other folder |
+//! | `[[folder]]` `path` | the path of the folder |
+//! | `[[folder]]` `history_limit` | 1 to 100,000,000, or 1,000,000 where it is absent |
+//! | `[[folder]]` `max_conflicts` | -1 to 1,000, or -1 where it is absent |
+//! | `[[peer]]` `device` | as above, unlike that of each other device, also in its first 8 bytes |
+//! | `[[peer]]` `folders` | an array of the ids of folders above |
+//! | `[[peer]]` `dial` or `listen` | one of them: an address; no two peers have the same text in `listen` |
+//!
+//! All but the two numbers are required. There may be no `[[folder]]` and no `[[peer]]`. Other keys are ignored.
+#![tactic(auto)]
+
+mod address;
+mod config;
+mod document;
+mod fault;
+mod folders;
+mod key;
+mod peers;
+mod values;
+
+pub use address::read_address;
+pub use config::{Config, FolderConfig, PeerAddress, PeerConfig};
+pub use document::read_config;
+pub use fault::ConfigFault;
+pub use key::{Key, Place, Problem};

@@ -1,0 +1,160 @@
+//! The value of a key of a table.
+ghost use Rattle.std.specs.Prelude.{◌≡◌, ◌≤ℤ◌, IfOk, MatchOption, Some, None};
+ghost use Rattle.toml.specs.Data.{get_member};
+ghost use Rattle.toml.specs.View.{array_view, table_view, view};
+ghost use Rattle.node_config.specs.Keys.{key_name};
+ghost use Rattle.node_config.specs.Values.{Finds, Reads, array_at, device_at, number_at, number_of_value, required_at, table_of, text_at, text_of};
+
+use crate::fault::ConfigFault;
+use crate::key::{Key, Place, Problem};
+use bep_messages::Text;
+use std::alloc::Global;
+use sync_record::DeviceId;
+use toml::value::Array;
+use toml::{Table, Value};
+
+/// The value of a key, if the key is there.
+pub(crate) fn value_at(table: &Table, key: Key) -> Option<&Value>
+    ensures { MatchOption result (get_member (key_name key) (table_view table.now) ≡ None) (λ value. get_member (key_name key) (table_view table.now) ≡ Some (view value.now)) }
+{
+    table.get(key.name())
+}
+
+/// The value of a required key.
+fn required_at(table: &Table, place: Place, key: Key) -> Result<&Value, ConfigFault>
+    ensures { Finds (λ value. view value.now) (required_at (table_view table.now) place key) result }
+{
+    match value_at(table, key) {
+        Some(value) => Ok(value),
+        None => Err(ConfigFault::BadKey {
+            place,
+            key,
+            problem: Problem::Absent,
+        }),
+    }
+}
+
+/// The string that is the value of a key.
+pub(crate) fn text_of(value: &Value, place: Place, key: Key) -> Result<&str, ConfigFault>
+    ensures { Finds (λ text. text.now) (text_of place key (view value.now)) result }
+{
+    match value.as_str() {
+        Some(text) => Ok(text),
+        None => Err(ConfigFault::BadKey {
+            place,
+            key,
+            problem: Problem::NotString,
+        }),
+    }
+}
+
+/// The string of a required key.
+pub(crate) fn text_at(table: &Table, place: Place, key: Key) -> Result<&str, ConfigFault>
+    ensures { Finds (λ text. text.now) (text_at (table_view table.now) place key) result }
+{
+    text_of(required_at(table, place, key)?, place, key)
+}
+
+/// A copy of the string of a required key.
+pub(crate) fn copied_text_at(
+    alloc: Global,
+    table: &Table,
+    place: Place,
+    key: Key,
+) -> Result<Text, ConfigFault>
+    ensures { Reads (text_at (table_view table.now) place key) result }
+{
+    Ok(Text::from_str(alloc, text_at(table, place, key)?)?)
+}
+
+/// The array of a required key.
+pub(crate) fn array_at(table: &Table, place: Place, key: Key) -> Result<&Array, ConfigFault>
+    ensures { Finds (λ values. array_view values.now) (array_at (table_view table.now) place key) result }
+{
+    match required_at(table, place, key)?.as_array() {
+        Some(values) => Ok(values),
+        None => Err(ConfigFault::BadKey {
+            place,
+            key,
+            problem: Problem::NotStrings,
+        }),
+    }
+}
+
+/// The integer that is the value of a key, from `low` to `high`.
+fn number_of_value(
+    value: &Value,
+    place: Place,
+    key: Key,
+    low: i64,
+    high: i64,
+) -> Result<i64, ConfigFault>
+    ensures value { result ≡ number_of_value place key low high (view value.now) }
+    ensures range { IfOk result (λ number. (low ≤ℤ number) × (number ≤ℤ high)) }
+{
+    let Some(number) = value.as_integer() else {
+        return Err(ConfigFault::BadKey {
+            place,
+            key,
+            problem: Problem::NotInteger,
+        });
+    };
+    if low <= number && number <= high {
+        Ok(number)
+    } else {
+        Err(ConfigFault::BadKey {
+            place,
+            key,
+            problem: Problem::OutOfRange { low, high },
+        })
+    }
+}
+
+/// The integer of a key, from `low` to `high`, or `default` where the key is absent.
+pub(crate) fn number_at(
+    table: &Table,
+    place: Place,
+    key: Key,
+    low: i64,
+    high: i64,
+    default: i64,
+) -> Result<i64, ConfigFault>
+    requires low { low ≤ℤ default }
+    requires high { default ≤ℤ high }
+    ensures value { result ≡ number_at (table_view table.now) place key low high default }
+    ensures range { IfOk result (λ number. (low ≤ℤ number) × (number ≤ℤ high)) }
+{
+    match value_at(table, key) {
+        Some(value) => number_of_value(value, place, key, low, high),
+        None => Ok(default),
+    }
+}
+
+/// The identity of a required `device`.
+pub(crate) fn device_at(table: &Table, place: Place) -> Result<DeviceId, ConfigFault>
+    ensures { result ≡ device_at (table_view table.now) place }
+{
+    let text = text_at(table, place, Key::Device)?;
+    match DeviceId::from_hex(text) {
+        Some(device) => Ok(device),
+        None => Err(ConfigFault::BadKey {
+            place,
+            key: Key::Device,
+            problem: Problem::NotDevice,
+        }),
+    }
+}
+
+/// The table that a value of an array of tables is.
+pub(crate) fn table_of(value: &Value, key: Key) -> Result<&Table, ConfigFault>
+    ensures { Finds (λ table. table_view table.now) (table_of key (view value.now)) result }
+{
+    match value.as_table() {
+        Some(table) => Ok(table),
+        None => Err(ConfigFault::BadKey {
+            place: Place::Node,
+            key,
+            problem: Problem::NotTables,
+        }),
+    }
+}
