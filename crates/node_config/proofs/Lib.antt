@@ -1,2 +1,3 @@
+pub mod AddressLemmas
 pub mod KeyFaults
 pub mod Reading

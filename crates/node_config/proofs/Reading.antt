@@ -1,5 +1,5 @@
 -- What a look-up in a table found, and what a text that is read gives.
-use Rattle.std.proofs.Common.{◌≡◌, ℕ, List, length, ◌==◌, Bool, true, false, cond, IsSome, Option, Some, None, option_map, Result, Ok, Err, Bor, MatchOption, IfErr, ◌⊎◌, inl, inr, sym, refl, arith}
+use Rattle.std.proofs.Common.{◌≡◌, ℕ, List, length, ◌==◌, Bool, true, false, cond, Option, Some, None, option_map, Result, Ok, Err, Bor, MatchOption, IfErr, ◌⊎◌, inl, inr, sym, refl, arith}
 use Rattle.std.proofs.lemmas.Result.{IfErr-at_err}
 use Rattle.std.specs.List.{AllPass}
 use Rattle.std.specs.Result.{result_ok}
@@ -11,7 +11,12 @@ use Rattle.toml.specs.Data.{Data, Members}
 use Rattle.toml.specs.View.{view}
 use Rattle.toml.specs.declared.value.Value.{Value}
 use Rattle.node_config.specs.Documents.{IsDocument, IsFaultOf, config_of}
-use Rattle.node_config.specs.Values.{Reads, device_of}
+use Rattle.node_config.specs.Folders.{folders_at}
+use Rattle.node_config.specs.Peers.{peers_at}
+use Rattle.node_config.specs.Values.{Reads, device_at, device_of, text_at}
+use Rattle.node_config.specs.declared.config.FolderConfig.{FolderConfig}
+use Rattle.node_config.specs.declared.key.Key.TheVariants.{Name, State}
+use Rattle.node_config.specs.declared.key.Place.TheVariants.{Node}
 use Rattle.node_config.specs.declared.config.Config.{Config}
 use Rattle.node_config.specs.declared.fault.ConfigFault.{ConfigFault}
 use Rattle.node_config.specs.declared.fault.ConfigFault.TheVariants.{NotToml, BadKey, OutOfMemory}
@@ -43,3 +48,9 @@ fault_of_document text document is (Ok config) h = tt
 fault_of_document text document is (Err OutOfMemory) h = tt
 fault_of_document text document is (Err (BadKey place key problem)) h = elim h [ inl e ↦ cc | inr e ↦ (document, is, e) ]
 fault_of_document text document is (Err (NotToml line)) h = elim h [ inl e ↦ cc | inr e ↦ absurd (IfErr-at_err IsOfKey e (config_fails document)) ]
+
+-- a fault of the peers, after all else was read
+pub fault_of_peers : (document : Members) (device name state : List ℕ) (folders lent : List FolderConfig) (fault : ConfigFault) → device_at document Node ≡ Ok device → text_at document Node Name ≡ Ok name → text_at document Node State ≡ Ok state → folders_at document ≡ Ok folders → lent ≡ folders
+    → (fault ≡ OutOfMemory) ⊎ (peers_at device lent document ≡ Err fault) → (fault ≡ OutOfMemory) ⊎ (config_of document ≡ Err fault)
+fault_of_peers document device name state folders lent fault d n s f same h =
+    elim h [ inl memory ↦ inl memory | inr e ↦ inr (rw (d, n, s, f, ← same, e) refl) ]

@@ -11,7 +11,6 @@ use Rattle.node_config.specs.declared.key.Key.{Key}
 use Rattle.node_config.specs.declared.key.Key.TheVariants.{Device}
 use Rattle.node_config.specs.declared.key.Place.{Place}
 use Rattle.node_config.specs.declared.key.Place.TheVariants.{Node}
-use Rattle.node_config.specs.declared.key.Problem.{Problem}
 use Rattle.node_config.specs.declared.key.Problem.TheVariants.{Absent, NotString, NotInteger, NotTables, NotStrings, NotDevice, OutOfRange}
 
 -- the next step, where the one before found a value

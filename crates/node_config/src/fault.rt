@@ -12,7 +12,9 @@ use thiserror::Error;
 pub enum ConfigFault {
     /// The text is not TOML, from this line on, counted from 1.
     #[error("line {line}: not TOML")]
-    NotToml { line: usize },
+    NotToml {
+        line: usize,
+    },
     /// A key of a table of the document has no value that is allowed there.
     #[error("{place}{key} {problem}")]
     BadKey {

@@ -14,8 +14,11 @@ use std::alloc::Global;
 use toml::{Table, Value};
 
 const GREATEST_HISTORY_LIMIT: i64 = 100_000_000;
+
 const DEFAULT_HISTORY_LIMIT: i64 = 1_000_000;
+
 const GREATEST_MAX_CONFLICTS: i64 = 1_000;
+
 const ANY_CONFLICTS: i64 = -1;
 
 /// The folders of a document.

@@ -7,8 +7,8 @@ ghost use Rattle.node_config.specs.Values.{Finds, Reads, array_at, device_at, nu
 
 use crate::fault::ConfigFault;
 use crate::key::{Key, Place, Problem};
-use std::alloc::Global;
 use bep_messages::Text;
+use std::alloc::Global;
 use sync_record::DeviceId;
 use toml::value::Array;
 use toml::{Table, Value};
