@@ -2,6 +2,7 @@
 use crate::command::Command;
 use crate::connections::Connections;
 use crate::host::Host;
+use crate::input::next_line;
 use crate::moments::moment;
 use file_store::{FileStore, Gate};
 use folder_calls::FolderCalls;
@@ -75,9 +76,12 @@ where
     O: Write,
 {
     let mut folders = folders;
-    for line in commands.lines(alloc) {
-        let line = line?;
-        let command = Command::parse(line.as_str());
+    let mut bytes = Vec::new(alloc);
+    for _ in rt.forever() {
+        let Some(line) = next_line(commands, &mut bytes)? else {
+            break;
+        };
+        let command = Command::parse(line);
         if let Command::Quit = command {
             break;
         }
@@ -178,7 +182,10 @@ fn need<C: FolderCore + Drop, S, W: FolderCalls, O: Write>(
 ) -> Result<(), Refused> {
     let mut lines = Vec::new(alloc);
     let mut page = folder.calls.need(None, PAGE)?.value;
-    while let Some(last) = page.as_slice().last() {
+    for _ in 0..u64::MAX {
+        let Some(last) = page.as_slice().last() else {
+            break;
+        };
         lines.clear();
         for name in page.as_slice() {
             lines.extend_from_slice(b"need ")?;
@@ -201,7 +208,10 @@ fn list<C: FolderCore + Drop, S, W: FolderCalls, O: Write>(
 ) -> Result<(), Refused> {
     let mut lines = Vec::new(alloc);
     let mut page = folder.calls.bests(None, PAGE)?.value;
-    while let Some(last) = page.as_slice().last() {
+    for _ in 0..u64::MAX {
+        let Some(last) = page.as_slice().last() else {
+            break;
+        };
         lines.clear();
         for best in page.as_slice() {
             let local = folder.calls.local(best.record.name())?.value;

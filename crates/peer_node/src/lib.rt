@@ -6,6 +6,7 @@ mod command;
 mod connections;
 mod fault;
 mod host;
+mod input;
 mod moments;
 mod node;
 mod peer;
