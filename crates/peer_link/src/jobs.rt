@@ -54,7 +54,7 @@ where
     G: Gate,
     L: Line,
     requires { All (IsApart W.view job.peer) job.folders.items }
-    ensures { HasReadAll W.view W.folder job.peer (I.remaining job.reader) job.folders.items result.end result.folders.items }
+    ensures { HasReadAll W.view W.folder job.entry.peer (I.remaining job.entry.reader) job.entry.folders.items result.end result.folders.items }
 {
     let ReadJob {
         peer,

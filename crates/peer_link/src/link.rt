@@ -107,8 +107,8 @@ where
             ensures { IfOk result (λ written. IsSameQueue taker written.0) }
         { write(rt, alloc, &start, hello, taker, writer, line) },
         || -> Workers<S, W>
-            ensures read { HasReadAll W.view W.folder reading.peer (I.remaining reading.reader)
-                reading.folders.items result.0.end result.0.folders.items }
+            ensures read { HasReadAll W.view W.folder reading.entry.peer (I.remaining reading.entry.reader)
+                reading.entry.folders.items result.0.end result.0.folders.items }
             ensures indexer { IsSameEnded indexing.seat result.1.0.seat }
             ensures server { IsSameEnded serving.seat result.1.1.0.seat }
             ensures requester { IsSameEnded requesting.seat result.1.1.1.seat }
@@ -164,8 +164,8 @@ where
     G: Gate + Sync,
     L: Line + Sync,
     requires { All (IsApart W.view reading.peer) reading.folders.items }
-    ensures read { HasReadAll W.view W.folder reading.peer (I.remaining reading.reader)
-        reading.folders.items result.0.end result.0.folders.items }
+    ensures read { HasReadAll W.view W.folder reading.entry.peer (I.remaining reading.entry.reader)
+        reading.entry.folders.items result.0.end result.0.folders.items }
     ensures indexer { IsSameEnded indexing.seat result.1.0.seat }
     ensures server { IsSameEnded serving.seat result.1.1.0.seat }
     ensures requester { IsSameEnded requesting.seat result.1.1.1.seat }
@@ -173,8 +173,8 @@ where
     join(
         rt,
         || -> HasRead<W>
-            ensures { HasReadAll W.view W.folder reading.peer (I.remaining reading.reader)
-                reading.folders.items result.end result.folders.items }
+            ensures { HasReadAll W.view W.folder reading.entry.peer (I.remaining reading.entry.reader)
+                reading.entry.folders.items result.end result.folders.items }
         { read(rt, alloc, start, reading, gate, line) },
         || -> Putters<S, W>
             ensures indexer { IsSameEnded indexing.seat result.0.seat }
