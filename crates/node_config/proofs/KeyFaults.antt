@@ -51,7 +51,7 @@ checked_id_fails earlier place id = search cond_fails
 number_fails : (table : Members) (place : Place) (key : Key) (low high default : ℤ) → FailsAtKey (number_at table place key low high default)
 number_fails table place key low high default = default_fails place key low high default _
 
-device_fails : (table : Members) (place : Place) → FailsAtKey (device_at table place)
+pub device_fails : (table : Members) (place : Place) → FailsAtKey (device_at table place)
 device_fails table place = search (or_fails, then_fails, text_fails)
 
 tables_fail : (key : Key) (o : Option Data) → FailsAtKey (tables_of key o)

@@ -1,5 +1,5 @@
 -- What a look-up in a table found, and what a text that is read gives.
-use Rattle.std.proofs.Common.{◌≡◌, ℕ, List, length, ◌==◌, Bool, true, false, cond, Option, Some, None, option_map, Result, Ok, Err, Bor, MatchOption, IfErr, ◌⊎◌, inl, inr, sym, refl, arith}
+use Rattle.std.proofs.Common.{◌≡◌, ℕ, suc, List, [], IsOk, length, ◌==◌, Bool, true, false, cond, Option, Some, None, option_map, Result, Ok, Err, Bor, MatchOption, IfErr, ◌⊎◌, inl, inr, sym, refl, subst, arith}
 use Rattle.std.proofs.lemmas.Result.{IfErr-at_err}
 use Rattle.std.specs.List.{AllPass}
 use Rattle.std.specs.Result.{result_ok}
@@ -7,7 +7,11 @@ use Rattle.std.proofs.lemmas.Bool.Decides.{nat_tests}
 use Rattle.hex.specs.Hex.{decode_of, is_hex_digit}
 use Rattle.hex.specs.declared.error.FromHexError.{FromHexError}
 use Rattle.hex.proofs.HexLemmas.{decode_of-ok}
-use Rattle.toml.specs.Data.{Data, Members}
+use Rattle.toml.specs.Data.{Data, Members, no_members}
+use Rattle.toml.specs.Errors.{IsBlank}
+use Rattle.toml.specs.Parse.{parse_document, skip_bom}
+use Rattle.toml.specs.Tables.{no_nodes}
+use Rattle.toml.proofs.Turns.{document_some, lines_end}
 use Rattle.toml.specs.View.{view}
 use Rattle.toml.specs.declared.value.Value.{Value}
 use Rattle.node_config.specs.Documents.{IsDocument, IsFaultOf, config_of}
@@ -20,7 +24,7 @@ use Rattle.node_config.specs.declared.key.Place.TheVariants.{Node}
 use Rattle.node_config.specs.declared.config.Config.{Config}
 use Rattle.node_config.specs.declared.fault.ConfigFault.{ConfigFault}
 use Rattle.node_config.specs.declared.fault.ConfigFault.TheVariants.{NotToml, BadKey, OutOfMemory}
-use Rattle.node_config.proofs.KeyFaults.{IsOfKey, config_fails}
+use Rattle.node_config.proofs.KeyFaults.{IsOfKey, config_fails, device_fails}
 
 pub found_member : (r : Option (Bor Value)) (o : Option Data) → option_map (λ x. view x.now) r ≡ o → MatchOption r (o ≡ None) (λ value. o ≡ Some (view value.now))
 found_member None o e = sym e
@@ -54,3 +58,17 @@ pub fault_of_peers : (document : Members) (device name state : List ℕ) (folder
     → (fault ≡ OutOfMemory) ⊎ (peers_at device lent document ≡ Err fault) → (fault ≡ OutOfMemory) ⊎ (config_of document ≡ Err fault)
 fault_of_peers document device name state folders lent fault d n s f same h =
     elim h [ inl memory ↦ inl memory | inr e ↦ inr (rw (d, n, s, f, ← same, e) refl) ]
+
+-- out of memory is no fault of a device
+pub no_fault_of_device : (document : Members) → device_at document Node ≡ Err OutOfMemory → ⊥
+no_fault_of_device document e = IfErr-at_err IsOfKey e (device_fails document Node)
+
+blank_document : (text : List ℕ) → IsBlank text → parse_document text ≡ Some no_members
+blank_document text blank = document_some text (no_nodes, []) (lines_end (suc (length text)) (no_nodes, []) (skip_bom text) (omega arith) blank)
+
+-- a blank text has no device
+pub not_blank : (text : List ℕ) (document : Members) → parse_document text ≡ Some document → IsOk (device_at document Node) → ¬ (IsBlank text)
+not_blank text document parsed found blank =
+    let same : document ≡ no_members = cc (blank_document text blank) in
+    let lost : IsOk (device_at no_members Node) = subst (λ (d : Members). IsOk (device_at d Node)) same found in
+    cc lost

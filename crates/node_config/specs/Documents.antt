@@ -29,9 +29,13 @@ IsDocument text document = IsUtf8 text × (parse_document text ≡ Some document
 abbrev pub IsConfig : List ℕ → Config → Type 0
 IsConfig text config = (document : Members) × IsDocument text document × (config_of document ≡ Ok config)
 
--- a byte of the text, or its end, is on this line, counted from 1
+-- the line on which the byte at an index is, counted from 1
+abbrev pub line_at : List ℕ → ℕ → ℕ
+line_at text index = suc (count_by (λ byte. byte == 10) (take index text))
+
+-- the line of a byte of the text, or of its end
 abbrev pub IsLineOf : List ℕ → ℕ → Type 0
-IsLineOf text line = (before : ℕ) × (before ≤ length text) × (line ≡ suc (count_by (λ byte. byte == 10) (take before text)))
+IsLineOf text line = (index : ℕ) × (index ≤ length text) × (line ≡ line_at text index)
 
 -- the fault is there
 abbrev pub IsFaultOf : List ℕ → ConfigFault → Type 0

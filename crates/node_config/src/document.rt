@@ -1,8 +1,8 @@
-ghost use Rattle.std.specs.Prelude.{◌≡◌, ◌≤◌, ◌==◌, ℕ, suc, count_by, length, take, IfErr, IfOk};
-ghost use Rattle.toml.specs.Errors.{IsMemory, IsWithin};
+ghost use Rattle.std.specs.Prelude.{◌≡◌, ◌≤◌, ℕ, length, IfErr, IfOk, IsErrOf, IsOk};
+ghost use Rattle.toml.specs.Errors.{IsBlank, IsMemory, IsWithin, span_start};
 ghost use Rattle.toml.specs.View.{table_view};
-ghost use Rattle.node_config.specs.Documents.{IsConfig, IsFaultOf, IsLineOf, config_of};
-ghost use Rattle.node_config.specs.Values.{Reads};
+ghost use Rattle.node_config.specs.Documents.{IsConfig, IsFaultOf, IsLineOf, config_of, line_at};
+ghost use Rattle.node_config.specs.Values.{Reads, device_at};
 
 use crate::config::Config;
 use crate::fault::ConfigFault;
@@ -24,7 +24,7 @@ use toml::de::Error;
 ///   identity or the same first 8 bytes of it; if a peer has both `dial` and `listen`, or neither; if two peers have the same text in
 ///   `listen`. Of several such keys it is the first, in this order: `device`, `name`, `state`, then each folder and each peer in the
 ///   order of the document, with the keys of each in the order of the crate's table.
-/// - [`ConfigFault::OutOfMemory`] if memory ran out.
+/// - [`ConfigFault::OutOfMemory`] if memory ran out, and never for a text of white space and comments alone.
 ///
 /// Whether an address can be read is not tested here: [`crate::read_address`] does that.
 ///
@@ -32,6 +32,7 @@ use toml::de::Error;
 pub fn read_config(alloc: Global, text: &[u8]) -> Result<Config, ConfigFault>
     ensures ok { IfOk result (IsConfig text.now) }
     ensures err { IfErr result (IsFaultOf text.now) }
+    ensures memory { IsErrOf result ConfigFault.OutOfMemory → ¬ (IsBlank text.now) }
 {
     match toml::table_from_slice(alloc, text) {
         Ok(document) => read_document(alloc, &document),
@@ -41,7 +42,8 @@ pub fn read_config(alloc: Global, text: &[u8]) -> Result<Config, ConfigFault>
 
 /// The configuration of a document.
 fn read_document(alloc: Global, document: &Table) -> Result<Config, ConfigFault>
-    ensures { Reads (config_of (table_view document.now)) result }
+    ensures value { Reads (config_of (table_view document.now)) result }
+    ensures memory { IsErrOf result ConfigFault.OutOfMemory → IsOk (device_at (table_view document.now) Place.Node) }
 {
     let device = device_at(document, Place::Node)?;
     let name = copied_text_at(alloc, document, Place::Node, Key::Name)?;
@@ -61,7 +63,8 @@ fn read_document(alloc: Global, document: &Table) -> Result<Config, ConfigFault>
 fn toml_fault(text: &[u8], error: &Error) -> ConfigFault
     requires { IsWithin text.now error.now }
     ensures memory { IsMemory error.now → result ≡ ConfigFault.OutOfMemory }
-    ensures line { ¬ (IsMemory error.now) → (line : ℕ) × (result ≡ ConfigFault.NotToml line) × IsLineOf text.now line }
+    ensures line { ¬ (IsMemory error.now) → result ≡ ConfigFault.NotToml (line_at text.now (span_start error.now)) }
+    ensures within { ¬ (IsMemory error.now) → (line : ℕ) × (result ≡ ConfigFault.NotToml line) × IsLineOf text.now line }
 {
     match error.span() {
         Some(span) => ConfigFault::NotToml {
@@ -74,7 +77,7 @@ fn toml_fault(text: &[u8], error: &Error) -> ConfigFault
 /// The line on which the byte at this index is, counted from 1.
 fn line_of(text: &[u8], index: usize) -> usize
     requires { index ≤ length text.now }
-    ensures { result ≡ suc (count_by (λ byte. byte == 10) (take index text.now)) }
+    ensures { result ≡ line_at text.now index }
 {
     text[..index].iter().filter(|byte| **byte == b'\n').count() + 1
 }

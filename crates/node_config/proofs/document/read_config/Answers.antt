@@ -1,6 +1,9 @@
 use Rattle.toml.specs.View.{table_view}
-use Rattle.node_config.proofs.Reading.{fault_of_document}
+use Rattle.node_config.proofs.Reading.{fault_of_document, not_blank}
 use Rattle.node_config.proofs.document.read_config.Goals as goal
 
 pub returns-in-Ok-clause-err : goal.returns-in-Ok-clause-err
-returns-in-Ok-clause-err c = fault_of_document c.args.text.now (table_view c.in-Ok.document) c.in-Ok.ensures.ok c.read_document.result c.read_document.ensures
+returns-in-Ok-clause-err c = fault_of_document c.args.text.now (table_view c.in-Ok.document) c.in-Ok.ensures.ok c.read_document.result c.read_document.ensures.value
+
+pub returns-in-Ok-clause-memory : goal.returns-in-Ok-clause-memory
+returns-in-Ok-clause-memory c = λ memory. not_blank c.args.text.now (table_view c.in-Ok.document) c.in-Ok.ensures.ok.1 (c.read_document.ensures.memory memory)
