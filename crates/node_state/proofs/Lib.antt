@@ -1,0 +1,3 @@
+pub mod Folders
+pub mod PeerMaps
+pub mod Peers
