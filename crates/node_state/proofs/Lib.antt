@@ -1,3 +1,6 @@
+pub mod Entries
 pub mod Folders
+pub mod Goes
 pub mod PeerMaps
 pub mod Peers
+pub mod Rows
