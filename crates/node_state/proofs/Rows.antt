@@ -13,7 +13,7 @@ use Rattle.bep_messages.proofs.Joins.{AreReadable, held_readable, readable, unre
 use Rattle.node_state.specs.declared.edition.Edition.{Edition}
 use Rattle.node_state.specs.declared.edition.Edition.TheVariants.{First, Second}
 use Rattle.node_state.specs.Meaning.{body_fault}
-use Rattle.node_state.specs.Reading.{held, front_table, folder_fault}
+use Rattle.node_state.specs.Reading.{held, peers_held, front_table, folder_fault}
 use Rattle.node_state.specs.Tables.{entry_table, peer_table, folder_table, state_table, first_folder_table, first_state_table}
 
 -- ---- one list in a message
@@ -50,10 +50,6 @@ module _ (f g k : Item → Option MessageFault) (h : (i : Item) → f i ≡ None
       none_then _ _ (h i p.0 q.0) (fine-both items p.1 q.1)
 
 -- ---- a folder
-
-abbrev pub peers_held : Edition → List ℕ → List (List ℕ)
-peers_held First bytes = []
-peers_held Second bytes = held 5 bytes
 
 pub record Pieces (edition : Edition) (bytes : List ℕ) : Type 0 where
   pub front : message_fault front_table bytes ≡ None

@@ -1,5 +1,5 @@
 -- The bytes that fields of a number hold, one after the other, and what they make of a state.
-use Rattle.std.specs.Prelude.{◌≡◌, ◌∷◌, ℕ, List, [], None, Option, length}
+use Rattle.std.specs.Prelude.{◌≡◌, ◌≢◌, ◌∷◌, ℕ, List, [], None, Option, length, map, AllPairs}
 use Rattle.bep_messages.specs.Contents.{byte_lists, contents}
 use Rattle.bep_messages.specs.declared.fault.MessageFault.{MessageFault}
 use Rattle.bep_messages.specs.Faults.{message_fault}
@@ -7,10 +7,11 @@ use Rattle.bep_messages.specs.Tables.{◌▹◌, ◌is◌, Table, End, Int64, Ui
 use Rattle.bep_messages.specs.Values.{value}
 use Rattle.bep_wire.specs.Fields.{fields}
 use Rattle.sync_record.specs.Devices.{Identity}
+use Rattle.sync_record.specs.Records.{FileRecord}
 use Rattle.node_state.specs.declared.edition.Edition.{Edition}
 use Rattle.node_state.specs.declared.edition.Edition.TheVariants.{First, Second}
 use Rattle.node_state.specs.declared.front.Front.{Front}
-use Rattle.node_state.specs.Meaning.{IsAllowed, IsEntry, Told, told_first, told_second}
+use Rattle.node_state.specs.Meaning.{IsAllowed, IsEntry, Told, announced, peer_of, told_first, told_second}
 use Rattle.node_state.specs.Tables.{entry_table, peer_table, folder_table, first_folder_table}
 
 abbrev pub held : ℕ → List ℕ → List (List ℕ)
@@ -38,6 +39,22 @@ front_parts f = (f.id, (f.index_id, (f.last, tt)))
 
 abbrev pub front_of : Values front_table → Front
 front_of (id, (index_id, (last, none))) = record { id = id; index_id = index_id; last = last }
+
+-- ---- the lists of a folder
+
+abbrev pub peers_held : Edition → List ℕ → List (List ℕ)
+peers_held First bytes = []
+peers_held Second bytes = held 5 bytes
+
+abbrev pub entry_pairs : List ℕ → List (Identity × FileRecord)
+entry_pairs bytes = map (λ b. announced (value entry_table b)) (held 4 bytes)
+
+abbrev pub peer_pairs : Edition → List ℕ → List (Identity × ℕ)
+peer_pairs edition bytes = map (λ b. peer_of (value peer_table b)) (peers_held edition bytes)
+
+-- no two pairs are of one device
+abbrev pub AreOnce : List (Identity × ℕ) → Type 0
+AreOnce ps = AllPairs (λ p q. p.0 ≢ q.0) ps
 
 -- ---- what is right
 

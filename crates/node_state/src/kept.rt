@@ -1,8 +1,10 @@
-ghost use Rattle.std.specs.Prelude.{◌≡◌, map};
-ghost use Rattle.std.specs.FinMap.{empty, entries};
+ghost use Rattle.std.specs.Prelude.{◌≡◌, map, IsTrue, OnErr, OnOk};
+ghost use Rattle.std.specs.FinMap.{empty, entries, insert, is_sorted, put};
+ghost use Rattle.sync_record.specs.Devices.{bytes_cmp};
 ghost use Rattle.node_state.specs.Peers.{pair};
 
-use std::alloc::Global;
+use std::alloc::{AllocError, Global};
+use std::cmp::Ordering;
 use std::marker::Model;
 use sync_record::DeviceId;
 
@@ -53,4 +55,35 @@ impl KeptIndexes {
     {
         self.kept.as_slice()
     }
+
+    /// Keeps this index number for the peer, in place of one that was kept. Returns `Err` only if it could not be
+    /// allocated, and then nothing has changed. O(n) for n peers.
+    pub fn insert(&mut self, device: DeviceId, index_id: u64) -> Result<(), AllocError>
+        ensures ok { OnOk result (self.new ≡ insert self.old device index_id) }
+        ensures err { OnErr result (self.new ≡ self.old) }
+    {
+        put(&mut self.kept, PeerIndex { device, index_id })
+    }
+}
+
+// Puts the index number in its place, or in place of that of its peer.
+fn put(kept: &mut Vec<PeerIndex>, new: PeerIndex) -> Result<(), AllocError>
+    ensures ok { OnOk result (map pair kept.new.items ≡ put bytes_cmp new.device new.index_id (map pair kept.old.items)) }
+    ensures err { OnErr result (kept.new.items ≡ kept.old.items) }
+{
+    for at in 0..kept.len() {
+        match kept[at].device.cmp(&new.device) {
+            Ordering::Less => {}
+            Ordering::Equal => {
+                kept[at] = new;
+                return Ok(());
+            }
+            Ordering::Greater => {
+                kept.insert(at, new)?;
+                return Ok(());
+            }
+        }
+    }
+    kept.push(new)?;
+    Ok(())
 }

@@ -15,5 +15,6 @@ mod writing;
 pub use edition::Edition;
 pub use fault::{Problem, StateFault};
 pub use kept::{KeptIndexes, PeerIndex};
+pub use reading::read_state;
 pub use state::{State, StoredFolder};
 pub use writing::write_state;

@@ -20,7 +20,7 @@ use std::alloc::{AllocError, Global};
 use std::mem;
 
 /// The first line of a state file of version 2, with its line feed.
-const SECOND_LINE: [u8; 13] = *b"bepd state 2\n";
+pub(crate) const SECOND_LINE: [u8; 13] = *b"bepd state 2\n";
 
 // The message of an announcement.
 fn entry_of(alloc: Global, announced: &Announcement) -> Result<Entry, AllocError>
