@@ -1,0 +1,9 @@
+pub mod Apart
+pub mod Entries
+pub mod Folders
+pub mod Goes
+pub mod Parts
+pub mod PeerMaps
+pub mod Peers
+pub mod Rows
+pub mod States
