@@ -1,5 +1,6 @@
 //! How a node ends.
 use node_config::ConfigFault;
+use node_state::StateFault;
 use peer_node::NodeFault;
 use std::alloc::{AllocError, AllocFailed};
 use std::io::{self, Write};
@@ -8,6 +9,7 @@ use std::io::{self, Write};
 #[derive(Drop)]
 pub(crate) enum Ending {
     Config(ConfigFault),
+    State(StateFault),
     Node(NodeFault),
     OutOfMemory,
     ReadOrWrite,
@@ -19,6 +21,8 @@ impl Ending {
         match self {
             Ending::Config(ConfigFault::OutOfMemory) => 4,
             Ending::Config(_) => 1,
+            Ending::State(StateFault::OutOfMemory) => 4,
+            Ending::State(_) => 6,
             Ending::Node(NodeFault::OutOfMemory) => 4,
             Ending::Node(NodeFault::BadAddress) => 7,
             Ending::Node(_) => 5,
@@ -34,6 +38,7 @@ impl Ending {
                 writeln!(errors, "fault {} {}", fault.number(), fault.name())?;
                 writeln!(errors, "{fault}")
             }
+            Ending::State(fault) => writeln!(errors, "fault {} {fault}", fault.number()),
             Ending::Node(fault) => writeln!(errors, "fault {} {fault}", fault.number()),
             Ending::OutOfMemory => writeln!(errors, "fault 33 OutOfMemory"),
             Ending::ReadOrWrite => writeln!(errors, "fault read or write"),
@@ -44,6 +49,12 @@ impl Ending {
 impl From<ConfigFault> for Ending {
     fn from(fault: ConfigFault) -> Ending {
         Ending::Config(fault)
+    }
+}
+
+impl From<StateFault> for Ending {
+    fn from(fault: StateFault) -> Ending {
+        Ending::State(fault)
     }
 }
 

@@ -1,16 +1,72 @@
-//! The files that a node reads.
+//! The files that a node reads and writes.
+use crate::ending::Ending;
+use bep_messages::Items;
+use node_state::{State, read_state, write_state};
 use std::alloc::Global;
-use std::fs::{File, Files};
-use std::io::{self, Read};
+use std::fs::{self, File, Files, OpenFile};
+use std::io::{ErrorKind, Read, Write};
+use sync_record::DeviceId;
 
 /// The most bytes of a configuration.
 const MAX_CONFIG_BYTES: u64 = 16_777_216;
 
-/// The bytes of a configuration. One that is longer than 16 MiB is cut.
-pub(crate) fn read_config_file<R: Files>(rt: &R, alloc: Global, path: &str) -> io::Result<Vec<u8>> {
+/// The most bytes of a state file.
+const MAX_STATE_BYTES: u64 = 1 << 40;
+
+/// The bytes of a configuration; one of more than 16 MiB is cut.
+pub(crate) fn read_config_file<R: Files>(
+    rt: &R,
+    alloc: Global,
+    path: &str,
+) -> Result<Vec<u8>, Ending> {
     let mut bytes = Vec::new(alloc);
     File::open(rt, path)?
         .take(MAX_CONFIG_BYTES)
         .read_to_end(&mut bytes)?;
     Ok(bytes)
+}
+
+/// The state that the last run left; one without folders where there is no file.
+pub(crate) fn read_state_file<R: Files>(
+    rt: &R,
+    alloc: Global,
+    me: DeviceId,
+    path: &str,
+) -> Result<State, Ending> {
+    let file = match File::open(rt, path) {
+        Ok(file) => file,
+        Err(error) if error.kind() == ErrorKind::NotFound => {
+            return Ok(State {
+                folders: Items::new(alloc),
+            });
+        }
+        Err(error) => return Err(Ending::from(error)),
+    };
+    let mut bytes = Vec::new(alloc);
+    file.take(MAX_STATE_BYTES).read_to_end(&mut bytes)?;
+    Ok(read_state(alloc, me, bytes.as_slice())?)
+}
+
+/// Writes the state to a file of its own, and then puts it in place of the one that is there, so that there is always a whole one.
+pub(crate) fn write_state_file<R: Files>(
+    rt: &R,
+    alloc: Global,
+    path: &str,
+    state: &State,
+) -> Result<(), Ending> {
+    let mut bytes = Vec::new(alloc);
+    write_state(state, &mut bytes)?;
+    let new = format!(in alloc; "{path}.new")?;
+    let mut file = File::create(rt, new.as_str())?;
+    file.write_all(bytes.as_slice())?;
+    file.sync_all()?;
+    drop(file);
+    fs::rename(rt, new.as_str(), path)?;
+    let folder = match path.rsplit_once('/') {
+        Some(("", _)) => "/",
+        Some((folder, _)) => folder,
+        None => ".",
+    };
+    File::open(rt, folder)?.sync_all()?;
+    Ok(())
 }

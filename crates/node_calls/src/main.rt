@@ -17,6 +17,7 @@
 
 mod ending;
 mod files;
+mod keeping;
 mod playing;
 
 use playing::play;

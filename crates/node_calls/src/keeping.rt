@@ -1,0 +1,194 @@
+//! From the state of the last run to the folders of this one, and back.
+use crate::ending::Ending;
+use bep_messages::{Items, Text};
+use folder_core::{FolderCore, PlainFolder};
+use node_config::{Config, FolderConfig, PeerConfig};
+use node_state::{KeptIndexes, State, StoredFolder};
+use peer_node::{NodeFolder, Share};
+use std::alloc::{AllocError, Global};
+use sync_pull::MaxConflicts;
+use sync_record::DeviceId;
+
+/// A folder as a run begins with it.
+#[derive(Drop)]
+pub(crate) struct Begun<'a> {
+    pub(crate) folder: NodeFolder<'a, PlainFolder>,
+    /// The numbers of the peers' indexes that its records are of.
+    pub(crate) kept: KeptIndexes,
+}
+
+/// Each folder of the configuration with what is stored of it, if something is; then without records of devices that it isn't shared with.
+pub(crate) fn begin_all<'a>(
+    alloc: Global,
+    config: &'a Config,
+    state: State,
+    new_index_id: u64,
+) -> Result<Vec<Begun<'a>>, Ending> {
+    let mut stored = state.folders.into_vec();
+    let mut begun = Vec::new(alloc);
+    for (place, folder) in config.folders.as_slice().iter().enumerate() {
+        let found = stored
+            .iter()
+            .position(|stored| stored.id.as_str() == folder.id.as_str());
+        let (index_id, mut core, kept) = match found {
+            Some(at) if at < stored.len() => {
+                let StoredFolder {
+                    index_id,
+                    folder,
+                    peers,
+                    ..
+                } = stored.swap_remove(at);
+                (index_id, folder, peers)
+            }
+            _ => (
+                new_index_id,
+                PlainFolder::new(alloc, config.device),
+                KeptIndexes::new(alloc),
+            ),
+        };
+        forget_others(alloc, config, place, &mut core)?;
+        begun.push(Begun {
+            folder: node_folder(folder, index_id, core)?,
+            kept,
+        })?;
+    }
+    Ok(begun)
+}
+
+fn node_folder<'a>(
+    folder: &'a FolderConfig,
+    index_id: u64,
+    core: PlainFolder,
+) -> Result<NodeFolder<'a, PlainFolder>, Ending> {
+    let Some(most) = MaxConflicts::new(folder.max_conflicts) else {
+        return Err(Ending::OutOfMemory);
+    };
+    Ok(NodeFolder {
+        id: folder.id.as_str(),
+        path: folder.path.as_str(),
+        index_id,
+        history_limit: folder.history_limit,
+        most,
+        core,
+    })
+}
+
+// Forgets the records of each device that the folder isn't shared with.
+fn forget_others(
+    alloc: Global,
+    config: &Config,
+    place: usize,
+    core: &mut PlainFolder,
+) -> Result<(), AllocError> {
+    let mut others = Vec::<DeviceId>::new(alloc);
+    for announcement in core.records() {
+        let device = announcement.device;
+        if device != config.device
+            && !is_shared(config, place, device)
+            && others.iter().all(|other| *other != device)
+        {
+            others.push(device)?;
+        }
+    }
+    for device in others {
+        if device != core.me() {
+            core.forget(device)?;
+        }
+    }
+    Ok(())
+}
+
+fn is_shared(config: &Config, place: usize, device: DeviceId) -> bool {
+    config.peers.as_slice().iter().any(|peer| {
+        peer.device == device
+            && peer
+                .folders
+                .as_slice()
+                .iter()
+                .any(|folder| *folder == place)
+    })
+}
+
+/// The folders that are shared with a peer, each once, with the number of the peer's index that is kept.
+pub(crate) fn shares_of(
+    alloc: Global,
+    peer: &PeerConfig,
+    kept: &[KeptIndexes],
+) -> Result<Vec<Share>, AllocError> {
+    let mut shares = Vec::<Share>::new(alloc);
+    for folder in peer.folders.as_slice() {
+        if shares.iter().any(|share| share.folder == *folder) {
+            continue;
+        }
+        let kept_index_id = match kept.get(*folder) {
+            Some(kept) => kept_of(kept, peer.device),
+            None => 0,
+        };
+        shares.push(Share {
+            folder: *folder,
+            kept_index_id,
+        })?;
+    }
+    Ok(shares)
+}
+
+fn kept_of(kept: &KeptIndexes, device: DeviceId) -> u64 {
+    match kept.as_slice().iter().find(|index| index.device == device) {
+        Some(index) => index.index_id,
+        None => 0,
+    }
+}
+
+/// What is stored of the folders, as a run left them.
+pub(crate) fn end_all(
+    alloc: Global,
+    config: &Config,
+    index_ids: &[u64],
+    shares: &[Vec<Share>],
+    cores: Vec<PlainFolder>,
+    kept: &[Vec<u64>],
+) -> Result<State, AllocError> {
+    let mut folders = Items::new(alloc);
+    let mut place = 0usize;
+    for core in cores {
+        let (Some(folder), Some(index_id)) = (
+            config.folders.as_slice().get(place),
+            index_ids.get(place),
+        ) else {
+            break;
+        };
+        folders.push(StoredFolder {
+            id: Text::from_str(alloc, folder.id.as_str())?,
+            index_id: *index_id,
+            folder: core,
+            peers: kept_indexes(alloc, config, place, shares, kept)?,
+        })?;
+        place = place.saturating_add(1);
+    }
+    Ok(State { folders })
+}
+
+// The numbers of the peers' indexes that the records of the folder at this place are of.
+fn kept_indexes(
+    alloc: Global,
+    config: &Config,
+    place: usize,
+    shares: &[Vec<Share>],
+    kept: &[Vec<u64>],
+) -> Result<KeptIndexes, AllocError> {
+    let mut indexes = KeptIndexes::new(alloc);
+    for ((peer, shares), kept) in config
+        .peers
+        .as_slice()
+        .iter()
+        .zip(shares.iter())
+        .zip(kept.iter())
+    {
+        for (share, index_id) in shares.iter().zip(kept.iter()) {
+            if share.folder == place && *index_id != 0 {
+                indexes.insert(peer.device, *index_id)?;
+            }
+        }
+    }
+    Ok(indexes)
+}
