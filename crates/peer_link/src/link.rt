@@ -107,6 +107,7 @@ where
             ensures { IfOk result (λ written. IsSameQueue taker written.0) }
         { write(rt, alloc, &start, hello, taker, writer, line) },
         || -> Workers<S, W>
+            requires { All (IsApart W.view reading.peer) reading.folders.items }
             ensures read { HasReadAll W.view W.folder reading.entry.peer (I.remaining reading.entry.reader)
                 reading.entry.folders.items result.0.end result.0.folders.items }
             ensures indexer { IsSameEnded indexing.seat result.1.0.seat }
@@ -173,6 +174,7 @@ where
     join(
         rt,
         || -> HasRead<W>
+            requires { All (IsApart W.view reading.peer) reading.folders.items }
             ensures { HasReadAll W.view W.folder reading.entry.peer (I.remaining reading.entry.reader)
                 reading.entry.folders.items result.end result.folders.items }
         { read(rt, alloc, start, reading, gate, line) },
