@@ -5,3 +5,4 @@ pub mod Folders
 pub mod Peers
 pub mod Documents
 pub mod Addresses
+pub mod Rules
