@@ -6,3 +6,4 @@ pub mod Peers
 pub mod Documents
 pub mod Addresses
 pub mod Rules
+pub mod Lines
