@@ -1,3 +1,5 @@
 pub mod AddressLemmas
+pub mod Consistent
 pub mod KeyFaults
 pub mod Reading
+pub mod Steps

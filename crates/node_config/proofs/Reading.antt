@@ -1,5 +1,5 @@
 -- What a look-up in a table found, and what a text that is read gives.
-use Rattle.std.proofs.Common.{◌≡◌, ℕ, suc, List, [], IsOk, length, ◌==◌, Bool, true, false, cond, Option, Some, None, option_map, Result, Ok, Err, Bor, MatchOption, IfErr, ◌⊎◌, inl, inr, sym, refl, subst, arith}
+use Rattle.std.proofs.Common.{◌≡◌, ℕ, suc, List, [], IsOk, length, ◌==◌, Bool, true, false, cond, Option, Some, None, option_map, Result, Ok, Err, Bor, MatchOption, IfOk, IfErr, ◌⊎◌, inl, inr, sym, refl, subst, arith}
 use Rattle.std.proofs.lemmas.Result.{IfErr-at_err}
 use Rattle.std.specs.List.{AllPass}
 use Rattle.std.specs.Result.{result_ok}
@@ -72,3 +72,8 @@ not_blank text document parsed found blank =
     let same : document ≡ no_members = cc (blank_document text blank) in
     let lost : IsOk (device_at no_members Node) = subst (λ (d : Members). IsOk (device_at d Node)) same found in
     cc lost
+
+-- what reading a document gives is its configuration
+pub read_config_of : (document : Members) (r : Result Config ConfigFault) → Reads (config_of document) r → IfOk r (λ config. config_of document ≡ Ok config)
+read_config_of document (Ok config) h = h
+read_config_of document (Err fault) h = tt

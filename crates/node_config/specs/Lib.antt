@@ -5,3 +5,5 @@ pub mod Folders
 pub mod Peers
 pub mod Documents
 pub mod Addresses
+pub mod Rules
+pub mod Lines

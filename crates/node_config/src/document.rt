@@ -2,6 +2,7 @@ ghost use Rattle.std.specs.Prelude.{◌≡◌, ◌≤◌, ℕ, length, IfErr, If
 ghost use Rattle.toml.specs.Errors.{IsBlank, IsMemory, IsWithin, span_start};
 ghost use Rattle.toml.specs.View.{table_view};
 ghost use Rattle.node_config.specs.Documents.{IsConfig, IsFaultOf, IsLineOf, config_of, line_at};
+ghost use Rattle.node_config.specs.Rules.{IsConsistent};
 ghost use Rattle.node_config.specs.Values.{Reads, device_at};
 
 use crate::config::Config;
@@ -31,6 +32,7 @@ use toml::de::Error;
 /// O(n + k²) time and O(n) memory, for a text of n bytes with k folders, peers and strings in `folders` in all.
 pub fn read_config(alloc: Global, text: &[u8]) -> Result<Config, ConfigFault>
     ensures ok { IfOk result (IsConfig text.now) }
+    ensures consistent { IfOk result IsConsistent }
     ensures err { IfErr result (IsFaultOf text.now) }
     ensures memory { IsErrOf result ConfigFault.OutOfMemory → ¬ (IsBlank text.now) }
 {

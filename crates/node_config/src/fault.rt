@@ -1,9 +1,11 @@
-ghost use Rattle.std.specs.Prelude.{◌≡◌};
+ghost use Rattle.std.specs.Prelude.{◌≡◌, Some};
 ghost use Rattle.node_config.specs.Faults.{fault_name, number_of};
+ghost use Rattle.node_config.specs.Lines.{fault_text};
 ghost use Rattle.node_config.specs.declared.fault.ConfigFault.TheVariants.{OutOfMemory};
 
 use crate::key::{Key, Place, Problem};
 use std::alloc::AllocError;
+use std::fmt::{self, Display, Formatter};
 use thiserror::Error;
 
 /// Why a text is no configuration. Displayed, it is one line that names the key, or the line of the text, and what is wrong with it, as
@@ -11,19 +13,16 @@ use thiserror::Error;
 #[derive(Clone, Copy, Debug, PartialEq, Eq, Error)]
 pub enum ConfigFault {
     /// The text is not TOML, from this line on, counted from 1.
-    #[error("line {line}: not TOML")]
     NotToml {
         line: usize,
     },
     /// A key of a table of the document has no value that is allowed there.
-    #[error("{place}{key} {problem}")]
     BadKey {
         place: Place,
         key: Key,
         problem: Problem,
     },
     /// Memory ran out.
-    #[error("out of memory")]
     OutOfMemory,
 }
 
@@ -47,6 +46,22 @@ impl ConfigFault {
             ConfigFault::NotToml { .. } => "BadConfig",
             ConfigFault::BadKey { .. } => "BadConfig",
             ConfigFault::OutOfMemory => "OutOfMemory",
+        }
+    }
+}
+
+impl Display for ConfigFault {
+    ghost output = { λ fault. Some (fault_text fault) };
+
+    fn fmt<W: fmt::Write>(&self, f: &mut Formatter<W>) -> fmt::Result {
+        match self {
+            ConfigFault::NotToml { line } => write!(f, "line {line}: not TOML"),
+            ConfigFault::BadKey {
+                place,
+                key,
+                problem,
+            } => write!(f, "{place}{key} {problem}"),
+            ConfigFault::OutOfMemory => f.write_str("out of memory"),
         }
     }
 }

@@ -1,5 +1,6 @@
 ghost use Rattle.std.specs.Prelude.{◌≡◌, Some};
 ghost use Rattle.node_config.specs.Keys.{key_name};
+ghost use Rattle.node_config.specs.Lines.{place_text, problem_text};
 
 use std::fmt::{self, Display, Formatter};
 
@@ -62,6 +63,8 @@ pub enum Place {
 }
 
 impl Display for Place {
+    ghost output = { λ place. Some (place_text place) };
+
     fn fmt<W: fmt::Write>(&self, f: &mut Formatter<W>) -> fmt::Result {
         match self {
             Place::Node => Ok(()),
@@ -105,6 +108,8 @@ pub enum Problem {
 }
 
 impl Display for Problem {
+    ghost output = { λ problem. Some (problem_text problem) };
+
     fn fmt<W: fmt::Write>(&self, f: &mut Formatter<W>) -> fmt::Result {
         match self {
             Problem::Absent => f.write_str("is absent"),

@@ -1,0 +1,223 @@
+-- A configuration that a document has follows the rules.
+use Rattle.std.proofs.Common.{◌≡◌, ◌≢◌, ℕ, ◌+◌, ◌<◌, ◌≤◌, Bool, true, false, ◌&&◌, ◌||◌, List, [], ◌∷◌, ◌++◌, length, get_or, ℤ, pos, negsuc, ◌≤ℤ◌, Option, Some, None, Ok, refl, sym, subst, arith}
+use Rattle.std.specs.Prelude.{int_le, unsigned_abs, position, nat_lt, All, ◌==◌}
+use Rattle.std.specs.List.{list_any, position_or_len}
+use Rattle.std.specs.Option.{ok_or}
+use Rattle.std.proofs.lemmas.Bool.{and_parts, ltb-true}
+use Rattle.std.proofs.lemmas.Bool.Decides.{nat_tests}
+use Rattle.std.proofs.lemmas.Int.{ints}
+use Rattle.std.proofs.lemmas.List.Elements.{All-nil, All-push}
+use Rattle.std.proofs.lemmas.List.Quantifiers.{all_pairs_push}
+use Rattle.std.proofs.lemmas.Slice.Eq.{bytes_eq-Decides}
+use Rattle.toml.specs.Data.{Data, Items, no_items, item, Members, get_member, as_str, as_integer}
+use Rattle.sync_record.specs.Devices.{short_id}
+use Rattle.node_config.specs.Documents.{config_of}
+use Rattle.node_config.specs.Folders.{has_id, checked_id, folder_of, folders_after, folders_at}
+use Rattle.node_config.specs.Keys.{key_name}
+use Rattle.node_config.specs.Peers.{is_taken, is_short_id_taken, checked_device, place_of, places_after, places_at, listens_at, checked_listen, address_of, address_at, peer_of, peers_after, peers_at}
+use Rattle.node_config.specs.Rules.{IsFolder, AreFolders, ArePeers, IsConsistent}
+use Rattle.node_config.specs.Values.{text_of, text_at, array_at, number_or_default, number_at, device_at, tables_of, table_of}
+use Rattle.node_config.specs.declared.config.Config.{Config}
+use Rattle.node_config.specs.declared.config.FolderConfig.{FolderConfig}
+use Rattle.node_config.specs.declared.config.PeerConfig.{PeerConfig}
+use Rattle.node_config.specs.declared.config.PeerAddress.{PeerAddress}
+use Rattle.node_config.specs.declared.config.PeerAddress.TheVariants.{Dial, Listen}
+use Rattle.node_config.specs.declared.fault.ConfigFault.TheVariants.{BadKey}
+use Rattle.node_config.specs.declared.key.Key.{Key}
+use Rattle.node_config.specs.declared.key.Key.TheVariants.{Name, State, Folder as FolderKey, Peer as PeerKey, Id, Path, HistoryLimit, MaxConflicts, Folders, Dial as DialKey, Listen as ListenKey}
+use Rattle.node_config.specs.declared.key.Place.{Place}
+use Rattle.node_config.specs.declared.key.Place.TheVariants.{Node, Folder, Peer}
+use Rattle.node_config.specs.declared.key.Problem.TheVariants.{NotInteger, NotStrings}
+use Rattle.node_config.proofs.Steps.{both, value_of, passed, tested, some_where, none_passes, differs}
+
+-- folders
+
+within : (low high n : ℤ) → (int_le low n && int_le n high) ≡ true → (low ≤ℤ n) × (n ≤ℤ high)
+within low high n h =
+    let (a, b) = and_parts (int_le low n) (int_le n high) h in
+    (grind (arith, ints), grind (arith, ints))
+
+number_found : (place : Place) (key : Key) (low high default n : ℤ) (o : Option Data) → low ≤ℤ default → default ≤ℤ high → number_or_default place key low high default o ≡ Ok n → (low ≤ℤ n) × (n ≤ℤ high)
+number_found place key low high default n None l g h =
+    let same : default ≡ n = cc h in
+    subst (λ (z : ℤ). (low ≤ℤ z) × (z ≤ℤ high)) same (l, g)
+number_found place key low high default n (Some value) l g h =
+    let (x, found, rest) = both (ok_or (as_integer value) (BadKey place key NotInteger)) _ n h in
+    let (test, same) = tested (int_le low x && int_le x high) x _ n rest in
+    subst (λ (z : ℤ). (low ≤ℤ z) × (z ≤ℤ high)) same (within low high x test)
+
+limit_range : (z : ℤ) → pos 1 ≤ℤ z → z ≤ℤ pos 100000000 → (1 ≤ unsigned_abs z) × (unsigned_abs z ≤ 100000000)
+limit_range (pos n) l g = (omega (arith, ints), omega (arith, ints))
+limit_range (negsuc n) l g = absurd (omega (arith, ints))
+
+not_empty : (id : List ℕ) → (length id == 0) ≡ false → id ≢ []
+not_empty [] h = cc h
+not_empty (x ∷ xs) h = λ e. cc e
+
+id_found : (earlier : List FolderConfig) (place : Place) (text id : List ℕ) → checked_id earlier place text ≡ Ok id → (id ≢ []) × (list_any (has_id id) earlier ≡ false)
+id_found earlier place text id h =
+    let (some, rest) = passed (length text == 0) _ _ id h in
+    let (new, last) = passed (list_any (has_id text) earlier) _ _ id rest in
+    let same : text ≡ id = cc last in
+    subst (λ (t : List ℕ). (t ≢ []) × (list_any (has_id t) earlier ≡ false)) same (not_empty text some, new)
+
+folder_found : (earlier : List FolderConfig) (value : Data) (folder : FolderConfig) → folder_of earlier value ≡ Ok folder → IsFolder folder × (list_any (has_id folder.id) earlier ≡ false)
+folder_found earlier value folder h =
+    let (table, t, h1) = both (table_of FolderKey value) _ folder h in
+    let (text, x, h2) = both (text_at table (Folder (length earlier + 1)) Id) _ folder h1 in
+    let (id, i, h3) = both (checked_id earlier (Folder (length earlier + 1)) text) _ folder h2 in
+    let (path, p, h4) = both (text_at table (Folder (length earlier + 1)) Path) _ folder h3 in
+    let (limit, l, h5) = both (number_at table (Folder (length earlier + 1)) HistoryLimit (pos 1) (pos 100000000) (pos 1000000)) _ folder h4 in
+    let (most, m, h6) = both (number_at table (Folder (length earlier + 1)) MaxConflicts (negsuc 0) (pos 1000) (negsuc 0)) _ folder h5 in
+    let made : FolderConfig = record { id = id; path = path; history_limit = unsigned_abs limit; max_conflicts = most } in
+    let same : made ≡ folder = cc h6 in
+    let is = id_found earlier (Folder (length earlier + 1)) text id i in
+    let a = number_found (Folder (length earlier + 1)) HistoryLimit (pos 1) (pos 100000000) (pos 1000000) limit (get_member (key_name HistoryLimit) table) (omega (arith, ints)) (omega (arith, ints)) l in
+    let b = number_found (Folder (length earlier + 1)) MaxConflicts (negsuc 0) (pos 1000) (negsuc 0) most (get_member (key_name MaxConflicts) table) (omega (arith, ints)) (omega (arith, ints)) m in
+    subst (λ (f : FolderConfig). IsFolder f × (list_any (has_id f.id) earlier ≡ false)) same (record { id = is.0; history_limit = limit_range limit a.0 a.1; max_conflicts = b }, is.1)
+
+more_folders : (earlier : List FolderConfig) (folder : FolderConfig) → AreFolders earlier → IsFolder folder × (list_any (has_id folder.id) earlier ≡ false) → AreFolders (earlier ++ folder ∷ [])
+more_folders earlier folder e h = (
+  All-push IsFolder earlier folder e.0 h.0,
+  all_pairs_push (λ a b. a.id ≢ b.id) earlier folder e.1 (λ k d inside. differs (get_or earlier k d).id folder.id (none_passes (has_id folder.id) earlier k d h.1 inside)),
+)
+
+folders_found : (earlier : List FolderConfig) (values : Items) (folders : List FolderConfig) → folders_after earlier values ≡ Ok folders → AreFolders earlier → AreFolders folders
+folders_found earlier no_items folders h e =
+    let same : earlier ≡ folders = cc h in
+    subst AreFolders same e
+folders_found earlier (item value values) folders h e =
+    let (folder, one, rest) = both (folder_of earlier value) (λ folder. folders_after (earlier ++ folder ∷ []) values) folders h in
+    folders_found (earlier ++ folder ∷ []) values folders rest (more_folders earlier folder e (folder_found earlier value folder one))
+
+no_folders : AreFolders []
+no_folders = (All-nil IsFolder, λ i j d a b. absurd (omega arith))
+
+folders_at_found : (document : Members) (folders : List FolderConfig) → folders_at document ≡ Ok folders → AreFolders folders
+folders_at_found document folders h =
+    let (values, v, rest) = both (tables_of FolderKey (get_member (key_name FolderKey) document)) (folders_after []) folders h in
+    folders_found [] values folders rest no_folders
+
+-- peers
+
+place_found : (folders : List FolderConfig) (place : Place) (entry index : ℕ) (value : Data) → place_of folders place entry value ≡ Ok index → index < length folders
+place_found folders place entry index value h =
+    let (id, t, rest) = both (ok_or (as_str value) (BadKey place Folders NotStrings)) _ index h in
+    let found : position (has_id id) folders ≡ Some index = value_of (position (has_id id) folders) _ index rest in
+    let (test, same) = some_where (nat_lt (position_or_len (has_id id) folders) (length folders)) (position_or_len (has_id id) folders) index found in
+    subst (λ (k : ℕ). k < length folders) same (ltb-true _ _ test)
+
+places_found : (folders : List FolderConfig) (place : Place) (earlier : List ℕ) (values : Items) (places : List ℕ) → places_after folders place earlier values ≡ Ok places → All (λ k. k < length folders) earlier → All (λ k. k < length folders) places
+places_found folders place earlier no_items places h e =
+    let same : earlier ≡ places = cc h in
+    subst (λ (ks : List ℕ). All (λ k. k < length folders) ks) same e
+places_found folders place earlier (item value values) places h e =
+    let (index, one, rest) = both (place_of folders place (length earlier + 1) value) (λ index. places_after folders place (earlier ++ index ∷ []) values) places h in
+    places_found folders place (earlier ++ index ∷ []) values places rest (All-push (λ k. k < length folders) earlier index e (place_found folders place (length earlier + 1) index value one))
+
+places_at_found : (folders : List FolderConfig) (table : Members) (place : Place) (places : List ℕ) → places_at folders table place ≡ Ok places → All (λ k. k < length folders) places
+places_at_found folders table place places h =
+    let (values, v, rest) = both (array_at table place Folders) (places_after folders place []) places h in
+    places_found folders place [] values places rest (All-nil (λ k. k < length folders))
+
+neither : (a b : Bool) → (a || b) ≡ false → (a ≡ false) × (b ≡ false)
+neither true b h = cc h
+neither false b h = (refl, h)
+
+device_found : (me : List ℕ) (earlier : List PeerConfig) (place : Place) (identity device : List ℕ) → checked_device me earlier place identity ≡ Ok device → is_short_id_taken me earlier (short_id device) ≡ false
+device_found me earlier place identity device h =
+    let (new, rest) = passed (is_taken me earlier identity) _ _ device h in
+    let (short, last) = passed (is_short_id_taken me earlier (short_id identity)) _ _ device rest in
+    let same : identity ≡ device = cc last in
+    subst (λ (d : List ℕ). is_short_id_taken me earlier (short_id d) ≡ false) same short
+
+differ : (m n : ℕ) → (m == n) ≡ false → m ≢ n
+differ m n h = grind (arith, nat_tests)
+
+-- the address is listened at for no earlier peer
+abbrev IsApart : List PeerConfig → PeerAddress → Type 0
+IsApart earlier address = (k : ℕ) (d : PeerConfig) → k < length earlier → (text : List ℕ) → (get_or earlier k d).address ≡ Listen text → address ≢ Listen text
+
+listens_there : (address : PeerAddress) (text : List ℕ) → address ≡ Listen text → listens_at text address ≡ true
+listens_there (Dial t) text e = cc e
+listens_there (Listen t) text e = (bytes_eq-Decides t text).1 (cc e)
+
+listen_found : (earlier : List PeerConfig) (place : Place) (text : List ℕ) (address : PeerAddress) → checked_listen earlier place text ≡ Ok address → IsApart earlier address
+listen_found earlier place text address h =
+    let (none, last) = passed (list_any (λ peer. listens_at text peer.address) earlier) _ _ address h in
+    λ k d inside other there here.
+    let same : other ≡ text = cc (last, here) in
+    let heard = listens_there (get_or earlier k d).address other there in
+    cc (none_passes (λ peer. listens_at text peer.address) earlier k d none inside, subst (λ (t : List ℕ). listens_at t (get_or earlier k d).address ≡ true) same heard)
+
+address_found : (earlier : List PeerConfig) (place : Place) (dial listen : Option Data) (address : PeerAddress) → address_of earlier place dial listen ≡ Ok address → IsApart earlier address
+address_found earlier place None None address h = cc h
+address_found earlier place (Some dial) None address h =
+    let (text, t, last) = both (text_of place DialKey dial) (λ text. Ok (Dial text)) address h in
+    λ k d inside other there here. cc (last, here)
+address_found earlier place None (Some listen) address h =
+    let (text, t, last) = both (text_of place ListenKey listen) (checked_listen earlier place) address h in
+    listen_found earlier place text address last
+address_found earlier place (Some dial) (Some listen) address h = cc h
+
+-- what a new peer is, beside the earlier ones
+abbrev IsNewPeer : List ℕ → List FolderConfig → List PeerConfig → PeerConfig → Type 0
+IsNewPeer me folders earlier peer = All (λ k. k < length folders) peer.folders × (is_short_id_taken me earlier (short_id peer.device) ≡ false) × IsApart earlier peer.address
+
+peer_found : (me : List ℕ) (folders : List FolderConfig) (earlier : List PeerConfig) (value : Data) (peer : PeerConfig) → peer_of me folders earlier value ≡ Ok peer → IsNewPeer me folders earlier peer
+peer_found me folders earlier value peer h =
+    let (table, t, h1) = both (table_of PeerKey value) _ peer h in
+    let (identity, i, h2) = both (device_at table (Peer (length earlier + 1))) _ peer h1 in
+    let (device, d, h3) = both (checked_device me earlier (Peer (length earlier + 1)) identity) _ peer h2 in
+    let (places, p, h4) = both (places_at folders table (Peer (length earlier + 1))) _ peer h3 in
+    let (address, a, h5) = both (address_at earlier table (Peer (length earlier + 1))) _ peer h4 in
+    let made : PeerConfig = record { device = device; folders = places; address = address } in
+    let same : made ≡ peer = cc h5 in
+    subst (IsNewPeer me folders earlier) same (
+      places_at_found folders table (Peer (length earlier + 1)) places p,
+      device_found me earlier (Peer (length earlier + 1)) identity device d,
+      address_found earlier (Peer (length earlier + 1)) (get_member (key_name DialKey) table) (get_member (key_name ListenKey) table) address a,
+    )
+
+more_peers : (me : List ℕ) (folders : List FolderConfig) (earlier : List PeerConfig) (peer : PeerConfig) → ArePeers me (length folders) earlier → IsNewPeer me folders earlier peer → ArePeers me (length folders) (earlier ++ peer ∷ [])
+more_peers me folders earlier peer e h =
+    let (own, others) = neither (short_id me == short_id peer.device) (list_any (λ p. short_id p.device == short_id peer.device) earlier) h.1 in
+    record {
+      places = All-push (λ p. All (λ k. k < length folders) p.folders) earlier peer e.places h.0;
+      own_id = All-push (λ p. short_id p.device ≢ short_id me) earlier peer e.own_id (λ same. differ _ _ own (sym same));
+      short_ids = all_pairs_push (λ a b. short_id a.device ≢ short_id b.device) earlier peer e.short_ids (λ k d inside. differ (short_id (get_or earlier k d).device) (short_id peer.device) (none_passes (λ p. short_id p.device == short_id peer.device) earlier k d others inside));
+      listens = all_pairs_push (λ a b. (text : List ℕ) → a.address ≡ Listen text → b.address ≢ Listen text) earlier peer e.listens h.2;
+    }
+
+peers_found : (me : List ℕ) (folders : List FolderConfig) (earlier : List PeerConfig) (values : Items) (peers : List PeerConfig) → peers_after me folders earlier values ≡ Ok peers → ArePeers me (length folders) earlier → ArePeers me (length folders) peers
+peers_found me folders earlier no_items peers h e =
+    let same : earlier ≡ peers = cc h in
+    subst (ArePeers me (length folders)) same e
+peers_found me folders earlier (item value values) peers h e =
+    let (peer, one, rest) = both (peer_of me folders earlier value) (λ peer. peers_after me folders (earlier ++ peer ∷ []) values) peers h in
+    peers_found me folders (earlier ++ peer ∷ []) values peers rest (more_peers me folders earlier peer e (peer_found me folders earlier value peer one))
+
+no_peers : (me : List ℕ) (number : ℕ) → ArePeers me number []
+no_peers me number = record {
+  places = All-nil (λ p. All (λ k. k < number) p.folders);
+  own_id = All-nil (λ p. short_id p.device ≢ short_id me);
+  short_ids = λ i j d a b. absurd (omega arith);
+  listens = λ i j d a b. absurd (omega arith);
+}
+
+peers_at_found : (me : List ℕ) (folders : List FolderConfig) (document : Members) (peers : List PeerConfig) → peers_at me folders document ≡ Ok peers → ArePeers me (length folders) peers
+peers_at_found me folders document peers h =
+    let (values, v, rest) = both (tables_of PeerKey (get_member (key_name PeerKey) document)) (peers_after me folders []) peers h in
+    peers_found me folders [] values peers rest (no_peers me (length folders))
+
+-- the configuration of a document follows the rules
+pub config_found : (document : Members) (config : Config) → config_of document ≡ Ok config → IsConsistent config
+config_found document config h =
+    let (device, d, h1) = both (device_at document Node) _ config h in
+    let (name, n, h2) = both (text_at document Node Name) _ config h1 in
+    let (state, s, h3) = both (text_at document Node State) _ config h2 in
+    let (folders, f, h4) = both (folders_at document) _ config h3 in
+    let (peers, p, h5) = both (peers_at device folders document) _ config h4 in
+    let made : Config = record { device = device; name = name; state = state; folders = folders; peers = peers } in
+    let same : made ≡ config = cc h5 in
+    subst IsConsistent same (folders_at_found document folders f, peers_at_found device folders document peers p)
