@@ -7,3 +7,4 @@ pub mod PeerMaps
 pub mod Peers
 pub mod Rows
 pub mod States
+pub mod Versions

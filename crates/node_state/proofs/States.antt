@@ -106,7 +106,7 @@ told-held First body = map_both (value first_folder_table) told_first (held 1 bo
 told-held Second body = map_both (value folder_table) told_second (held 1 body)
 
 module _ (me : Identity) (edition : Edition) (body : List ℕ) where
-  abbrev folders : List StoredFolder
+  abbrev pub folders : List StoredFolder
   folders = map (λ b. stored me (folder_told edition b)) (held 1 body)
 
   folders-are : map (stored me) (told edition body) ≡ folders
@@ -154,3 +154,9 @@ meant me edition body text s begins m =
     let u = line-unique m.edition edition m.body body (sym m.begins ∙ begins) in
     let h : Right me m.edition m.body = right me m.edition m.body (folders-readable m.edition m.body m.readable) m.allowed m.once in
     subst (λ (b : List ℕ). Right me edition b) u.1 (subst (λ (e : Edition). Right me e m.body) u.0 h)
+
+pub meant-is : (me : Identity) (edition : Edition) (body text : List ℕ) (s : State) → text ≡ line edition ++ body → Means me text s → s.folders ≡ folders me edition body
+meant-is me edition body text s begins m =
+    let u = line-unique m.edition edition m.body body (sym m.begins ∙ begins) in
+    let h : s.folders ≡ folders me m.edition m.body = m.is ∙ folders-are me m.edition m.body in
+    subst (λ (b : List ℕ). s.folders ≡ folders me edition b) u.1 (subst (λ (e : Edition). s.folders ≡ folders me e m.body) u.0 h)

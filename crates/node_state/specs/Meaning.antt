@@ -1,6 +1,6 @@
 -- What the text of a state file means (own rule).
 use Rattle.std.specs.Prelude.{◌≡◌, ◌≢◌, ◌++◌, ℕ, ℤ, List, [], None, Option, length, map, filter, AllPairs}
-use Rattle.std.specs.FinMap.{from_entries}
+use Rattle.std.specs.FinMap.{empty, from_entries}
 use Rattle.std.specs.List.{AllByRecursion}
 use Rattle.bep_messages.specs.declared.fault.MessageFault.{MessageFault}
 use Rattle.bep_messages.specs.Faults.{message_fault}
@@ -77,6 +77,10 @@ stored me f = record {
   folder = restored_folder me (map announced f.entries) f.last;
   peers = from_entries (filter is_kept (map peer_of f.peers));
 }
+
+-- the folder without kept index numbers
+abbrev pub without_peers : StoredFolder → StoredFolder
+without_peers f = record f { peers = empty }
 
 -- To this device the text means this state: after the first line comes a message in which nothing is refused and no two
 -- folders have the same id.
