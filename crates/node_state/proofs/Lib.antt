@@ -8,3 +8,4 @@ pub mod Peers
 pub mod Rows
 pub mod States
 pub mod Versions
+pub mod Back
