@@ -80,6 +80,17 @@ module _ (me : Identity) (edition : Edition) (body : List ℕ) where
       not-apart (ids fs) (ids (map folder_at (held 1 rest))) f.id (in-ids fs f.id old)
       (subst Apart (ap ids whole ∙ ids-append fs (f ∷ map folder_at (held 1 rest))) (pairs-apart_by id_of (map folder_at (held 1 body)) once))
 
+-- where a folder was found there is one
+module _ (me : Identity) (edition : Edition) (body : List ℕ) where
+  pub some-folder : (fs : List StoredFolder) (after b rest : List ℕ) → GoesOn me edition body fs after → HoldsFirst 1 after b rest → held 1 body ≢ []
+  some-folder fs after b rest so_far is none =
+      not-none (map itself fs) (folder_at me edition body b) (map (folder_at me edition body) (held 1 rest))
+      (sym (ap (map (folder_at me edition body)) none) ∙ so_far.value ∙ ap (λ (l : List (List ℕ)). map itself fs ++ map (folder_at me edition body) l) is.0)
+    where
+      not-none : (xs : List StoredFolder) (y : StoredFolder) (ys : List StoredFolder) → [] ≡ xs ++ y ∷ ys → ⊥
+      not-none [] y ys e = cc
+      not-none (x ∷ xs) y ys e = cc
+
 -- ---- first lines
 
 twelfth : (e : Edition) (b : List ℕ) → ℕ

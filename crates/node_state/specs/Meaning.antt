@@ -1,6 +1,6 @@
 -- What the text of a state file means (own rule).
 use Rattle.std.specs.Prelude.{◌≡◌, ◌≢◌, ◌++◌, ℕ, ℤ, List, [], None, Option, length, map, filter, AllPairs}
-use Rattle.std.specs.FinMap.{empty, from_entries}
+use Rattle.std.specs.FinMap.{empty, entries, from_entries}
 use Rattle.std.specs.List.{AllByRecursion}
 use Rattle.bep_messages.specs.declared.fault.MessageFault.{MessageFault}
 use Rattle.bep_messages.specs.Faults.{message_fault}
@@ -111,3 +111,8 @@ written_folder f = record f { folder = record f.folder { pulls = empty }; peers 
 
 abbrev pub written_state : State → State
 written_state s = record { folders = map written_folder s.folders }
+
+-- no pull of the folder is open, and of each of its peers a number is kept: all of it is written
+pub record IsClosed (f : StoredFolder) : Type 0 where
+  pub pulls : f.folder.pulls ≡ empty
+  pub peers : AllByRecursion (λ p. p.1 ≢ 0) (entries f.peers)

@@ -1,5 +1,5 @@
 -- The bytes that fields of a number hold, one after the other, and what they make of a state.
-use Rattle.std.specs.Prelude.{◌≡◌, ◌≢◌, ◌∷◌, ℕ, List, [], None, Option, length, map, AllPairs}
+use Rattle.std.specs.Prelude.{◌≡◌, ◌≢◌, ◌∷◌, ◌++◌, ℕ, List, [], None, Option, length, map, AllPairs}
 use Rattle.bep_messages.specs.Contents.{byte_lists, contents}
 use Rattle.bep_messages.specs.declared.fault.MessageFault.{MessageFault}
 use Rattle.bep_messages.specs.Faults.{message_fault}
@@ -17,7 +17,7 @@ use Rattle.node_state.specs.declared.edition.Edition.{Edition}
 use Rattle.node_state.specs.declared.edition.Edition.TheVariants.{First, Second}
 use Rattle.node_state.specs.declared.front.Front.{Front}
 use Rattle.node_state.specs.declared.state.StoredFolder.{StoredFolder}
-use Rattle.node_state.specs.Meaning.{IsAllowed, IsEntry, Told, announced, peer_of, told_first, told_second}
+use Rattle.node_state.specs.Meaning.{IsAllowed, IsEntry, Told, announced, line, peer_of, told_first, told_second}
 use Rattle.node_state.specs.Written.{kept_peers}
 use Rattle.node_state.specs.Tables.{entry_table, peer_table, folder_table, first_folder_table}
 
@@ -31,6 +31,13 @@ HoldsNone number bytes = (held number bytes ≡ []) × ((fields bytes).fault ≡
 -- the first field of the number holds these bytes, and then come others
 abbrev pub HoldsFirst : ℕ → List ℕ → List ℕ → List ℕ → Type 0
 HoldsFirst number bytes first rest = (held number bytes ≡ first ∷ held number rest) × ((fields bytes).fault ≡ (fields rest).fault)
+
+-- after the first line comes a folder, also one that can't be read
+pub record HasFolder (text : List ℕ) : Type 0 where
+  pub edition : Edition
+  pub body : List ℕ
+  pub begins : text ≡ line edition ++ body
+  pub some : held 1 body ≢ []
 
 -- ---- a folder without its lists
 

@@ -4,7 +4,7 @@ ghost use Rattle.std.specs.FinMap.{empty};
 ghost use Rattle.std.specs.List.{AllByRecursion};
 ghost use Rattle.sync_record.specs.Devices.{Identity};
 ghost use Rattle.node_state.specs.declared.state.State.{State};
-ghost use Rattle.node_state.specs.Meaning.{Means, without_peers};
+ghost use Rattle.node_state.specs.Meaning.{IsClosed, Means, without_peers, written_state};
 ghost use Rattle.node_state.specs.Written.{first_line, second_line};
 
 /// To one device a text means at most one state.
@@ -19,4 +19,10 @@ pub fn version_1_keeps_no_index_numbers()
         AllByRecursion (λ f. f.peers ≡ empty) s.folders }
     ensures same { (me : Identity) (body : List ℕ) (s : State) → Means me (second_line ++ body) s →
         Means me (first_line ++ body) (record { folders = map without_peers s.folders }) }
+{}
+
+/// Of a state without open pulls, where of each peer that is listed a number is kept, all is written: what is read of it is
+/// the state itself.
+pub fn a_closed_state_is_written_whole()
+    ensures { (s : State) → AllByRecursion IsClosed s.folders → written_state s ≡ s }
 {}
