@@ -1,8 +1,8 @@
 -- A written state is read as it was.
 use Rattle.std.proofs.Common.{◌≡◌, ◌≢◌, ℕ, Bool, true, false, pos, List, [], ◌∷◌, length, map, refl, sym, ap, subst, ◌∙◌}
-use Rattle.std.specs.FinMap.{FinMap, empty, entries, from_entries}
+use Rattle.std.specs.FinMap.{empty, entries, from_entries}
 use Rattle.std.specs.List.{AllByRecursion}
-use Rattle.std.specs.Prelude.{AllPairs, Option, Some, None, Result, Ok, Err, cond, filter}
+use Rattle.std.specs.Prelude.{AllPairs, Option, Some, None, Ok, cond, filter}
 use Rattle.bep_messages.specs.declared.fault.MessageFault.{MessageFault}
 use Rattle.bep_messages.specs.declared.file_info.FileInfo.{FileInfo}
 use Rattle.bep_messages.specs.Faults.{message_fault, outcome}
@@ -13,14 +13,13 @@ use Rattle.bep_messages.specs.Values.{value}
 use Rattle.bep_messages.specs.Wholes.{file_info_whole}
 use Rattle.bep_messages.proofs.Again.{decoded_form}
 use Rattle.folder_core.specs.Restores.{MayRestore, records_of, restored_folder}
-use Rattle.folder_core.specs.States.{FolderState}
-use Rattle.folder_core.proofs.ListTests.{In, of_filter}
+use Rattle.folder_core.proofs.ListTests.{of_filter}
 use Rattle.folder_core.proofs.Orders.{bytes_total, exact_names}
 use Rattle.folder_core.proofs.ReadLists.{Apart, apart-filter, apart-map}
 use Rattle.folder_core.proofs.ReadNumbers.{entries-apart, one-entry}
 use Rattle.folder_core.proofs.RestoreFolders.{apart-pairs_by, pairs-apart_by, may-again, restored-again}
 use Rattle.sync_names.specs.Refusal.{refusal}
-use Rattle.sync_record.specs.Devices.{Identity, bytes_cmp}
+use Rattle.sync_record.specs.Devices.{Identity}
 use Rattle.sync_record.specs.Infos.{info_of, record_of}
 use Rattle.sync_record.specs.Records.{FileRecord}
 use Rattle.node_state.specs.declared.edition.Edition.TheVariants.{Second}
@@ -29,9 +28,9 @@ use Rattle.node_state.specs.declared.state.StoredFolder.{StoredFolder}
 use Rattle.node_state.specs.Meaning.{IsAllowed, IsEntry, IsOwn, IsReadable, Means, Told, announced, peer_of, stored, told, told_second, written_folder, written_state}
 use Rattle.node_state.specs.Peers.{Peers, is_kept}
 use Rattle.node_state.specs.Reading.{AreOnce, IsReadBack, IsWritable}
-use Rattle.node_state.specs.Tables.{entry_table, peer_table, folder_table, state_table}
+use Rattle.node_state.specs.Tables.{peer_table, state_table}
 use Rattle.node_state.specs.Written.{entry_values, folder_values, kept_peers, peer_values, state_bytes, state_values}
-use Rattle.node_state.proofs.Parts.{all_map, map_both, values-once}
+use Rattle.node_state.proofs.Parts.{all_map, values-once}
 use Rattle.node_state.proofs.PeerMaps.{device_of}
 
 -- ---- records

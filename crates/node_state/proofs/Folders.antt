@@ -5,8 +5,6 @@ use Rattle.std.proofs.lemmas.Int.{to_z-of_z}
 use Rattle.std.proofs.lemmas.List.{take_more}
 use Rattle.std.specs.FinMap.{entries}
 use Rattle.std.specs.List.{AllByRecursion}
-use Rattle.bep_messages.specs.Forms.{form, list_form, scalar_form, Fits, IsShort, ScalarFits}
-use Rattle.bep_messages.specs.Tables.{Int64, Values}
 use Rattle.bep_messages.specs.Writing.{Writing, Adds}
 use Rattle.folder_core.specs.declared.announcement.Announcement.{Announcement}
 use Rattle.folder_core.specs.Announced.{by_device}
@@ -15,7 +13,6 @@ use Rattle.folder_core.specs.PlainRestores.{given}
 use Rattle.folder_core.specs.Restores.{records_of}
 use Rattle.folder_core.specs.States.{FolderState}
 use Rattle.node_state.specs.Reading.{IsReadBack}
-use Rattle.node_state.specs.Tables.{entry_table}
 use Rattle.node_state.specs.Written.{entry_values}
 
 pub adds-same : {a : Writing} {row new : List ℕ} {b : Writing} → row ≡ new → Adds a row b → Adds a new b

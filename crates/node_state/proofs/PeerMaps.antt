@@ -1,16 +1,15 @@
 -- Index numbers of peers as a list and as a map.
-use Rattle.std.proofs.Common.{◌≡◌, ℕ, zero, suc, ◌+◌, ◌<◌, ◌≤◌, Bool, true, false, List, [], ◌∷◌, ◌++◌, length, get_or, take, drop, map, set, refl, sym, ap, subst, ◌∙◌, arith, inl, inr}
+use Rattle.std.proofs.Common.{◌≡◌, ℕ, zero, suc, ◌+◌, ◌<◌, Bool, true, false, List, [], ◌∷◌, ◌++◌, length, get_or, take, drop, map, refl, sym, ap, subst, ◌∙◌, arith, inl, inr}
 use Rattle.std.specs.Bool.{passes}
 use Rattle.std.specs.Cmp.{Equal-is}
-use Rattle.std.specs.FinMap.{FinMap, empty, entries, entries-from_sorted, entries-insert, find, from_entries, from_entries_push, from_sorted, get-empty, get-from_sorted, insert as add, is_sorted, put, same_entries_map, same_map}
+use Rattle.std.specs.FinMap.{empty, entries-from_sorted, entries-insert, find, from_entries, from_entries_push, from_sorted, get-empty, get-from_sorted, insert as add, is_sorted, put, same_entries_map, same_map}
 use Rattle.std.specs.FinMap.Entries.{by_order, is_sorted-put}
 use Rattle.std.specs.List.{AllByRecursion, AllWithin, insert, list_any}
 use Rattle.std.specs.Ordering.{eq_by_cmp, ordering_reverse}
-use Rattle.std.specs.Prelude.{IsTrue, None, Some, T, bytes_eq, cond, filter, slice_set}
-use Rattle.std.specs.declared.cmp.Ordering.{Ordering}
+use Rattle.std.specs.Prelude.{IsTrue, None, Some, bytes_eq, cond, filter, slice_set}
 use Rattle.std.specs.declared.cmp.Ordering.TheVariants.{Less, Equal, Greater}
 use Rattle.std.proofs.lemmas.Bool.{true≢false}
-use Rattle.std.proofs.lemmas.List.{append-nil, map-append, take-append-drop, take_more}
+use Rattle.std.proofs.lemmas.List.{append-nil, take-append-drop, take_more}
 use Rattle.folder_core.proofs.ListTests.{In, alike_bytes, any_in, by_or, in_any, in_map, of_map, same_bytes}
 use Rattle.folder_core.proofs.Orders.{bytes_total, exact_names, is_true}
 use Rattle.folder_core.proofs.ReadLists.{Apart}

@@ -1,8 +1,8 @@
 -- A folder is readable exactly where its front, its entries and its peers are.
-use Rattle.std.proofs.Common.{◌≡◌, ℕ, true, false, Bool, List, [], ◌∷◌, ◌++◌, ◌==◌, map, Option, None, refl, sym, ap, ◌∙◌, if◌then◌else◌}
+use Rattle.std.proofs.Common.{◌≡◌, ℕ, true, false, Bool, List, [], ◌∷◌, ◌++◌, ◌==◌, Option, None, refl, if◌then◌else◌}
 use Rattle.std.specs.Prelude.{cond}
 use Rattle.std.specs.List.{AllByRecursion}
-use Rattle.bep_wire.specs.Content.{Content, Number, Eight, Bytes, Four, Item}
+use Rattle.bep_wire.specs.Content.{Number, Eight, Bytes, Four, Item}
 use Rattle.bep_wire.specs.Fields.{fields}
 use Rattle.bep_messages.specs.declared.fault.MessageFault.{MessageFault}
 use Rattle.bep_messages.specs.Contents.{byte_lists, bytes_in, contents}

@@ -1,11 +1,10 @@
 -- What the folders of a text make of a state.
-use Rattle.std.proofs.Common.{◌≡◌, ◌≢◌, ◌<◌, ℕ, Bool, true, false, List, [], ◌∷◌, ◌++◌, length, get_or, map, take, drop, None, refl, sym, ap, subst, ◌∙◌, arith}
+use Rattle.std.proofs.Common.{◌≡◌, ◌≢◌, ℕ, true, false, List, [], ◌∷◌, ◌++◌, length, get_or, map, take, drop, None, refl, sym, ap, subst, ◌∙◌, arith}
 use Rattle.std.specs.List.{AllByRecursion, list_any}
 use Rattle.std.specs.Prelude.{AllPairs, bytes_eq}
 use Rattle.std.proofs.lemmas.Bool.{true≢false}
 use Rattle.std.proofs.lemmas.List.{take-append-drop}
 use Rattle.bep_wire.specs.Fields.{fields}
-use Rattle.bep_messages.specs.Tables.{Values}
 use Rattle.bep_messages.specs.Values.{value}
 use Rattle.folder_core.proofs.ListTests.{In, alike_bytes, any_in, in_any, in_map, of_map as maps_from, same_bytes}
 use Rattle.folder_core.proofs.ReadLists.{Apart}

@@ -1,23 +1,22 @@
 -- A text has one meaning, and one of version 1 that of version 2 without peers.
-use Rattle.std.proofs.Common.{◌≡◌, ◌≢◌, ◌++◌, ◌<◌, ℕ, List, [], ◌∷◌, length, map, refl, sym, ap, subst, ◌∙◌, arith}
+use Rattle.std.proofs.Common.{◌≡◌, ◌≢◌, ◌++◌, ◌<◌, ℕ, List, [], ◌∷◌, map, refl, sym, ap, subst, ◌∙◌, arith}
 use Rattle.std.specs.FinMap.{empty, entries, from_entries, get-entries, get-from_entries, same_map}
 use Rattle.std.specs.List.{AllByRecursion}
-use Rattle.std.specs.Prelude.{AllPairs, cond, filter, not}
+use Rattle.std.specs.Prelude.{cond, filter, not}
 use Rattle.std.proofs.lemmas.Bool.{ne_eqb}
 use Rattle.folder_core.proofs.Orders.{bytes_total, exact_names}
 use Rattle.folder_core.proofs.ReadLists.{Apart}
 use Rattle.folder_core.proofs.RestoreFolders.{apart-pairs_by, pairs-apart_by}
 use Rattle.sync_record.specs.Devices.{Identity}
-use Rattle.node_state.specs.declared.edition.Edition.{Edition}
 use Rattle.node_state.specs.declared.edition.Edition.TheVariants.{First, Second}
 use Rattle.node_state.specs.declared.state.State.{State}
 use Rattle.node_state.specs.declared.state.StoredFolder.{StoredFolder}
-use Rattle.node_state.specs.Meaning.{IsClosed, Means, line, stored, told, without_peers, written_folder, written_state}
+use Rattle.node_state.specs.Meaning.{IsClosed, Means, stored, without_peers, written_folder, written_state}
 use Rattle.node_state.specs.Peers.{Peers, is_kept}
 use Rattle.node_state.specs.Reading.{AreOnce, IsGoodFolder, folder_told, held}
 use Rattle.node_state.specs.Written.{first_line, kept_peers, second_line}
 use Rattle.node_state.proofs.Parts.{good-of, parts-of}
-use Rattle.node_state.proofs.States.{folders, id_of, ids, line-unique, meant, meant-is, means}
+use Rattle.node_state.proofs.States.{folders, id_of, ids, meant, meant-is, means}
 
 pub one : (me : Identity) (text : List ℕ) (s t : State) → Means me text s → Means me text t → s ≡ t
 one me text s t m n =

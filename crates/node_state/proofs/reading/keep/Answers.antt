@@ -1,10 +1,9 @@
-use Rattle.std.proofs.Common.{◌≡◌, true, false, List, take, map, ap, sym, subst, ◌∙◌, arith, rules}
+use Rattle.std.proofs.Common.{◌≡◌, true, false, List, take, subst, ◌∙◌, arith, rules}
 use Rattle.std.specs.List.{list_any}
 use Rattle.std.proofs.lemmas.Grind.{common_steps}
 use Rattle.std.specs.Prelude.{bytes_eq}
 use Rattle.folder_core.proofs.ReadLists.{Apart}
 use Rattle.node_state.specs.declared.kept.PeerIndex.{PeerIndex}
-use Rattle.node_state.specs.Peers.{pair}
 use Rattle.node_state.proofs.PeerMaps.{devices, once-of, peers-apart, peers-kept, peers-repeat, peers-skipped}
 use Rattle.node_state.proofs.Peers.{kept-true, kept-false}
 use Rattle.node_state.proofs.reading.keep.Goals as goal

@@ -1,4 +1,4 @@
-use Rattle.std.proofs.Common.{◌≡◌, ◌≢◌, List, ap, sym, subst, ◌∙◌}
+use Rattle.std.proofs.Common.{◌≢◌, List, subst, ◌∙◌}
 use Rattle.std.specs.Prelude.{AllPairs}
 use Rattle.std.proofs.lemmas.Result.{err_from_is_err_and}
 use Rattle.node_state.specs.declared.state.StoredFolder.{StoredFolder}

@@ -1,4 +1,4 @@
-use Rattle.std.proofs.Common.{◌≡◌, ap, ◌∙◌, List, length, map, ℤ, ℕ, subst}
+use Rattle.std.proofs.Common.{◌≡◌, ap, List, length, map, ℤ, ℕ, subst}
 use Rattle.std.specs.Prelude.{filter}
 use Rattle.std.specs.List.{AllByRecursion}
 use Rattle.bep_messages.specs.Forms.{form, list_form, scalar_form, Fits, IsShort, ScalarFits}
