@@ -1,10 +1,8 @@
 -- An entry's bytes and its announcement.
-use Rattle.std.proofs.Common.{◌≡◌, ℕ, List, length, None, refl, sym, ap, ◌∙◌}
+use Rattle.std.proofs.Common.{◌≡◌, length, None, sym, ap, ◌∙◌}
 use Rattle.bep_messages.specs.declared.file_info.FileInfo.{FileInfo}
-use Rattle.bep_messages.specs.Faults.{message_fault}
 use Rattle.bep_messages.specs.Structs.{file_info}
 use Rattle.bep_messages.specs.Tables.{Values}
-use Rattle.bep_messages.specs.Values.{value}
 use Rattle.bep_messages.specs.Wholes.{file_info_whole}
 use Rattle.sync_names.specs.Refusal.{refusal}
 use Rattle.sync_record.specs.Devices.{Identity}
@@ -13,7 +11,6 @@ use Rattle.sync_record.specs.Records.{FileRecord}
 use Rattle.node_state.specs.declared.entry.Entry.{Entry}
 use Rattle.node_state.specs.Meaning.{IsEntry, announced}
 use Rattle.node_state.specs.Parts.{entry_parts}
-use Rattle.node_state.specs.Reading.{IsGoodEntry}
 use Rattle.node_state.specs.Tables.{entry_table}
 
 module _ (e : Entry) (v : Values entry_table) (is : entry_parts e ≡ v) where

@@ -7,3 +7,5 @@ pub mod PeerMaps
 pub mod Peers
 pub mod Rows
 pub mod States
+pub mod Versions
+pub mod Back

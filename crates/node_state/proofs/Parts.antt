@@ -1,5 +1,5 @@
 -- A folder's bytes are right exactly where each of its parts is.
-use Rattle.std.proofs.Common.{◌≡◌, ◌≢◌, ℕ, ℤ, List, [], ◌∷◌, length, map, None, refl, sym, ap, subst, ◌∙◌}
+use Rattle.std.proofs.Common.{◌≡◌, ◌≢◌, ℕ, List, [], ◌∷◌, length, map, None, refl, sym, ap, subst, ◌∙◌}
 use Rattle.std.specs.FinMap.{from_entries}
 use Rattle.std.specs.List.{AllByRecursion}
 use Rattle.std.specs.Prelude.{AllPairs, filter}
@@ -7,22 +7,21 @@ use Rattle.bep_wire.specs.Fields.{fields}
 use Rattle.bep_messages.specs.Faults.{message_fault}
 use Rattle.bep_messages.specs.Tables.{Values}
 use Rattle.bep_messages.specs.Values.{value}
-use Rattle.bep_messages.proofs.Joins.{AreReadable, readable}
+use Rattle.bep_messages.proofs.Joins.{readable}
 use Rattle.folder_core.specs.Restores.{MayRestore, restored_folder}
 use Rattle.folder_core.specs.States.{FolderState}
 use Rattle.folder_core.proofs.ReadLists.{Apart}
 use Rattle.folder_core.proofs.RestoreFolders.{apart-pairs_by, pairs-apart_by}
 use Rattle.sync_record.specs.Devices.{Identity}
-use Rattle.sync_record.specs.Records.{FileRecord}
 use Rattle.node_state.specs.declared.edition.Edition.{Edition}
 use Rattle.node_state.specs.declared.edition.Edition.TheVariants.{First, Second}
 use Rattle.node_state.specs.declared.front.Front.{Front}
 use Rattle.node_state.specs.declared.state.StoredFolder.{StoredFolder}
-use Rattle.node_state.specs.Meaning.{IsAllowed, IsEntry, Told, announced, peer_of, stored}
+use Rattle.node_state.specs.Meaning.{IsEntry, Told, announced, peer_of, stored}
 use Rattle.node_state.specs.Peers.{Peers, is_kept}
-use Rattle.node_state.specs.Reading.{AreOnce, IsGoodEntry, IsGoodFolder, IsGoodPeer, entry_pairs, folder_fault, folder_told, front_parts, front_table, held, peer_pairs, peers_held}
+use Rattle.node_state.specs.Reading.{AreOnce, IsGoodEntry, IsGoodFolder, IsGoodPeer, entry_pairs, folder_told, front_parts, front_table, held, peer_pairs, peers_held}
 use Rattle.node_state.specs.Tables.{entry_table, peer_table}
-use Rattle.node_state.proofs.Rows.{Pieces, pieces, whole}
+use Rattle.node_state.proofs.Rows.{pieces, whole}
 
 pub map_both : {A B C : Type 0} (f : A → B) (g : B → C) (xs : List A) → map g (map f xs) ≡ map (λ x. g (f x)) xs
 map_both f g [] = refl

@@ -1,16 +1,15 @@
 -- Index numbers of peers as a list and as a map.
-use Rattle.std.proofs.Common.{◌≡◌, ℕ, zero, suc, ◌+◌, ◌<◌, ◌≤◌, Bool, true, false, List, [], ◌∷◌, ◌++◌, length, get_or, take, drop, map, set, refl, sym, ap, subst, ◌∙◌, arith, inl, inr}
+use Rattle.std.proofs.Common.{◌≡◌, ℕ, zero, suc, ◌+◌, ◌<◌, Bool, true, false, List, [], ◌∷◌, ◌++◌, length, get_or, take, drop, map, refl, sym, ap, subst, ◌∙◌, arith, inl, inr}
 use Rattle.std.specs.Bool.{passes}
 use Rattle.std.specs.Cmp.{Equal-is}
-use Rattle.std.specs.FinMap.{FinMap, empty, entries, entries-from_sorted, entries-insert, find, from_entries, from_entries_push, from_sorted, get-empty, get-from_sorted, insert as add, is_sorted, put, same_entries_map, same_map}
+use Rattle.std.specs.FinMap.{empty, entries-from_sorted, entries-insert, find, from_entries, from_entries_push, from_sorted, get-empty, get-from_sorted, insert as add, is_sorted, put, same_entries_map, same_map}
 use Rattle.std.specs.FinMap.Entries.{by_order, is_sorted-put}
-use Rattle.std.specs.List.{AllWithin, insert, list_any}
+use Rattle.std.specs.List.{AllByRecursion, AllWithin, insert, list_any}
 use Rattle.std.specs.Ordering.{eq_by_cmp, ordering_reverse}
-use Rattle.std.specs.Prelude.{IsTrue, None, Some, T, bytes_eq, cond, filter, slice_set}
-use Rattle.std.specs.declared.cmp.Ordering.{Ordering}
+use Rattle.std.specs.Prelude.{IsTrue, None, Some, bytes_eq, cond, filter, slice_set}
 use Rattle.std.specs.declared.cmp.Ordering.TheVariants.{Less, Equal, Greater}
 use Rattle.std.proofs.lemmas.Bool.{true≢false}
-use Rattle.std.proofs.lemmas.List.{append-nil, map-append, take-append-drop, take_more}
+use Rattle.std.proofs.lemmas.List.{append-nil, take-append-drop, take_more}
 use Rattle.folder_core.proofs.ListTests.{In, alike_bytes, any_in, by_or, in_any, in_map, of_map, same_bytes}
 use Rattle.folder_core.proofs.Orders.{bytes_total, exact_names, is_true}
 use Rattle.folder_core.proofs.ReadLists.{Apart}
@@ -168,3 +167,21 @@ module _ (ps : List PeerIndex) (i : ℕ) (p : PeerIndex) (lt : i < length ps) (i
 
 pub once-of : (ps : List PeerIndex) → Apart (devices ps) → AreOnce (map pair ps)
 once-of ps apart = apart-pairs_by device_of (map pair ps) apart
+
+-- ---- the devices of the peers of which a number is kept
+
+all-push : (es : List (Identity × ℕ)) (e : Identity × ℕ) → AllByRecursion (λ p. length p.0 ≡ 32) es → length e.0 ≡ 32 → AllByRecursion (λ p. length p.0 ≡ 32) (es ++ e ∷ [])
+all-push [] e all here = (here, tt)
+all-push (x ∷ es) e all here = (all.0, all-push es e all.1 here)
+
+module _ (ps : List PeerIndex) (i : ℕ) (p : PeerIndex) (lt : i < length ps) (is : p ≡ get_or ps i p) where
+  next : kept_of (take (i + 1) ps) ≡ kept_of (take i ps) ++ cond (is_kept (pair p)) (pair p ∷ []) []
+  next = ap kept_of (take_more ps i p lt ∙ ap (λ (q : PeerIndex). take i ps ++ q ∷ []) (sym is)) ∙ kept-push (take i ps) p
+
+  pub pairs-more : is_kept (pair p) ≡ true → AllByRecursion (λ e. length e.0 ≡ 32) (kept_of (take i ps)) → length p.device ≡ 32 → AllByRecursion (λ e. length e.0 ≡ 32) (kept_of (take (i + 1) ps))
+  pairs-more kept all here =
+      subst (AllByRecursion (λ (e : Identity × ℕ). length e.0 ≡ 32)) (sym (next ∙ ap (λ b. kept_of (take i ps) ++ cond b (pair p ∷ []) []) kept)) (all-push (kept_of (take i ps)) (pair p) all here)
+
+  pub pairs-skipped : is_kept (pair p) ≡ false → AllByRecursion (λ e. length e.0 ≡ 32) (kept_of (take i ps)) → AllByRecursion (λ e. length e.0 ≡ 32) (kept_of (take (i + 1) ps))
+  pairs-skipped kept all =
+      subst (AllByRecursion (λ (e : Identity × ℕ). length e.0 ≡ 32)) (sym (next ∙ ap (λ b. kept_of (take i ps) ++ cond b (pair p ∷ []) []) kept ∙ append-nil (kept_of (take i ps)))) all

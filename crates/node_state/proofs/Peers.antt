@@ -3,14 +3,13 @@ use Rattle.std.proofs.Common.{◌≡◌, ℕ, ◌+◌, ◌<◌, true, false, Lis
 use Rattle.std.specs.List.{AllByRecursion}
 use Rattle.std.specs.Prelude.{cond, filter, not}
 use Rattle.std.proofs.lemmas.Bool.{eq-eqb, ne_eqb}
-use Rattle.std.proofs.lemmas.List.{take_more, append-nil, map-append}
+use Rattle.std.proofs.lemmas.List.{take_more, append-nil}
 use Rattle.std.proofs.lemmas.Grind.{flat_map-append}
 use Rattle.bep_wire.specs.Written.{bytes_field}
 use Rattle.bep_messages.specs.Forms.{form, list_form, Fits, IsShort}
 use Rattle.bep_messages.specs.Tables.{Values}
 use Rattle.bep_messages.specs.Writing.{Writing, Adds}
 use Rattle.bep_messages.proofs.Written.{◌then◌}
-use Rattle.sync_record.specs.Devices.{Identity}
 use Rattle.node_state.specs.declared.kept.PeerIndex.{PeerIndex}
 use Rattle.node_state.specs.Peers.{is_kept, pair}
 use Rattle.node_state.specs.Tables.{peer_table}

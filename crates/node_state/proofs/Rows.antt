@@ -1,8 +1,8 @@
 -- A folder is readable exactly where its front, its entries and its peers are.
-use Rattle.std.proofs.Common.{◌≡◌, ℕ, true, false, Bool, List, [], ◌∷◌, ◌++◌, ◌==◌, map, Option, None, refl, sym, ap, ◌∙◌, if◌then◌else◌}
+use Rattle.std.proofs.Common.{◌≡◌, ℕ, true, false, Bool, List, [], ◌∷◌, ◌++◌, ◌==◌, Option, None, refl, if◌then◌else◌}
 use Rattle.std.specs.Prelude.{cond}
 use Rattle.std.specs.List.{AllByRecursion}
-use Rattle.bep_wire.specs.Content.{Content, Number, Eight, Bytes, Four, Item}
+use Rattle.bep_wire.specs.Content.{Number, Eight, Bytes, Four, Item}
 use Rattle.bep_wire.specs.Fields.{fields}
 use Rattle.bep_messages.specs.declared.fault.MessageFault.{MessageFault}
 use Rattle.bep_messages.specs.Contents.{byte_lists, bytes_in, contents}
@@ -25,13 +25,13 @@ held_row : (n : ℕ) (inner : Table) (items : List Item) → AreReadable inner (
 held_row n inner [] all = refl
 held_row n inner (i ∷ items) all =
     elim (n == i.number) as (λ b. AreReadable inner (byte_lists (cond b (i.content ∷ contents n items) (contents n items)))
-        → or_else (cond b (bytes_fault (message_fault inner) i.content) None) (first_fault (row n inner) items None) ≡ None) [
+    → or_else (cond b (bytes_fault (message_fault inner) i.content) None) (first_fault (row n inner) items None) ≡ None) [
       | true ↦ elim i.content as (λ c. AreReadable inner (bytes_in c ++ byte_lists (contents n items)) → or_else (bytes_fault (message_fault inner) c) (first_fault (row n inner) items None) ≡ None) [
-          | Number m ↦ λ h. held_row n inner items h
-          | Eight bytes ↦ λ h. held_row n inner items h
-          | Bytes bytes ↦ λ h. none_then _ _ h.0 (held_row n inner items h.1)
-          | Four bytes ↦ λ h. held_row n inner items h
-        ]
+        | Number m ↦ λ h. held_row n inner items h
+        | Eight bytes ↦ λ h. held_row n inner items h
+        | Bytes bytes ↦ λ h. none_then _ _ h.0 (held_row n inner items h.1)
+        | Four bytes ↦ λ h. held_row n inner items h
+      ]
       | false ↦ λ h. held_row n inner items h
     ] all
 
@@ -91,17 +91,17 @@ of_front_first i = with (1 == i.number) (2 == i.number) (3 == i.number) (text_of
 of_front_second : (i : Item) → item_fault first_folder_table i ≡ None → row 5 peer_table i ≡ None → item_fault folder_table i ≡ None
 of_front_second i =
     elim (1 == i.number) as (λ one. by_number one (2 == i.number) (3 == i.number) (text_of i) (row 4 entry_table i) ≡ None → row 5 peer_table i ≡ None
-        → by_number one (2 == i.number) (3 == i.number) (text_of i) (item_fault (Messages 4 entry_table (Messages 5 peer_table End)) i) ≡ None) [
+    → by_number one (2 == i.number) (3 == i.number) (text_of i) (item_fault (Messages 4 entry_table (Messages 5 peer_table End)) i) ≡ None) [
       | true ↦ λ e f. e
       | false ↦ elim (2 == i.number) as (λ two. by_number false two (3 == i.number) (text_of i) (row 4 entry_table i) ≡ None → row 5 peer_table i ≡ None
-            → by_number false two (3 == i.number) (text_of i) (item_fault (Messages 4 entry_table (Messages 5 peer_table End)) i) ≡ None) [
-          | true ↦ λ e f. refl
-          | false ↦ elim (3 == i.number) as (λ three. by_number false false three (text_of i) (row 4 entry_table i) ≡ None → row 5 peer_table i ≡ None
+          → by_number false two (3 == i.number) (text_of i) (item_fault (Messages 4 entry_table (Messages 5 peer_table End)) i) ≡ None) [
+            | true ↦ λ e f. refl
+            | false ↦ elim (3 == i.number) as (λ three. by_number false false three (text_of i) (row 4 entry_table i) ≡ None → row 5 peer_table i ≡ None
                 → by_number false false three (text_of i) (item_fault (Messages 4 entry_table (Messages 5 peer_table End)) i) ≡ None) [
-              | true ↦ λ e f. refl
-              | false ↦ λ e f. fourth (4 == i.number) (bytes_fault (message_fault entry_table) i.content) (row 5 peer_table i) e f
-            ]
-        ]
+                  | true ↦ λ e f. refl
+                  | false ↦ λ e f. fourth (4 == i.number) (bytes_fault (message_fault entry_table) i.content) (row 5 peer_table i) e f
+                ]
+          ]
     ]
 
 pub pieces : (edition : Edition) (bytes : List ℕ) → folder_fault edition bytes ≡ None → Pieces edition bytes
@@ -120,8 +120,8 @@ pieces Second bytes e =
     let p = readable folder_table bytes e in
     let items = (fields bytes).items in
     let lists = fine_after (λ i. scalar_fault Int64 i.content) 3 (Messages 4 entry_table (Messages 5 peer_table End)) items refl
-        (fine_after (λ i. scalar_fault Uint64 i.content) 2 (One 3 Int64 (Messages 4 entry_table (Messages 5 peer_table End))) items refl
-        (fine_after (λ i. scalar_fault Words i.content) 1 (One 2 Uint64 (One 3 Int64 (Messages 4 entry_table (Messages 5 peer_table End)))) items refl p.1)) in
+    (fine_after (λ i. scalar_fault Uint64 i.content) 2 (One 3 Int64 (Messages 4 entry_table (Messages 5 peer_table End))) items refl
+    (fine_after (λ i. scalar_fault Words i.content) 1 (One 2 Uint64 (One 3 Int64 (Messages 4 entry_table (Messages 5 peer_table End)))) items refl p.1)) in
     record {
       front = unreadable front_table bytes p.0 (fine-mono (item_fault folder_table) (item_fault front_table) to_front_second items p.1);
       entries = held_readable 4 entry_table (Messages 5 peer_table End) items lists;

@@ -1,11 +1,10 @@
 -- What the folders of a text make of a state.
-use Rattle.std.proofs.Common.{◌≡◌, ◌≢◌, ◌<◌, ℕ, Bool, true, false, List, [], ◌∷◌, ◌++◌, length, get_or, map, take, drop, None, refl, sym, ap, subst, ◌∙◌, arith}
+use Rattle.std.proofs.Common.{◌≡◌, ◌≢◌, ℕ, true, false, List, [], ◌∷◌, ◌++◌, length, get_or, map, take, drop, None, refl, sym, ap, subst, ◌∙◌, arith}
 use Rattle.std.specs.List.{AllByRecursion, list_any}
 use Rattle.std.specs.Prelude.{AllPairs, bytes_eq}
 use Rattle.std.proofs.lemmas.Bool.{true≢false}
 use Rattle.std.proofs.lemmas.List.{take-append-drop}
 use Rattle.bep_wire.specs.Fields.{fields}
-use Rattle.bep_messages.specs.Tables.{Values}
 use Rattle.bep_messages.specs.Values.{value}
 use Rattle.folder_core.proofs.ListTests.{In, alike_bytes, any_in, in_any, in_map, of_map as maps_from, same_bytes}
 use Rattle.folder_core.proofs.ReadLists.{Apart}
@@ -80,6 +79,17 @@ module _ (me : Identity) (edition : Edition) (body : List ℕ) where
       not-apart (ids fs) (ids (map folder_at (held 1 rest))) f.id (in-ids fs f.id old)
       (subst Apart (ap ids whole ∙ ids-append fs (f ∷ map folder_at (held 1 rest))) (pairs-apart_by id_of (map folder_at (held 1 body)) once))
 
+-- where a folder was found there is one
+module _ (me : Identity) (edition : Edition) (body : List ℕ) where
+  pub some-folder : (fs : List StoredFolder) (after b rest : List ℕ) → GoesOn me edition body fs after → HoldsFirst 1 after b rest → held 1 body ≢ []
+  some-folder fs after b rest so_far is none =
+      not-none (map itself fs) (folder_at me edition body b) (map (folder_at me edition body) (held 1 rest))
+      (sym (ap (map (folder_at me edition body)) none) ∙ so_far.value ∙ ap (λ (l : List (List ℕ)). map itself fs ++ map (folder_at me edition body) l) is.0)
+    where
+      not-none : (xs : List StoredFolder) (y : StoredFolder) (ys : List StoredFolder) → [] ≡ xs ++ y ∷ ys → ⊥
+      not-none [] y ys e = cc
+      not-none (x ∷ xs) y ys e = cc
+
 -- ---- first lines
 
 twelfth : (e : Edition) (b : List ℕ) → ℕ
@@ -106,7 +116,7 @@ told-held First body = map_both (value first_folder_table) told_first (held 1 bo
 told-held Second body = map_both (value folder_table) told_second (held 1 body)
 
 module _ (me : Identity) (edition : Edition) (body : List ℕ) where
-  abbrev folders : List StoredFolder
+  abbrev pub folders : List StoredFolder
   folders = map (λ b. stored me (folder_told edition b)) (held 1 body)
 
   folders-are : map (stored me) (told edition body) ≡ folders
@@ -154,3 +164,9 @@ meant me edition body text s begins m =
     let u = line-unique m.edition edition m.body body (sym m.begins ∙ begins) in
     let h : Right me m.edition m.body = right me m.edition m.body (folders-readable m.edition m.body m.readable) m.allowed m.once in
     subst (λ (b : List ℕ). Right me edition b) u.1 (subst (λ (e : Edition). Right me e m.body) u.0 h)
+
+pub meant-is : (me : Identity) (edition : Edition) (body text : List ℕ) (s : State) → text ≡ line edition ++ body → Means me text s → s.folders ≡ folders me edition body
+meant-is me edition body text s begins m =
+    let u = line-unique m.edition edition m.body body (sym m.begins ∙ begins) in
+    let h : s.folders ≡ folders me m.edition m.body = m.is ∙ folders-are me m.edition m.body in
+    subst (λ (b : List ℕ). s.folders ≡ folders me edition b) u.1 (subst (λ (e : Edition). s.folders ≡ folders me e m.body) u.0 h)

@@ -1,6 +1,6 @@
 -- What the text of a state file means (own rule).
 use Rattle.std.specs.Prelude.{◌≡◌, ◌≢◌, ◌++◌, ℕ, ℤ, List, [], None, Option, length, map, filter, AllPairs}
-use Rattle.std.specs.FinMap.{from_entries}
+use Rattle.std.specs.FinMap.{empty, entries, from_entries}
 use Rattle.std.specs.List.{AllByRecursion}
 use Rattle.bep_messages.specs.declared.fault.MessageFault.{MessageFault}
 use Rattle.bep_messages.specs.Faults.{message_fault}
@@ -18,7 +18,7 @@ use Rattle.node_state.specs.declared.state.State.{State}
 use Rattle.node_state.specs.declared.state.StoredFolder.{StoredFolder}
 use Rattle.node_state.specs.Peers.{is_kept}
 use Rattle.node_state.specs.Tables.{entry_table, peer_table, folder_table, state_table, first_folder_table, first_state_table}
-use Rattle.node_state.specs.Written.{first_line, second_line}
+use Rattle.node_state.specs.Written.{first_line, kept_peers, second_line}
 
 -- ---- what is told of a folder, in either version
 
@@ -78,6 +78,10 @@ stored me f = record {
   peers = from_entries (filter is_kept (map peer_of f.peers));
 }
 
+-- the folder without kept index numbers
+abbrev pub without_peers : StoredFolder → StoredFolder
+without_peers f = record f { peers = empty }
+
 -- To this device the text means this state: after the first line comes a message in which nothing is refused and no two
 -- folders have the same id.
 pub record Means (me : Identity) (text : List ℕ) (s : State) : Type 0 where
@@ -88,3 +92,27 @@ pub record Means (me : Identity) (text : List ℕ) (s : State) : Type 0 where
   pub allowed : AllByRecursion (IsAllowed me) (told edition body)
   pub once : AllPairs (λ f g. f.id ≢ g.id) (told edition body)
   pub is : s.folders ≡ map (stored me) (told edition body)
+
+-- ---- what is read of a written state
+
+-- the folder's device reads it again: it is this device, and the index number isn't 0
+pub record IsOwn (me : Identity) (f : StoredFolder) : Type 0 where
+  pub device : f.folder.me ≡ me
+  pub index_id : f.index_id ≢ 0
+
+-- nothing of the written state is refused: each folder is this device's own, and no two have the same id
+pub record IsReadable (me : Identity) (s : State) : Type 0 where
+  pub own : AllByRecursion (IsOwn me) s.folders
+  pub once : AllPairs (λ f g. f.id ≢ g.id) s.folders
+
+-- what is written of the folder: no open pull, and no peer of which no number is kept
+abbrev pub written_folder : StoredFolder → StoredFolder
+written_folder f = record f { folder = record f.folder { pulls = empty }; peers = from_entries (kept_peers f.peers) }
+
+abbrev pub written_state : State → State
+written_state s = record { folders = map written_folder s.folders }
+
+-- no pull of the folder is open, and of each of its peers a number is kept: all of it is written
+pub record IsClosed (f : StoredFolder) : Type 0 where
+  pub pulls : f.folder.pulls ≡ empty
+  pub peers : AllByRecursion (λ p. p.1 ≢ 0) (entries f.peers)

@@ -1,7 +1,7 @@
 -- The index numbers that are kept of peers (own rule).
-use Rattle.std.specs.Prelude.{ℕ, Bool, not, ◌==◌, List, Option, Some, None}
+use Rattle.std.specs.Prelude.{ℕ, Bool, not, ◌==◌}
 use Rattle.std.specs.Coded.{Coded, coded_ℕ, coded_list}
-use Rattle.std.specs.FinMap.{FinMap, code, get}
+use Rattle.std.specs.FinMap.{FinMap, code}
 use Rattle.sync_record.specs.Devices.{Identity, bytes_cmp}
 use Rattle.node_state.specs.declared.kept.PeerIndex.{PeerIndex}
 
@@ -18,10 +18,3 @@ pair p = (p.device, p.index_id)
 -- an index number of 0 says that none is kept
 abbrev pub is_kept : Identity × ℕ → Bool
 is_kept p = not (p.1 == 0)
-
-abbrev pub or_zero : Option ℕ → ℕ
-or_zero None = 0
-or_zero (Some n) = n
-
-abbrev pub index_of : Peers → Identity → ℕ
-index_of m d = or_zero (get m d)

@@ -1,17 +1,24 @@
 -- The bytes that fields of a number hold, one after the other, and what they make of a state.
-use Rattle.std.specs.Prelude.{◌≡◌, ◌≢◌, ◌∷◌, ℕ, List, [], None, Option, length, map, AllPairs}
+use Rattle.std.specs.Prelude.{◌≡◌, ◌≢◌, ◌∷◌, ◌++◌, ℕ, List, [], None, Option, length, map, AllPairs}
 use Rattle.bep_messages.specs.Contents.{byte_lists, contents}
 use Rattle.bep_messages.specs.declared.fault.MessageFault.{MessageFault}
 use Rattle.bep_messages.specs.Faults.{message_fault}
 use Rattle.bep_messages.specs.Tables.{◌▹◌, ◌is◌, Table, End, Int64, Uint64, Words, Values}
 use Rattle.bep_messages.specs.Values.{value}
+use Rattle.std.specs.List.{AllByRecursion}
 use Rattle.bep_wire.specs.Fields.{fields}
+use Rattle.folder_core.specs.Restores.{records_of}
+use Rattle.folder_core.specs.States.{IsFolder}
+use Rattle.sync_names.specs.Refusal.{refusal}
+use Rattle.sync_record.specs.Infos.{info_of, record_of}
 use Rattle.sync_record.specs.Devices.{Identity}
 use Rattle.sync_record.specs.Records.{FileRecord}
 use Rattle.node_state.specs.declared.edition.Edition.{Edition}
 use Rattle.node_state.specs.declared.edition.Edition.TheVariants.{First, Second}
 use Rattle.node_state.specs.declared.front.Front.{Front}
-use Rattle.node_state.specs.Meaning.{IsAllowed, IsEntry, Told, announced, peer_of, told_first, told_second}
+use Rattle.node_state.specs.declared.state.StoredFolder.{StoredFolder}
+use Rattle.node_state.specs.Meaning.{IsAllowed, IsEntry, Told, announced, line, peer_of, told_first, told_second}
+use Rattle.node_state.specs.Written.{kept_peers}
 use Rattle.node_state.specs.Tables.{entry_table, peer_table, folder_table, first_folder_table}
 
 abbrev pub held : ℕ → List ℕ → List (List ℕ)
@@ -24,6 +31,13 @@ HoldsNone number bytes = (held number bytes ≡ []) × ((fields bytes).fault ≡
 -- the first field of the number holds these bytes, and then come others
 abbrev pub HoldsFirst : ℕ → List ℕ → List ℕ → List ℕ → Type 0
 HoldsFirst number bytes first rest = (held number bytes ≡ first ∷ held number rest) × ((fields bytes).fault ≡ (fields rest).fault)
+
+-- after the first line comes a folder, also one that can't be read
+pub record HasFolder (text : List ℕ) : Type 0 where
+  pub edition : Edition
+  pub body : List ℕ
+  pub begins : text ≡ line edition ++ body
+  pub some : held 1 body ≢ []
 
 -- ---- a folder without its lists
 
@@ -74,3 +88,17 @@ folder_told Second bytes = told_second (value folder_table bytes)
 
 abbrev pub IsGoodFolder : Identity → Edition → List ℕ → Type 0
 IsGoodFolder me edition bytes = (folder_fault edition bytes ≡ None) × IsAllowed me (folder_told edition bytes)
+
+-- ---- what is written is read as it was
+
+-- a device's record: the device has 32 bytes, the name is safe, and the record's message has this record
+pub record IsReadBack (p : Identity × FileRecord) : Type 0 where
+  pub device : length p.0 ≡ 32
+  pub name : refusal (info_of p.1).name ≡ None
+  pub same : record_of (info_of p.1) ≡ p.1
+
+-- a folder whose records and peers are read back
+pub record IsWritable (f : StoredFolder) : Type 0 where
+  pub folder : IsFolder f.folder
+  pub records : AllByRecursion IsReadBack (records_of f.folder)
+  pub peers : AllByRecursion (λ p. length p.0 ≡ 32) (kept_peers f.peers)

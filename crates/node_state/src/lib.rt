@@ -7,6 +7,7 @@ mod fault;
 mod front;
 mod held;
 mod kept;
+pub mod laws;
 mod peer;
 mod reading;
 mod state;

@@ -1,4 +1,4 @@
-ghost use Rattle.std.specs.Prelude.{◌≡◌, ◌≢◌, ◌++◌, None, bytes_eq, filter, length, map, AllPairs, IfErr, IfNone, IfOk, IfSome, List, ℕ};
+ghost use Rattle.std.specs.Prelude.{◌≡◌, ◌≢◌, ◌++◌, [], None, bytes_eq, filter, length, map, AllPairs, IfErr, IfNone, IfOk, IfSome, List, ℕ};
 ghost use Rattle.std.specs.FinMap.{from_entries};
 ghost use Rattle.std.specs.List.{AllByRecursion, list_any};
 ghost use Rattle.bep_messages.specs.Values.{value};
@@ -10,14 +10,14 @@ ghost use Rattle.node_state.specs.Meaning.{Means, announced, line, peer_of, stor
 ghost use Rattle.node_state.specs.declared.edition.Edition.{Edition as Version};
 ghost use Rattle.node_state.specs.declared.state.State.{State as Stored};
 ghost use Rattle.node_state.specs.Peers.{is_kept, pair};
-ghost use Rattle.node_state.specs.Reading.{AreOnce, IsGoodEntry, IsGoodFolder, IsGoodPeer, folder_told, held, peer_pairs, peers_held};
+ghost use Rattle.node_state.specs.Reading.{AreOnce, HasFolder, IsGoodEntry, IsGoodFolder, IsGoodPeer, folder_told, held, peer_pairs, peers_held};
 ghost use Rattle.node_state.specs.Tables.{entry_table, peer_table};
 
+use crate::edition::Edition;
 use crate::entry::Entry;
 use crate::fault::{Problem, StateFault};
-use crate::held::{next_held, read_message};
-use crate::edition::Edition;
 use crate::front::Front;
+use crate::held::{next_held, read_message};
 use crate::kept::{KeptIndexes, PeerIndex};
 use crate::peer::Peer;
 use crate::state::{State, StoredFolder};
@@ -214,6 +214,7 @@ fn read_folders(
     ensures err { IfErr result (λ e. e ≢ OutOfMemory → (fields body.now).fault ≡ None →
         AllByRecursion (IsGoodFolder me edition) (held 1 body.now) →
         ¬ (AllPairs (λ f g. f.id ≢ g.id) (map (λ b. stored me (folder_told edition b)) (held 1 body.now)))) }
+    ensures memory { IfErr result (λ e. e ≡ OutOfMemory → held 1 body.now ≢ []) }
 {
     let mut folders = Vec::new(alloc);
     let mut at = 0;
@@ -248,7 +249,7 @@ fn beginning(text: &[u8]) -> Option<(Edition, &[u8])>
 /// Fails with `BadState` exactly where they mean none: if the first line is another one, also if there is none; what
 /// follows can't be read; a device has not 32 bytes; the index number of a folder is 0; a folder's id repeats; the name of
 /// a file is refused; [`PlainFolder::restore`] refuses a folder; or a peer repeats within a folder. Fails with `OutOfMemory`
-/// if allocation fails. In a file of version 1 a peer is an unknown field; the index number 0 of a peer is read as none.
+/// if allocation fails, and never where no folder comes before the first fault. In a file of version 1 a peer is an unknown field; the index number 0 of a peer is read as none.
 ///
 /// O(n log n) for n bytes, and O(n) where the records of each folder are in order, as they are written; but O(k^2) for k
 /// folders, or k peers of one folder. Each entry is decoded by itself: beside the bytes only the records that are returned
@@ -256,6 +257,8 @@ fn beginning(text: &[u8]) -> Option<(Edition, &[u8])>
 pub fn read_state(alloc: Global, me: DeviceId, text: &[u8]) -> Result<State, StateFault>
     ensures meaning { IfOk result (Means me text.now) }
     ensures refused { IfErr result (λ e. e ≢ OutOfMemory → (s : Stored) → ¬ (Means me text.now s)) }
+    // Memory is only needed for a folder.
+    ensures memory { IfErr result (λ e. e ≡ OutOfMemory → HasFolder text.now) }
 {
     let Some((edition, body)) = beginning(text) else {
         return Err(StateFault::BadState(Problem::Beginning));

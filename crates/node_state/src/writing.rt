@@ -1,9 +1,13 @@
-ghost use Rattle.std.specs.Prelude.{◌≡◌, ◌≤◌, ◌<◌, ◌^◌, ◌++◌, map, filter, pos, OnOk, OnErr, IfOk};
+ghost use Rattle.std.specs.Prelude.{◌≡◌, ◌≤◌, ◌<◌, ◌^◌, ◌++◌, length, map, filter, pos, OnOk, OnErr, IfOk};
 ghost use Rattle.std.specs.List.{AllByRecursion};
 ghost use Rattle.bep_messages.specs.Forms.{form, list_form, Fits, IsShort};
 ghost use Rattle.bep_messages.specs.Writing.{Adds};
 ghost use Rattle.bep_wire.specs.Written.{bytes_field};
 ghost use Rattle.folder_core.specs.PlainRestores.{given};
+ghost use Rattle.folder_core.specs.States.{IsFolder};
+ghost use Rattle.sync_record.specs.Devices.{Identity};
+ghost use Rattle.node_state.specs.Meaning.{IsReadable, Means, written_state};
+ghost use Rattle.node_state.specs.Reading.{IsReadBack, IsWritable};
 ghost use Rattle.node_state.specs.Parts.{entry_parts, peer_parts};
 ghost use Rattle.node_state.specs.Peers.{is_kept, pair};
 ghost use Rattle.node_state.specs.Tables.{entry_table, peer_table, folder_table, state_table};
@@ -24,7 +28,8 @@ pub(crate) const SECOND_LINE: [u8; 13] = *b"bepd state 2\n";
 
 // The message of an announcement.
 fn entry_of(alloc: Global, announced: &Announcement) -> Result<Entry, AllocError>
-    ensures { IfOk result (λ entry. entry_parts entry ≡ entry_values (given announced.now)) }
+    ensures value { IfOk result (λ entry. entry_parts entry ≡ entry_values (given announced.now)) }
+    ensures back { IfOk result (λ _. IsReadBack (given announced.now)) }
 {
     Ok(Entry {
         device: ShortOctets::from_slice(alloc, announced.device.bytes())?,
@@ -51,6 +56,7 @@ fn write_entry(out: &mut Writer, alloc: Global, announced: &Announcement) -> Res
     ensures ok { OnOk result (Adds out.old (bytes_field 4 (form entry_table (entry_values (given announced.now)))) out.new) }
     ensures fits { OnOk result (Fits entry_table (entry_values (given announced.now))
         × IsShort (form entry_table (entry_values (given announced.now)))) }
+    ensures back { OnOk result (IsReadBack (given announced.now)) }
     ensures kept { out.new.kept ≡ out.old.kept }
 {
     let entry = entry_of(alloc, announced)?;
@@ -66,6 +72,7 @@ fn write_entries(
     ensures ok { OnOk result (Adds out.old (list_form 4 (form entry_table) (map (λ e. entry_values (given e)) entries.now)) out.new) }
     ensures fits { OnOk result (AllByRecursion (λ v. Fits entry_table v × IsShort (form entry_table v))
         (map (λ e. entry_values (given e)) entries.now)) }
+    ensures back { OnOk result (AllByRecursion IsReadBack (map given entries.now)) }
     ensures kept { out.new.kept ≡ out.old.kept }
 {
     for announced in entries {
@@ -76,7 +83,8 @@ fn write_entries(
 
 // The message of a peer.
 fn peer_of(alloc: Global, kept: &PeerIndex) -> Result<Peer, AllocError>
-    ensures { IfOk result (λ peer. peer_parts peer ≡ peer_values (pair kept.now)) }
+    ensures value { IfOk result (λ peer. peer_parts peer ≡ peer_values (pair kept.now)) }
+    ensures back { IfOk result (λ _. length kept.now.device ≡ 32) }
 {
     Ok(Peer {
         device: ShortOctets::from_slice(alloc, kept.device.bytes())?,
@@ -89,6 +97,7 @@ fn write_peer(out: &mut Writer, alloc: Global, kept: &PeerIndex) -> Result<(), A
     ensures ok { OnOk result (Adds out.old (bytes_field 5 (form peer_table (peer_values (pair kept.now)))) out.new) }
     ensures fits { OnOk result (Fits peer_table (peer_values (pair kept.now))
         × IsShort (form peer_table (peer_values (pair kept.now)))) }
+    ensures back { OnOk result (length kept.now.device ≡ 32) }
     ensures kept { out.new.kept ≡ out.old.kept }
 {
     let peer = peer_of(alloc, kept)?;
@@ -101,6 +110,7 @@ fn write_peers(out: &mut Writer, alloc: Global, peers: &[PeerIndex]) -> Result<(
         (map peer_values (filter is_kept (map pair peers.now)))) out.new) }
     ensures fits { OnOk result (AllByRecursion (λ v. Fits peer_table v × IsShort (form peer_table v))
         (map peer_values (filter is_kept (map pair peers.now)))) }
+    ensures back { OnOk result (AllByRecursion (λ p. length p.0 ≡ 32) (filter is_kept (map pair peers.now))) }
     ensures kept { out.new.kept ≡ out.old.kept }
 {
     for peer in peers {
@@ -115,6 +125,7 @@ fn write_peers(out: &mut Writer, alloc: Global, peers: &[PeerIndex]) -> Result<(
 fn last_of(folder: &PlainFolder) -> i64
     ensures value { result ≡ pos folder.now.last }
     ensures fits { folder.now.last < 2 ^ 63 }
+    ensures folder { IsFolder folder.now }
 {
     folder.known(folder.me()) as i64
 }
@@ -123,6 +134,7 @@ fn last_of(folder: &PlainFolder) -> i64
 fn write_fields(out: &mut Writer, alloc: Global, folder: &StoredFolder) -> Result<(), AllocError>
     ensures ok { OnOk result (Adds out.old (form folder_table (folder_values folder.now)) out.new) }
     ensures fits { OnOk result (Fits folder_table (folder_values folder.now)) }
+    ensures back { OnOk result (IsWritable folder.now) }
     ensures kept { out.new.kept ≡ out.old.kept }
 {
     rows::words(out, 1, &folder.id)?;
@@ -138,6 +150,7 @@ fn write_folder(out: &mut Writer, alloc: Global, folder: &StoredFolder) -> Resul
     ensures ok { OnOk result (Adds out.old (bytes_field 1 (form folder_table (folder_values folder.now))) out.new) }
     ensures fits { OnOk result (Fits folder_table (folder_values folder.now)
         × IsShort (form folder_table (folder_values folder.now))) }
+    ensures back { OnOk result (IsWritable folder.now) }
     ensures kept { out.new.kept ≡ out.old.kept }
 {
     let from = out.len();
@@ -154,6 +167,7 @@ fn write_folders(
     ensures ok { OnOk result (Adds out.old (list_form 1 (form folder_table) (map folder_values folders.now)) out.new) }
     ensures fits { OnOk result (AllByRecursion (λ v. Fits folder_table v × IsShort (form folder_table v))
         (map folder_values folders.now)) }
+    ensures back { OnOk result (AllByRecursion IsWritable folders.now) }
     ensures kept { out.new.kept ≡ out.old.kept }
 {
     for folder in folders {
@@ -169,7 +183,9 @@ fn write_folders(
 /// each of the messages that it is in; beside the vector only one record at a time is in memory twice.
 pub fn write_state(state: &State, out: &mut Vec<u8>) -> Result<(), AllocError>
     ensures ok { OnOk result (out.new.items ≡ out.old.items ++ state_bytes state.now) }
-    ensures fits { OnOk result (Fits state_table (state_values state.now)) }
+    // Read again it is the state, without open pulls and without peers of which no index number is kept.
+    ensures again { OnOk result ((me : Identity) → IsReadable me state.now →
+        Means me (state_bytes state.now) (written_state state.now)) }
     ensures err { OnErr result (out.new.items ≡ out.old.items) }
 {
     let alloc = *out.allocator();

@@ -1,10 +1,9 @@
-use Rattle.std.proofs.Common.{◌≡◌, true, false, List, take, map, ap, sym, subst, ◌∙◌, arith, rules}
+use Rattle.std.proofs.Common.{◌≡◌, true, false, List, take, subst, ◌∙◌, arith, rules}
 use Rattle.std.specs.List.{list_any}
 use Rattle.std.proofs.lemmas.Grind.{common_steps}
 use Rattle.std.specs.Prelude.{bytes_eq}
 use Rattle.folder_core.proofs.ReadLists.{Apart}
 use Rattle.node_state.specs.declared.kept.PeerIndex.{PeerIndex}
-use Rattle.node_state.specs.Peers.{pair}
 use Rattle.node_state.proofs.PeerMaps.{devices, once-of, peers-apart, peers-kept, peers-repeat, peers-skipped}
 use Rattle.node_state.proofs.Peers.{kept-true, kept-false}
 use Rattle.node_state.proofs.reading.keep.Goals as goal
@@ -23,14 +22,14 @@ loop-at-preserved c =
     let new : list_any (λ (q : PeerIndex). bytes_eq q.device p.device) (take c.loop-at.at ps) ≡ false = search rules in
     elim c.if-peer-ne0.branch [
       | then-peer-ne0+in_ok-insert w ↦ record {
-          once = peers-apart ps c.loop-at.at p (search rules) c.index-peers-at.is c.loop-at.invariant.once new;
-          value = w.kept-is ∙ w.in_ok-insert.ensures.ok
-              ∙ peers-kept ps c.loop-at.at p (search rules) c.index-peers-at.is new (kept-true p w.if-peer-ne0.true) c.loop-at.kept c.loop-at.invariant.value;
-        }
+        once = peers-apart ps c.loop-at.at p (search rules) c.index-peers-at.is c.loop-at.invariant.once new;
+        value = w.kept-is ∙ w.in_ok-insert.ensures.ok
+            ∙ peers-kept ps c.loop-at.at p (search rules) c.index-peers-at.is new (kept-true p w.if-peer-ne0.true) c.loop-at.kept c.loop-at.invariant.value;
+      }
       | else-peer-ne0 w ↦ record {
-          once = peers-apart ps c.loop-at.at p (search rules) c.index-peers-at.is c.loop-at.invariant.once new;
-          value = w.kept-is ∙ peers-skipped ps c.loop-at.at p (search rules) c.index-peers-at.is (kept-false p w.if-peer-ne0.false) c.loop-at.kept c.loop-at.invariant.value;
-        }
+        once = peers-apart ps c.loop-at.at p (search rules) c.index-peers-at.is c.loop-at.invariant.once new;
+        value = w.kept-is ∙ peers-skipped ps c.loop-at.at p (search rules) c.index-peers-at.is (kept-false p w.if-peer-ne0.false) c.loop-at.kept c.loop-at.invariant.value;
+      }
     ]
 
 pub returns-clause-once : goal.returns-clause-once

@@ -1,14 +1,12 @@
-use Rattle.std.proofs.Common.{◌≡◌, ◌≢◌, ℕ, ℤ, List, map, ap, sym, subst, ◌∙◌}
+use Rattle.std.proofs.Common.{List, ap, sym, subst, ◌∙◌}
 use Rattle.std.proofs.lemmas.Result.{err_from_is_err_and}
 use Rattle.bep_messages.specs.Tables.{Values}
-use Rattle.bep_messages.specs.Values.{value}
-use Rattle.folder_core.specs.PlainRestores.{given}
 use Rattle.folder_core.specs.Restores.{MayRestore, restored_folder}
 use Rattle.sync_record.specs.Devices.{Identity}
 use Rattle.sync_record.specs.Records.{FileRecord}
 use Rattle.node_state.specs.declared.front.Front.{Front}
 use Rattle.node_state.specs.Reading.{entry_pairs, front_table}
-use Rattle.node_state.proofs.Parts.{Parts, good-of, last-told, no-fault, parts-of, parts-stored}
+use Rattle.node_state.proofs.Parts.{good-of, last-told, no-fault, parts-of, parts-stored}
 use Rattle.node_state.proofs.reading.read_folder.Goals as goal
 
 pub returns-in_err-front-clause-err : goal.returns-in_err-front-clause-err

@@ -1,10 +1,11 @@
-use Rattle.std.proofs.Common.{◌≡◌, true, false, List, drop, ap, sym, ◌∙◌, rules}
+use Rattle.std.proofs.Common.{◌≡◌, true, false, drop, rules}
 use Rattle.std.specs.List.{list_any}
 use Rattle.std.specs.Prelude.{bytes_eq, slice_range}
+use Rattle.std.proofs.lemmas.Result.{err_from_is_err_and}
 use Rattle.node_state.specs.declared.state.StoredFolder.{StoredFolder}
 use Rattle.node_state.specs.Reading.{IsGoodFolder}
 use Rattle.node_state.proofs.Goes.{goes-on}
-use Rattle.node_state.proofs.States.{folder_at, ids-once, ids-push, ids-repeat, itself}
+use Rattle.node_state.proofs.States.{folder_at, ids-once, ids-push, ids-repeat, itself, some-folder}
 use Rattle.node_state.proofs.reading.read_folders.Goals as goal
 
 pub returns-then-has_id-clause-err : goal.returns-then-has_id-clause-err
@@ -33,3 +34,19 @@ loop-folders-preserved c =
 
 pub returns-clause-once : goal.returns-clause-once
 returns-clause-once c = ids-once c.loop-folders.folders.items c.loop-folders.invariant.once
+
+pub returns-in_err-folder-clause-memory : goal.returns-in_err-folder-clause-memory
+returns-in_err-folder-clause-memory c =
+    let body = c.args.body.now in
+    let is = rw c.in-Some.is at c.in_ok-start.ensures.first in
+    let p = err_from_is_err_and c.from_residual-in_err-folder.result c.from_residual-in_err-folder.ensures.1 in
+    rw (p.1, p.2) (λ _. some-folder c.args.me c.args.edition body c.loop-folders.folders.items (drop c.loop-folders.at body) (slice_range body c.in-Some.start c.in-Some.end) (drop c.in-Some.end body)
+    c.loop-folders.invariant.goes is)
+
+pub returns-in_err-push-clause-memory : goal.returns-in_err-push-clause-memory
+returns-in_err-push-clause-memory c =
+    let body = c.args.body.now in
+    let is = rw c.in-Some.is at c.in_ok-start.ensures.first in
+    let p = err_from_is_err_and c.from_residual-in_err-push.result c.from_residual-in_err-push.ensures.1 in
+    rw (p.1, p.2) (λ _. some-folder c.args.me c.args.edition body c.loop-folders.folders.items (drop c.loop-folders.at body) (slice_range body c.in-Some.start c.in-Some.end) (drop c.in-Some.end body)
+    c.loop-folders.invariant.goes is)

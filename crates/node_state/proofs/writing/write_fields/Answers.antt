@@ -1,4 +1,4 @@
-use Rattle.std.proofs.Common.{ap, ◌∙◌, List, map, ℤ, ℕ, subst}
+use Rattle.std.proofs.Common.{◌≡◌, ap, List, length, map, ℤ, ℕ, subst}
 use Rattle.std.specs.Prelude.{filter}
 use Rattle.std.specs.List.{AllByRecursion}
 use Rattle.bep_messages.specs.Forms.{form, list_form, scalar_form, Fits, IsShort, ScalarFits}
@@ -8,7 +8,7 @@ use Rattle.sync_record.specs.Devices.{Identity}
 use Rattle.node_state.specs.Peers.{is_kept}
 use Rattle.node_state.specs.Tables.{entry_table, peer_table}
 use Rattle.node_state.specs.Written.{peer_values}
-use Rattle.node_state.proofs.Folders.{adds-same, last-back, values-are}
+use Rattle.node_state.proofs.Folders.{adds-same, last-back, records-back, values-are}
 use Rattle.node_state.proofs.writing.write_fields.Goals as goal
 
 pub returns-clause-ok : goal.returns-clause-ok
@@ -36,3 +36,10 @@ returns-clause-fits c = (
     ),
   ),
 )
+
+pub returns-clause-back : goal.returns-clause-back
+returns-clause-back c = record {
+  folder = c.last_of.ensures.folder;
+  records = records-back c.records.result.now c.args.folder.now.folder c.records.ensures c.in_ok-write_entries.ensures.back;
+  peers = subst (λ (ps : List (Identity × ℕ)). AllByRecursion (λ p. length p.0 ≡ 32) (filter is_kept ps)) c.as_slice.ensures c.in_ok-write_peers.ensures.back;
+}

@@ -1,4 +1,6 @@
-use Rattle.std.proofs.Common.{◌≡◌, take}
+use Rattle.std.proofs.Common.{◌≡◌, length, map, take}
+use Rattle.std.specs.Prelude.{filter}
+use Rattle.node_state.specs.Peers.{is_kept, pair}
 use Rattle.std.specs.List.{AllByRecursion}
 use Rattle.bep_messages.specs.Forms.{form, list_form, Fits, IsShort}
 use Rattle.bep_messages.specs.Writing.{Adds}
@@ -12,5 +14,6 @@ invariant-loop-peer l =
     record {
       ok : Adds l.fn.out (list_form 5 (form peer_table) front) l.out;
       fits : AllByRecursion (λ v. Fits peer_table v × IsShort (form peer_table v)) front;
+      back : AllByRecursion (λ p. length p.0 ≡ 32) (filter is_kept (map pair (take l.peer-index l.peers)));
       kept : l.out.kept ≡ l.fn.out.kept;
     }

@@ -1,10 +1,10 @@
-use Rattle.std.proofs.Common.{◌≡◌, List, map, ap, sym, subst, ◌∙◌, rules}
+use Rattle.std.proofs.Common.{List, map, ap, sym, subst, ◌∙◌}
 use Rattle.std.specs.FinMap.{insert, is_sorted}
 use Rattle.std.specs.Prelude.{Result, Ok, Err, IsTrue, OnOk, OnErr}
 use Rattle.sync_record.specs.Devices.{bytes_cmp}
 use Rattle.node_state.specs.declared.kept.PeerIndex.{PeerIndex}
 use Rattle.node_state.specs.Peers.{Peers, pair}
-use Rattle.node_state.proofs.PeerMaps.{peers_of, put-adds, put-sorted}
+use Rattle.node_state.proofs.PeerMaps.{put-adds, put-sorted}
 use Rattle.node_state.proofs.kept.KeptIndexes.insert.Goals as goal
 
 by_result : {T E : Type 0} {P Q R : Type 0} (r : Result T E) → OnOk r P → OnErr r Q → (P → R) → (Q → R) → R
