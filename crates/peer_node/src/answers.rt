@@ -1,13 +1,13 @@
 //! What is answered to commands.
 use crate::command::Command;
 use crate::connections::Connections;
+use crate::fault::NodeFault;
 use crate::host::Host;
 use crate::input::next_line;
 use crate::moments::moment;
+use crate::shared::Folders;
 use file_store::{FileStore, Gate};
 use folder_calls::FolderCalls;
-use folder_core::FolderCore;
-use folder_shared::SharedFolder;
 use record_lines::{push_name, push_record};
 use std::alloc::{AllocError, Global};
 use std::io::{self, BufRead, Write};
@@ -19,9 +19,10 @@ const PAGE: usize = 1_000;
 
 /// A folder, for the commands.
 #[derive(Drop)]
-pub(crate) struct CommandFolder<'a, C: FolderCore + Drop, S, W> {
+pub(crate) struct CommandFolder<'a, S, W> {
+    // Among the folders.
+    pub(crate) place: usize,
     pub(crate) id: &'a str,
-    pub(crate) shared: &'a SharedFolder<C>,
     pub(crate) store: S,
     pub(crate) calls: W,
 }
@@ -36,6 +37,12 @@ enum Refused {
 
 impl From<AllocError> for Refused {
     fn from(_failed: AllocError) -> Refused {
+        Refused::OutOfMemory
+    }
+}
+
+impl From<NodeFault> for Refused {
+    fn from(_fault: NodeFault) -> Refused {
         Refused::OutOfMemory
     }
 }
@@ -56,19 +63,20 @@ enum Listed {
 }
 
 /// Answers each line of the commands, up to `quit` or their end. Fails where a line can't be read, or an answer can't be written.
-pub(crate) fn answer_all<R, C, S, W, G, I, O>(
+pub(crate) fn answer_all<R, F, S, W, G, I, O>(
     rt: &R,
     alloc: Global,
     connections: &Connections,
     gate: &G,
-    folders: Vec<CommandFolder<C, S, W>>,
+    shared: &F,
+    folders: Vec<CommandFolder<S, W>>,
     peers: &[DeviceId],
     commands: &mut I,
     writer: &mut O,
 ) -> io::Result<()>
 where
     R: Host,
-    C: FolderCore + Drop,
+    F: Folders,
     S: FileStore + Drop,
     W: FolderCalls + Drop,
     G: Gate,
@@ -90,6 +98,7 @@ where
             alloc,
             connections,
             gate,
+            shared,
             folders.as_mut_slice(),
             peers,
             command,
@@ -108,19 +117,20 @@ where
 }
 
 // Writes what is answered to a command.
-fn answer<R, C, S, W, G, O>(
+fn answer<R, F, S, W, G, O>(
     rt: &R,
     alloc: Global,
     connections: &Connections,
     gate: &G,
-    folders: &mut [CommandFolder<C, S, W>],
+    shared: &F,
+    folders: &mut [CommandFolder<S, W>],
     peers: &[DeviceId],
     command: Command,
     writer: &mut O,
 ) -> Result<(), Refused>
 where
     R: Host,
-    C: FolderCore + Drop,
+    F: Folders,
     S: FileStore,
     W: FolderCalls,
     G: Gate,
@@ -133,27 +143,27 @@ where
         Command::Local(id) => list(alloc, folder_in(folders, id)?, Listed::Locals, writer),
         Command::Peers => tell_peers(rt, alloc, connections, peers, writer),
         Command::History(id) => history(folder_in(folders, id)?, writer),
-        Command::Verify(id) => verify(rt, folder_in(folders, id)?, writer),
+        Command::Verify(id) => verify(shared, folder_in(folders, id)?, writer),
         Command::Quit => Ok(()),
         Command::Unknown => Ok(writeln!(writer, "error unknown command")?),
     }
 }
 
-fn folder_in<'a, 'b, C: FolderCore + Drop, S, W>(
-    folders: &'a mut [CommandFolder<'b, C, S, W>],
+fn folder_in<'a, 'b, S, W>(
+    folders: &'a mut [CommandFolder<'b, S, W>],
     id: &str,
-) -> Result<&'a mut CommandFolder<'b, C, S, W>, Refused> {
+) -> Result<&'a mut CommandFolder<'b, S, W>, Refused> {
     match folders.iter_mut().find(|folder| folder.id == id) {
         Some(folder) => Ok(folder),
         None => Err(Refused::UnknownFolder),
     }
 }
 
-fn scan<R: Host, C: FolderCore + Drop, S: FileStore, W: FolderCalls, G: Gate, O: Write>(
+fn scan<R: Host, S: FileStore, W: FolderCalls, G: Gate, O: Write>(
     rt: &R,
     alloc: Global,
     gate: &G,
-    folder: &mut CommandFolder<C, S, W>,
+    folder: &mut CommandFolder<S, W>,
     writer: &mut O,
 ) -> Result<(), Refused> {
     let CommandFolder {
@@ -175,9 +185,9 @@ fn scan<R: Host, C: FolderCore + Drop, S: FileStore, W: FolderCalls, G: Gate, O:
 }
 
 // A page of names at a time.
-fn need<C: FolderCore + Drop, S, W: FolderCalls, O: Write>(
+fn need<S, W: FolderCalls, O: Write>(
     alloc: Global,
-    folder: &mut CommandFolder<C, S, W>,
+    folder: &mut CommandFolder<S, W>,
     writer: &mut O,
 ) -> Result<(), Refused> {
     let mut lines = Vec::new(alloc);
@@ -200,9 +210,9 @@ fn need<C: FolderCore + Drop, S, W: FolderCalls, O: Write>(
 }
 
 // A page of bests at a time. Each local record is of a name that has a best.
-fn list<C: FolderCore + Drop, S, W: FolderCalls, O: Write>(
+fn list<S, W: FolderCalls, O: Write>(
     alloc: Global,
-    folder: &mut CommandFolder<C, S, W>,
+    folder: &mut CommandFolder<S, W>,
     listed: Listed,
     writer: &mut O,
 ) -> Result<(), Refused> {
@@ -260,8 +270,8 @@ fn tell_peers<R: Host, O: Write>(
     Ok(())
 }
 
-fn history<C: FolderCore + Drop, S, W: FolderCalls, O: Write>(
-    folder: &mut CommandFolder<C, S, W>,
+fn history<S, W: FolderCalls, O: Write>(
+    folder: &mut CommandFolder<S, W>,
     writer: &mut O,
 ) -> Result<(), Refused> {
     let counts = folder.calls.counts();
@@ -273,15 +283,12 @@ fn history<C: FolderCore + Drop, S, W: FolderCalls, O: Write>(
     Ok(())
 }
 
-fn verify<R: Host, C: FolderCore + Drop, S, W, O: Write>(
-    rt: &R,
-    folder: &mut CommandFolder<C, S, W>,
+fn verify<F: Folders, S, W, O: Write>(
+    shared: &F,
+    folder: &CommandFolder<S, W>,
     writer: &mut O,
 ) -> Result<(), Refused> {
-    let Ok(mut pass) = folder.shared.pass(rt) else {
-        return Err(Refused::OutOfMemory);
-    };
-    let word = if folder.shared.verify(rt, &mut pass)? {
+    let word = if shared.verify(folder.place)? {
         "yes"
     } else {
         "no"

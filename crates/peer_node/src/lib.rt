@@ -11,6 +11,7 @@ mod moments;
 mod node;
 mod peer;
 mod rounds;
+mod shared;
 mod stores;
 
 pub use fault::NodeFault;

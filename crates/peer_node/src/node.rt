@@ -5,11 +5,13 @@ use crate::fault::NodeFault;
 use crate::host::Host;
 use crate::peer::{PeerJob, Reach, run_peer};
 use crate::rounds::{PulledFolder, Rest, run_rounds};
+use crate::shared::{Folders, Locked};
 use crate::stores::Stores;
 use bep_messages::Text;
-use file_store::Gate;
+use file_store::{FileStore, Gate};
+use folder_calls::FolderCalls;
 use folder_core::FolderCore;
-use folder_shared::{Member, Pass, SharedFolder};
+use folder_shared::SharedFolder;
 use peer_asks::{AskBook, PeerBook};
 use peer_conn::IndexedFolder;
 use peer_link::LinkFolders;
@@ -115,25 +117,44 @@ where
     for peer in peers.iter() {
         reaches.push(reach(rt, &connections, peer.address)?)?;
     }
-    let mut opened = Vec::with_capacity(alloc, folders.len())?;
+    let mut places = Vec::with_capacity(alloc, folders.len())?;
+    let mut shared = Vec::with_capacity(alloc, folders.len())?;
     for folder in folders {
-        opened.push(open_folder(rt, alloc, folder)?)?;
+        let NodeFolder {
+            id,
+            path,
+            index_id,
+            history_limit,
+            most,
+            core,
+        } = folder;
+        places.push(FolderPlace {
+            id,
+            path,
+            index_id,
+            most,
+        })?;
+        shared.push(open_folder(rt, alloc, core, history_limit)?)?;
     }
-    let ran = run_opened(
+    let node = Node {
+        name,
+        places: places.as_slice(),
+        peers: peers.as_slice(),
+    };
+    let locked = Locked::new(rt, shared.as_slice());
+    let (kept, answered) = run_node_over(
         rt,
         alloc,
         stores,
-        name,
-        opened.as_slice(),
-        peers.as_slice(),
+        node,
+        &locked,
         reaches,
         &connections,
         gate,
         commands,
         writer,
     )?;
-    let (kept, answered) = ran;
-    let cores = close_all(rt, alloc, opened)?;
+    let cores = close_all(rt, alloc, shared)?;
     Ok(NodeEnd {
         cores,
         kept,
@@ -141,16 +162,21 @@ where
     })
 }
 
-// A folder that is shared by the node's threads.
-#[derive(Drop)]
-struct Opened<'a, C: FolderCore + Drop> {
+// A folder of a node, but for its records.
+#[derive(Clone, Copy)]
+struct FolderPlace<'a> {
     id: &'a str,
     path: &'a str,
     index_id: u64,
     most: MaxConflicts,
-    shared: SharedFolder<C>,
-    // Room for the pass that closes it.
-    closing: Vec<Pass<C>>,
+}
+
+// What a node is told.
+#[derive(Clone, Copy)]
+struct Node<'a> {
+    name: &'a str,
+    places: &'a [FolderPlace<'a>],
+    peers: &'a [NodePeer],
 }
 
 // Listens, where the peer makes the connection.
@@ -174,121 +200,163 @@ fn no_address(_error: io::Error) -> NodeFault {
     NodeFault::BadAddress
 }
 
-fn open_folder<'a, R: Host, C: FolderCore + Drop>(
+fn open_folder<R: Wait, C: FolderCore + Drop>(
     rt: &R,
     alloc: Global,
-    folder: NodeFolder<'a, C>,
-) -> Result<Opened<'a, C>, NodeFault> {
-    let NodeFolder {
-        id,
-        path,
-        index_id,
-        history_limit,
-        most,
-        core,
-    } = folder;
+    core: C,
+    history_limit: u64,
+) -> Result<SharedFolder<C>, NodeFault> {
     if core.counts().pulls != 0 {
         return Err(NodeFault::OpenPulls);
     }
-    let closing = Vec::with_capacity(alloc, 1)?;
-    let Ok(shared) = SharedFolder::open(rt, alloc, core, history_limit) else {
-        return Err(NodeFault::OutOfMemory);
-    };
-    Ok(Opened {
-        id,
-        path,
-        index_id,
-        most,
-        shared,
-        closing,
-    })
+    match SharedFolder::open(rt, alloc, core, history_limit) {
+        Ok(folder) => Ok(folder),
+        Err(_) => Err(NodeFault::OutOfMemory),
+    }
 }
 
 // The records of each folder, once no thread has it any more.
-fn close_all<R: Host, C: FolderCore + Drop>(
+fn close_all<R: Wait, C: FolderCore + Drop>(
     rt: &R,
     alloc: Global,
-    opened: Vec<Opened<C>>,
+    shared: Vec<SharedFolder<C>>,
 ) -> Result<Vec<C>, NodeFault> {
-    let mut cores = Vec::with_capacity(alloc, opened.len())?;
-    for folder in opened {
-        cores.push(close(rt, folder)?)?;
+    let mut cores = Vec::with_capacity(alloc, shared.len())?;
+    for folder in shared {
+        cores.push(close(rt, alloc, folder)?)?;
     }
     Ok(cores)
 }
 
-fn close<R: Host, C: FolderCore + Drop>(rt: &R, folder: Opened<C>) -> Result<C, NodeFault> {
-    let Opened {
-        shared,
-        mut closing,
-        ..
-    } = folder;
-    let Ok(pass) = shared.pass(rt) else {
+fn close<R: Wait, C: FolderCore + Drop>(
+    rt: &R,
+    alloc: Global,
+    folder: SharedFolder<C>,
+) -> Result<C, NodeFault> {
+    let Ok(pass) = folder.pass(rt) else {
         return Err(NodeFault::OutOfMemory);
     };
-    closing.clear();
-    closing.push(pass)?;
-    let (core, _) = shared.close(rt, closing);
+    let mut passes = Vec::new(alloc);
+    passes.push(pass)?;
+    let (core, _) = folder.close(rt, passes);
     Ok(core)
 }
 
+type Left = (Vec<Vec<u64>>, io::Result<()>);
+
 // Runs the threads over the folders.
-fn run_opened<R, T, C, G, I, O>(
+fn run_node_over<R, T, F, G, I, O>(
     rt: &R,
     alloc: Global,
     stores: &T,
-    name: &str,
-    opened: &[Opened<C>],
-    peers: &[NodePeer],
+    node: Node,
+    folders: &F,
     reaches: Vec<Reach>,
     connections: &Connections,
     gate: &G,
     commands: &mut I,
     writer: &mut O,
-) -> Result<(Vec<Vec<u64>>, io::Result<()>), NodeFault>
+) -> Result<Left, NodeFault>
 where
     R: Host,
     T: Stores,
-    C: FolderCore + Drop + Send + Sync,
+    F: Folders,
     G: Gate + Sync,
     I: BufRead,
     O: Write,
 {
-    let mut books = Vec::with_capacity(alloc, peers.len())?;
-    for _ in peers {
+    let mut books = Vec::with_capacity(alloc, node.peers.len())?;
+    for _ in node.peers {
         books.push(AskBook::new(alloc))?;
     }
     let books = books.as_slice();
-    let jobs = jobs_of(rt, alloc, stores, name, opened, peers, reaches, books)?;
-    let pulled = pulled_of(rt, alloc, stores, opened, peers, books)?;
-    let asked = asked_of(rt, alloc, stores, opened)?;
-    let devices = devices_of(alloc, peers)?;
-    let (left, answered) = join(
+    let jobs = jobs_of(alloc, stores, node, folders, reaches, books)?;
+    let pulled = pulled_of(alloc, stores, node, folders, books)?;
+    let asked = asked_of(alloc, stores, node, folders)?;
+    let devices = devices_of(alloc, node.peers)?;
+    let (left, answered) = run_threads(
         rt,
-        || {
-            let ((), left) = join(
-                rt,
-                || run_rounds(rt, alloc, connections, gate, pulled),
-                || map_vec(rt, jobs, &|job| run_peer(rt, alloc, job, connections, gate)),
-            );
-            left
-        },
+        alloc,
+        connections,
+        gate,
+        folders,
+        jobs,
+        pulled,
+        asked,
+        devices.as_slice(),
+        commands,
+        writer,
+    );
+    Ok((kept_of(alloc, left?)?, answered))
+}
+
+type LeftByPeers<S, W> = Result<Vec<LinkFolders<S, W>>, AllocError>;
+
+// Pulls, has connections, and answers the commands, until these end.
+fn run_threads<R, F, S, W, G, I, O>(
+    rt: &R,
+    alloc: Global,
+    connections: &Connections,
+    gate: &G,
+    folders: &F,
+    jobs: Vec<PeerJob<S, W>>,
+    pulled: Vec<PulledFolder<S, W>>,
+    asked: Vec<CommandFolder<S, W>>,
+    devices: &[DeviceId],
+    commands: &mut I,
+    writer: &mut O,
+) -> (LeftByPeers<S, W>, io::Result<()>)
+where
+    R: Host,
+    F: Folders,
+    S: FileStore + Drop + Send,
+    W: FolderCalls + Drop + Send,
+    G: Gate + Sync,
+    I: BufRead,
+    O: Write,
+{
+    join(
+        rt,
+        || work(rt, alloc, connections, gate, jobs, pulled),
         || {
             let answered = answer_all(
                 rt,
                 alloc,
                 connections,
                 gate,
+                folders,
                 asked,
-                devices.as_slice(),
+                devices,
                 commands,
                 writer,
             );
             connections.quit(rt);
             answered
         },
+    )
+}
+
+// Pulls, and has connections, until the node quits.
+fn work<R, S, W, G>(
+    rt: &R,
+    alloc: Global,
+    connections: &Connections,
+    gate: &G,
+    jobs: Vec<PeerJob<S, W>>,
+    pulled: Vec<PulledFolder<S, W>>,
+) -> LeftByPeers<S, W>
+where
+    R: Host,
+    S: FileStore + Drop + Send,
+    W: FolderCalls + Drop + Send,
+    G: Gate + Sync,
+{
+    let ((), left) = join(
+        rt,
+        || run_rounds(rt, alloc, connections, gate, pulled),
+        || map_vec(rt, jobs, &|job| run_peer(rt, alloc, job, connections, gate)),
     );
-    Ok((kept_of(alloc, left?)?, answered))
+    left
 }
 
 fn devices_of(alloc: Global, peers: &[NodePeer]) -> Result<Vec<DeviceId>, AllocError> {
@@ -315,88 +383,67 @@ fn kept_of<S: Drop, W: Drop>(
     Ok(all)
 }
 
-type Caller<'a, C, R> = Member<'a, C, R>;
-
-fn store<T: Stores, C: FolderCore + Drop>(
-    alloc: Global,
-    stores: &T,
-    folder: &Opened<C>,
-) -> Result<T::Store, NodeFault> {
-    stores
-        .open(alloc, folder.path)
-        .map_err(|_| NodeFault::StoreFault)
-}
-
-// A caller with a pass of its own.
-fn caller<'a, R: Host, C: FolderCore + Drop>(
-    rt: &'a R,
-    folder: &'a Opened<C>,
-) -> Result<Caller<'a, C, R>, NodeFault> {
-    match folder.shared.pass(rt) {
-        Ok(pass) => Ok(Member::new(&folder.shared, rt, pass)),
-        Err(_) => Err(NodeFault::OutOfMemory),
-    }
+fn store<T: Stores>(alloc: Global, stores: &T, path: &str) -> Result<T::Store, NodeFault> {
+    stores.open(alloc, path).map_err(|_| NodeFault::StoreFault)
 }
 
 // What each peer's thread works on.
-fn jobs_of<'a, R: Host, T: Stores, C: FolderCore + Drop>(
-    rt: &'a R,
+fn jobs_of<'a, T: Stores, F: Folders>(
     alloc: Global,
     stores: &T,
-    name: &'a str,
-    opened: &'a [Opened<C>],
-    peers: &[NodePeer],
+    node: Node<'a>,
+    folders: &F,
     reaches: Vec<Reach>,
     books: &'a [AskBook],
-) -> Result<Vec<PeerJob<'a, T::Store, Caller<'a, C, R>>>, NodeFault> {
-    let mut jobs = Vec::with_capacity(alloc, peers.len())?;
-    let mut place = 0;
+) -> Result<Vec<PeerJob<'a, T::Store, F::Calls>>, NodeFault> {
+    let mut jobs = Vec::with_capacity(alloc, node.peers.len())?;
+    let mut place = 0usize;
     for reach in reaches {
-        let (Some(peer), Some(book)) = (peers.get(place), books.get(place)) else {
+        let (Some(peer), Some(book)) = (node.peers.get(place), books.get(place)) else {
             break;
         };
         jobs.push(PeerJob {
             place,
             device: peer.device,
-            name,
+            name: node.name,
             book,
             reach,
-            folders: link_folders(rt, alloc, stores, opened, peer)?,
+            folders: link_folders(alloc, stores, node, folders, peer)?,
         })?;
-        place += 1;
+        place = place.saturating_add(1);
     }
     Ok(jobs)
 }
 
-fn link_folders<'a, R: Host, T: Stores, C: FolderCore + Drop>(
-    rt: &'a R,
+fn link_folders<T: Stores, F: Folders>(
     alloc: Global,
     stores: &T,
-    opened: &'a [Opened<C>],
+    node: Node,
+    folders: &F,
     peer: &NodePeer,
-) -> Result<LinkFolders<T::Store, Caller<'a, C, R>>, NodeFault> {
+) -> Result<LinkFolders<T::Store, F::Calls>, NodeFault> {
     let count = peer.shares.len();
     let mut read = Vec::with_capacity(alloc, count)?;
     let mut served = Vec::with_capacity(alloc, count)?;
     let mut indexed = Vec::with_capacity(alloc, count)?;
     for share in peer.shares.iter() {
-        let Some(folder) = opened.get(share.folder) else {
+        let Some(place) = node.places.get(share.folder) else {
             continue;
         };
         read.push(PeerFolder {
-            id: Text::from_str(alloc, folder.id)?,
+            id: Text::from_str(alloc, place.id)?,
             kept_index_id: share.kept_index_id,
             is_told: false,
-            calls: caller(rt, folder)?,
+            calls: folders.caller(share.folder)?,
         })?;
         served.push(ServedFolder {
-            store: store(alloc, stores, folder)?,
-            calls: caller(rt, folder)?,
+            store: store(alloc, stores, place.path)?,
+            calls: folders.caller(share.folder)?,
         })?;
         indexed.push(IndexedFolder {
-            id: Text::from_str(alloc, folder.id)?,
-            index_id: folder.index_id,
-            calls: caller(rt, folder)?,
+            id: Text::from_str(alloc, place.id)?,
+            index_id: place.index_id,
+            calls: folders.caller(share.folder)?,
         })?;
     }
     Ok(LinkFolders {
@@ -407,54 +454,64 @@ fn link_folders<'a, R: Host, T: Stores, C: FolderCore + Drop>(
 }
 
 // What the puller works on.
-fn pulled_of<'a, R: Host, T: Stores, C: FolderCore + Drop>(
-    rt: &'a R,
+fn pulled_of<'a, T: Stores, F: Folders>(
     alloc: Global,
     stores: &T,
-    opened: &'a [Opened<C>],
-    peers: &[NodePeer],
+    node: Node<'a>,
+    folders: &F,
     books: &'a [AskBook],
-) -> Result<Vec<PulledFolder<'a, T::Store, Caller<'a, C, R>>>, NodeFault> {
-    let mut pulled = Vec::with_capacity(alloc, opened.len())?;
-    for (place, folder) in opened.iter().enumerate() {
-        let mut sources = Vec::new(alloc);
-        let mut places = Vec::new(alloc);
-        for (at, (peer, book)) in peers.iter().zip(books.iter()).enumerate() {
-            if peer.shares.iter().any(|share| share.folder == place) {
-                sources.push(PeerBook {
-                    device: peer.device,
-                    book,
-                })?;
-                places.push(at)?;
-            }
-        }
+) -> Result<Vec<PulledFolder<'a, T::Store, F::Calls>>, NodeFault> {
+    let mut pulled = Vec::with_capacity(alloc, node.places.len())?;
+    for (at, place) in node.places.iter().enumerate() {
+        let (peers, places) = peers_of(alloc, node.peers, books, at)?;
         pulled.push(PulledFolder {
-            id: folder.id,
-            store: store(alloc, stores, folder)?,
-            calls: caller(rt, folder)?,
-            peers: sources,
+            id: place.id,
+            store: store(alloc, stores, place.path)?,
+            calls: folders.caller(at)?,
+            peers,
             places,
-            most: folder.most,
+            most: place.most,
             rest: Rest::new(),
         })?;
     }
     Ok(pulled)
 }
 
+// Those that the folder at a place is shared with, and their places.
+fn peers_of<'a>(
+    alloc: Global,
+    peers: &[NodePeer],
+    books: &'a [AskBook],
+    folder: usize,
+) -> Result<(Vec<PeerBook<'a>>, Vec<usize>), NodeFault> {
+    let mut sources = Vec::new(alloc);
+    let mut places = Vec::new(alloc);
+    for (at, (peer, book)) in peers.iter().zip(books.iter()).enumerate() {
+        if peer.shares.iter().any(|share| share.folder == folder) {
+            sources.push(PeerBook {
+                device: peer.device,
+                book,
+            })?;
+            places.push(at)?;
+        }
+    }
+    Ok((sources, places))
+}
+
 // What the commands ask of.
-fn asked_of<'a, R: Host, T: Stores, C: FolderCore + Drop>(
-    rt: &'a R,
+fn asked_of<'a, T: Stores, F: Folders>(
     alloc: Global,
     stores: &T,
-    opened: &'a [Opened<C>],
-) -> Result<Vec<CommandFolder<'a, C, T::Store, Caller<'a, C, R>>>, NodeFault> {
-    let mut asked = Vec::with_capacity(alloc, opened.len())?;
-    for folder in opened {
+    node: Node<'a>,
+    folders: &F,
+) -> Result<Vec<CommandFolder<'a, T::Store, F::Calls>>, NodeFault> {
+    let mut asked = Vec::with_capacity(alloc, node.places.len())?;
+    for (at, place) in node.places.iter().enumerate() {
         asked.push(CommandFolder {
-            id: folder.id,
-            shared: &folder.shared,
-            store: store(alloc, stores, folder)?,
-            calls: caller(rt, folder)?,
+            place: at,
+            id: place.id,
+            store: store(alloc, stores, place.path)?,
+            calls: folders.caller(at)?,
         })?;
     }
     Ok(asked)
