@@ -284,13 +284,15 @@ fn names_the_fault(rt: HostRuntime) -> Result<(), Fail> {
 
 #[test]
 fn reads_addresses(rt: HostRuntime) -> Result<(), Fail> {
+    let here = Ipv4Addr::new(127, 0, 0, 1);
+    let there = Ipv4Addr::new(192, 0, 2, 255);
     let table = [
-        ("localhost:0", Some(([127, 0, 0, 1], 0))),
-        ("localhost:22000", Some(([127, 0, 0, 1], 22000))),
-        ("localhost:00065535", Some(([127, 0, 0, 1], 65535))),
-        ("0.0.0.0:22000", Some(([0, 0, 0, 0], 22000))),
-        ("192.0.2.255:1", Some(([192, 0, 2, 255], 1))),
-        ("192.0.2.255:01", Some(([192, 0, 2, 255], 1))),
+        ("localhost:0", at(here, 0)),
+        ("localhost:22000", at(here, 22000)),
+        ("localhost:00065535", at(here, 65535)),
+        ("0.0.0.0:22000", at(Ipv4Addr::new(0, 0, 0, 0), 22000)),
+        ("192.0.2.255:1", at(there, 1)),
+        ("192.0.2.255:01", at(there, 1)),
         ("localhost:65536", None),
         ("localhost:", None),
         ("localhost:+1", None),
@@ -308,13 +310,13 @@ fn reads_addresses(rt: HostRuntime) -> Result<(), Fail> {
         ("", None),
     ];
     for (text, address) in table {
-        let wanted = match address {
-            Some((octets, port)) => Some(SocketAddrV4::new(Ipv4Addr::from_octets(octets), port)),
-            None => None,
-        };
-        assert_eq!(rt; read_address(text), wanted, "of {text:?}");
+        assert_eq!(rt; read_address(text), address, "of {text:?}");
     }
     Ok(())
+}
+
+fn at(ip: Ipv4Addr, port: u16) -> Option<SocketAddrV4> {
+    Some(SocketAddrV4::new(ip, port))
 }
 
 /// The configuration of a text, which has one.
