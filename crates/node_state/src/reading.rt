@@ -243,17 +243,18 @@ fn beginning(text: &[u8]) -> Option<(Edition, &[u8])>
     None
 }
 
-/// The state that the bytes of a state file, of version 1 or 2, mean to this device. Records of which it has several
-/// copies are shared; open pulls are never stored.
+/// The state that the bytes of a state file, of version 1 or 2, mean to this device. The folders keep their order, and
+/// none has an open pull. In a file of version 1 a peer is an unknown field; a peer with index number 0 is left out.
 ///
-/// Fails with `BadState` exactly where they mean none: if the first line is another one, also if there is none; what
-/// follows can't be read; a device has not 32 bytes; the index number of a folder is 0; a folder's id repeats; the name of
-/// a file is refused; [`PlainFolder::restore`] refuses a folder; or a peer repeats within a folder. Fails with `OutOfMemory`
-/// if allocation fails, and never where no folder comes before the first fault. In a file of version 1 a peer is an unknown field; the index number 0 of a peer is read as none.
+/// Fails with `BadState` exactly where the bytes mean no state: if the first line is another one, or there is none; what
+/// follows is not a message; a device has not 32 bytes; the index number of a folder is 0; a folder's id repeats; the name
+/// of a file is refused; [`PlainFolder::restore`] refuses a folder's records; or a peer repeats within a folder. Which of
+/// them is told, where there are several, is not promised. Fails with `OutOfMemory` if allocation fails, and never where no
+/// folder comes before the first fault.
 ///
 /// O(n log n) for n bytes, and O(n) where the records of each folder are in order, as they are written; but O(k^2) for k
-/// folders, or k peers of one folder. Each entry is decoded by itself: beside the bytes only the records that are returned
-/// are in memory.
+/// folders, or k peers of one folder. Entries are decoded one by one: beside the bytes and the records that are returned
+/// only one entry is in memory at a time.
 pub fn read_state(alloc: Global, me: DeviceId, text: &[u8]) -> Result<State, StateFault>
     ensures meaning { IfOk result (Means me text.now) }
     ensures refused { IfErr result (λ e. e ≢ OutOfMemory → (s : Stored) → ¬ (Means me text.now s)) }

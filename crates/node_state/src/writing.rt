@@ -1,4 +1,4 @@
-ghost use Rattle.std.specs.Prelude.{◌≡◌, ◌≤◌, ◌<◌, ◌^◌, ◌++◌, length, map, filter, pos, OnOk, OnErr, IfOk};
+ghost use Rattle.std.specs.Prelude.{◌≡◌, ◌≤◌, ◌<◌, ◌^◌, ◌+◌, ◌++◌, [], length, map, filter, pos, OnOk, OnErr, IfOk, IsOk, vec_capacity, vec_len};
 ghost use Rattle.std.specs.List.{AllByRecursion};
 ghost use Rattle.bep_messages.specs.Forms.{form, list_form, Fits, IsShort};
 ghost use Rattle.bep_messages.specs.Writing.{Adds};
@@ -11,7 +11,7 @@ ghost use Rattle.node_state.specs.Reading.{IsReadBack, IsWritable};
 ghost use Rattle.node_state.specs.Parts.{entry_parts, peer_parts};
 ghost use Rattle.node_state.specs.Peers.{is_kept, pair};
 ghost use Rattle.node_state.specs.Tables.{entry_table, peer_table, folder_table, state_table};
-ghost use Rattle.node_state.specs.Written.{entry_values, peer_values, folder_values, state_values, state_bytes};
+ghost use Rattle.node_state.specs.Written.{entry_values, peer_values, folder_values, state_bytes, second_line};
 
 use crate::entry::Entry;
 use crate::kept::PeerIndex;
@@ -168,6 +168,7 @@ fn write_folders(
     ensures fits { OnOk result (AllByRecursion (λ v. Fits folder_table v × IsShort (form folder_table v))
         (map folder_values folders.now)) }
     ensures back { OnOk result (AllByRecursion IsWritable folders.now) }
+    ensures nothing { folders.now ≡ [] → IsOk result }
     ensures kept { out.new.kept ≡ out.old.kept }
 {
     for folder in folders {
@@ -179,14 +180,17 @@ fn write_folders(
 /// Appends the bytes of a state file, of version 2: each folder in the order given, its records by name and then by
 /// device, its peers by rising identity. A peer of which no index number is kept is left out, and so are open pulls.
 ///
-/// Fails only if allocation fails, and then the vector is as it was. O(n) for n bytes, each of which is moved once for
-/// each of the messages that it is in; beside the vector only one record at a time is in memory twice.
+/// Fails only if allocation fails, and then the vector has the bytes that it had. O(n) for n bytes, each of which is moved
+/// once for each of the messages that it is in; beside the vector only one record at a time is in memory twice.
 pub fn write_state(state: &State, out: &mut Vec<u8>) -> Result<(), AllocError>
     ensures ok { OnOk result (out.new.items ≡ out.old.items ++ state_bytes state.now) }
     // Read again it is the state, without open pulls and without peers of which no index number is kept.
     ensures again { OnOk result ((me : Identity) → IsReadable me state.now →
         Means me (state_bytes state.now) (written_state state.now)) }
     ensures err { OnErr result (out.new.items ≡ out.old.items) }
+    // Without a folder it fails only where room for the first line was missing.
+    ensures room { state.now.folders ≡ [] →
+        OnErr result (vec_capacity out.old < vec_len out.old + length second_line) }
 {
     let alloc = *out.allocator();
     let len = out.len();
