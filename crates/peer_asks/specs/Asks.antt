@@ -1,5 +1,5 @@
 -- What is known of the Requests of one connection (own rule).
-use Rattle.std.specs.Prelude.{◌≡◌, ◌≢◌, ◌⊎◌, ℕ, suc, ◌<◌, ℤ, pos, Bool, true, false, List, [], ◌∷◌, Some, None, ◌++◌, length, get_or, slice_set, ⊤}
+use Rattle.std.specs.Prelude.{◌≡◌, ◌≢◌, ◌⊎◌, ℕ, suc, ◌<◌, ◌≤◌, ℤ, pos, Bool, true, false, List, [], ◌∷◌, Some, None, ◌++◌, length, get_or, slice_set, ⊤}
 use Rattle.std.specs.List.{position}
 use Rattle.bep_messages.specs.declared.response.Response.{Response}
 use Rattle.bep_session.specs.Ids.{max_asks}
@@ -28,6 +28,10 @@ abbrev pub HasOpened : List AskState → ℤ → AskState → List AskState → 
 HasOpened old id state new = (k : ℕ) × IsAt id k × (k < max_asks)
     × (((position is_free old ≡ Some k) × (new ≡ slice_set old k state))
     ⊎ ((position is_free old ≡ None) × (k ≡ length old) × (new ≡ old ++ state ∷ [])))
+
+-- there is a Request at each place that one may have
+abbrev pub AreAllTaken : List AskState → Type 0
+AreAllTaken old = ((k : ℕ) → position is_free old ≡ Some k → max_asks ≤ k) × (position is_free old ≡ None → max_asks ≤ length old)
 
 -- no Response comes for it
 abbrev pub IsOver : AskState → Type 0

@@ -1,7 +1,8 @@
 //! The Requests of one connection that wait for their Response, or whose answer waits for who asked.
-ghost use Rattle.std.specs.Prelude.{◌≡◌, ◌<◌, ℕ, IfNone, IfOk, IfSome, None, OnErr, length};
+ghost use Rattle.std.specs.Prelude.{◌≡◌, ◌<◌, ℕ, IfErr, IfNone, IfOk, IfSome, None, OnErr, length};
 ghost use Rattle.std.specs.List.{position};
-ghost use Rattle.peer_asks.specs.Asks.{HasAnswered, HasOpened, HasTaken, IsAt, is_free};
+ghost use Rattle.peer_asks.specs.Asks.{AreAllTaken, HasAnswered, HasOpened, HasTaken, IsAt, is_free};
+ghost use Rattle.peer_asks.specs.declared.fault.AskFault.TheVariants.{TooManyAsks};
 ghost use Rattle.peer_asks.specs.declared.table.AskState.TheVariants.{Waits};
 
 use crate::fault::AskFault;
@@ -73,10 +74,12 @@ impl AskTable {
         self.untold.clear();
     }
 
-    /// Opens the least positive id of which there is no Request, for a Response of so many bytes. O(n) for n ids.
+    /// Opens the least positive id of which there is no Request, for a Response of so many bytes. Fails with `TooManyAsks` only where each id
+    /// that there may be has one. O(n) for n ids.
     pub(crate) fn open(&mut self, size: u32) -> Result<i32, AskFault>
         ensures opened { IfOk result (λ id. HasOpened self.old.states.items id (Waits size) self.new.states.items) }
         ensures err { OnErr result (self.new.states.items ≡ self.old.states.items) }
+        ensures full { IfErr result (λ fault. fault ≡ TooManyAsks → AreAllTaken self.old.states.items) }
     {
         let place = match self.free_place() {
             Some(place) => place,
@@ -96,6 +99,7 @@ impl AskTable {
         requires { position is_free self.old.states.items ≡ None }
         ensures opened { IfOk result (λ id. HasOpened self.old.states.items id (Waits size) self.new.states.items) }
         ensures err { OnErr result (self.new.states.items ≡ self.old.states.items) }
+        ensures full { IfErr result (λ fault. fault ≡ TooManyAsks → AreAllTaken self.old.states.items) }
     {
         let place = self.states.len();
         if place >= MAX_ASKS {
