@@ -1,4 +1,4 @@
-/* Preloaded into the program worker_calls by tools/worker_runs, and into link_calls by drafts/link_runs: an allocation of 2^45 + N bytes
+/* Preloaded into the program worker_calls by tools/worker_runs, and into link_calls by tools/link_runs: an allocation of 2^45 + N bytes
    fails, and so does the Nth one after it, none for 0. One of 2^45 bytes also writes into the file COUNT how many came before it since the
    last such one. With OTHERS, allocations of the thread that made such an allocation neither count nor fail. */
 #define _GNU_SOURCE

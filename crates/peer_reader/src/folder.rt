@@ -1,4 +1,9 @@
+ghost use Rattle.std.specs.Prelude.{◌↔◌, All, IsTrue};
+ghost use Rattle.peer_reader.specs.Hears.{IsApart};
+
 use bep_messages::Text;
+use folder_calls::FolderCalls;
+use sync_record::DeviceId;
 
 /// A folder that is shared with the peer.
 #[derive(Drop)]
@@ -11,4 +16,18 @@ pub struct PeerFolder<W> {
     pub is_told: bool,
     /// The calls of the folder.
     pub calls: W,
+}
+
+/// Whether the peer is another device than this one, by each folder, as [`run_reader`](crate::run_reader) requires. Does not
+/// allocate. O(n) for n folders.
+pub fn are_apart<W: FolderCalls>(folders: &[PeerFolder<W>], peer: DeviceId) -> bool
+    ensures { IsTrue result ↔ All (IsApart W.view peer) folders.now }
+{
+    folders.iter().all(|folder| is_apart(folder, peer))
+}
+
+fn is_apart<W: FolderCalls>(folder: &PeerFolder<W>, peer: DeviceId) -> bool
+    ensures { IsTrue result ↔ IsApart W.view peer folder.now }
+{
+    folder.calls.me() != peer
 }

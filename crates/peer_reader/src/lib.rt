@@ -14,7 +14,7 @@ mod records;
 mod stop;
 
 pub use counts::ReaderCounts;
-pub use folder::PeerFolder;
+pub use folder::{PeerFolder, are_apart};
 pub use hearing::{Passed, hear};
 pub use inbox::Inbox;
 pub use reading::{ReaderEnd, run_reader};
