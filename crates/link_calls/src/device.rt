@@ -6,6 +6,7 @@ use crate::hold::Hold;
 use crate::lent::Lent;
 use crate::links::{Report, folders_of, run_links};
 use crate::show::{print_asks, print_report};
+use bep_messages::Items;
 use crossbeam_channel::{Receiver, Sender, bounded};
 use file_store::FileStore;
 use folder_calls::FolderCalls;
@@ -27,13 +28,14 @@ const MARK: usize = 1 << 45;
 /// How many entries the folder's history takes.
 const HISTORY_LIMIT: u64 = 10_000_000;
 
-/// An empty folder that is shared. `None` if out of memory.
+/// An empty folder that is shared, whose last sequence was this one. `None` if out of memory, or if `last` is negative.
 pub(crate) fn open<R: Wait>(
     rt: &R,
     alloc: Global,
     me: DeviceId,
+    last: i64,
 ) -> Option<SharedFolder<PlainFolder>> {
-    let core = PlainFolder::new(alloc, me);
+    let core = PlainFolder::restore(alloc, me, Items::new(alloc), last).ok()?;
     if core.counts().pulls != 0 {
         return None;
     }

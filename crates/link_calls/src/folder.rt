@@ -47,6 +47,9 @@ pub(crate) fn scan<R: Clock + Print + Sync + Threads, S: FileStore, W: FolderCal
     let moment = moment(rt);
     let Here { store, calls, .. } = here;
     let sum = scan_all(rt, alloc, store, calls, &OpenGate, moment, &mut NoProgress);
+    if let Some(stop) = sum.stopped {
+        return println!(rt; "error {} {stop}", stop.number());
+    }
     println!(rt;
         "scan recorded {} unchanged {} other {}",
         sum.recorded, sum.unchanged, sum.other

@@ -1,6 +1,7 @@
 //! A device with one peer, over sockets of this machine: `link_calls FOLDER ME PEER ID` keeps the folder FOLDER of a disk, which is shared under
 //! the id ID, and has 32 bytes ME as its identity, and 32 bytes PEER as its peer's. A line of standard input is a command, and its answer
-//! lines of standard output. `tools/link_runs` plays the peer, or has two of them sync.
+//! lines of standard output. `tools/link_runs` plays the peer, or has two of them sync. With a further word LAST the folder begins as one whose
+//! last sequence was LAST.
 //!
 //! Two connections may be up at one time; what the peer is asked for goes over the one that began last.
 //!
@@ -14,7 +15,7 @@
 //! | `asks` | `asks unknown N late N wrong-size N refused N` of all connections |
 //! | `hold`: the next read of the store by a server waits | `ok` |
 //! | `release`: it waits no longer | `ok` |
-//! | `scan` | `scan recorded N unchanged N other N` |
+//! | `scan` | `scan recorded N unchanged N other N`, or `error NUMBER NAME` where it stopped |
 //! | `pull` | `pull WHAT NAME` of each needed name, pulled once |
 //! | `ask COUNT SIZE NAME` | as many Requests for the first SIZE bytes, with a digest of 00s: `asked N`, and why no more were, if so |
 //! | `wait COUNT SIZE NAME` | the same, and waits for each: `fetched N bytes N` |
@@ -57,7 +58,11 @@ fn main(rt: HostRuntime) -> io::Result<()> {
     let Ok(second) = DirStore::open(&rt, alloc, path.as_str()) else {
         return println!(rt; "error 40 StoreFault");
     };
-    let Some(folder) = open(&rt, alloc, me) else {
+    let last = match words.get(5) {
+        Some(word) => word.as_str().parse::<i64>().unwrap_or(-1),
+        None => 0,
+    };
+    let Some(folder) = open(&rt, alloc, me, last) else {
         return println!(rt; "error 33 OutOfMemory");
     };
     let stores = (store, first, second);
