@@ -199,7 +199,8 @@ impl Shared {
     }
 }
 
-// The Request for the block, without its id.
+// The Request for the block, without its id, and without its digest: the bytes are tested here anyway, and a peer that was asked for a digest would
+// hash them once more.
 fn request_for(
     alloc: Global,
     folder: &str,
@@ -215,7 +216,7 @@ fn request_for(
         name: Text::from_str(alloc, name.as_str())?,
         offset,
         size,
-        hash: ShortOctets::from_slice(alloc, &block.hash)?,
+        hash: ShortOctets::new(alloc),
         from_temporary: false,
     })
 }

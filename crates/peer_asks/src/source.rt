@@ -11,8 +11,9 @@ use sync_names::SafeName;
 use sync_pull::BlockSource;
 use sync_record::DeviceId;
 
-/// The most blocks of a file that one peer is asked for at one time.
-const MAX_AHEAD: usize = 64;
+/// The most blocks of a file that one peer is asked for at one time: so few that eight pullers do not use up the Requests that may be open to
+/// it.
+const MAX_AHEAD: usize = 120;
 
 /// From how many bytes on that a peer is asked for at one time, it isn't asked ahead for more.
 const MAX_AHEAD_BYTES: u64 = 33_554_432;
@@ -48,7 +49,7 @@ struct Lane<'a> {
 /// The blocks of one folder that its peers give, for one puller. A peer without a connection gives none.
 ///
 /// A peer that is asked for blocks of a file one after another, as they were named by `will_ask`, is asked ahead for those that follow:
-/// first for one, and each time twice as many, up to 64 blocks or 32 MiB at one time. Where blocks are passed over, since they are found
+/// first for one, and each time twice as many, up to 120 blocks or 32 MiB at one time. Where blocks are passed over, since they are found
 /// elsewhere, it begins with one again. So a file whose blocks come from peers is limited by the line, and one of which a few blocks
 /// are new costs little more than these.
 #[derive(Drop)]

@@ -27,6 +27,10 @@ use sync_names::SafeName;
 use sync_record::laws::only_well_formed_files_have_blocks;
 use sync_record::{Assembled, Assembly, DeviceId, Put, Record};
 
+/// How many bytes of a file are found before they are hashed: so many that to start threads costs little, and so few that a source which is asked ahead gives
+/// the next ones meanwhile.
+const MAX_GROUP_BYTES: u64 = 16_777_216;
+
 // Who is asked for the blocks of a name, and who asks.
 #[derive(Drop)]
 struct Others<'a> {
@@ -420,7 +424,7 @@ fn fetch_blocks<S: FileStore, W: FolderCalls, B: BlockSource, G: Gate>(
 /// that have the best, in rising identity; this device is not asked. After a failure nothing but the temporary file, and missing
 /// parents, which are made, has changed.
 ///
-/// As many whole blocks as fit 64 MiB, and at least one, are found at once, and hashed in a few threads for each processor; one
+/// As many whole blocks as fit 16 MiB, and at least one, are found at once, and hashed in a few threads for each processor; one
 /// block is hashed in this thread.
 pub(crate) fn fetch_file<S: FileStore, W: FolderCalls, B: BlockSource, G: Gate>(
     rt: &(impl Threads + Sync),
@@ -490,7 +494,7 @@ fn block_size_of(target: &Record) -> u32
 // How many bytes of a file are found before they are hashed.
 fn bytes_at_once(target: &Record) -> usize {
     let size = u64::try_from(target.size()).unwrap_or(0);
-    group_len(size, block_size_of(target))
+    group_len(size.min(MAX_GROUP_BYTES), block_size_of(target))
 }
 
 // How many blocks those are.
