@@ -1,0 +1,6 @@
+pub mod Lists
+pub mod Listed
+pub mod Changes
+pub mod Pages
+pub mod Counted
+pub mod Written

@@ -1,0 +1,140 @@
+-- The bests of all names, and the names that are needed, group by group.
+use Rattle.std.proofs.Common.{◌≡◌, ◌≢◌, ℕ, ◌+◌, Bool, true, false, List, [], ◌∷◌, ◌++◌, append-nil, length, take, drop, refl, sym, ap, subst, ◌∙◌, inl, inr}
+use Rattle.std.specs.Prelude.{bytes_eq, ◌&&◌, cond, filter, flat_map, map, not, Option, Some, None, is_some, option_and_then, option_map, slice_get}
+use Rattle.std.specs.Bool.{passes}
+use Rattle.std.specs.BTreeMap.{is_at}
+use Rattle.std.specs.Map.{keys_of, lookup}
+use Rattle.std.specs.Option.{option_map_or, option_to_list}
+use Rattle.std.specs.FinMap.{empty}
+use Rattle.std.specs.List.{AllByRecursion, list_all, prefix_len, reduce}
+use Rattle.std.specs.List.Sorted.{IsStrictlySortedBy}
+use Rattle.std.specs.declared.cmp.Ordering.TheVariants.{Less}
+use Rattle.std.proofs.lemmas.Bool.{true≢false, false_from_ne_true}
+use Rattle.std.proofs.lemmas.Map.Keys.{sorted_head, sorted_tail}
+use Rattle.std.proofs.lemmas.List.Elements.{filter-append}
+use Rattle.sync_record.specs.Devices.{Identity, bytes_cmp}
+use Rattle.sync_record.specs.Records.{Name}
+use Rattle.folder_core.specs.declared.announcement.Announcement.{Announcement as Entry}
+use Rattle.folder_core.specs.Plain.{Rises, better, devices_with, filed, folder_of, group_best, is_undominated, listed_bests}
+use Rattle.folder_core.specs.PlainPulls.{best_in}
+use Rattle.folder_core.specs.PlainReads.{is_needed_over, needed_names, needed_of, record_from}
+use Rattle.folder_core.specs.Reads.{BestEntry}
+use Rattle.folder_core.proofs.ListTests.{In, of_filter, same_bytes}
+use Rattle.folder_core.proofs.PlainGroup.{is_named}
+use Rattle.folder_core.proofs.PlainFound.{first_step, named_best}
+use Rattle.folder_core.proofs.PlainNeed.{need_step}
+use Rattle.folder_index.specs.declared.group.Group.{Group}
+use Rattle.folder_index.specs.Groups.{IsGroup, best_of_group, listed}
+use Rattle.folder_index.proofs.Lists.{all_at, back_of, front_of, keeps_all, keeps_none, prefix_is}
+use Rattle.folder_index.proofs.Listed.{Groups, Sorted, Each, each_tail, first_name, others_named, rises}
+
+abbrev entry_name : Entry → Name
+entry_name e = e.record.name
+
+abbrev pub bests_listed : Groups → List BestEntry
+bests_listed gs = flat_map (λ h. option_to_list (best_of_group h.1)) gs
+
+abbrev pub needed_listed : Groups → List Name
+needed_listed gs = flat_map (λ h. cond h.1.is_needed (h.0 ∷ []) []) gs
+
+module _ (me : Identity) where
+  -- the best that is needed is of the group's name
+  needed_name : (n : Name) (g : Group) → IsGroup me n g → option_to_list (option_map entry_name (needed_of me g.entries.items)) ≡ cond g.is_needed (n ∷ []) []
+  needed_name n g group = by (best_in g.entries.items) refl ∙ ap (λ b. cond b (n ∷ []) []) (sym group.needed)
+    where
+      all : filter (is_named n) g.entries.items ≡ g.entries.items
+      all = keeps_all (is_named n) g.entries.items group.named
+
+      own : Entry → Bool
+      own b = is_needed_over (record_from me g.entries.items) b.record
+
+      by : (o : Option Entry) → o ≡ best_in g.entries.items →
+          option_to_list (option_map entry_name (option_and_then (λ (b : Entry). cond (is_needed_over (record_from me g.entries.items) b.record) (Some b) None) o))
+          ≡ cond (is_some (option_and_then (λ (b : Entry). cond (is_needed_over (record_from me g.entries.items) b.record) (Some b) None) o)) (n ∷ []) []
+      by None is = refl
+      by (Some b) is =
+          let named : b.record.name ≡ n = named_best n g.entries.items group.rises b (subst (λ es. Some b ≡ reduce better (filter (is_undominated es) es)) (sym all) is) in
+          elim (is_needed_over (record_from me g.entries.items) b.record) as (λ t. option_to_list (option_map entry_name (cond t (Some b) None)) ≡ cond (is_some (cond t (Some b) None)) (n ∷ []) []) [
+            | true ↦ ap (λ m. m ∷ []) named
+            | false ↦ refl
+          ]
+
+  module _ (h : Name × Group) (gs : Groups) (s : Sorted (h ∷ gs)) (each : Each me (h ∷ gs)) where
+    first_all : (e : Entry) → e.record.name ≡ h.0 → prefix_len (is_named e.record.name) (h.1.entries.items ++ listed gs) ≡ length h.1.entries.items
+    first_all e named =
+        ap (λ m. prefix_len (is_named m) (h.1.entries.items ++ listed gs)) named
+        ∙ prefix_is (is_named h.0) h.1.entries.items (listed gs) (each h.0 h.1 (inl refl)).named (others_named me h gs s each)
+
+  needed_step : (n : Name) (g : Group) (gs : Groups) → Sorted ((n, g) ∷ gs) → Each me ((n, g) ∷ gs) → (es : List Entry) → es ≡ g.entries.items →
+      needed_names me (es ++ listed gs) ≡ option_to_list (option_map entry_name (needed_of me es)) ++ needed_names me (listed gs)
+  needed_step n g gs s each [] is = refl
+  needed_step n g gs s each (e ∷ es) is =
+      let all : prefix_len (is_named e.record.name) ((e ∷ es) ++ listed gs) ≡ length (e ∷ es) =
+      subst (λ xs. prefix_len (is_named e.record.name) (xs ++ listed gs) ≡ length xs) (sym is) (first_all (n, g) gs s each e (first_name me (n, g) gs s each e (subst (In e) is (inl refl)))) in
+      let up : Rises ((e ∷ es) ++ listed gs) = subst (λ xs. Rises (xs ++ listed gs)) (sym is) (rises me ((n, g) ∷ gs) s each) in
+      (need_step me ((e ∷ es) ++ listed gs) (e ∷ es) (listed gs) e e.record.name (length (e ∷ es)) up refl refl (sym all) (sym (front_of (e ∷ es) (listed gs))) (sym (back_of (e ∷ es) (listed gs)))).listed
+
+  pub needed_are_listed : (gs : Groups) → Sorted gs → Each me gs → needed_names me (listed gs) ≡ needed_listed gs
+  needed_are_listed [] s each = refl
+  needed_are_listed (h ∷ gs) s each =
+      needed_step h.0 h.1 gs s each h.1.entries.items refl
+      ∙ (λ i. needed_name h.0 h.1 (each h.0 h.1 (inl refl)) i ++ needed_are_listed gs (sorted_tail bytes_cmp h.0 (keys_of gs) s) (each_tail me h gs each) i)
+
+  best_step : (n : Name) (g : Group) (gs : Groups) → Sorted ((n, g) ∷ gs) → Each me ((n, g) ∷ gs) → (es : List Entry) → es ≡ g.entries.items →
+      listed_bests (es ++ listed gs) ≡ option_to_list (group_best es) ++ listed_bests (listed gs)
+  best_step n g gs s each [] is = refl
+  best_step n g gs s each (e ∷ es) is =
+      let all : prefix_len (is_named e.record.name) ((e ∷ es) ++ listed gs) ≡ length (e ∷ es) =
+      subst (λ xs. prefix_len (is_named e.record.name) (xs ++ listed gs) ≡ length xs) (sym is) (first_all (n, g) gs s each e (first_name me (n, g) gs s each e (subst (In e) is (inl refl)))) in
+      let up : Rises ((e ∷ es) ++ listed gs) = subst (λ xs. Rises (xs ++ listed gs)) (sym is) (rises me ((n, g) ∷ gs) s each) in
+      (first_step ((e ∷ es) ++ listed gs) (e ∷ es) (listed gs) e e.record.name (length (e ∷ es)) up refl refl (sym all) (sym (front_of (e ∷ es) (listed gs))) (sym (back_of (e ∷ es) (listed gs)))).listed
+
+  pub bests_are_listed : (gs : Groups) → Sorted gs → Each me gs → listed_bests (listed gs) ≡ bests_listed gs
+  bests_are_listed [] s each = refl
+  bests_are_listed (h ∷ gs) s each =
+      best_step h.0 h.1 gs s each h.1.entries.items refl
+      ∙ (λ i. option_to_list (option_map (λ b. (b.record, devices_with h.1.entries.items b.record)) (sym (each h.0 h.1 (inl refl)).best i))
+      ++ bests_are_listed gs (sorted_tail bytes_cmp h.0 (keys_of gs) s) (each_tail me h gs each) i)
+
+-- ---- the groups of some names
+
+module _ (p : Name → Bool) where
+  abbrev pub part_of : Groups → Groups
+  part_of gs = filter (λ h. p h.0) gs
+
+  in_part : (gs : Groups) (n : Name) (g : Group) → In (n, g) (part_of gs) → In (n, g) gs
+  in_part gs n g i = (of_filter (λ (h : Name × Group). p h.0) gs (n, g) i).0
+
+  pub part_each : (me : Identity) (gs : Groups) → Each me gs → Each me (part_of gs)
+  part_each me gs each n g i = each n g (in_part gs n g i)
+
+  fewer : (n : Name) (gs : Groups) → AllByRecursion (λ m. bytes_cmp n m ≡ Less) (keys_of gs) → AllByRecursion (λ m. bytes_cmp n m ≡ Less) (keys_of (part_of gs))
+  fewer n [] all = tt
+  fewer n (h ∷ gs) all =
+      elim (p h.0) as (λ b. AllByRecursion (λ m. bytes_cmp n m ≡ Less) (keys_of (cond b (h ∷ part_of gs) (part_of gs)))) [
+        | true ↦ (all.0, fewer n gs all.1)
+        | false ↦ fewer n gs all.1
+      ]
+
+  pub part_sorted : (gs : Groups) → Sorted gs → Sorted (part_of gs)
+  unfolding IsStrictlySortedBy
+  part_sorted [] s = tt
+  part_sorted (h ∷ gs) s =
+      elim (p h.0) as (λ b. Sorted (cond b (h ∷ part_of gs) (part_of gs))) [
+        | true ↦ (fewer h.0 gs s.0, part_sorted gs s.1)
+        | false ↦ part_sorted gs s.1
+      ]
+
+  pub part_listed : (me : Identity) (gs : Groups) → Sorted gs → Each me gs → listed (part_of gs) ≡ filter (λ e. p e.record.name) (listed gs)
+  part_listed me [] s each = refl
+  part_listed me (h ∷ gs) s each =
+      let rest : listed (part_of gs) ≡ filter (λ e. p e.record.name) (listed gs) = part_listed me gs (sorted_tail bytes_cmp h.0 (keys_of gs) s) (each_tail me h gs each) in
+      elim (p h.0) as (λ b. p h.0 ≡ b → listed (cond b (h ∷ part_of gs) (part_of gs)) ≡ filter (λ e. p e.record.name) h.1.entries.items ++ filter (λ e. p e.record.name) (listed gs)) [
+        | true ↦ λ t. λ i. sym (keeps_all (λ (e : Entry). p e.record.name) h.1.entries.items (all_pass h.1.entries.items (λ e j. ap p (first_name me h gs s each e j) ∙ t))) i ++ rest i
+        | false ↦ λ f. rest ∙ (λ i. sym (keeps_none (λ (e : Entry). p e.record.name) h.1.entries.items (λ e j. ap p (first_name me h gs s each e j) ∙ f)) i ++ filter (λ e. p e.record.name) (listed gs))
+      ] refl
+      ∙ sym (filter-append (λ (e : Entry). p e.record.name) h.1.entries.items (listed gs))
+    where
+      all_pass : (es : List Entry) → ((e : Entry) → In e es → p e.record.name ≡ true) → list_all (λ e. p e.record.name) es ≡ true
+      all_pass [] pass = refl
+      all_pass (e ∷ es) pass = ap (λ b. b && list_all (λ e. p e.record.name) es) (pass e (inl refl)) ∙ all_pass es (λ f i. pass f (inr i))

@@ -1,0 +1,4 @@
+-- what an index has
+pub mod Indexes
+-- how it is kept
+pub mod Groups
