@@ -4,3 +4,5 @@ pub mod Changes
 pub mod Pages
 pub mod Counted
 pub mod Written
+pub mod Grouped
+pub mod Choosing

@@ -1,14 +1,42 @@
-use Rattle.std.proofs.Common.{rules, ◌≡◌, ◌&&◌, not, IfOk, IsTrue, MatchOption, None, option_and_then, option_copied, slice_get, ℕ, ◌+◌, ◌-◌, ◌*◌, ◌<◌, ◌≤◌, length, ◌/◌, ◌%◌, Bool, true, false, nat_eq, nat_lt, List, [], ◌∷◌, ◌++◌, slice_index_or, slice_set, bit_and, bit_or, Fits, w8, w32, w64, Bor, MutBor}
-use Rattle.std.specs.List.{list_any}
-use Rattle.sync_record.specs.Contents.{same_content}
+use Rattle.std.proofs.Common.{◌≡◌, Some, true, false, cond, sym, ap, ◌∙◌}
+use Rattle.std.specs.Prelude.{option_and_then, option_copied, slice_get, MatchOption, IsTrue, Option}
+use Rattle.std.specs.List.{reduce}
+use Rattle.std.proofs.lemmas.Option.{slice_get-get_or}
 use Rattle.sync_record.specs.Preference.{is_preferred}
-use Rattle.sync_record.specs.Validity.{is_valid}
-use Rattle.sync_version.specs.Computed.{dominates, same_version}
-use Rattle.folder_core.specs.Plain.{devices_with, is_undominated}
-use Rattle.folder_core.specs.PlainPulls.{best_in}
-use Rattle.folder_core.specs.PlainReads.{is_needed_over}
+use Rattle.folder_core.specs.declared.announcement.Announcement.{Announcement as Entry}
+use Rattle.folder_core.specs.Plain.{better_of, is_undominated}
+use Rattle.folder_core.proofs.PlainFound.{taken, left}
+use Rattle.folder_index.proofs.Choosing.{kept_best, new_best}
 use Rattle.folder_index.proofs.best.place_of_best.Goals as goal
+use Rattle.folder_index.proofs.best.place_of_best.Goals.{then-is_undominated+then-outranks, else-is_undominated, else-is_undominated-via-then-is_undominated+else-outranks, else-is_undominated-via-else-is_undominated}
 
--- src/best.rt:24:5
 pub loop-i-preserved : goal.loop-i-preserved
-loop-i-preserved c = ?
+loop-i-preserved c =
+    let es = c.args.entries.now in
+    let i = c.loop-i.i in
+    let e = c.index-entries-i.result in
+    let before = c.loop-i.invariant.best in
+    elim c.if-is_undominated.branch [
+      | then-is_undominated+then-outranks w ↦ record {
+          best = ap option_copied w.best-is
+              ∙ sym (taken (is_undominated es) es i e c.loop-i-test.true c.index-entries-i.is (sym c.is_undominated.ensures ∙ w.if-is_undominated.true)
+              ∙ ap (λ o. Some (better_of o e)) (sym before)
+              ∙ ap Some (new_best (option_copied c.loop-i.best) e w.outranks.result w.outranks.ensures w.if-outranks.true));
+          place = ap (option_and_then (λ i. slice_get es i)) w.place-is
+              ∙ slice_get-get_or es i e c.loop-i-test.true
+              ∙ ap Some (sym c.index-entries-i.is)
+              ∙ sym (ap option_copied w.best-is);
+        }
+      | else-is_undominated w ↦ record {
+          best = ap option_copied w.best-is ∙ before ∙ elim w.else-is_undominated.branch [
+              | else-is_undominated-via-then-is_undominated+else-outranks v ↦
+                  sym (taken (is_undominated es) es i e c.loop-i-test.true c.index-entries-i.is (sym c.is_undominated.ensures ∙ v.if-is_undominated.true)
+                  ∙ ap (λ o. Some (better_of o e)) (sym before)
+                  ∙ kept_best (option_copied c.loop-i.best) e v.outranks.result v.outranks.ensures v.if-outranks.false
+                  ∙ before)
+              | else-is_undominated-via-else-is_undominated v ↦
+                  sym (left (is_undominated es) es i e c.loop-i-test.true c.index-entries-i.is (sym c.is_undominated.ensures ∙ v.if-is_undominated.false))
+            ];
+          place = ap (option_and_then (λ i. slice_get es i)) w.place-is ∙ c.loop-i.invariant.place ∙ sym (ap option_copied w.best-is);
+        }
+    ]

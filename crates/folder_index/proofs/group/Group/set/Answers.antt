@@ -1,13 +1,14 @@
-use Rattle.std.proofs.Common.{rules, ◌≡◌, ◌&&◌, ℕ, [], All, IfOk, IsOk, List, OnErr, OnOk, filter, length, map, not, option_and_then, option_copied, option_map, if◌then◌else◌, is_some, false, Some, None, ◌+◌, ◌-◌, ◌*◌, ◌<◌, ◌≤◌, ◌/◌, ◌%◌, Bool, true, nat_eq, nat_lt, ◌∷◌, ◌++◌, slice_index_or, slice_set, bit_and, bit_or, Fits, w8, w32, w64, Bor, MutBor}
+use Rattle.std.proofs.Common.{◌≡◌, List, map, ap, ◌∙◌}
 use Rattle.std.specs.FinMap.{put}
-use Rattle.sync_record.specs.Records.{Name, is_directory, is_live, is_live_file}
+use Rattle.folder_core.specs.declared.announcement.Announcement.{Announcement as Entry}
 use Rattle.folder_core.specs.Announced.{key, key_cmp}
 use Rattle.folder_core.specs.Plain.{filed}
-use Rattle.folder_core.specs.PlainPulls.{best_in}
-use Rattle.folder_core.specs.PlainReads.{is_from, is_needed_over, needed_of, record_from}
-use Rattle.folder_index.specs.Groups.{HasRoom, IsChanged, IsGroup, best_of_group, chosen, totals_in}
+use Rattle.folder_index.proofs.Grouped.{group_set}
 use Rattle.folder_index.proofs.group.Group.set.Goals as goal
 
--- src/group.rt:74:5
 pub returns-clause-group : goal.returns-clause-group
-returns-clause-group c = ?
+returns-clause-group c =
+    group_set c.args.me c.args.device c.args.announced c.args.self.now c.choose.new.self c.requires
+    (ap (λ (v : _). map filed v.items) c.choose.ensures.entries ∙ c.put.ensures
+    ∙ ap (λ (es : List Entry). put key_cmp (key c.args.announced.name c.args.device) c.args.announced (map filed es)) c.reserve_exact.ensures.items)
+    c.choose.ensures.best c.choose.ensures.needed

@@ -1,13 +1,23 @@
-use Rattle.std.proofs.Common.{rules, ◌≡◌, ◌&&◌, ℕ, [], All, IfOk, IsOk, List, OnErr, OnOk, filter, length, map, not, option_and_then, option_copied, option_map, if◌then◌else◌, is_some, false, Some, None, ◌+◌, ◌-◌, ◌*◌, ◌<◌, ◌≤◌, ◌/◌, ◌%◌, Bool, true, nat_eq, nat_lt, ◌∷◌, ◌++◌, slice_index_or, slice_set, bit_and, bit_or, Fits, w8, w32, w64, Bor, MutBor}
-use Rattle.std.specs.FinMap.{put}
-use Rattle.sync_record.specs.Records.{Name, is_directory, is_live, is_live_file}
-use Rattle.folder_core.specs.Announced.{key, key_cmp}
-use Rattle.folder_core.specs.Plain.{filed}
-use Rattle.folder_core.specs.PlainPulls.{best_in}
-use Rattle.folder_core.specs.PlainReads.{is_from, is_needed_over, needed_of, record_from}
-use Rattle.folder_index.specs.Groups.{HasRoom, IsChanged, IsGroup, best_of_group, chosen, totals_in}
+use Rattle.std.proofs.Common.{◌≡◌, List, cond, length, sym, ap, ◌∙◌}
+use Rattle.std.specs.Prelude.{◌&&◌, filter, not}
+use Rattle.sync_record.specs.Records.{is_directory, is_live, is_live_file}
+use Rattle.folder_core.specs.declared.announcement.Announcement.{Announcement as Entry}
+use Rattle.folder_core.specs.PlainReads.{is_from}
+use Rattle.folder_index.specs.Groups.{needed_in}
 use Rattle.folder_index.proofs.group.Group.totals.Goals as goal
+use Rattle.folder_index.proofs.group.Group.totals.Goals.{then-self, else-self}
 
--- src/group.rt:147:5
 pub returns : goal.returns
-returns c = ?
+returns c =
+    let me = c.args.me in
+    let needed : c.if-self.result ≡ needed_in c.args.self.now =
+    elim c.if-self.branch [
+      | then-self w ↦ w.result-is ∙ ap (λ b. cond b 1 0) (sym w.if-self.true)
+      | else-self w ↦ w.result-is ∙ ap (λ b. cond b 1 0) (sym w.if-self.false)
+    ] in
+    let value = c.as_slice-entries.ensures.value in
+    let files = c.live_files.ensures ∙ ap (λ (es : List Entry). length (filter (λ e. is_from me e && is_live_file e.record) es)) value in
+    let directories = c.live_directories.ensures ∙ ap (λ (es : List Entry). length (filter (λ e. is_from me e && (is_live e.record && is_directory e.record)) es)) value in
+    let deletions = c.deletions.ensures ∙ ap (λ (es : List Entry). length (filter (λ e. is_from me e && e.record.deleted) es)) value in
+    let others = c.records_of_others.ensures ∙ ap (λ (es : List Entry). length (filter (λ e. not (is_from me e)) es)) value in
+    λ i. record { files = files i; directories = directories i; deletions = deletions i; needed = needed i; others = others i }
