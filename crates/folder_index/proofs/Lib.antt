@@ -6,3 +6,5 @@ pub mod Counted
 pub mod Written
 pub mod Grouped
 pub mod Choosing
+pub mod Results
+pub mod Found

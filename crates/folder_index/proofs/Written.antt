@@ -13,7 +13,7 @@ use Rattle.sync_record.specs.Records.{Name, FileRecord, is_directory, is_live, i
 use Rattle.folder_core.specs.declared.announcement.Announcement.{Announcement as Entry}
 use Rattle.folder_core.specs.Announced.{key, key_cmp}
 use Rattle.folder_core.specs.Plain.{filed}
-use Rattle.folder_core.specs.PlainReads.{is_from}
+use Rattle.folder_core.specs.PlainReads.{is_from, needed_of}
 use Rattle.folder_core.proofs.ListTests.{In, inside, of_map}
 use Rattle.folder_core.proofs.Orders.{bytes_total}
 use Rattle.folder_index.specs.declared.group.Group.{Group}
@@ -44,7 +44,7 @@ abbrev pub HasAt : Name → Option Group → Groups → Groups → Type 0
 HasAt n g gs new = (m : Name) → lookup (is_at (bytes_cmp m)) new ≡ cond (is_at (bytes_cmp n) m) g (lookup (is_at (bytes_cmp m)) gs)
 
 module _ (me : Identity) (gs new : Groups) (t u : Totals) (are : AreGroups me gs t) (sorted : Sorted new) (n : Name) (g : Group) where
-  groups_written : IsGroup me n g → HasAt n (Some g) gs new → (m : Name) (x : Group) → lookup (is_at (bytes_cmp m)) new ≡ Some x → IsGroup me m x
+  pub groups_written : IsGroup me n g → HasAt n (Some g) gs new → (m : Name) (x : Group) → lookup (is_at (bytes_cmp m)) new ≡ Some x → IsGroup me m x
   groups_written group at m x found =
       elim (is_at (bytes_cmp n) m) as (λ b. is_at (bytes_cmp n) m ≡ b → cond b (Some g) (lookup (is_at (bytes_cmp m)) gs) ≡ Some x → IsGroup me m x) [
         | true ↦ λ a s. subst (λ (p : Name × Group). IsGroup me p.0 p.1) (λ i. (at_same n m a i, inside g x s i)) group
@@ -116,6 +116,69 @@ found_at n gs g found = sym (ap (λ o. option_map_or (λ (g : Group). g.entries.
 
 pub none_at : (n : Name) (gs : Groups) → lookup (is_at (bytes_cmp n)) gs ≡ None → [] ≡ entries_at n gs
 none_at n gs none = sym (ap (λ o. option_map_or (λ (g : Group). g.entries.items) o []) none)
+
+-- the groups after a change of one
+pub each_written : (me : Identity) (gs new : Groups) (t : Totals) → AreGroups me gs t → Sorted new → (n : Name) (g : Group) → IsGroup me n g → HasAt n (Some g) gs new → Each me new
+each_written me gs new t are sorted n g group at m x i = groups_written me gs new t t are sorted n g group at m x (in_lookup new sorted m x i)
+
+pub each_without : (me : Identity) (gs new : Groups) (t : Totals) → AreGroups me gs t → Sorted new → (n : Name) → HasAt n None gs new → Each me new
+each_without me gs new t are sorted n at m x i =
+    elim (is_at (bytes_cmp n) m) as (λ b. cond b None (lookup (is_at (bytes_cmp m)) gs) ≡ Some x → IsGroup me m x) [
+      | true ↦ λ s. absurd (none-some x s)
+      | false ↦ λ s. are.groups m x s
+    ] (sym (at m) ∙ in_lookup new sorted m x i)
+
+module _ (me : Identity) (gs new : Groups) (t : Totals) (are : AreGroups me gs t) (sorted : Sorted new) (n : Name) (g : Group) (group : IsGroup me n g) (at : HasAt n (Some g) gs new) where
+  pub placed_is : (d : Identity) (r : FileRecord) → map filed g.entries.items ≡ put key_cmp (key n d) r (map filed (entries_at n gs)) → announced_in new ≡ insert (announced_in gs) (key n d) r
+  placed_is d r is = changes.placed me gs new are.ordered sorted (each_of me gs t are) (each_written me gs new t are sorted n g group at) n d g.entries.items (entries_moved n (Some g) gs new at) r is
+
+  pub kept_is : g.entries.items ≡ entries_at n gs → announced_in new ≡ announced_in gs
+  kept_is is = changes.kept me gs new are.ordered sorted (each_of me gs t are) (each_written me gs new t are sorted n g group at) n me g.entries.items (entries_moved n (Some g) gs new at) is
+
+  pub taken_is : (d : Identity) → g.entries.items ≡ filter (λ e. not (is_from d e)) (entries_at n gs) → announced_in new ≡ remove (announced_in gs) (key n d)
+  taken_is d is = changes.taken me gs new are.ordered sorted (each_of me gs t are) (each_written me gs new t are sorted n g group at) n d g.entries.items (entries_moved n (Some g) gs new at) is
+
+module _ (me : Identity) (gs new : Groups) (t : Totals) (are : AreGroups me gs t) (sorted : Sorted new) (n : Name) (at : HasAt n None gs new) where
+  pub dropped_is : [] ≡ entries_at n gs → announced_in new ≡ announced_in gs
+  dropped_is is = changes.kept me gs new are.ordered sorted (each_of me gs t are) (each_without me gs new t are sorted n at) n me [] (entries_moved n None gs new at) is
+
+  pub absent_is : (d : Identity) → [] ≡ entries_at n gs → announced_in new ≡ remove (announced_in gs) (key n d)
+  absent_is d is = changes.taken me gs new are.ordered sorted (each_of me gs t are) (each_without me gs new t are sorted n at) n d [] (entries_moved n None gs new at) (ap (filter (λ e. not (is_from d e))) is)
+
+-- a name without a group has none
+pub nothing_at : (n : Name) (gs : Groups) → lookup (is_at (bytes_cmp n)) gs ≡ None → HasAt n None gs gs
+nothing_at n gs none m =
+    elim (is_at (bytes_cmp n) m) as (λ b. is_at (bytes_cmp n) m ≡ b → lookup (is_at (bytes_cmp m)) gs ≡ cond b None (lookup (is_at (bytes_cmp m)) gs)) [
+      | true ↦ λ a. ap (λ q. lookup (is_at (bytes_cmp q)) gs) (sym (at_same n m a)) ∙ none
+      | false ↦ λ a. refl
+    ] refl
+
+-- what a group has is told by its entries
+pub same_totals : (me : Identity) (n : Name) (was is : Group) → IsGroup me n was → IsGroup me n is → is.entries.items ≡ was.entries.items → totals_in me is ≡ totals_in me was
+same_totals me n was is group_was group_is same =
+    let needed : is.is_needed ≡ was.is_needed = group_is.needed ∙ ap (λ (es : List Entry). is_some (needed_of me es)) same ∙ sym group_was.needed in
+    λ i. record {
+      files = length (filter (λ e. is_from me e && is_live_file e.record) (same i));
+      directories = length (filter (λ e. is_from me e && (is_live e.record && is_directory e.record)) (same i));
+      deletions = length (filter (λ e. is_from me e && e.record.deleted) (same i));
+      needed = cond (needed i) 1 0;
+      others = length (filter (λ e. not (is_from me e)) (same i));
+    }
+
+pub unchanged : (t was is : Totals) → is ≡ was → IsChanged t was is t
+unchanged t was is same = subst (λ x. IsChanged t was x t) (sym same) (record { files = refl; directories = refl; deletions = refl; needed = refl; others = refl })
+
+-- of no entries there is nothing
+pub nothing_in : (me : Identity) (n : Name) (g : Group) → IsGroup me n g → g.entries.items ≡ [] → totals_in me g ≡ record { files = 0; directories = 0; deletions = 0; needed = 0; others = 0 }
+nothing_in me n g group none =
+    let needed : g.is_needed ≡ false = group.needed ∙ ap (λ (es : List Entry). is_some (needed_of me es)) none in
+    λ i. record {
+      files = length (filter (λ e. is_from me e && is_live_file e.record) (none i));
+      directories = length (filter (λ e. is_from me e && (is_live e.record && is_directory e.record)) (none i));
+      deletions = length (filter (λ e. is_from me e && e.record.deleted) (none i));
+      needed = cond (needed i) 1 0;
+      others = length (filter (λ e. not (is_from me e)) (none i));
+    }
 
 -- ---- room
 

@@ -3,10 +3,12 @@
 #![tactic(auto)]
 
 mod best;
+mod by_name;
 mod entries;
 mod group;
 mod totals;
 
+pub use by_name::ByName;
 pub use folder_core::{Announcement, Best, Place};
 pub use sync_names::SafeName;
 pub use sync_record::{DeviceId, Record};

@@ -1,0 +1,169 @@
+-- What is found of a name in its group is what the folder has of it.
+use Rattle.std.proofs.Common.{◌≡◌, ℕ, ◌==◌, Bool, true, false, List, [], ◌∷◌, length, take, refl, rules, sym, ap, subst, ◌∙◌}
+use Rattle.std.specs.Prelude.{bytes_eq, ◌&&◌, cond, count_by, filter, map, not, Option, Some, None, is_some, option_and_then, option_map, sum_by}
+use Rattle.std.specs.Bool.{passes}
+use Rattle.std.specs.BTreeMap.{is_at}
+use Rattle.std.specs.Map.{keys_of, lookup, values_of}
+use Rattle.std.specs.Option.{option_map_or, option_to_list}
+use Rattle.std.specs.FinMap.{empty, empty_of_len, entries, entries-from_sorted, from_sorted, len-entries}
+use Rattle.std.specs.FinMap as map
+use Rattle.std.specs.List.{list_all, reduce}
+use Rattle.std.specs.Ordering.{is_gt, is_lt, ordering_reverse}
+use Rattle.std.specs.declared.cmp.Ordering.{Ordering}
+use Rattle.std.specs.declared.cmp.Ordering.TheVariants.{Less, Equal, Greater}
+use Rattle.std.specs.declared.ops.Bound.{Bound}
+use Rattle.std.specs.declared.ops.Bound.TheVariants.{Excluded, Unbounded}
+use Rattle.std.specs.BTreeMap.Range.{entries_between, range_contains}
+use Rattle.std.proofs.lemmas.Option.{none-some}
+use Rattle.std.proofs.lemmas.Bool.{true≢false}
+use Rattle.sync_record.specs.Devices.{Identity, bytes_cmp}
+use Rattle.sync_record.specs.Records.{Name, FileRecord, is_directory, is_live, is_live_file}
+use Rattle.folder_core.specs.declared.announcement.Announcement.{Announcement as Entry}
+use Rattle.folder_core.specs.Announced.{KeyedRecord, best, is_by, key, key_cmp}
+use Rattle.folder_core.specs.Plain.{Rises, better, devices_with, filed, group_best, is_undominated, listed_bests}
+use Rattle.folder_core.specs.PlainPulls.{best_in}
+use Rattle.folder_core.specs.PlainReads.{is_from, is_needed_over, needed_names, needed_of, record_from}
+use Rattle.folder_core.specs.Reads.{BestEntry, best_with_devices, bests_page, is_after, locals, need_page}
+use Rattle.folder_core.specs.States.{is_needed, need}
+use Rattle.folder_core.proofs.ListTests.{In}
+use Rattle.folder_core.proofs.ListFilters.{filter_filter}
+use Rattle.folder_core.proofs.Orders.{bytes_total}
+use Rattle.folder_core.proofs.PlainCounts.{own_counted, others_counted}
+use Rattle.folder_core.proofs.PlainFound.{best_is, best_is_found, listed_after, named_best}
+use Rattle.folder_core.proofs.PlainGroup.{is_named}
+use Rattle.folder_core.proofs.PlainNeed.{needed_are, page_is}
+use Rattle.folder_core.proofs.PlainOwn.{find_key, local_is}
+use Rattle.folder_index.specs.declared.group.Group.{Group}
+use Rattle.folder_index.specs.declared.totals.Totals.{Totals}
+use Rattle.folder_index.specs.Groups.{AreGroups, IsGroup, announced_in, best_of_group, chosen, index_of, listed, start_of}
+use Rattle.folder_index.specs.Indexes.{folder, needs}
+use Rattle.folder_index.proofs.Counted.{needed_count, passing}
+use Rattle.folder_index.proofs.Listed.{Groups, Sorted, Each, at_is, entries_at, get_is, rises}
+use Rattle.folder_index.proofs.Lists.{keeps_all}
+use Rattle.folder_index.proofs.Pages.{bests_are_listed, bests_listed, needed_are_listed, needed_listed, part_each, part_listed, part_of, part_sorted}
+use Rattle.folder_index.proofs.Written.{each_of, found_at, none_at}
+
+module _ (me : Identity) (gs : Groups) (t : Totals) (are : AreGroups me gs t) (choices : ℕ) where
+  sorted : Sorted gs
+  sorted = are.ordered
+
+  each : Each me gs
+  each = each_of me gs t are
+
+  up : Rises (listed gs)
+  up = rises me gs sorted each
+
+  -- ---- a device's record
+
+  twice : (b : Bool) → b ≡ (b && b)
+  twice true = refl
+  twice false = refl
+
+  pub record_at : (n : Name) (d : Identity) → record_from d (entries_at n gs) ≡ map.get (announced_in gs) (key n d)
+  record_at n d =
+      sym (get_is me gs sorted each (key n d)
+      ∙ find_key n d (entries_at n gs)
+      ∙ ap (record_from d) (ap (filter (is_named n)) (sym (at_is me gs sorted each n)) ∙ filter_filter (is_named n) (is_named n) (is_named n) (listed gs) (λ e. twice (is_named n e)) ∙ at_is me gs sorted each n))
+
+  -- ---- the best
+
+  pub best_at : (n : Name) → option_map filed (best_in (entries_at n gs)) ≡ best (entries (announced_in gs)) n
+  best_at n =
+      sym (ap (λ es. best es n) (entries-from_sorted key_cmp (map filed (listed gs)) (passes _ up))
+      ∙ best_is n (listed gs) up
+      ∙ ap (λ (es : List Entry). option_map filed (best_in es)) (at_is me gs sorted each n))
+
+  pub best_with_devices_at : (n : Name) → group_best (entries_at n gs) ≡ best_with_devices (folder (index_of me gs choices)) n
+  best_with_devices_at n = ap group_best (sym (at_is me gs sorted each n)) ∙ best_is_found me n (listed gs) 0 empty up
+
+  pub group_best_is : (n : Name) (g : Group) → lookup (is_at (bytes_cmp n)) gs ≡ Some g → best_of_group g ≡ best_with_devices (folder (index_of me gs choices)) n
+  group_best_is n g found =
+      ap (option_map {U = BestEntry} (λ b. (b.record, devices_with g.entries.items b.record))) (are.groups n g found).best
+      ∙ ap group_best (found_at n gs g found)
+      ∙ best_with_devices_at n
+
+  pub none_best_is : (n : Name) → lookup (is_at (bytes_cmp n)) gs ≡ None → None ≡ best_with_devices (folder (index_of me gs choices)) n
+  none_best_is n none = ap group_best (none_at n gs none) ∙ best_with_devices_at n
+
+  -- ---- the need
+
+  needs_by : (n : Name) (es : List Entry) → es ≡ entries_at n gs → (o : Option Entry) → o ≡ best_in es →
+      is_some (option_and_then (λ (b : Entry). cond (is_needed_over (record_from me es) b.record) (Some b) None) o) ≡ option_map_or (is_needed (folder (index_of me gs choices))) (option_map filed o) false
+  needs_by n es is None found = refl
+  needs_by n es is (Some b) found =
+      let all : es ≡ filter (is_named n) (listed gs) = is ∙ sym (at_is me gs sorted each n) in
+      let named : b.record.name ≡ n = named_best n (listed gs) up b (subst (λ xs. Some b ≡ reduce better (filter (is_undominated xs) xs)) all found) in
+      let own : is_needed_over (record_from me es) b.record ≡ is_needed (folder (index_of me gs choices)) (filed b) =
+      ap (λ xs. is_needed_over (record_from me xs) b.record) all
+      ∙ ap (λ m. is_needed_over (record_from me (filter (is_named m) (listed gs))) b.record) (sym named)
+      ∙ ap (λ r. is_needed_over r b.record) (local_is me (listed gs) 0 empty up b.record.name) in
+      elim (is_needed_over (record_from me es) b.record) as (λ x. is_some (cond x (Some b) None) ≡ x) [ true ↦ refl | false ↦ refl ] ∙ own
+
+  pub needs_at : (n : Name) → is_some (needed_of me (entries_at n gs)) ≡ needs (index_of me gs choices) n
+  needs_at n =
+      needs_by n (entries_at n gs) refl (best_in (entries_at n gs)) refl
+      ∙ ap (λ o. option_map_or (is_needed (folder (index_of me gs choices))) o false) (best_at n)
+
+  -- ---- pages
+
+  pub need_page_is : (after : Option Name) (limit : ℕ) → take limit (needed_listed (part_of (is_after after) gs)) ≡ need_page (folder (index_of me gs choices)) after limit
+  need_page_is after limit =
+      ap (take limit) (sym (needed_are_listed me (part_of (is_after after) gs) (part_sorted (is_after after) gs sorted) (part_each (is_after after) me gs each))
+      ∙ ap (λ es. needed_names me es) (part_listed (is_after after) me gs sorted each))
+      ∙ page_is me (listed gs) 0 empty up after limit
+
+  pub bests_page_is : (after : Option Name) (limit : ℕ) → take limit (bests_listed (part_of (is_after after) gs)) ≡ bests_page (folder (index_of me gs choices)) after limit
+  bests_page_is after limit =
+      ap (take limit) (sym (bests_are_listed me (part_of (is_after after) gs) (part_sorted (is_after after) gs sorted) (part_each (is_after after) me gs each))
+      ∙ ap listed_bests (part_listed (is_after after) me gs sorted each)
+      ∙ listed_after me after (listed gs) 0 empty up)
+
+  -- ---- counts
+
+  pub own_is : (p : FileRecord → Bool) → sum_by (λ (g : Group). length (filter (λ e. is_from me e && p e.record) g.entries.items)) (values_of gs) ≡ count_by p (locals (folder (index_of me gs choices)))
+  own_is p = sym (passing (λ e. is_from me e && p e.record) gs) ∙ own_counted me (listed gs) 0 empty up p
+
+  pub others_are : sum_by (λ (g : Group). length (filter (λ e. not (is_from me e)) g.entries.items)) (values_of gs) ≡ count_by (λ e. not (is_by me e)) (entries (announced_in gs))
+  others_are = sym (passing (λ e. not (is_from me e)) gs) ∙ others_counted me (listed gs) 0 empty up
+
+  pub needed_is : sum_by (λ (g : Group). cond g.is_needed 1 0) (values_of gs) ≡ length (need (folder (index_of me gs choices)))
+  needed_is = sym (needed_count gs) ∙ ap length (sym (needed_are_listed me gs sorted each) ∙ needed_are me (listed gs) 0 empty up)
+
+-- ---- where a page begins
+
+flipped : (a n : Name) → is_lt (bytes_cmp a n) ≡ is_gt (bytes_cmp n a)
+flipped a n = turned (bytes_cmp a n) (bytes_cmp n a) (bytes_total.antisymm n a)
+  where
+    turned : (p q : Ordering) → q ≡ ordering_reverse p → is_lt p ≡ is_gt q
+    turned Less q e = sym (ap is_gt e)
+    turned Equal q e = sym (ap is_gt e)
+    turned Greater q e = sym (ap is_gt e)
+
+plain_and : (b : Bool) → (b && true) ≡ b
+plain_and true = refl
+plain_and false = refl
+
+pub between_is : (after : Option Name) (gs : Groups) → entries_between bytes_cmp (start_of after) Unbounded gs ≡ part_of (is_after after) gs
+between_is None gs = refl
+between_is (Some a) gs = λ i. filter (λ h. (plain_and (is_lt (bytes_cmp a h.0)) ∙ flipped a h.0) i) gs
+
+-- no best is chosen where none is found
+pub none_chosen : (g : Group) → best_of_group g ≡ None → chosen g ≡ None
+none_chosen g none = by (chosen g) none
+  where
+    by : (o : Option Entry) → option_map {U = BestEntry} (λ b. (b.record, devices_with g.entries.items b.record)) o ≡ None → o ≡ None
+    by None e = refl
+    by (Some b) e = absurd (none-some _ (sym e))
+
+no_entries : (es : List Entry) → (length es == 0) ≡ true → es ≡ []
+no_entries [] t = refl
+no_entries (e ∷ es) t = absurd (true≢false (sym t ∙ search rules))
+
+-- a group that is found without entries
+pub empty_group : (o : Option Group) {r : Option Group} → r ≡ o → (b : Bool) → b ≡ option_map_or (λ (g : Group). length g.entries.items == 0) r false → b ≡ true → (g : Group) × (o ≡ Some g) × (g.entries.items ≡ [])
+empty_group None {r} is b test t = absurd (true≢false (sym t ∙ test ∙ ap (λ o. option_map_or (λ (g : Group). length g.entries.items == 0) o false) is))
+empty_group (Some g) {r} is b test t = (g, refl, no_entries g.entries.items (sym (test ∙ ap (λ o. option_map_or (λ (g : Group). length g.entries.items == 0) o false) is) ∙ t))
+
+-- nothing is announced where there are no groups
+pub none_announced : announced_in [] ≡ empty
+none_announced = empty_of_len (announced_in []) (len-entries (announced_in []) ∙ ap length (entries-from_sorted key_cmp [] tt))

@@ -1,0 +1,23 @@
+use Rattle.std.proofs.Common.{◌≡◌, List, Some, None, sym, ap, ◌∙◌}
+use Rattle.folder_core.specs.declared.announcement.Announcement.{Announcement as Entry}
+use Rattle.folder_core.specs.PlainReads.{record_from}
+use Rattle.folder_index.proofs.Found.{record_at}
+use Rattle.folder_index.proofs.Written.{found_at, none_at}
+use Rattle.folder_index.proofs.by_name.ByName.get.Goals as goal
+
+pub returns-in-Some : goal.returns-in-Some
+returns-in-Some c =
+    let i = c.self.inside in
+    let n = c.args.name.now in
+    rw (← c.self.view_is)
+    (c.record_from.ensures
+    ∙ ap (record_from c.args.device) (c.as_slice.ensures.value ∙ found_at n i.names.entries c.in-Some.group.now (sym c.in-Some.ensures.value))
+    ∙ record_at i.me i.names.entries i.totals c.self.invariant i.choices n c.args.device)
+
+pub returns-in-None : goal.returns-in-None
+returns-in-None c =
+    let i = c.self.inside in
+    let n = c.args.name.now in
+    rw (← c.self.view_is)
+    (ap (record_from c.args.device) (none_at n i.names.entries (sym c.in-None.ensures.value))
+    ∙ record_at i.me i.names.entries i.totals c.self.invariant i.choices n c.args.device)

@@ -1,0 +1,92 @@
+use Rattle.std.proofs.Common.{◌≡◌, ℕ, List, Some, map, subst, sym, ap, ◌∙◌, arith, rules}
+use Rattle.std.specs.BTreeMap.{is_at}
+use Rattle.std.specs.FinMap.{put}
+use Rattle.std.specs.Map.{lookup, set_value}
+use Rattle.sync_record.specs.Devices.{bytes_cmp}
+use Rattle.folder_core.specs.declared.announcement.Announcement.{Announcement as Entry}
+use Rattle.folder_core.specs.Announced.{key, key_cmp}
+use Rattle.folder_core.specs.Plain.{filed}
+use Rattle.folder_index.specs.declared.group.Group.{Group}
+use Rattle.folder_index.specs.Groups.{totals_in}
+use Rattle.folder_index.proofs.Listed.{Groups}
+use Rattle.folder_index.proofs.Results.{ok_and, on_ok, on_err}
+use Rattle.folder_index.proofs.Written.{HasAt, Sums, are_written, found_at, kept_is, placed_is, room_at, same_totals, small_set, sums_set, unchanged}
+use Rattle.folder_index.proofs.by_name.set_in.Goals as goal
+
+pub set_counted-requires-clause-group : goal.set_counted-requires-clause-group
+set_counted-requires-clause-group c =
+    let n = c.args.announced.name in
+    c.requires.groups.groups n c.in-Some.group.now (search rules)
+
+pub set_counted-requires-clause-room : goal.set_counted-requires-clause-room
+set_counted-requires-clause-room c =
+    let n = c.args.announced.name in
+    room_at c.args.me c.args.names.now.entries c.args.totals c.requires.groups (omega (arith, c.len.ensures.len, c.len.ensures.small)) n c.in-Some.group.now (search rules)
+
+pub returns-in-Some-clause-groups : goal.returns-in-Some-clause-groups
+returns-in-Some-clause-groups c =
+    let n = c.args.announced.name in
+    let gs = c.args.names.now.entries in
+    let was = c.in-Some.group.now in
+    let is = c.set_counted.new.self in
+    let found : lookup (is_at (bytes_cmp n)) gs ≡ Some was = search rules in
+    let write = c.get_mut.follows.holds is in
+    let new = (c.get_mut.follows.lender is).entries in
+    let at : HasAt n (Some is) gs new = subst (λ m. HasAt m (Some is) gs new) c.name.ensures (write.3 (search rules)).0 in
+    ok_and c.set_counted.result
+    (λ placed u changed.
+    let small = small_set c.args.me n c.args.device c.args.announced was is c.set_counted.ensures.group placed in
+    are_written c.args.me gs new c.args.totals u c.requires.groups write.4 n is
+    (λ f. f was) c.set_counted.ensures.group at
+    (subst (λ (l : Groups). (f : Group → ℕ) → Sums f (λ f. f was) is gs l) (sym (write.0 ∙ ap (λ m. set_value (is_at (bytes_cmp m)) gs is) c.name.ensures)) (sums_set n gs was is found))
+    changed (let a = changed.others in let b = small.others in omega arith))
+    c.set_counted.ensures.placed c.set_counted.ensures.totals
+
+pub returns-in-Some-clause-placed : goal.returns-in-Some-clause-placed
+returns-in-Some-clause-placed c =
+    let n = c.args.announced.name in
+    let gs = c.args.names.now.entries in
+    let was = c.in-Some.group.now in
+    let is = c.set_counted.new.self in
+    let found : lookup (is_at (bytes_cmp n)) gs ≡ Some was = search rules in
+    let write = c.get_mut.follows.holds is in
+    let new = (c.get_mut.follows.lender is).entries in
+    let at : HasAt n (Some is) gs new = subst (λ m. HasAt m (Some is) gs new) c.name.ensures (write.3 (search rules)).0 in
+    on_ok c.set_counted.result
+    (λ placed. placed_is c.args.me gs new c.args.totals c.requires.groups write.4 n is c.set_counted.ensures.group at
+    c.args.device c.args.announced (placed ∙ ap (λ (es : List Entry). put key_cmp (key n c.args.device) c.args.announced (map filed es)) (found_at n gs was found)))
+    c.set_counted.ensures.placed
+
+pub returns-in-Some-clause-groups_stay : goal.returns-in-Some-clause-groups_stay
+returns-in-Some-clause-groups_stay c =
+    let n = c.args.announced.name in
+    let gs = c.args.names.now.entries in
+    let was = c.in-Some.group.now in
+    let is = c.set_counted.new.self in
+    let found : lookup (is_at (bytes_cmp n)) gs ≡ Some was = search rules in
+    let write = c.get_mut.follows.holds is in
+    let new = (c.get_mut.follows.lender is).entries in
+    let at : HasAt n (Some is) gs new = subst (λ m. HasAt m (Some is) gs new) c.name.ensures (write.3 (search rules)).0 in
+    on_err c.set_counted.result
+    (λ kept.
+    are_written c.args.me gs new c.args.totals c.args.totals c.requires.groups write.4 n is
+    (λ f. f was) c.set_counted.ensures.group at
+    (subst (λ (l : Groups). (f : Group → ℕ) → Sums f (λ f. f was) is gs l) (sym (write.0 ∙ ap (λ m. set_value (is_at (bytes_cmp m)) gs is) c.name.ensures)) (sums_set n gs was is found))
+    (unchanged c.args.totals (totals_in c.args.me was) (totals_in c.args.me is) (same_totals c.args.me n was is (c.requires.groups.groups n was found) c.set_counted.ensures.group kept))
+    c.requires.groups.room)
+    c.set_counted.ensures.kept
+
+pub returns-in-Some-clause-kept : goal.returns-in-Some-clause-kept
+returns-in-Some-clause-kept c =
+    let n = c.args.announced.name in
+    let gs = c.args.names.now.entries in
+    let was = c.in-Some.group.now in
+    let is = c.set_counted.new.self in
+    let found : lookup (is_at (bytes_cmp n)) gs ≡ Some was = search rules in
+    let write = c.get_mut.follows.holds is in
+    let new = (c.get_mut.follows.lender is).entries in
+    let at : HasAt n (Some is) gs new = subst (λ m. HasAt m (Some is) gs new) c.name.ensures (write.3 (search rules)).0 in
+    on_err c.set_counted.result
+    (λ kept. kept_is c.args.me gs new c.args.totals c.requires.groups write.4 n is c.set_counted.ensures.group at
+    (kept ∙ found_at n gs was found))
+    c.set_counted.ensures.kept

@@ -1,0 +1,340 @@
+ghost use Rattle.std.specs.Prelude.{◌≡◌, ◌+◌, ◌<◌, ◌^◌, ◌==◌, [], false, length, IfOk, IsOk, None, OnErr, OnOk, map, option_copied, option_map};
+ghost use Rattle.std.specs.BTreeMap.{get as at};
+ghost use Rattle.std.specs.FinMap.{empty, entries, get, insert, remove};
+ghost use Rattle.std.specs.Option.{option_map_or};
+ghost use Rattle.std.specs.Range.Bound.{bound_map};
+ghost use Rattle.sync_record.specs.Devices.{bytes_cmp};
+ghost use Rattle.folder_core.specs.Announced.{best, key};
+ghost use Rattle.folder_core.specs.Plain.{filed};
+ghost use Rattle.folder_core.specs.Reads.{best_with_devices, bests_page, counts, need_page};
+ghost use Rattle.folder_index.specs.Groups.{AreGroups, announced_in, start_of};
+ghost use Rattle.folder_index.specs.Indexes.{folder, needs, with_record, without_record};
+
+use crate::entries::record_from;
+use crate::group::Group;
+use crate::{Best, Totals};
+use bep_messages::Items;
+use folder_core::Announcement;
+use std::alloc::{AllocError, Global};
+use std::collections::BTreeMap;
+use std::marker::Model;
+use std::ops::Bound;
+use sync_names::SafeName;
+use sync_record::{DeviceId, Record};
+
+/// The most records of other devices.
+const MAX_OTHERS: u64 = u64::MAX - 1;
+
+/// What devices announce, by name. The best of a name, and whether it is needed, are found when a record of the name changes.
+#[derive(Drop)]
+pub struct ByName {
+    alloc: Global,
+    me: DeviceId,
+    names: BTreeMap<SafeName, Group>,
+    totals: Totals,
+    choices: u64,
+}
+
+impl Model for ByName {
+    ghost use Rattle.folder_index.specs.Indexes.{IndexState, coded_index};
+
+    ghost Value = { IndexState };
+
+    ghost coded = { coded_index };
+
+    ghost use Rattle.folder_index.specs.Groups.{AreGroups, index_of};
+
+    ghost view = { λ f. index_of f.me f.names.entries f.choices };
+
+    ghost invariant = { λ f. AreGroups f.me f.names.entries f.totals };
+}
+
+impl ByName {
+    /// No records. Does not allocate. O(1).
+    pub fn new(alloc: Global, me: DeviceId) -> ByName
+        ensures { result ≡ record { me = me; announced = empty; choices = 0 } }
+    {
+        ByName {
+            alloc,
+            me,
+            names: BTreeMap::new(alloc),
+            totals: Totals::none(),
+            choices: 0,
+        }
+    }
+
+    /// This device. O(1).
+    pub fn me(&self) -> DeviceId
+        ensures { result ≡ self.now.me }
+    {
+        self.me
+    }
+
+    /// How often a best was chosen, up to the greatest number. O(1).
+    pub fn choices(&self) -> u64
+        ensures { result ≡ self.now.choices }
+    {
+        self.choices
+    }
+
+    /// The record that a device announces of a name, if there is one. O(log n + k) for n names and k devices that announce
+    /// the name.
+    pub fn get(&self, device: DeviceId, name: &SafeName) -> Option<&Record>
+        ensures { option_copied result ≡ get self.now.announced (key name.now device) }
+    {
+        match self.names.get(name) {
+            Some(group) => record_from(group.entries.as_slice(), device),
+            None => None,
+        }
+    }
+
+    /// Puts a device's record, in place of what it announced of its name. Returns `Err` only if out of memory, and then
+    /// nothing changes. O(log n + k^2) for n names and k devices that announce the name.
+    pub fn set(&mut self, device: DeviceId, announced: Record) -> Result<(), AllocError>
+        ensures ok { OnOk result (self.new ≡ with_record device announced self.old) }
+        ensures err { OnErr result (self.new ≡ self.old) }
+    {
+        if self.totals.others >= MAX_OTHERS {
+            return Err(AllocError);
+        }
+        self.totals = set_in(
+            &mut self.names,
+            self.totals,
+            self.alloc,
+            self.me,
+            device,
+            announced,
+        )?;
+        self.choices = self.choices.saturating_add(1);
+        Ok(())
+    }
+
+    /// Takes away what a device announces of a name. Does not allocate. O(log n + k^2) for n names and k devices that
+    /// announce the name.
+    pub fn clear(&mut self, device: DeviceId, name: &SafeName)
+        ensures { self.new ≡ without_record device name.now self.old }
+    {
+        if self.get(device, name).is_none() {
+            return;
+        }
+        self.totals = clear_in(&mut self.names, self.totals, self.me, device, name);
+        self.choices = self.choices.saturating_add(1);
+    }
+
+    /// The best of a name, and the device that announces it; `None` where no valid record of the name is announced. O(log n)
+    /// for n names.
+    pub fn best(&self, name: &SafeName) -> Option<&Announcement>
+        ensures { option_map filed (option_copied result) ≡ best (entries self.now.announced) name.now }
+    {
+        match self.names.get(name) {
+            Some(group) => group.best(),
+            None => None,
+        }
+    }
+
+    /// A copy of the best record of a name, and the devices whose valid record of the name has its version and its content;
+    /// `None` where no valid record of the name is announced. Returns `Err` only if out of memory, and never where it is
+    /// `None`. O(log n + k) for n names and k devices that announce the name, and the copy.
+    pub fn best_with_devices(&self, name: &SafeName) -> Result<Option<Best>, AllocError>
+        ensures found { IfOk result (λ b. option_map (λ b. (b.record, b.devices)) b
+            ≡ best_with_devices (folder self.now) name.now) }
+        ensures none { best_with_devices (folder self.now) name.now ≡ None → IsOk result }
+    {
+        match self.names.get(name) {
+            Some(group) => group.best_with_devices(),
+            None => Ok(None),
+        }
+    }
+
+    /// The bests of the names greater than `after`, or of all names where it is `None`, in byte order of the names: the
+    /// first `limit` of them, or all where there are fewer. Returns `Err` only if out of memory. O(log n) for n names, and
+    /// O(k) for each name up to the last one of the page, with k devices that announce it, and the copies. An empty page does
+    /// not allocate.
+    pub fn bests(&self, after: Option<&SafeName>, limit: usize) -> Result<Items<Best>, AllocError>
+        ensures page { IfOk result (λ page. map (λ b. (b.record, b.devices)) page
+            ≡ bests_page (folder self.now) (option_copied after.entry) limit) }
+        ensures none { bests_page (folder self.now) (option_copied after.entry) limit ≡ [] → IsOk result }
+    {
+        let mut page = Vec::new(self.alloc);
+        for (_, group) in self.names.range((start_after(after), Bound::Unbounded)) {
+            if page.len() == limit {
+                break;
+            }
+            if let Some(best) = group.best_with_devices()? {
+                page.push(best)?;
+            }
+        }
+        Ok(Items::from_vec(page))
+    }
+
+    /// Whether this device needs the best of a name: its best is of another version than the local record, or there is no local
+    /// record and the best isn't deleted. O(log n) for n names.
+    pub fn needs(&self, name: &SafeName) -> bool
+        ensures { result ≡ needs self.now name.now }
+    {
+        match self.names.get(name) {
+            Some(group) => group.is_needed,
+            None => false,
+        }
+    }
+
+    /// The names greater than `after`, or all names where it is `None`, that this device needs, in byte order: the first
+    /// `limit` of them, or all where there are fewer. Returns `Err` only if out of memory. O(log n + p) for n names, p of them
+    /// up to the last one of the page, and the copies. An empty page does not allocate.
+    pub fn need(
+        &self,
+        after: Option<&SafeName>,
+        limit: usize,
+    ) -> Result<Items<SafeName>, AllocError>
+        ensures page { IfOk result (λ page. page
+            ≡ need_page (folder self.now) (option_copied after.entry) limit) }
+        ensures none { need_page (folder self.now) (option_copied after.entry) limit ≡ [] → IsOk result }
+    {
+        let mut page = Vec::new(self.alloc);
+        for (name, group) in self.names.range((start_after(after), Bound::Unbounded)) {
+            if page.len() == limit {
+                break;
+            }
+            if group.is_needed {
+                page.push(name.copy()?)?;
+            }
+        }
+        Ok(Items::from_vec(page))
+    }
+
+    /// How much there is. O(1).
+    pub fn totals(&self) -> Totals
+        ensures files { result.files ≡ (counts (folder self.now)).files }
+        ensures directories { result.directories ≡ (counts (folder self.now)).directories }
+        ensures deletions { result.deletions ≡ (counts (folder self.now)).deletions }
+        ensures needed { result.needed ≡ (counts (folder self.now)).needed }
+        ensures others { result.others ≡ (counts (folder self.now)).others }
+    {
+        self.totals
+    }
+}
+
+/// Puts a device's record among the groups, and returns the new totals. Returns `Err` only if out of memory, and then what is
+/// announced stays. O(log n + k^2) for n names and k devices that announce the name.
+fn set_in(
+    names: &mut BTreeMap<SafeName, Group>,
+    totals: Totals,
+    alloc: Global,
+    me: DeviceId,
+    device: DeviceId,
+    announced: Record,
+) -> Result<Totals, AllocError>
+    requires groups { AreGroups me names.old.entries totals }
+    requires others { totals.others + 2 < 2 ^ 64 }
+    ensures groups { IfOk result (λ totals. AreGroups me names.new.entries totals) }
+    ensures placed { OnOk result (announced_in names.new.entries
+        ≡ insert (announced_in names.old.entries) (key announced.name device) announced) }
+    ensures groups_stay { OnErr result (AreGroups me names.new.entries totals) }
+    ensures kept { OnErr result (announced_in names.new.entries ≡ announced_in names.old.entries) }
+{
+    prove!(names.len() < 1 << 63);
+    match names.get_mut(announced.name()) {
+        Some(group) => group.set_counted(totals, me, device, announced),
+        None => add(names, totals, alloc, me, device, announced),
+    }
+}
+
+/// Adds the group of a name of which nothing is announced.
+fn add(
+    names: &mut BTreeMap<SafeName, Group>,
+    totals: Totals,
+    alloc: Global,
+    me: DeviceId,
+    device: DeviceId,
+    announced: Record,
+) -> Result<Totals, AllocError>
+    requires groups { AreGroups me names.old.entries totals }
+    requires others { totals.others + 2 < 2 ^ 64 }
+    requires absent { at bytes_cmp names.old announced.name ≡ None }
+    ensures groups { IfOk result (λ totals. AreGroups me names.new.entries totals) }
+    ensures placed { OnOk result (announced_in names.new.entries
+        ≡ insert (announced_in names.old.entries) (key announced.name device) announced) }
+    ensures err { OnErr result (names.new.entries ≡ names.old.entries) }
+{
+    prove!(names.len() < 1 << 63);
+    let name = announced.name().copy()?;
+    let mut group = Group::new(alloc);
+    let totals = group.set_counted(totals, me, device, announced)?;
+    names.insert(name, group)?;
+    Ok(totals)
+}
+
+/// Takes a device's record out of the groups, and returns the new totals. Does not allocate. O(log n + k^2) for n names and k
+/// devices that announce the name.
+fn clear_in(
+    names: &mut BTreeMap<SafeName, Group>,
+    totals: Totals,
+    me: DeviceId,
+    device: DeviceId,
+    name: &SafeName,
+) -> Totals
+    requires { AreGroups me names.old.entries totals }
+    ensures groups { AreGroups me names.new.entries result }
+    ensures taken { announced_in names.new.entries
+        ≡ remove (announced_in names.old.entries) (key name.now device) }
+{
+    let totals = clear_group(names, totals, me, device, name);
+    drop_empty(names, totals, me, name);
+    totals
+}
+
+/// Takes a device's record out of the group of its name, and returns the new totals.
+fn clear_group(
+    names: &mut BTreeMap<SafeName, Group>,
+    totals: Totals,
+    me: DeviceId,
+    device: DeviceId,
+    name: &SafeName,
+) -> Totals
+    requires { AreGroups me names.old.entries totals }
+    ensures groups { AreGroups me names.new.entries result }
+    ensures taken { announced_in names.new.entries
+        ≡ remove (announced_in names.old.entries) (key name.now device) }
+{
+    prove!(names.len() < 1 << 63);
+    match names.get_mut(name) {
+        Some(group) => group.clear_counted(totals, me, device, name),
+        None => totals,
+    }
+}
+
+/// Drops the group of a name if it has no entries. What is announced stays. O(log n) for n names.
+fn drop_empty(
+    names: &mut BTreeMap<SafeName, Group>,
+    totals: Totals,
+    me: DeviceId,
+    name: &SafeName,
+)
+    requires { AreGroups me names.old.entries totals }
+    ensures groups { AreGroups me names.new.entries totals }
+    ensures kept { announced_in names.new.entries ≡ announced_in names.old.entries }
+{
+    if is_empty(names.get(name)) {
+        drop(names.remove(name));
+    }
+}
+
+/// Whether there is a group, and it has no entries.
+fn is_empty(group: Option<&Group>) -> bool
+    ensures { result ≡ option_map_or (λ g. length g.entries.items == 0) (option_copied group.entry) false }
+{
+    match group {
+        Some(group) => group.entries.is_empty(),
+        None => false,
+    }
+}
+
+/// The start of a range after a name, or of all names.
+fn start_after(after: Option<&SafeName>) -> Bound<&SafeName>
+    ensures { bound_map (λ n. n.now) result ≡ start_of (option_copied after.entry) }
+{
+    match after {
+        Some(after) => Bound::Excluded(after),
+        None => Bound::Unbounded,
+    }
+}
