@@ -36,7 +36,6 @@ device_decides q n d same = same_tests _ _
 
 module _ (me : Identity) (old new : Groups) (s : Sorted old) (t : Sorted new) (each : Each me old) (each_new : Each me new) (n : Name) (d : Identity) (items : List Entry)
     (at_new : (m : Name) → entries_at m new ≡ cond (is_at (bytes_cmp n) m) items (entries_at m old)) where
-
   here : (q : Key) → is_at (bytes_cmp n) q.name ≡ true → map.get (announced_of new) q ≡ find key_cmp q (map filed items)
   here q a = get_is me new t each_new q ∙ ap (λ es. find key_cmp q (map filed es)) (at_new q.name ∙ ap (λ b. cond b items (entries_at q.name old)) a)
 

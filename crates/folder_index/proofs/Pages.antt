@@ -1,5 +1,5 @@
 -- The bests of all names, and the names that are needed, group by group.
-use Rattle.std.proofs.Common.{◌≡◌, ◌≢◌, ℕ, ◌+◌, Bool, true, false, List, [], ◌∷◌, ◌++◌, append-nil, length, take, drop, refl, sym, ap, subst, ◌∙◌, inl, inr}
+use Rattle.std.proofs.Common.{◌≡◌, ℕ, zero, suc, ◌-◌, arith, Bool, true, false, List, [], ◌∷◌, ◌++◌, append-nil, length, take, drop, refl, sym, ap, subst, ◌∙◌, inl, inr}
 use Rattle.std.specs.Prelude.{bytes_eq, ◌&&◌, cond, filter, flat_map, map, not, Option, Some, None, is_some, option_and_then, option_map, slice_get}
 use Rattle.std.specs.Bool.{passes}
 use Rattle.std.specs.BTreeMap.{is_at}
@@ -18,6 +18,7 @@ use Rattle.folder_core.specs.declared.announcement.Announcement.{Announcement as
 use Rattle.folder_core.specs.Plain.{Rises, better, devices_with, filed, folder_of, group_best, is_undominated, listed_bests}
 use Rattle.folder_core.specs.PlainPulls.{best_in}
 use Rattle.folder_core.specs.PlainReads.{is_needed_over, needed_names, needed_of, record_from}
+use Rattle.folder_core.specs.declared.best.Best.{Best}
 use Rattle.folder_core.specs.Reads.{BestEntry}
 use Rattle.folder_core.proofs.ListTests.{In, of_filter, same_bytes}
 use Rattle.folder_core.proofs.PlainGroup.{is_named}
@@ -138,3 +139,29 @@ module _ (p : Name → Bool) where
       all_pass : (es : List Entry) → ((e : Entry) → In e es → p e.record.name ≡ true) → list_all (λ e. p e.record.name) es ≡ true
       all_pass [] pass = refl
       all_pass (e ∷ es) pass = ap (λ b. b && list_all (λ e. p e.record.name) es) (pass e (inl refl)) ∙ all_pass es (λ f i. pass f (inr i))
+
+-- ---- a page as it is made
+
+abbrev pub shown : Best → BestEntry
+shown b = (b.record, b.devices)
+
+pub needed_next : (gs : Groups) (n : Name) (g : Group) (rest : Groups) → gs ≡ (n, g) ∷ rest → g.is_needed ≡ true → needed_listed gs ≡ n ∷ needed_listed rest
+needed_next gs n g rest is t = ap needed_listed is ∙ ap (λ b. cond b (n ∷ []) [] ++ needed_listed rest) t
+
+none_of_none : {A : Type 0} (k : ℕ) → take {A = A} k [] ≡ []
+none_of_none zero = refl
+none_of_none (suc k) = refl
+
+module _ {A : Type 0} (front ys : List A) where
+  pub whole_page : (n limit : ℕ) → front ≡ [] → n ≡ 0 → front ++ take (limit - n) ys ≡ take limit ys
+  whole_page n limit none start = let k : limit - n ≡ limit = omega arith in λ i. none i ++ take (k i) ys
+
+  pub last_page : (k : ℕ) → ys ≡ [] → front ≡ front ++ take k ys
+  last_page k none = sym (ap (λ l. front ++ l) (ap (take k) none ∙ none_of_none k) ∙ append-nil front)
+
+  pub full_page : (n limit : ℕ) → n ≡ limit → front ≡ front ++ take (limit - n) ys
+  full_page n limit full = let k : limit - n ≡ 0 = omega arith in sym (ap (λ k. front ++ take k ys) k ∙ ap (λ l. front ++ l) (none_taken ys) ∙ append-nil front)
+    where
+      none_taken : (ys : List A) → take 0 ys ≡ []
+      none_taken [] = refl
+      none_taken (y ∷ ys) = refl

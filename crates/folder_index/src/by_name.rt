@@ -304,12 +304,7 @@ fn clear_group(
 }
 
 /// Drops the group of a name if it has no entries. What is announced stays. O(log n) for n names.
-fn drop_empty(
-    names: &mut BTreeMap<SafeName, Group>,
-    totals: Totals,
-    me: DeviceId,
-    name: &SafeName,
-)
+fn drop_empty(names: &mut BTreeMap<SafeName, Group>, totals: Totals, me: DeviceId, name: &SafeName)
     requires { AreGroups me names.old.entries totals }
     ensures groups { AreGroups me names.new.entries totals }
     ensures kept { announced_in names.new.entries ≡ announced_in names.old.entries }
