@@ -8,3 +8,4 @@ pub mod Grouped
 pub mod Choosing
 pub mod Results
 pub mod Found
+pub mod Sequenced

@@ -2,3 +2,4 @@
 pub mod Indexes
 -- how it is kept
 pub mod Groups
+pub mod Sequences

@@ -4,11 +4,13 @@
 
 mod best;
 mod by_name;
+mod by_sequence;
 mod entries;
 mod group;
 mod totals;
 
 pub use by_name::ByName;
+pub use by_sequence::BySequence;
 pub use folder_core::{Announcement, Best, Place};
 pub use sync_names::SafeName;
 pub use sync_record::{DeviceId, Record};
