@@ -1,25 +1,24 @@
 -- What a change of one group makes of what is announced.
-use Rattle.std.proofs.Common.{◌≡◌, ◌≢◌, ℕ, Bool, true, false, List, [], ◌∷◌, refl, sym, ap, subst, ◌∙◌}
-use Rattle.std.specs.Prelude.{bytes_eq, ◌&&◌, cond, filter, map, not, Option, Some, None}
-use Rattle.std.specs.Bool.{passes}
+use Rattle.std.proofs.Common.{◌≡◌, Bool, true, false, List, refl, sym, ap, ◌∙◌}
+use Rattle.std.specs.Prelude.{bytes_eq, cond, filter, map, not, Option, Some, None}
 use Rattle.std.specs.BTreeMap.{is_at}
 use Rattle.std.specs.Cmp.{Equal-is, tied_itself}
 use Rattle.std.specs.Ordering.{eq_by_cmp, is_eq}
 use Rattle.std.specs.FinMap.{insert, remove, put, find, get-insert, get-remove, same_map}
 use Rattle.std.specs.FinMap as map
 use Rattle.std.specs.FinMap.Entries.{find-put, find-where_key}
-use Rattle.std.proofs.lemmas.Bool.{true≢false, false_from_ne_true, and_parts}
+use Rattle.std.proofs.lemmas.Bool.{true≢false, false_from_ne_true}
 use Rattle.sync_record.specs.Devices.{Identity, bytes_cmp}
 use Rattle.sync_record.specs.Records.{Name, FileRecord}
 use Rattle.folder_core.specs.declared.announcement.Announcement.{Announcement as Entry}
-use Rattle.folder_core.specs.Announced.{Announced, KeyedRecord, Key, key, key_cmp}
+use Rattle.folder_core.specs.Announced.{Key, key, key_cmp}
 use Rattle.folder_core.specs.Plain.{filed}
 use Rattle.folder_core.specs.PlainReads.{is_from}
 use Rattle.folder_core.proofs.ListTests.{alike_bytes, same_bytes}
 use Rattle.folder_core.proofs.ListFilters.{filter_map}
 use Rattle.folder_core.proofs.Orders.{bytes_total, keys_total, exact_keys}
 use Rattle.folder_core.proofs.PlainOwn.{same_tests}
-use Rattle.folder_index.proofs.Listed.{Groups, Sorted, Each, announced_of, at_same, at_other, entries_at, get_is}
+use Rattle.folder_index.proofs.Listed.{Groups, Sorted, Each, announced_of, at_same, entries_at, get_is}
 
 same_key : (q k : Key) → eq_by_cmp key_cmp q k ≡ true → q ≡ k
 same_key q k t = exact_keys q k ((Equal-is (key_cmp q k)).0 t)

@@ -1,6 +1,6 @@
 -- What the groups have, counted, is what the folder has.
-use Rattle.std.proofs.Common.{◌≡◌, ◌≢◌, ℕ, suc, ◌+◌, ◌≤◌, Bool, true, false, List, [], ◌∷◌, ◌++◌, length, refl, sym, ap, subst, ◌∙◌, inl, inr, arith}
-use Rattle.std.specs.Prelude.{bytes_eq, ◌&&◌, cond, filter, flat_map, map, not, sum_by}
+use Rattle.std.proofs.Common.{◌≡◌, ℕ, ◌+◌, ◌≤◌, Bool, true, false, List, [], ◌∷◌, length, refl, sym, ap, ◌∙◌, inl, inr, arith}
+use Rattle.std.specs.Prelude.{bytes_eq, ◌&&◌, cond, filter, map, not, sum_by}
 use Rattle.std.specs.Bool.{passes}
 use Rattle.std.specs.Map.{values_of}
 use Rattle.std.specs.Ordering.{is_lt, ordering_then}
@@ -23,7 +23,7 @@ use Rattle.folder_core.proofs.ListTests.{In, all_in, below_in, in_map, parts, sa
 use Rattle.folder_core.proofs.ListFilters.{filter_map}
 use Rattle.folder_core.proofs.Orders.{bytes_total, keys_total, exact_keys}
 use Rattle.folder_index.specs.declared.group.Group.{Group}
-use Rattle.folder_index.specs.Groups.{IsGroup, listed, needed_in}
+use Rattle.folder_index.specs.Groups.{listed, needed_in}
 use Rattle.folder_index.proofs.Lists.{keeps_none}
 use Rattle.folder_index.proofs.Listed.{Groups}
 use Rattle.folder_index.proofs.Pages.{needed_listed}

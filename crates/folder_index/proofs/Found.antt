@@ -1,31 +1,29 @@
 -- What is found of a name in its group is what the folder has of it.
 use Rattle.std.proofs.Common.{◌≡◌, ℕ, ◌==◌, Bool, true, false, List, [], ◌∷◌, length, take, refl, rules, sym, ap, subst, ◌∙◌}
-use Rattle.std.specs.Prelude.{bytes_eq, ◌&&◌, cond, count_by, filter, map, not, Option, Some, None, is_some, option_and_then, option_map, sum_by}
+use Rattle.std.specs.Prelude.{◌&&◌, cond, count_by, filter, map, not, Option, Some, None, is_some, option_and_then, option_map, sum_by}
 use Rattle.std.specs.Bool.{passes}
 use Rattle.std.specs.BTreeMap.{is_at}
-use Rattle.std.specs.Map.{keys_of, lookup, values_of}
-use Rattle.std.specs.Option.{option_map_or, option_to_list}
-use Rattle.std.specs.FinMap.{empty, empty_of_len, entries, entries-from_sorted, from_sorted, len-entries}
+use Rattle.std.specs.Map.{lookup, values_of}
+use Rattle.std.specs.Option.{option_map_or}
+use Rattle.std.specs.FinMap.{empty, empty_of_len, entries, entries-from_sorted, len-entries}
 use Rattle.std.specs.FinMap as map
-use Rattle.std.specs.List.{list_all, reduce}
+use Rattle.std.specs.List.{reduce}
 use Rattle.std.specs.Ordering.{is_gt, is_lt, ordering_reverse}
 use Rattle.std.specs.declared.cmp.Ordering.{Ordering}
 use Rattle.std.specs.declared.cmp.Ordering.TheVariants.{Less, Equal, Greater}
-use Rattle.std.specs.declared.ops.Bound.{Bound}
-use Rattle.std.specs.declared.ops.Bound.TheVariants.{Excluded, Unbounded}
-use Rattle.std.specs.BTreeMap.Range.{entries_between, range_contains}
+use Rattle.std.specs.declared.ops.Bound.TheVariants.{Unbounded}
+use Rattle.std.specs.BTreeMap.Range.{entries_between}
 use Rattle.std.proofs.lemmas.Option.{none-some}
 use Rattle.std.proofs.lemmas.Bool.{true≢false}
 use Rattle.sync_record.specs.Devices.{Identity, bytes_cmp}
-use Rattle.sync_record.specs.Records.{Name, FileRecord, is_directory, is_live, is_live_file}
+use Rattle.sync_record.specs.Records.{Name, FileRecord}
 use Rattle.folder_core.specs.declared.announcement.Announcement.{Announcement as Entry}
-use Rattle.folder_core.specs.Announced.{KeyedRecord, best, is_by, key, key_cmp}
+use Rattle.folder_core.specs.Announced.{best, is_by, key, key_cmp}
 use Rattle.folder_core.specs.Plain.{Rises, better, devices_with, filed, group_best, is_undominated, listed_bests}
 use Rattle.folder_core.specs.PlainPulls.{best_in}
 use Rattle.folder_core.specs.PlainReads.{is_from, is_needed_over, needed_names, needed_of, record_from}
 use Rattle.folder_core.specs.Reads.{BestEntry, best_with_devices, bests_page, is_after, locals, need_page}
 use Rattle.folder_core.specs.States.{is_needed, need}
-use Rattle.folder_core.proofs.ListTests.{In}
 use Rattle.folder_core.proofs.ListFilters.{filter_filter}
 use Rattle.folder_core.proofs.Orders.{bytes_total}
 use Rattle.folder_core.proofs.PlainCounts.{own_counted, others_counted}
@@ -35,11 +33,10 @@ use Rattle.folder_core.proofs.PlainNeed.{needed_are, page_is}
 use Rattle.folder_core.proofs.PlainOwn.{find_key, local_is}
 use Rattle.folder_index.specs.declared.group.Group.{Group}
 use Rattle.folder_index.specs.declared.totals.Totals.{Totals}
-use Rattle.folder_index.specs.Groups.{AreGroups, IsGroup, announced_in, best_of_group, chosen, index_of, listed, start_of}
+use Rattle.folder_index.specs.Groups.{AreGroups, announced_in, best_of_group, chosen, index_of, listed, start_of}
 use Rattle.folder_index.specs.Indexes.{folder, needs}
 use Rattle.folder_index.proofs.Counted.{needed_count, passing}
 use Rattle.folder_index.proofs.Listed.{Groups, Sorted, Each, at_is, entries_at, get_is, rises}
-use Rattle.folder_index.proofs.Lists.{keeps_all}
 use Rattle.folder_index.proofs.Pages.{bests_are_listed, bests_listed, needed_are_listed, needed_listed, part_each, part_listed, part_of, part_sorted}
 use Rattle.folder_index.proofs.Written.{each_of, found_at, none_at}
 

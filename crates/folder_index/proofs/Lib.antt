@@ -9,3 +9,4 @@ pub mod Choosing
 pub mod Results
 pub mod Found
 pub mod Sequenced
+pub mod Digested

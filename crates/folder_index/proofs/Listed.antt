@@ -1,35 +1,32 @@
 -- The groups of names, listed as the entries of a folder.
-use Rattle.std.proofs.Common.{◌≡◌, ◌≢◌, ℕ, ◌+◌, Bool, true, false, List, [], ◌∷◌, ◌++◌, append-nil, length, refl, sym, ap, subst, ◌∙◌, ◌⊎◌, inl, inr}
-use Rattle.std.specs.Prelude.{bytes_eq, ◌&&◌, cond, T, filter, map, not, Option, Some, None}
+use Rattle.std.proofs.Common.{◌≡◌, ◌≢◌, Bool, true, false, List, [], ◌∷◌, ◌++◌, append-nil, refl, sym, ap, subst, ◌∙◌, ◌⊎◌, inl, inr}
+use Rattle.std.specs.Prelude.{bytes_eq, ◌&&◌, cond, T, filter, map, Some}
 use Rattle.std.specs.Bool.{passes}
-use Rattle.std.specs.BTreeMap.{BTreeMap, get, is_at}
+use Rattle.std.specs.BTreeMap.{is_at}
 use Rattle.std.specs.Map.{keys_of, lookup}
 use Rattle.std.specs.Option.{option_map_or}
-use Rattle.std.specs.Ordering.{eq_by_cmp, is_eq, ordering_then}
+use Rattle.std.specs.Ordering.{is_eq, ordering_then}
 use Rattle.std.specs.Cmp.{Equal-is, tied_itself}
 use Rattle.std.specs.List.{list_all}
 use Rattle.std.specs.List.Sorted.{IsStrictlySortedBy}
-use Rattle.std.specs.declared.cmp.Ordering.{Ordering}
-use Rattle.std.specs.declared.cmp.Ordering.TheVariants.{Less, Equal, Greater}
-use Rattle.std.specs.FinMap.{FinMap, insert, remove, put, find, is_sorted, from_sorted, get-from_sorted, get-insert, get-remove, same_map, contains_key}
+use Rattle.std.specs.declared.cmp.Ordering.TheVariants.{Less}
+use Rattle.std.specs.FinMap.{find, is_sorted, from_sorted, get-from_sorted}
 use Rattle.std.specs.FinMap as map
-use Rattle.std.specs.FinMap.Entries.{find-put, find-where_key}
-use Rattle.std.proofs.lemmas.Bool.{true≢false, false_from_ne_true, and_parts}
+use Rattle.std.proofs.lemmas.Bool.{true≢false, false_from_ne_true}
 use Rattle.std.proofs.lemmas.Map.Keys.{sorted_head, sorted_tail}
 use Rattle.std.proofs.lemmas.Map.Lookups.{exact_bytes}
 use Rattle.std.proofs.lemmas.List.Elements.{filter-append}
 use Rattle.std.proofs.lemmas.List.{map-append}
-use Rattle.std.proofs.lemmas.Option.{none-some}
 use Rattle.sync_record.specs.Devices.{Identity, bytes_cmp}
-use Rattle.sync_record.specs.Records.{Name, FileRecord}
+use Rattle.sync_record.specs.Records.{Name}
 use Rattle.folder_core.specs.declared.announcement.Announcement.{Announcement as Entry}
-use Rattle.folder_core.specs.Announced.{Announced, KeyedRecord, Key, key, key_cmp}
+use Rattle.folder_core.specs.Announced.{Announced, Key, key_cmp}
 use Rattle.folder_core.specs.Plain.{Rises, filed}
-use Rattle.folder_core.specs.PlainReads.{is_from, record_from}
+use Rattle.folder_core.specs.PlainReads.{record_from}
 use Rattle.folder_core.proofs.BestList.{apart}
-use Rattle.folder_core.proofs.ListTests.{In, all_in, alike_bytes, same_bytes, inside, in_map, of_map}
-use Rattle.folder_core.proofs.ListFilters.{filter_filter, filter_map}
-use Rattle.folder_core.proofs.Orders.{bytes_total, keys_total, exact_keys, is_true}
+use Rattle.folder_core.proofs.ListTests.{In, all_in, same_bytes, in_map, of_map}
+use Rattle.folder_core.proofs.ListFilters.{filter_filter}
+use Rattle.folder_core.proofs.Orders.{bytes_total, is_true}
 use Rattle.folder_core.proofs.PlainGroup.{is_named}
 use Rattle.folder_core.proofs.PlainOwn.{find_key}
 use Rattle.folder_index.specs.declared.group.Group.{Group}

@@ -1,12 +1,12 @@
 -- Lists, as the proofs here use them.
-use Rattle.std.proofs.Common.{◌≡◌, ℕ, ◌+◌, Bool, true, false, List, [], ◌∷◌, ◌++◌, length, take, drop, refl, sym, ap, subst, ◌∙◌, ◌⊎◌, inl, inr, arith}
-use Rattle.std.specs.Prelude.{◌&&◌, cond, T, filter, map, not}
+use Rattle.std.proofs.Common.{◌≡◌, ◌+◌, Bool, true, false, List, [], ◌∷◌, ◌++◌, length, take, drop, refl, sym, ap, subst, ◌∙◌, ◌⊎◌, inl, inr, arith}
+use Rattle.std.specs.Prelude.{cond, T, filter}
 use Rattle.std.specs.List.{AllByRecursion, list_all, prefix_len}
 use Rattle.std.specs.FinMap.Entries.{below_all, is_sorted}
 use Rattle.std.specs.declared.cmp.Ordering.{Ordering}
 use Rattle.std.specs.declared.cmp.Ordering.TheVariants.{Less}
 use Rattle.std.proofs.lemmas.Bool.{and_parts, and_from}
-use Rattle.folder_core.proofs.ListTests.{In, is_less, parts}
+use Rattle.folder_core.proofs.ListTests.{In, parts}
 use Rattle.folder_core.proofs.ListFilters.{join, less_is}
 
 module _ {A : Type 0} where

@@ -1,32 +1,28 @@
 -- The bests of all names, and the names that are needed, group by group.
-use Rattle.std.proofs.Common.{◌≡◌, ℕ, zero, suc, ◌-◌, arith, Bool, true, false, List, [], ◌∷◌, ◌++◌, append-nil, length, take, drop, refl, sym, ap, subst, ◌∙◌, inl, inr}
-use Rattle.std.specs.Prelude.{bytes_eq, ◌&&◌, cond, filter, flat_map, map, not, Option, Some, None, is_some, option_and_then, option_map, slice_get}
-use Rattle.std.specs.Bool.{passes}
-use Rattle.std.specs.BTreeMap.{is_at}
-use Rattle.std.specs.Map.{keys_of, lookup}
-use Rattle.std.specs.Option.{option_map_or, option_to_list}
-use Rattle.std.specs.FinMap.{empty}
+use Rattle.std.proofs.Common.{◌≡◌, ℕ, zero, suc, ◌-◌, arith, Bool, true, false, List, [], ◌∷◌, ◌++◌, append-nil, length, take, refl, sym, ap, subst, ◌∙◌, inl, inr}
+use Rattle.std.specs.Prelude.{◌&&◌, cond, filter, flat_map, Option, Some, None, is_some, option_and_then, option_map}
+use Rattle.std.specs.Map.{keys_of}
+use Rattle.std.specs.Option.{option_to_list}
 use Rattle.std.specs.List.{AllByRecursion, list_all, prefix_len, reduce}
 use Rattle.std.specs.List.Sorted.{IsStrictlySortedBy}
 use Rattle.std.specs.declared.cmp.Ordering.TheVariants.{Less}
-use Rattle.std.proofs.lemmas.Bool.{true≢false, false_from_ne_true}
-use Rattle.std.proofs.lemmas.Map.Keys.{sorted_head, sorted_tail}
+use Rattle.std.proofs.lemmas.Map.Keys.{sorted_tail}
 use Rattle.std.proofs.lemmas.List.Elements.{filter-append}
 use Rattle.sync_record.specs.Devices.{Identity, bytes_cmp}
 use Rattle.sync_record.specs.Records.{Name}
 use Rattle.folder_core.specs.declared.announcement.Announcement.{Announcement as Entry}
-use Rattle.folder_core.specs.Plain.{Rises, better, devices_with, filed, folder_of, group_best, is_undominated, listed_bests}
+use Rattle.folder_core.specs.Plain.{Rises, better, devices_with, group_best, is_undominated, listed_bests}
 use Rattle.folder_core.specs.PlainPulls.{best_in}
 use Rattle.folder_core.specs.PlainReads.{is_needed_over, needed_names, needed_of, record_from}
 use Rattle.folder_core.specs.declared.best.Best.{Best}
 use Rattle.folder_core.specs.Reads.{BestEntry}
-use Rattle.folder_core.proofs.ListTests.{In, of_filter, same_bytes}
+use Rattle.folder_core.proofs.ListTests.{In, of_filter}
 use Rattle.folder_core.proofs.PlainGroup.{is_named}
 use Rattle.folder_core.proofs.PlainFound.{first_step, named_best}
 use Rattle.folder_core.proofs.PlainNeed.{need_step}
 use Rattle.folder_index.specs.declared.group.Group.{Group}
 use Rattle.folder_index.specs.Groups.{IsGroup, best_of_group, listed}
-use Rattle.folder_index.proofs.Lists.{all_at, back_of, front_of, keeps_all, keeps_none, prefix_is}
+use Rattle.folder_index.proofs.Lists.{back_of, front_of, keeps_all, keeps_none, prefix_is}
 use Rattle.folder_index.proofs.Listed.{Groups, Sorted, Each, each_tail, first_name, others_named, rises}
 
 abbrev entry_name : Entry → Name

@@ -1,5 +1,8 @@
 -- Facts of one variant of a result.
+use Rattle.std.proofs.Common.{◌≡◌, true, false, sym}
 use Rattle.std.specs.Prelude.{Result, Ok, Err, IfOk, OnOk, OnErr}
+use Rattle.std.specs.Result.{is_err}
+use Rattle.std.proofs.lemmas.Bool.{true≢false}
 
 module _ {A E : Type 0} where
   pub ok_and : {P : Type 0} {Q R : A → Type 0} (r : Result A E) → (P → (x : A) → Q x → R x) → OnOk r P → IfOk r Q → IfOk r R
@@ -13,3 +16,12 @@ module _ {A E : Type 0} where
   pub on_err : {P Q : Type 0} (r : Result A E) → (P → Q) → OnErr r P → OnErr r Q
   on_err (Ok x) then p = tt
   on_err (Err e) then p = then p
+
+module _ {A E : Type 0} {P : Type 0} where
+  pub of_ok : (r : Result A E) → is_err r ≡ false → OnOk r P → P
+  of_ok (Ok x) t p = p
+  of_ok (Err e) t p = absurd (true≢false t)
+
+  pub of_err : (r : Result A E) → is_err r ≡ true → OnErr r P → P
+  of_err (Ok x) t p = absurd (true≢false (sym t))
+  of_err (Err e) t p = p

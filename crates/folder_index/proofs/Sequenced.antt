@@ -1,6 +1,6 @@
 -- A tree map's entries as a finite map.
-use Rattle.std.proofs.Common.{◌≡◌, ℕ, ◌+◌, ◌-◌, ◌^◌, ◌<◌, ◌≤◌, ◌++◌, ◌⊎◌, min, arith, ◌==◌, Bool, true, false, List, [], ◌∷◌, length, refl, sym, ap, subst, ◌∙◌, inl, inr}
-use Rattle.std.specs.Prelude.{◌&&◌, cond, T, Option, Some, None, filter, map, nat_lt}
+use Rattle.std.proofs.Common.{◌≡◌, ℕ, ◌+◌, ◌-◌, ◌^◌, ◌<◌, ◌≤◌, ◌++◌, ◌⊎◌, min, arith, ◌==◌, true, false, List, [], ◌∷◌, length, refl, sym, ap, subst, ◌∙◌, inl, inr}
+use Rattle.std.specs.Prelude.{◌&&◌, cond, T, Some, None, filter, map, nat_lt}
 use Rattle.std.specs.BTreeMap.{is_at}
 use Rattle.std.specs.Map.{keys_of, lookup}
 use Rattle.std.specs.Cmp.{Equal-is, IsTotalOrder, IsEquivalence, eq_by_cmp_equiv, nat_cmp_total}
@@ -11,7 +11,7 @@ use Rattle.std.specs.declared.cmp.Ordering.{Ordering}
 use Rattle.std.specs.declared.cmp.Ordering.TheVariants.{Less, Equal, Greater}
 use Rattle.std.specs.declared.ops.Bound.TheVariants.{Excluded, Unbounded}
 use Rattle.std.specs.BTreeMap.Range.{entries_between}
-use Rattle.std.specs.FinMap.{FinMap, IsAntisymmetric, empty, empty_of_len, entries-from_sorted, from_sorted, len-entries, nat_cmp-IsAntisymmetric, values, get, get-from_sorted, get-insert, get-remove, insert, is_sorted, find, remove, same_map}
+use Rattle.std.specs.FinMap.{IsAntisymmetric, empty, empty_of_len, entries-from_sorted, from_sorted, len-entries, nat_cmp-IsAntisymmetric, values, get, get-from_sorted, get-insert, get-remove, insert, is_sorted, find, remove, same_map}
 use Rattle.std.specs.FinMap.Entries.{below_all}
 use Rattle.std.proofs.lemmas.Map.Keys.{sorted_head, sorted_tail}
 use Rattle.std.proofs.lemmas.Option.{none-some}

@@ -1,10 +1,9 @@
 -- What a change of one group leaves of what holds of the groups.
-use Rattle.std.proofs.Common.{◌≡◌, ◌≢◌, ℕ, ◌+◌, ◌^◌, ◌<◌, ◌≤◌, Bool, true, false, List, [], ◌∷◌, length, refl, sym, ap, subst, ◌∙◌, inl, inr, arith}
+use Rattle.std.proofs.Common.{◌≡◌, ℕ, ◌+◌, ◌^◌, ◌<◌, ◌≤◌, Bool, true, false, List, [], length, refl, sym, ap, subst, ◌∙◌, arith}
 use Rattle.std.specs.Prelude.{◌&&◌, cond, filter, map, not, Option, Some, None, is_some, option_map, sum_by, unwrap_or}
 use Rattle.std.specs.BTreeMap.{insert_entry, is_at}
-use Rattle.std.specs.Map.{keys_of, lookup, remove_entry, set_value, values_of}
+use Rattle.std.specs.Map.{lookup, remove_entry, set_value, values_of}
 use Rattle.std.specs.Option.{option_map_or}
-use Rattle.std.specs.List.Sorted.{IsStrictlySortedBy}
 use Rattle.std.specs.FinMap.{insert, put, remove}
 use Rattle.std.proofs.lemmas.Map.Entries.{length-values_of, sum_by-insert_entry, sum_by-remove_entry, sum_by-set_value}
 use Rattle.std.proofs.lemmas.Option.{none-some}
@@ -14,7 +13,7 @@ use Rattle.folder_core.specs.declared.announcement.Announcement.{Announcement as
 use Rattle.folder_core.specs.Announced.{key, key_cmp}
 use Rattle.folder_core.specs.Plain.{filed}
 use Rattle.folder_core.specs.PlainReads.{is_from, needed_of}
-use Rattle.folder_core.proofs.ListTests.{In, inside, of_map}
+use Rattle.folder_core.proofs.ListTests.{inside, of_map}
 use Rattle.folder_core.proofs.Orders.{bytes_total}
 use Rattle.folder_index.specs.declared.group.Group.{Group}
 use Rattle.folder_index.specs.declared.totals.Totals.{Totals}

@@ -1,5 +1,5 @@
 -- How the records are kept: by name, and of each name by device, with what is chosen of them.
-use Rattle.std.specs.Prelude.{bytes_eq, ◌≡◌, ℕ, ◌+◌, ◌<◌, ◌≤◌, ◌^◌, ◌&&◌, Bool, IsTrue, List, length, filter, flat_map, not, option_and_then, option_map, if◌then◌else◌, is_some, Option, slice_get}
+use Rattle.std.specs.Prelude.{bytes_eq, ◌≡◌, ℕ, ◌+◌, ◌<◌, ◌≤◌, ◌^◌, ◌&&◌, IsTrue, List, length, filter, flat_map, not, option_and_then, option_map, if◌then◌else◌, is_some, Option, slice_get}
 use Rattle.std.specs.List.{list_all}
 use Rattle.std.specs.BTreeMap.{is_at}
 use Rattle.std.specs.Map.{keys_of, lookup, values_of}

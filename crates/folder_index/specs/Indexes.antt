@@ -1,7 +1,7 @@
 -- What an index has, and what its changes make of it.
-use Rattle.std.specs.Prelude.{◌≡◌, ℕ, ◌+◌, ◌-◌, ◌^◌, Bool, false, if◌then◌else◌, min, refl}
+use Rattle.std.specs.Prelude.{ℕ, ◌+◌, ◌-◌, ◌^◌, Bool, false, if◌then◌else◌, min, refl}
 use Rattle.std.specs.Option.{option_map_or}
-use Rattle.std.specs.FinMap.{empty, entries, get, contains_key, insert, remove}
+use Rattle.std.specs.FinMap.{empty, entries, contains_key, insert, remove}
 use Rattle.std.specs.FinMap as map
 use Rattle.std.specs.Coded.{Coded, code_by, coded_ℕ, coded×}
 use Rattle.sync_record.specs.Devices.{Identity}

@@ -3,3 +3,4 @@ pub mod Indexes
 -- how it is kept
 pub mod Groups
 pub mod Sequences
+pub mod Digests

@@ -88,8 +88,9 @@ impl ByName {
         }
     }
 
-    /// Puts a device's record, in place of what it announced of its name. Returns `Err` only if out of memory, and then
-    /// nothing changes. O(log n + k^2) for n names and k devices that announce the name.
+    /// Puts a device's record, in place of what it announced of its name, and chooses the best of the name anew. Returns `Err`
+    /// only if out of memory, or if the other devices have 2^64 - 2 records already, and then nothing changes.
+    /// O(log n + k^2) for n names and k devices that announce the name.
     pub fn set(&mut self, device: DeviceId, announced: Record) -> Result<(), AllocError>
         ensures ok { OnOk result (self.new ≡ with_record device announced self.old) }
         ensures err { OnErr result (self.new ≡ self.old) }
@@ -109,8 +110,8 @@ impl ByName {
         Ok(())
     }
 
-    /// Takes away what a device announces of a name. Does not allocate. O(log n + k^2) for n names and k devices that
-    /// announce the name.
+    /// Takes away what a device announces of a name, if there is anything, and then chooses the best of the name anew. Does
+    /// not allocate. O(log n + k^2) for n names and k devices that announce the name.
     pub fn clear(&mut self, device: DeviceId, name: &SafeName)
         ensures { self.new ≡ without_record device name.now self.old }
     {

@@ -1,17 +1,22 @@
-//! What devices announce of a folder, kept so that each read is fast: the best of a name is chosen when a record of the name
-//! changes, and not when it is asked for.
+//! What devices announce of a folder, kept so that its reads are fast: [`ByName`] has the records of each name, with the best
+//! of the name and whether it is needed, which are found when a record of the name changes, and not when they are asked for;
+//! [`BySequence`] has records in the order of their sequences, and [`ByDigest`] the places of blocks.
+//!
+//! Contracts say of each what it has, in the words of `folder_core`'s rules, and not how it is kept.
 #![tactic(auto)]
 
 mod best;
+mod by_digest;
 mod by_name;
 mod by_sequence;
 mod entries;
 mod group;
 mod totals;
 
+pub use by_digest::ByDigest;
 pub use by_name::ByName;
 pub use by_sequence::BySequence;
-pub use folder_core::{Announcement, Best, Place};
+pub use folder_core::{Announcement, Best};
 pub use sync_names::SafeName;
-pub use sync_record::{DeviceId, Record};
+pub use sync_record::{Block, DeviceId, Record};
 pub use totals::Totals;

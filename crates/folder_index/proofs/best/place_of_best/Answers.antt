@@ -1,9 +1,6 @@
-use Rattle.std.proofs.Common.{◌≡◌, Some, true, false, cond, sym, ap, ◌∙◌}
-use Rattle.std.specs.Prelude.{option_and_then, option_copied, slice_get, MatchOption, IsTrue, Option}
-use Rattle.std.specs.List.{reduce}
+use Rattle.std.proofs.Common.{Some, sym, ap, ◌∙◌}
+use Rattle.std.specs.Prelude.{option_and_then, option_copied, slice_get}
 use Rattle.std.proofs.lemmas.Option.{slice_get-get_or}
-use Rattle.sync_record.specs.Preference.{is_preferred}
-use Rattle.folder_core.specs.declared.announcement.Announcement.{Announcement as Entry}
 use Rattle.folder_core.specs.Plain.{better_of, is_undominated}
 use Rattle.folder_core.proofs.PlainFound.{taken, left}
 use Rattle.folder_index.proofs.Choosing.{kept_best, new_best}

@@ -1,4 +1,4 @@
-use Rattle.std.proofs.Common.{◌≡◌, sym, ap, ◌∙◌}
+use Rattle.std.proofs.Common.{sym, ◌∙◌}
 use Rattle.folder_index.proofs.Written.{are_dropped, dropped_is, found_at, nothing_in, sums_removed}
 use Rattle.folder_index.proofs.Found.{empty_group}
 use Rattle.folder_index.proofs.by_name.drop_empty.Goals as goal

@@ -1,8 +1,5 @@
-use Rattle.std.proofs.Common.{◌≡◌, List, Some, None, sym, ap, ◌∙◌}
-use Rattle.std.specs.Prelude.{option_map, is_some}
-use Rattle.std.proofs.lemmas.Option.{none-some}
+use Rattle.std.proofs.Common.{sym, ◌∙◌}
 use Rattle.folder_core.proofs.ListTests.{ok_then}
-use Rattle.folder_index.specs.Groups.{best_of_group}
 use Rattle.folder_index.proofs.Found.{group_best_is, none_best_is, none_chosen}
 use Rattle.folder_index.proofs.by_name.ByName.best_with_devices.Goals as goal
 

@@ -1,5 +1,4 @@
-use Rattle.std.proofs.Common.{◌≡◌, List, Some, None, sym, ap, ◌∙◌}
-use Rattle.folder_core.specs.declared.announcement.Announcement.{Announcement as Entry}
+use Rattle.std.proofs.Common.{sym, ap, ◌∙◌}
 use Rattle.folder_core.specs.PlainReads.{record_from}
 use Rattle.folder_index.proofs.Found.{record_at}
 use Rattle.folder_index.proofs.Written.{found_at, none_at}

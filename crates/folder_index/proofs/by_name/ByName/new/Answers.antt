@@ -1,5 +1,4 @@
-use Rattle.std.proofs.Common.{◌≡◌, List, [], map, refl, sym, ap, ◌∙◌}
-use Rattle.std.proofs.lemmas.Map.Entries.{length-keys_of}
+use Rattle.std.proofs.Common.{ap, ◌∙◌}
 use Rattle.folder_index.specs.Groups.{announced_in}
 use Rattle.folder_index.proofs.Found.{none_announced}
 use Rattle.folder_index.proofs.by_name.ByName.new.Goals as goal

@@ -1,4 +1,4 @@
-use Rattle.std.proofs.Common.{◌≡◌, ap, ◌∙◌}
+use Rattle.std.proofs.Common.{ap, ◌∙◌}
 use Rattle.std.specs.Prelude.{◌&&◌}
 use Rattle.sync_record.specs.Records.{is_directory, is_live, is_live_file}
 use Rattle.folder_index.specs.declared.totals.Totals.{Totals}

@@ -1,4 +1,4 @@
-use Rattle.std.proofs.Common.{◌≡◌, sym, ap, ◌∙◌}
+use Rattle.std.proofs.Common.{sym, ap, ◌∙◌}
 use Rattle.std.specs.FinMap.{from_sorted, insert}
 use Rattle.folder_index.proofs.Sequenced.{own_inserted, sequence_inserted}
 use Rattle.folder_index.proofs.by_sequence.BySequence.insert.Goals as goal

@@ -1,4 +1,4 @@
-use Rattle.std.proofs.Common.{◌≡◌, ◌∷◌, true, ◌+◌, ◌-◌, ◌^◌, ◌<◌, ◌≤◌, ◌++◌, [], List, length, map, min, refl, sym, ap, ◌∙◌, arith, rules}
+use Rattle.std.proofs.Common.{◌≡◌, ◌∷◌, true, ◌+◌, ◌-◌, ◌^◌, ◌≤◌, ◌++◌, [], List, length, map, min, sym, ap, ◌∙◌, arith, rules}
 use Rattle.std.specs.FinMap.{values}
 use Rattle.std.specs.Prelude.{filter, nat_lt}
 use Rattle.std.proofs.lemmas.List.{append_assoc}

@@ -1,5 +1,4 @@
-use Rattle.std.proofs.Common.{◌≡◌, ap, ◌∙◌}
-use Rattle.folder_core.specs.declared.announcement.Announcement.{Announcement as Entry}
+use Rattle.std.proofs.Common.{ap, ◌∙◌}
 use Rattle.folder_index.proofs.Grouped.{group_cleared}
 use Rattle.folder_index.proofs.group.Group.clear.Goals as goal
 

@@ -1,5 +1,5 @@
-use Rattle.std.proofs.Common.{◌≡◌, subst, sym}
-use Rattle.folder_index.specs.Groups.{IsSmall, totals_in}
+use Rattle.std.proofs.Common.{subst, sym}
+use Rattle.folder_index.specs.Groups.{IsSmall}
 use Rattle.folder_index.specs.declared.totals.Totals.{Totals}
 use Rattle.folder_index.proofs.Written.{small_set}
 use Rattle.folder_index.proofs.group.Group.set_counted.Goals as goal
