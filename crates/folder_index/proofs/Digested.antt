@@ -50,7 +50,7 @@ module _ (owner : ℕ) where
       ap (λ l. without_blocks owner l m) (take_more bs i b short ∙ ap (λ x. take i bs ++ x ∷ []) (sym here))
       ∙ fold-append (λ (m : Places) (b : Block). remove m (b.hash, owner)) m (take i bs) (b ∷ [])
 
-  abbrev is_here : Spot → Block → Bool
+  abbrev pub is_here : Spot → Block → Bool
   is_here q b = eq_by_cmp place_cmp q (b.hash, owner)
 
   either : (a b : Bool) (o : Option ℕ) → cond b None (cond a None o) ≡ cond (a || b) None o
@@ -58,14 +58,14 @@ module _ (owner : ℕ) where
   either true false o = refl
   either false b o = refl
 
-  get-without : (bs : List Block) (m : Places) (q : Spot) → get (without_blocks owner bs m) q ≡ cond (list_any (is_here q) bs) None (get m q)
+  pub get-without : (bs : List Block) (m : Places) (q : Spot) → get (without_blocks owner bs m) q ≡ cond (list_any (is_here q) bs) None (get m q)
   get-without [] m q = refl
   get-without (b ∷ bs) m q =
       get-without bs (remove m (b.hash, owner)) q
       ∙ ap (cond (list_any (is_here q) bs) None) (get-remove places_total m (b.hash, owner) q)
       ∙ either (is_here q b) (list_any (is_here q) bs) (get m q)
 
-  get-with : (n : ℕ) (bs : List Block) (m : Places) (q : Spot) → list_any (is_here q) bs ≡ false → get (fold (λ (m : Places) (p : ℕ × Block). insert m (p.1.hash, owner) p.0) m (enumerate_from n bs)) q ≡ get m q
+  pub get-with : (n : ℕ) (bs : List Block) (m : Places) (q : Spot) → list_any (is_here q) bs ≡ false → get (fold (λ (m : Places) (p : ℕ × Block). insert m (p.1.hash, owner) p.0) m (enumerate_from n bs)) q ≡ get m q
   get-with n [] m q none = refl
   get-with n (b ∷ bs) m q none =
       get-with (n + 1) bs (insert m (b.hash, owner) n) q (second (is_here q b) (list_any (is_here q) bs) none)

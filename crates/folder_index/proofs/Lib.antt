@@ -10,3 +10,8 @@ pub mod Results
 pub mod Found
 pub mod Sequenced
 pub mod Digested
+pub mod Filed
+pub mod Locals
+pub mod Since
+pub mod Placed
+pub mod Indexed

@@ -25,3 +25,8 @@ module _ {A E : Type 0} {P : Type 0} where
   pub of_err : (r : Result A E) → is_err r ≡ true → OnErr r P → P
   of_err (Ok x) t p = absurd (true≢false (sym t))
   of_err (Err e) t p = p
+
+module _ {A E P Q R : Type 0} where
+  pub whichever : (r : Result A E) → OnOk r P → OnErr r Q → (P → R) → (Q → R) → R
+  whichever (Ok x) p q ok err = ok p
+  whichever (Err e) p q ok err = err q

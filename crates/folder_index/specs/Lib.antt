@@ -4,3 +4,4 @@ pub mod Indexes
 pub mod Groups
 pub mod Sequences
 pub mod Digests
+pub mod Locals

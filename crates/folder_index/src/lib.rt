@@ -11,12 +11,15 @@ mod by_name;
 mod by_sequence;
 mod entries;
 mod group;
+mod index;
+mod local;
 mod totals;
 
 pub use by_digest::ByDigest;
 pub use by_name::ByName;
 pub use by_sequence::BySequence;
-pub use folder_core::{Announcement, Best};
+pub use folder_core::{Announcement, Best, Place};
+pub use index::Index;
 pub use sync_names::SafeName;
 pub use sync_record::{Block, DeviceId, Record};
 pub use totals::Totals;

@@ -1,0 +1,258 @@
+ghost use Rattle.std.specs.Prelude.{◌≡◌, [], IfOk, IsOk, None, OnErr, OnOk, map, option_copied, option_map, slice_get};
+ghost use Rattle.std.specs.FinMap.{empty, entries, get};
+ghost use Rattle.folder_core.specs.Announced.{best, key};
+ghost use Rattle.folder_core.specs.Plain.{filed};
+ghost use Rattle.folder_core.specs.Reads.{IsSomePlace, best_with_devices, bests_page, counts, local_since, need_page, places};
+ghost use Rattle.folder_index.specs.Indexes.{folder, needs, with_record, without_record};
+ghost use Rattle.folder_index.specs.Locals.{IsFree, IsIndex};
+
+use crate::local::{file, sequence_of, take_out};
+use crate::{Best, ByDigest, ByName, BySequence, Totals};
+use bep_messages::Items;
+use folder_core::{Announcement, Place};
+use std::alloc::{AllocError, Global};
+use std::marker::Model;
+use sync_names::SafeName;
+use sync_record::{DeviceId, Record};
+
+/// What devices announce, by name, with this device's records by sequence and the blocks of its live files by digest. Reads
+/// ask for what changes have found: none looks at every record.
+#[derive(Drop)]
+pub struct Index {
+    names: ByName,
+    // This device's records.
+    records: BySequence,
+    // The blocks of its live files, under the sequences of the records.
+    places: ByDigest,
+}
+
+impl Model for Index {
+    ghost use Rattle.folder_index.specs.Indexes.{IndexState, coded_index};
+
+    ghost Value = { IndexState };
+
+    ghost coded = { coded_index };
+
+    ghost use Rattle.folder_index.specs.Locals.{IsIndex};
+
+    ghost view = { λ f. f.names };
+
+    ghost invariant = { λ f. IsIndex f.names f.records f.places };
+}
+
+impl Index {
+    /// No records. Does not allocate. O(1).
+    pub fn new(alloc: Global, me: DeviceId) -> Index
+        ensures { result ≡ record { me = me; announced = empty; choices = 0 } }
+    {
+        Index {
+            names: ByName::new(alloc, me),
+            records: BySequence::new(alloc),
+            places: ByDigest::new(alloc),
+        }
+    }
+
+    /// This device. O(1).
+    pub fn me(&self) -> DeviceId
+        ensures { result ≡ self.now.me }
+    {
+        self.names.me()
+    }
+
+    /// How often a best was chosen, up to the greatest number. O(1).
+    pub fn choices(&self) -> u64
+        ensures { result ≡ self.now.choices }
+    {
+        self.names.choices()
+    }
+
+    /// Puts a device's record, in place of what it announced of its name, and chooses the best of the name anew. This device's
+    /// record has a sequence that none of its records has. Returns `Err` only if out of memory, or if the other devices have
+    /// 2^64 - 2 records already, and then nothing changes. O(log n + k^2) for n names and k devices that announce the name,
+    /// and O(b log m) for this device's files, with b blocks in the old and the new one and m in all.
+    pub fn set(&mut self, device: DeviceId, announced: Record) -> Result<(), AllocError>
+        requires { device ≡ self.old.me → IsFree self.old announced.sequence }
+        ensures ok { OnOk result (self.new ≡ with_record device announced self.old) }
+        ensures err { OnErr result (self.new ≡ self.old) }
+    {
+        if device == self.names.me() {
+            set_own(
+                &mut self.names,
+                &mut self.records,
+                &mut self.places,
+                announced,
+            )
+        } else {
+            self.names.set(device, announced)
+        }
+    }
+
+    /// Takes away what a device announces of a name, if there is anything, and then chooses the best of the name anew. Does
+    /// not allocate. O(log n + k^2) for n names and k devices that announce the name, and O(b log m) for a file of this device,
+    /// with b blocks in the file and m in all.
+    pub fn clear(&mut self, device: DeviceId, name: &SafeName)
+        ensures { self.new ≡ without_record device name.now self.old }
+    {
+        if device == self.names.me() {
+            clear_own(&mut self.names, &mut self.records, &mut self.places, name);
+        } else {
+            self.names.clear(device, name);
+        }
+    }
+
+    /// The record that a device announces of a name, if there is one. O(log n + k) for n names and k devices that announce
+    /// the name.
+    pub fn get(&self, device: DeviceId, name: &SafeName) -> Option<&Record>
+        ensures { option_copied result ≡ get self.now.announced (key name.now device) }
+    {
+        self.names.get(device, name)
+    }
+
+    /// The best of a name, and the device that announces it; `None` where no valid record of the name is announced. O(log n)
+    /// for n names.
+    pub fn best(&self, name: &SafeName) -> Option<&Announcement>
+        ensures { option_map filed (option_copied result) ≡ best (entries self.now.announced) name.now }
+    {
+        self.names.best(name)
+    }
+
+    /// A copy of the best record of a name, and the devices whose valid record of the name has its version and its content;
+    /// `None` where no valid record of the name is announced. Returns `Err` only if out of memory, and never where it is
+    /// `None`. O(log n + k) for n names and k devices that announce the name, and the copy.
+    pub fn best_with_devices(&self, name: &SafeName) -> Result<Option<Best>, AllocError>
+        ensures found { IfOk result (λ b. option_map (λ b. (b.record, b.devices)) b
+            ≡ best_with_devices (folder self.now) name.now) }
+        ensures none { best_with_devices (folder self.now) name.now ≡ None → IsOk result }
+    {
+        self.names.best_with_devices(name)
+    }
+
+    /// The bests of the names greater than `after`, or of all names where it is `None`, in byte order of the names: the
+    /// first `limit` of them, or all where there are fewer. Returns `Err` only if out of memory. O(log n) for n names, and
+    /// O(k) for each name up to the last one of the page, with k devices that announce it, and the copies. An empty page does
+    /// not allocate.
+    pub fn bests(&self, after: Option<&SafeName>, limit: usize) -> Result<Items<Best>, AllocError>
+        ensures page { IfOk result (λ page. map (λ b. (b.record, b.devices)) page
+            ≡ bests_page (folder self.now) (option_copied after.entry) limit) }
+        ensures none { bests_page (folder self.now) (option_copied after.entry) limit ≡ [] → IsOk result }
+    {
+        self.names.bests(after, limit)
+    }
+
+    /// Whether this device needs the best of a name: its best is of another version than the local record, or there is no local
+    /// record and the best isn't deleted. O(log n) for n names.
+    pub fn needs(&self, name: &SafeName) -> bool
+        ensures { result ≡ needs self.now name.now }
+    {
+        self.names.needs(name)
+    }
+
+    /// The names greater than `after`, or all names where it is `None`, that this device needs, in byte order: the first
+    /// `limit` of them, or all where there are fewer. Returns `Err` only if out of memory. O(log n + p) for n names, p of them
+    /// up to the last one of the page, and the copies. An empty page does not allocate.
+    pub fn needed(
+        &self,
+        after: Option<&SafeName>,
+        limit: usize,
+    ) -> Result<Items<SafeName>, AllocError>
+        ensures page { IfOk result (λ page. page
+            ≡ need_page (folder self.now) (option_copied after.entry) limit) }
+        ensures none { need_page (folder self.now) (option_copied after.entry) limit ≡ [] → IsOk result }
+    {
+        self.names.need(after, limit)
+    }
+
+    /// How much there is. O(1).
+    pub fn totals(&self) -> Totals
+        ensures files { result.files ≡ (counts (folder self.now)).files }
+        ensures directories { result.directories ≡ (counts (folder self.now)).directories }
+        ensures deletions { result.deletions ≡ (counts (folder self.now)).deletions }
+        ensures needed { result.needed ≡ (counts (folder self.now)).needed }
+        ensures others { result.others ≡ (counts (folder self.now)).others }
+    {
+        self.names.totals()
+    }
+
+    /// The local records of greater sequence, in rising sequence: the first `limit` of them, but no more than have 1,000,000
+    /// blocks together, except that one record may have any number; or all where there are fewer. Returns `Err` only if out
+    /// of memory. O(log n + p) for n local records and p of the page, which are not copied but shared. An empty page does not
+    /// allocate.
+    pub fn page(&self, sequence: u64, limit: usize) -> Result<Items<Record>, AllocError>
+        ensures page { IfOk result (λ page. page ≡ local_since (folder self.now) sequence limit) }
+        ensures none { local_since (folder self.now) sequence limit ≡ [] → IsOk result }
+    {
+        self.records.page(sequence, limit)
+    }
+
+    /// Where a live local file has a block with this digest; `None` where there is none. Returns `Err` only if out of memory,
+    /// and never where there is none. O(log n) for n blocks, and the copy of the name.
+    pub fn place(&self, hash: &[u8; 32]) -> Result<Option<Place>, AllocError>
+        ensures found { IfOk result (λ place. IsSomePlace (folder self.now) hash.now place) }
+        ensures none { places (folder self.now) hash.now ≡ [] → IsOk result }
+    {
+        let Some((sequence, i)) = self.places.find(hash) else {
+            return Ok(None);
+        };
+        match self.records.get(sequence) {
+            Some(announced) => place_in(announced, i),
+            None => unreachable!(),
+        }
+    }
+}
+
+/// Where the block at this place of a file is. Returns `Err` only if out of memory.
+fn place_in(announced: &Record, i: usize) -> Result<Option<Place>, AllocError>
+    ensures { IfOk result (λ place. place ≡ option_map
+        (λ b. record { name = announced.now.name; offset = b.offset; size = b.size })
+        (slice_get announced.now.blocks i)) }
+{
+    let Some(block) = announced.blocks().get(i) else {
+        return Ok(None);
+    };
+    Ok(Some(Place {
+        name: announced.name().copy()?,
+        offset: block.offset,
+        size: block.size,
+    }))
+}
+
+/// Puts a record of this device, under a sequence that none of its records has. Returns `Err` only if out of memory, and then
+/// nothing changes.
+fn set_own(
+    names: &mut ByName,
+    records: &mut BySequence,
+    places: &mut ByDigest,
+    announced: Record,
+) -> Result<(), AllocError>
+    requires index { IsIndex names.old records.old places.old }
+    requires free { IsFree names.old announced.sequence }
+    ensures index { IsIndex names.new records.new places.new }
+    ensures ok { OnOk result (names.new ≡ with_record names.old.me announced names.old) }
+    ensures err { OnErr result (names.new ≡ names.old) }
+{
+    let me = names.me();
+    let sequence = announced.sequence();
+    let replaced = sequence_of(names.get(me, announced.name()));
+    file(records, places, &announced)?;
+    if names.set(me, announced).is_err() {
+        take_out(records, places, sequence);
+        return Err(AllocError);
+    }
+    if let Some(replaced) = replaced {
+        take_out(records, places, replaced);
+    }
+    Ok(())
+}
+
+/// Takes away this device's record of a name, if there is one. Does not allocate.
+fn clear_own(names: &mut ByName, records: &mut BySequence, places: &mut ByDigest, name: &SafeName)
+    requires { IsIndex names.old records.old places.old }
+    ensures index { IsIndex names.new records.new places.new }
+    ensures names { names.new ≡ without_record names.old.me name.now names.old }
+{
+    let me = names.me();
+    if let Some(sequence) = sequence_of(names.get(me, name)) {
+        take_out(records, places, sequence);
+    }
+    names.clear(me, name);
+}
