@@ -2,7 +2,7 @@
 use Rattle.std.proofs.Common.{◌≡◌, ◌≢◌, ℕ, zero, suc, ◌+◌, Bool, true, false, List, [], ◌∷◌, refl, sym, ap, subst, ◌∙◌, ◌⊎◌, inl, inr, arith}
 use Rattle.std.specs.Prelude.{◌||◌, cond, fold, Option, Some, None, Contains, slice_get}
 use Rattle.std.specs.Cmp.{Equal-is, nat_cmp_total, tied_itself}
-use Rattle.std.specs.FinMap.{IsAntisymmetric, empty, get, get-empty, get-insert, insert, nat_cmp-IsAntisymmetric, remove}
+use Rattle.std.specs.FinMap.{IsAntisymmetric, empty, get, get-empty, get-insert, insert, nat_cmp-IsAntisymmetric, remove, same_map}
 use Rattle.std.specs.List.{enumerate_from, list_any}
 use Rattle.std.specs.Option.{option_map_or}
 use Rattle.std.specs.Ordering.{eq_by_cmp, is_eq, nat_cmp}
@@ -81,6 +81,27 @@ module _ (owner : ℕ) where
       by (inl f) = first (insert_split places_total places_exact m (x.hash, owner) (hash, owner) n i f)
       by (inr f) = inr (suc f.0, f.1, (let a = f.2 in omega arith), f.3, f.4)
 
+-- blocks are put over what is there, and not beside it alone
+over : (owner n : ℕ) (bs : List Block) (m p : Places) (q : Spot) → get m q ≡ get p q → get (numbered owner n bs m) q ≡ get (numbered owner n bs p) q
+over owner n [] m p q same = same
+over owner n (b ∷ bs) m p q same =
+    over owner (n + 1) bs (insert m (b.hash, owner) n) (insert p (b.hash, owner) n) q
+    (get-insert places_total m (b.hash, owner) n q ∙ ap (cond (is_here owner q b) (Some n)) same ∙ sym (get-insert places_total p (b.hash, owner) n q))
+
+-- blocks of two owners are put and taken away in any order
+pub in_any_order : (o n : ℕ) (bs cs : List Block) (m : Places) → o ≢ n → with_blocks o bs (without_blocks n cs m) ≡ without_blocks n cs (with_blocks o bs m)
+in_any_order o n bs cs m unlike = same_map places_total places_exact (with_blocks o bs (without_blocks n cs m)) (without_blocks n cs (with_blocks o bs m)) (λ q. by q (cases_eq q.1 o))
+  where
+    by : (q : Spot) → (q.1 ≡ o) ⊎ (q.1 ≢ o) → get (with_blocks o bs (without_blocks n cs m)) q ≡ get (without_blocks n cs (with_blocks o bs m)) q
+    by q (inl s) =
+        let other : q.1 ≢ n = λ t. unlike (sym s ∙ t) in
+        over o 0 bs (without_blocks n cs m) m q (without_other n q.0 q.1 other cs m) ∙ sym (without_other n q.0 q.1 other cs (with_blocks o bs m))
+    by q (inr other) =
+        with_other o q.0 q.1 other bs (without_blocks n cs m)
+        ∙ get-without n cs m q
+        ∙ ap (cond (list_any (is_here n q) cs) None) (sym (with_other o q.0 q.1 other bs m))
+        ∙ sym (get-without n cs (with_blocks o bs m) q)
+
 -- ---- the blocks of a sequence's record
 
 module _ (records : Sequenced) (q : ℕ) where
@@ -114,6 +135,14 @@ item_in [] i b e = absurd (none-some b e)
 item_in (x ∷ bs) zero b e = inl (let s : Some x ≡ Some b = e in cc)
 item_in (x ∷ bs) (suc i) b e = inr (item_in bs i b e)
 
+-- what is put where something was taken away is put in its place
+put_again : (records : Sequenced) (q : ℕ) (r : FileRecord) → insert (remove records q) q r ≡ insert records q r
+put_again records q r = same_map nat_cmp_total exact (insert (remove records q) q r) (insert records q r) (λ p. by p (cases_eq p q))
+  where
+    by : (p : ℕ) → (p ≡ q) ⊎ (p ≢ q) → get (insert (remove records q) q r) p ≡ get (insert records q r) p
+    by p (inl s) = ap (get (insert (remove records q) q r)) s ∙ insert_here nat_cmp_total exact (remove records q) q r ∙ sym (ap (get (insert records q r)) s ∙ insert_here nat_cmp_total exact records q r)
+    by p (inr other) = insert_other nat_cmp_total exact (remove records q) q p r other ∙ remove_other nat_cmp_total exact records q p other ∙ sym (insert_other nat_cmp_total exact records q p r other)
+
 -- ---- records that are filed and taken out
 
 pub nothing_filed : (number : ℕ → ℕ) → AreFiled number empty empty
@@ -121,6 +150,14 @@ nothing_filed number = record {
   has = λ q b c. absurd (no_element (blocks_at empty q) b (none_at empty q (get-empty nat_cmp q)) c);
   only = λ hash o i e. absurd (none-some i (sym (get-empty place_cmp (hash, o)) ∙ e));
 }
+
+-- no block is under a number that no sequence has
+pub unused_at : (number : ℕ → ℕ) (records : Sequenced) (places : Places) (are : AreFiled number records places) (o : ℕ) → ((p : ℕ) → o ≢ number p) → (hash : Bytes) → get places (hash, o) ≡ None
+unused_at number records places are o unlike hash = by (at_some (get places (hash, o)))
+  where
+    by : (get places (hash, o) ≡ None) ⊎ ((i : ℕ) × (get places (hash, o) ≡ Some i)) → get places (hash, o) ≡ None
+    by (inl e) = e
+    by (inr s) = let f = are.only hash o s.0 s.1 in absurd (unlike f.0 f.2)
 
 module _ (number : ℕ → ℕ) (apart : (p q : ℕ) → number p ≡ number q → p ≡ q) (records : Sequenced) (places : Places) (are : AreFiled number records places) (q : ℕ) where
   -- no block is under the number of a sequence without a record
@@ -186,3 +223,26 @@ module _ (number : ℕ → ℕ) (apart : (p q : ℕ) → number p ≡ number q �
           (is_itself (number q) old.1 hash o (sym old.4) (old.2 ∙ ap number s)))
           ∙ k.0) in
           (old.0, old.1, old.2, ap (λ bs. slice_get bs i) (removed_at records q old.0 other) ∙ old.3, old.4)
+
+  -- a sequence without a record may have another number
+  pub renumbered : (next : ℕ → ℕ) → get records q ≡ None → ((p : ℕ) → p ≢ q → next p ≡ number p) → AreFiled next records places
+  renumbered next none same = record {
+    has = λ p b c.
+        let old = are.has p b c in
+        (old.0, ap (λ n. get places (b.hash, n)) (same p (λ s. no_element (blocks_at records p) b (ap (blocks_at records) s ∙ none_at records q none) c)) ∙ old.1);
+    only = λ hash o i e.
+        let old = are.only hash o i e in
+        (old.0, old.1, old.2 ∙ sym (same old.0 (λ s. no_item (blocks_at records old.0) i old.1 (ap (blocks_at records) s ∙ none_at records q none) old.3)), old.3, old.4);
+  }
+
+-- a record is put in place of the one of its sequence, with its blocks under another number
+pub exchanged : (number next : ℕ → ℕ) (apart : (p q : ℕ) → number p ≡ number q → p ≡ q) (afterwards : (p q : ℕ) → next p ≡ next q → p ≡ q) (records : Sequenced) (places : Places) (are : AreFiled number records places) (q : ℕ) (r : FileRecord)
+    → ((p : ℕ) → p ≢ q → next p ≡ number p) → next q ≢ number q
+    → AreFiled next (insert records q r) (without_blocks (number q) (blocks_at records q) (with_blocks (next q) (live_blocks r) places))
+exchanged number next apart afterwards records places are q r same unlike =
+    let taken = unfiled number apart records places are q in
+    let none = remove_here nat_cmp_total exact records q in
+    let left = without_blocks (number q) (blocks_at records q) places in
+    let put = filed next afterwards (remove records q) left (renumbered number apart (remove records q) left taken q next none same) q r none in
+    subst (λ m. AreFiled next m (without_blocks (number q) (blocks_at records q) (with_blocks (next q) (live_blocks r) places))) (put_again records q r)
+    (subst (AreFiled next (insert (remove records q) q r)) (in_any_order (next q) (number q) (live_blocks r) (blocks_at records q) places unlike) put)

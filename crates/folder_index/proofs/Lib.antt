@@ -12,6 +12,7 @@ pub mod Sequenced
 pub mod Digested
 pub mod Filed
 pub mod Locals
+pub mod Numbered
 pub mod Since
 pub mod Placed
 pub mod Indexed

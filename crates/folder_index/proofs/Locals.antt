@@ -1,15 +1,16 @@
 -- The local records by sequence, as what is announced changes.
 use Rattle.std.proofs.Common.{◌≡◌, ◌≢◌, ℕ, ◌<◌, ◌^◌, refl, sym, ap, subst, ◌∙◌, ◌⊎◌, inl, inr}
-use Rattle.std.specs.Prelude.{Option, Some, None}
+use Rattle.std.specs.Prelude.{bytes_eq, Bool, true, false, Option, Some, None}
 use Rattle.std.specs.Cmp.{nat_cmp_total}
 use Rattle.std.specs.FinMap.{IsAntisymmetric, empty, get, get-empty, insert, nat_cmp-IsAntisymmetric, remove}
 use Rattle.std.specs.Ordering.{nat_cmp}
+use Rattle.std.proofs.lemmas.Bool.{true≢false}
 use Rattle.std.proofs.lemmas.Option.{none-some}
 use Rattle.sync_record.specs.Devices.{Identity}
 use Rattle.sync_record.specs.Records.{Name, FileRecord}
 use Rattle.folder_core.specs.Announced.{Announced, IsNamed, Key, key, key_cmp}
 use Rattle.folder_core.proofs.AnnouncedMaps.{insert_apart, insert_here, insert_other, insert_split, remove_other, remove_split}
-use Rattle.folder_core.proofs.ListTests.{inside}
+use Rattle.folder_core.proofs.ListTests.{alike_bytes, inside, same_bytes}
 use Rattle.folder_core.proofs.Orders.{exact_keys, keys_total}
 use Rattle.folder_index.specs.Locals.{AreLocals}
 use Rattle.folder_index.specs.Sequences.{Sequenced}
@@ -94,58 +95,72 @@ module _ (me : Identity) (a : Announced) (records : Sequenced) (are : AreLocals 
         );
   }
 
-  -- a local record is put under a sequence that no local record has
-  module _ (r : FileRecord) (low : r.sequence < 2 ^ 63) (free : (n : Name) (x : FileRecord) → get a (key n me) ≡ Some x → x.sequence ≢ r.sequence) where
-    pub free_sequence : get records r.sequence ≡ None
-    free_sequence = by (get records r.sequence) refl
+  -- a local record is put under a sequence that no local record of another name has
+  module _ (r : FileRecord) (low : r.sequence < 2 ^ 63) (free : (n : Name) (x : FileRecord) → get a (key n me) ≡ Some x → n ≢ r.name → x.sequence ≢ r.sequence) where
+    pub free_sequence : ((x : FileRecord) → get a (key r.name me) ≡ Some x → x.sequence ≢ r.sequence) → get records r.sequence ≡ None
+    free_sequence unlike = by (get records r.sequence) refl
       where
+        either : (x : FileRecord) → (x.sequence ≡ r.sequence) × (r.sequence < 2 ^ 63) × (get a (key x.name me) ≡ Some x) → (t : Bool) → bytes_eq x.name r.name ≡ t → ⊥
+        either x own true t = unlike x (ap (λ n. get a (key n me)) (sym (same_bytes x.name r.name t)) ∙ own.2) own.0
+        either x own false t = free x.name x own.2 (λ s. true≢false (sym (alike_bytes x.name r.name s) ∙ t)) own.0
+
         by : (o : Option FileRecord) → get records r.sequence ≡ o → get records r.sequence ≡ None
         by None e = e
-        by (Some x) e = let own = are.only r.sequence x e in absurd (free x.name x own.2 own.0)
+        by (Some x) e = absurd (either x (are.only r.sequence x e) (bytes_eq x.name r.name) refl)
 
-    own_kept : (n : Name) (x : FileRecord) → get (insert a (key r.name me) r) (key n me) ≡ Some x → (get (insert records r.sequence r) x.sequence ≡ Some x) × ((r ≡ x) ⊎ ((key n me ≢ key r.name me) × (get a (key n me) ≡ Some x)))
+    own_kept : (n : Name) (x : FileRecord) → get (insert a (key r.name me) r) (key n me) ≡ Some x → (get (insert records r.sequence r) x.sequence ≡ Some x) × ((r ≡ x) ⊎ ((n ≢ r.name) × (get a (key n me) ≡ Some x)))
     own_kept n x e = by (insert_apart keys_total exact_keys a (key r.name me) (key n me) r x e)
       where
-        by : ((key n me ≡ key r.name me) × (r ≡ x)) ⊎ ((key n me ≢ key r.name me) × (get a (key n me) ≡ Some x)) → (get (insert records r.sequence r) x.sequence ≡ Some x) × ((r ≡ x) ⊎ ((key n me ≢ key r.name me) × (get a (key n me) ≡ Some x)))
+        by : ((key n me ≡ key r.name me) × (r ≡ x)) ⊎ ((key n me ≢ key r.name me) × (get a (key n me) ≡ Some x)) → (get (insert records r.sequence r) x.sequence ≡ Some x) × ((r ≡ x) ⊎ ((n ≢ r.name) × (get a (key n me) ≡ Some x)))
         by (inl s) = (ap (λ (y : FileRecord). get (insert records r.sequence r) y.sequence) (sym s.1) ∙ insert_here nat_cmp_total exact records r.sequence r ∙ ap Some s.1, inl s.1)
-        by (inr old) = (insert_other nat_cmp_total exact records r.sequence x.sequence r (free n x old.1) ∙ are.has n x old.1, inr old)
+        by (inr old) =
+            let other : n ≢ r.name = λ s. old.0 (ap (λ m. key m me) s) in
+            (insert_other nat_cmp_total exact records r.sequence x.sequence r (free n x old.1 other) ∙ are.has n x old.1, inr (other, old.1))
 
-    own_only : (q : ℕ) (x : FileRecord) → get (insert records r.sequence r) q ≡ Some x → (get records q ≡ Some x → get (insert a (key r.name me) r) (key x.name me) ≡ Some x) → (x.sequence ≡ q) × (q < 2 ^ 63) × (get (insert a (key r.name me) r) (key x.name me) ≡ Some x)
-    own_only q x e old = by (insert_split nat_cmp_total exact records r.sequence q r x e)
+    own_only : (q : ℕ) (x : FileRecord) → get (insert records r.sequence r) q ≡ Some x → (q ≢ r.sequence → get records q ≡ Some x → key x.name me ≢ key r.name me) → (x.sequence ≡ q) × (q < 2 ^ 63) × (get (insert a (key r.name me) r) (key x.name me) ≡ Some x)
+    own_only q x e other = by (insert_apart nat_cmp_total exact records r.sequence q r x e)
       where
-        by : ((q ≡ r.sequence) × (r ≡ x)) ⊎ (get records q ≡ Some x) → (x.sequence ≡ q) × (q < 2 ^ 63) × (get (insert a (key r.name me) r) (key x.name me) ≡ Some x)
+        by : ((q ≡ r.sequence) × (r ≡ x)) ⊎ ((q ≢ r.sequence) × (get records q ≡ Some x)) → (x.sequence ≡ q) × (q < 2 ^ 63) × (get (insert a (key r.name me) r) (key x.name me) ≡ Some x)
         by (inl s) = (
           ap sequence_of (sym s.1) ∙ sym s.0,
           subst (λ p. p < 2 ^ 63) (sym s.0) low,
           ap (λ (y : FileRecord). get (insert a (key r.name me) r) (key y.name me)) (sym s.1) ∙ insert_here keys_total exact_keys a (key r.name me) r ∙ ap Some s.1,
         )
-        by (inr there) = let own = are.only q x there in (own.0, own.1, old there)
+        by (inr there) =
+            let own = are.only q x there.1 in
+            (own.0, own.1, insert_other keys_total exact_keys a (key r.name me) (key x.name me) r (other there.0 there.1) ∙ own.2)
 
     -- of a name without one
     pub own_set : get a (key r.name me) ≡ None → AreLocals me (insert a (key r.name me) r) (insert records r.sequence r)
     own_set none = record {
       named = named_set me r;
       has = λ n x e. (own_kept n x e).0;
-      only = λ q x e. own_only q x e (λ there.
-          let own = are.only q x there in
-          insert_other keys_total exact_keys a (key r.name me) (key x.name me) r (λ same. none-some x (sym none ∙ ap (get a) (sym same) ∙ own.2)) ∙ own.2);
+      only = λ q x e. own_only q x e (λ unlike there same. none-some x (sym none ∙ ap (get a) (sym same) ∙ (are.only q x there).2));
     }
 
-    -- in place of another
-    pub own_replaced : (o : FileRecord) → get a (key r.name me) ≡ Some o → AreLocals me (insert a (key r.name me) r) (remove (insert records r.sequence r) o.sequence)
-    own_replaced o there = record {
-      named = named_set me r;
-      has = λ n x e. let k = own_kept n x e in remove_other nat_cmp_total exact (insert records r.sequence r) o.sequence x.sequence (other n x k.1) ∙ k.0;
-      only = λ q x e.
-          let left = remove_split nat_cmp_total exact (insert records r.sequence r) o.sequence q x e in
-          own_only q x left.1 (λ old.
-          let own = are.only q x old in
-          insert_other keys_total exact_keys a (key r.name me) (key x.name me) r
-          (λ same. left.0 (sym own.0 ∙ ap sequence_of (one_named r.name x o (ap (get a) (sym same) ∙ own.2) there)))
-          ∙ own.2);
-    }
-      where
-        other : (n : Name) (x : FileRecord) → (r ≡ x) ⊎ ((key n me ≢ key r.name me) × (get a (key n me) ≡ Some x)) → x.sequence ≢ o.sequence
-        other n x (inl same) e = free r.name o there (sym (ap sequence_of same ∙ e))
-        other n x (inr old) e =
-            old.0 (ap (λ k. key k me) (sym (are.named (key n me) x old.1) ∙ ap name_of (one_each n r.name x o old.1 there e) ∙ are.named (key r.name me) o there))
+    module _ (o : FileRecord) (was : get a (key r.name me) ≡ Some o) where
+      -- a record that was there is not of the sequence of the one that is replaced
+      unlike_was : (q : ℕ) (x : FileRecord) → get records q ≡ Some x → q ≢ o.sequence → key x.name me ≢ key r.name me
+      unlike_was q x there unlike same = let own = are.only q x there in unlike (sym own.0 ∙ ap sequence_of (one_named r.name x o (ap (get a) (sym same) ∙ own.2) was))
+
+      -- in place of one of another sequence
+      pub own_replaced : o.sequence ≢ r.sequence → AreLocals me (insert a (key r.name me) r) (remove (insert records r.sequence r) o.sequence)
+      own_replaced unlike = record {
+        named = named_set me r;
+        has = λ n x e. let k = own_kept n x e in remove_other nat_cmp_total exact (insert records r.sequence r) o.sequence x.sequence (other n x k.1) ∙ k.0;
+        only = λ q x e.
+            let left = remove_split nat_cmp_total exact (insert records r.sequence r) o.sequence q x e in
+            own_only q x left.1 (λ _ there. unlike_was q x there left.0);
+      }
+        where
+          other : (n : Name) (x : FileRecord) → (r ≡ x) ⊎ ((n ≢ r.name) × (get a (key n me) ≡ Some x)) → x.sequence ≢ o.sequence
+          other n x (inl same) e = unlike (sym (ap sequence_of same ∙ e))
+          other n x (inr old) e = old.0 (sym (are.named (key n me) x old.1) ∙ ap name_of (one_each n r.name x o old.1 was e) ∙ are.named (key r.name me) o was)
+
+      -- in place of one of its sequence
+      pub own_exchanged : o.sequence ≡ r.sequence → AreLocals me (insert a (key r.name me) r) (insert records r.sequence r)
+      own_exchanged same = record {
+        named = named_set me r;
+        has = λ n x e. (own_kept n x e).0;
+        only = λ q x e. own_only q x e (λ unlike there. unlike_was q x there (λ s. unlike (s ∙ same)));
+      }

@@ -1,5 +1,5 @@
 -- Where a block is found is one of the folder's places.
-use Rattle.std.proofs.Common.{◌≡◌, ℕ, ◌<◌, ◌^◌, Bool, true, false, [], refl, sym, ap, subst, ◌∙◌, arith}
+use Rattle.std.proofs.Common.{◌≡◌, ℕ, ◌/◌, ◌<◌, ◌^◌, Bool, true, false, [], refl, sym, ap, subst, ◌∙◌}
 use Rattle.std.specs.Prelude.{cond, Option, Some, None, Contains, option_map, slice_get}
 use Rattle.std.specs.FinMap.{get}
 use Rattle.std.proofs.lemmas.Option.{none-some}
@@ -10,11 +10,12 @@ use Rattle.folder_core.specs.Codes.{Bytes}
 use Rattle.folder_core.specs.Reads.{IsSomePlace, places as places_of}
 use Rattle.folder_core.proofs.ListTests.{In, contains_in, in_contains, inside}
 use Rattle.folder_core.proofs.ReadAnswers.{no_place-read, place-read}
-use Rattle.folder_index.specs.Digests.{Places}
+use Rattle.folder_index.specs.declared.local.Local.{Local}
 use Rattle.folder_index.specs.Indexes.{IndexState, folder}
 use Rattle.folder_index.specs.Locals.{IsIndex, blocks_at, live_blocks}
-use Rattle.folder_index.specs.Sequences.{Sequenced}
+use Rattle.folder_index.specs.Numbers.{number_of}
 use Rattle.folder_index.proofs.Filed.{item_in, none_at, some_at}
+use Rattle.folder_index.proofs.Numbered.{number_fits, sequence_told}
 
 -- a record with a block is a live file, and the block is one of its blocks
 live_block : (r : FileRecord) (i : ℕ) (b : Block) → slice_get (live_blocks r) i ≡ Some b → (is_live_file r ≡ true) × (slice_get r.blocks i ≡ Some b)
@@ -24,19 +25,19 @@ live_block r i b e = by (is_live_file r) refl e
     by true t f = (t, f)
     by false t f = absurd (none-some b f)
 
-module _ (s : IndexState) (records : Sequenced) (places : Places) (is : IsIndex s records places) (hash : Bytes) where
-  -- what is found under a digest
+module _ (s : IndexState) (l : Local) (is : IsIndex s l) (hash : Bytes) where
+  -- what is found under a digest, of a sequence
   pub record Found (q i : ℕ) : Type 0 where
     pub it : FileRecord
     pub block : Block
-    pub filed : get records q ≡ Some it
+    pub filed : get l.records q ≡ Some it
     pub at : slice_get it.blocks i ≡ Some block
     pub place : IsSomePlace (folder s) hash (Some (record { name = it.name; offset = block.offset; size = block.size }))
 
-  found_by : (q i : ℕ) (b : Block) → slice_get (blocks_at records q) i ≡ Some b → b.hash ≡ hash → (o : Option FileRecord) → get records q ≡ o → Found q i
-  found_by q i b at same None e = absurd (none-some b (sym (ap (λ bs. slice_get bs i) (none_at records q e)) ∙ at))
+  found_by : (q i : ℕ) (b : Block) → slice_get (blocks_at l.records q) i ≡ Some b → b.hash ≡ hash → (o : Option FileRecord) → get l.records q ≡ o → Found q i
+  found_by q i b at same None e = absurd (none-some b (sym (ap (λ bs. slice_get bs i) (none_at l.records q e)) ∙ at))
   found_by q i b at same (Some r) e =
-      let live = live_block r i b (ap (λ bs. slice_get bs i) (sym (some_at records q r e)) ∙ at) in
+      let live = live_block r i b (ap (λ bs. slice_get bs i) (sym (some_at l.records q r e)) ∙ at) in
       record {
         it = r;
         block = b;
@@ -46,25 +47,25 @@ module _ (s : IndexState) (records : Sequenced) (places : Places) (is : IsIndex 
             (r.name, r, b, (is.locals.only q r e).2, live.0, in_contains r.blocks b (item_in r.blocks i b live.1), same, refl);
       }
 
-  pub found_at : (q i : ℕ) → get places (hash, q) ≡ Some i → Found q i
-  found_at q i e =
-      let f = is.filed.only hash q i e in
-      subst (λ p. Found p i) (sym f.2) (found_by f.0 i f.1 f.3 f.4 (get records f.0) refl)
+  pub found_at : (o i : ℕ) → get l.places (hash, o) ≡ Some i → Found (o / 2) i
+  found_at o i e =
+      let f = is.filed.only hash o i e in
+      subst (λ p. Found p i) (sym (ap (λ n. n / 2) f.2 ∙ sequence_told l.numbers f.0)) (found_by f.0 i f.1 f.3 f.4 (get l.records f.0) refl)
 
-  pub nowhere : ((q : ℕ) → q < 2 ^ 64 → get places (hash, q) ≡ None) → IsSomePlace (folder s) hash None
+  pub nowhere : ((o : ℕ) → o < 2 ^ 64 → get l.places (hash, o) ≡ None) → IsSomePlace (folder s) hash None
   nowhere none = (no_place-read (folder s) hash).1 (λ p there.
       let r = there.1 in
       let filed = is.locals.has there.0 r there.3 in
       let low = (is.locals.only r.sequence r filed).1 in
       let blocks : live_blocks r ≡ r.blocks = ap (λ t. cond t r.blocks []) there.4 in
-      let block = is.filed.has r.sequence there.2 (subst (λ bs. Contains bs there.2) (sym (some_at records r.sequence r filed ∙ blocks)) there.5) in
-      none-some block.0 (sym (ap (λ h. get places (h, r.sequence)) there.6 ∙ none r.sequence (omega arith)) ∙ block.1))
+      let block = is.filed.has r.sequence there.2 (subst (λ bs. Contains bs there.2) (sym (some_at l.records r.sequence r filed ∙ blocks)) there.5) in
+      none-some block.0 (sym (ap (λ h. get l.places (h, number_of l.numbers r.sequence)) there.6 ∙ none (number_of l.numbers r.sequence) (number_fits l.numbers r.sequence low)) ∙ block.1))
 
   abbrev pub placed : FileRecord → Block → Place
   placed r b = record { name = r.name; offset = b.offset; size = b.size }
 
   -- the place that is made of what is found
-  pub is_found : (q i : ℕ) (f : Found q i) (r : FileRecord) → Some r ≡ get records q → option_map (placed r) (slice_get r.blocks i) ≡ Some (placed f.it f.block)
+  pub is_found : (q i : ℕ) (f : Found q i) (r : FileRecord) → Some r ≡ get l.records q → option_map (placed r) (slice_get r.blocks i) ≡ Some (placed f.it f.block)
   is_found q i f r there =
       let same : r ≡ f.it = inside r f.it (there ∙ f.filed) in
       ap (λ (x : FileRecord). option_map (placed x) (slice_get x.blocks i)) same ∙ ap (option_map (placed f.it)) f.at

@@ -26,7 +26,21 @@ module _ {A E : Type 0} {P : Type 0} where
   of_err (Ok x) t p = absurd (true≢false (sym t))
   of_err (Err e) t p = p
 
+module _ {A E P : Type 0} where
+  pub on_any_err : (r : Result A E) → P → OnErr r P
+  on_any_err (Ok x) p = tt
+  on_any_err (Err e) p = p
+
 module _ {A E P Q R : Type 0} where
   pub whichever : (r : Result A E) → OnOk r P → OnErr r Q → (P → R) → (Q → R) → R
   whichever (Ok x) p q ok err = ok p
   whichever (Err e) p q ok err = err q
+
+module _ {A E : Type 0} where
+  pub both : (P Q : Type 0) (r : Result A E) → OnOk r P → OnOk r Q → OnOk r (P × Q)
+  both P Q (Ok x) p q = (p, q)
+  both P Q (Err e) p q = tt
+
+  pub both_err : (P Q : Type 0) (r : Result A E) → OnErr r P → OnErr r Q → OnErr r (P × Q)
+  both_err P Q (Ok x) p q = tt
+  both_err P Q (Err e) p q = (p, q)

@@ -40,6 +40,10 @@ module _ {K X : Type 0} (R : K → K → Ordering) where
   pub get_of : (es : List (K × X)) → IsStrictlySortedBy R (keys_of es) → (q : K) → lookup (is_at (R q)) es ≡ get (from_sorted {R = R} es) q
   get_of es s q = lookup_is q es ∙ sym (get-from_sorted R es q (sorted_of es s))
 
+-- no entries
+pub none_sorted : {K X : Type 0} (R : K → K → Ordering) → from_sorted {K = K} {X = X} {R = R} [] ≡ empty
+none_sorted R = empty_of_len (from_sorted []) (len-entries (from_sorted []) ∙ ap length (entries-from_sorted R [] tt))
+
 module _ {K X : Type 0} {R : K → K → Ordering} (o : IsTotalOrder R) (same : IsAntisymmetric R) (old new : List (K × X)) (s : IsStrictlySortedBy R (keys_of old)) (t : IsStrictlySortedBy R (keys_of new)) where
   equivalence : IsEquivalence (eq_by_cmp R)
   equivalence = eq_by_cmp_equiv o
@@ -100,7 +104,7 @@ pub sequence_removed : (old new : Sequences) (k : ℕ) → IsStrictlySortedBy na
 sequence_removed old new k s t at = removed nat_cmp_total exact old new s t k at
 
 pub none_sequenced : from_sorted {K = ℕ} {X = FileRecord} {R = nat_cmp} [] ≡ empty
-none_sequenced = empty_of_len (from_sorted []) (len-entries (from_sorted []) ∙ ap length (entries-from_sorted nat_cmp [] tt))
+none_sequenced = none_sorted nat_cmp
 
 abbrev pub record_of : ℕ × FileRecord → FileRecord
 record_of e = e.1

@@ -4,4 +4,5 @@ pub mod Indexes
 pub mod Groups
 pub mod Sequences
 pub mod Digests
+pub mod Numbers
 pub mod Locals

@@ -1,14 +1,16 @@
 -- The local records by their sequences, and where the blocks of the live files among them are.
-use Rattle.std.specs.Prelude.{◌≡◌, ◌≢◌, ℕ, ◌<◌, ◌^◌, List, [], Contains, Some, if◌then◌else◌, slice_get}
-use Rattle.std.specs.FinMap.{get}
+use Rattle.std.specs.Prelude.{◌≡◌, ◌≢◌, ℕ, ◌<◌, ◌^◌, List, [], Contains, Some, if◌then◌else◌, not, slice_get}
+use Rattle.std.specs.FinMap.{empty, get, insert, remove}
 use Rattle.std.specs.Option.{option_map_or}
 use Rattle.sync_blocks.specs.declared.block.Block.{Block}
 use Rattle.sync_record.specs.Devices.{Identity}
 use Rattle.sync_record.specs.Records.{Name, FileRecord, is_live_file}
 use Rattle.folder_core.specs.Announced.{Announced, IsNamed, key}
 use Rattle.folder_core.specs.Codes.{Bytes}
-use Rattle.folder_index.specs.Digests.{Places}
+use Rattle.folder_index.specs.declared.local.Local.{Local}
+use Rattle.folder_index.specs.Digests.{Places, with_blocks, without_blocks}
 use Rattle.folder_index.specs.Indexes.{IndexState}
+use Rattle.folder_index.specs.Numbers.{is_second, number_of, other_number_of}
 use Rattle.folder_index.specs.Sequences.{Sequenced}
 
 -- the blocks of a live file
@@ -18,6 +20,50 @@ live_blocks r = if is_live_file r then r.blocks else []
 -- those of the record of a sequence
 abbrev pub blocks_at : Sequenced → ℕ → List Block
 blocks_at records q = option_map_or live_blocks (get records q) []
+
+-- nothing is kept
+abbrev pub no_local : Local
+no_local = record { records = empty; places = empty; numbers = empty }
+
+-- the record is filed under its sequence, with its blocks
+abbrev pub with_filed : FileRecord → Local → Local
+with_filed r l = record {
+  records = insert l.records r.sequence r;
+  places = with_blocks (number_of l.numbers r.sequence) (live_blocks r) l.places;
+  numbers = l.numbers;
+}
+
+-- the record of a sequence is taken out, with its blocks
+abbrev pub without_filed : ℕ → Local → Local
+without_filed q l = record {
+  records = remove l.records q;
+  places = without_blocks (number_of l.numbers q) (blocks_at l.records q) l.places;
+  numbers = l.numbers;
+}
+
+-- the blocks of a record are put beside those of the record of its sequence
+abbrev pub with_prepared : FileRecord → Local → Local
+with_prepared r l = record {
+  records = l.records;
+  places = with_blocks (other_number_of l.numbers r.sequence) (live_blocks r) l.places;
+  numbers = insert l.numbers r.sequence (is_second l.numbers r.sequence);
+}
+
+-- they are taken away again
+abbrev pub without_prepared : FileRecord → Local → Local
+without_prepared r l = record {
+  records = l.records;
+  places = without_blocks (other_number_of l.numbers r.sequence) (live_blocks r) l.places;
+  numbers = l.numbers;
+}
+
+-- the record whose blocks were prepared takes the place of the one of its sequence
+abbrev pub with_exchanged : FileRecord → Local → Local
+with_exchanged r l = record {
+  records = insert l.records r.sequence r;
+  places = without_blocks (number_of l.numbers r.sequence) (blocks_at l.records r.sequence) l.places;
+  numbers = insert l.numbers r.sequence (not (is_second l.numbers r.sequence));
+}
 
 -- What holds of the local records by sequence: each is under its own, and there are no others.
 pub record AreLocals (me : Identity) (announced : Announced) (records : Sequenced) : Type 0 where
@@ -31,15 +77,11 @@ pub record AreFiled (number : ℕ → ℕ) (records : Sequenced) (places : Place
   pub has : (q : ℕ) (b : Block) → Contains (blocks_at records q) b → (i : ℕ) × (get places (b.hash, number q) ≡ Some i)
   pub only : (hash : Bytes) (o i : ℕ) → get places (hash, o) ≡ Some i → (q : ℕ) × (b : Block) × (o ≡ number q) × (slice_get (blocks_at records q) i ≡ Some b) × (b.hash ≡ hash)
 
--- the number under which the blocks of a sequence's record are
-abbrev pub own_number : ℕ → ℕ
-own_number q = q
-
 -- What holds of an index.
-pub record IsIndex (s : IndexState) (records : Sequenced) (places : Places) : Type 0 where
-  pub locals : AreLocals s.me s.announced records
-  pub filed : AreFiled own_number records places
+pub record IsIndex (s : IndexState) (l : Local) : Type 0 where
+  pub locals : AreLocals s.me s.announced l.records
+  pub filed : AreFiled (number_of l.numbers) l.records l.places
 
--- no local record has the sequence
-abbrev pub IsFree : IndexState → ℕ → Type 0
-IsFree s q = (n : Name) (r : FileRecord) → get s.announced (key n s.me) ≡ Some r → r.sequence ≢ q
+-- no local record of another name has the sequence
+abbrev pub IsFree : IndexState → Name → ℕ → Type 0
+IsFree s n q = (m : Name) (r : FileRecord) → get s.announced (key m s.me) ≡ Some r → m ≢ n → r.sequence ≢ q

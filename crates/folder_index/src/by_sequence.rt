@@ -1,4 +1,4 @@
-ghost use Rattle.std.specs.Prelude.{◌≡◌, ◌&&◌, ◌||◌, [], IfOk, IsOk, OnErr, OnOk, filter, nat_le, nat_lt, option_copied};
+ghost use Rattle.std.specs.Prelude.{◌≡◌, ◌&&◌, ◌||◌, [], IfOk, IsOk, None, OnErr, OnOk, filter, nat_le, nat_lt, option_copied};
 ghost use Rattle.std.specs.FinMap.{empty, get, insert, remove, values};
 ghost use Rattle.folder_core.specs.Reads.{max_page_blocks, page_of};
 
@@ -50,11 +50,12 @@ impl BySequence {
         self.records.get(&sequence)
     }
 
-    /// Puts a record under its sequence, in place of the one that was there. Returns `Err` only if out of memory, and then
-    /// nothing changes. O(log n) for n records.
+    /// Puts a record under its sequence, in place of the one that was there. Returns `Err` only if out of memory, and never
+    /// where one was there; then nothing changes. O(log n) for n records.
     pub fn insert(&mut self, announced: Record) -> Result<(), AllocError>
         ensures ok { OnOk result (self.new ≡ insert self.old announced.sequence announced) }
         ensures err { OnErr result (self.new ≡ self.old) }
+        ensures absent { OnErr result (get self.old announced.sequence ≡ None) }
     {
         self.records.insert(announced.sequence(), announced)?;
         Ok(())

@@ -1,13 +1,14 @@
-ghost use Rattle.std.specs.Prelude.{◌≡◌, [], IfOk, IsOk, None, OnErr, OnOk, map, option_copied, option_map, slice_get};
+ghost use Rattle.std.specs.Prelude.{◌≡◌, ℕ, [], List, IfOk, IsOk, None, OnErr, OnOk, Some, map, option_copied, option_map, slice_get};
 ghost use Rattle.std.specs.FinMap.{empty, entries, get};
 ghost use Rattle.folder_core.specs.Announced.{best, key};
 ghost use Rattle.folder_core.specs.Plain.{filed};
 ghost use Rattle.folder_core.specs.Reads.{IsSomePlace, best_with_devices, bests_page, counts, local_since, need_page, places};
 ghost use Rattle.folder_index.specs.Indexes.{folder, needs, with_record, without_record};
-ghost use Rattle.folder_index.specs.Locals.{IsFree, IsIndex};
+ghost use Rattle.folder_index.specs.Locals.{IsFree, IsIndex, with_filed};
+ghost use Rattle.folder_index.specs.Numbers.{number_of};
 
-use crate::local::{file, sequence_of, take_out};
-use crate::{Best, ByDigest, ByName, BySequence, Totals};
+use crate::local::{Local, sequence_of};
+use crate::{Best, ByName, Totals};
 use bep_messages::Items;
 use folder_core::{Announcement, Place};
 use std::alloc::{AllocError, Global};
@@ -20,10 +21,7 @@ use sync_record::{DeviceId, Record};
 #[derive(Drop)]
 pub struct Index {
     names: ByName,
-    // This device's records.
-    records: BySequence,
-    // The blocks of its live files, under the sequences of the records.
-    places: ByDigest,
+    local: Local,
 }
 
 impl Model for Index {
@@ -37,7 +35,7 @@ impl Model for Index {
 
     ghost view = { λ f. f.names };
 
-    ghost invariant = { λ f. IsIndex f.names f.records f.places };
+    ghost invariant = { λ f. IsIndex f.names f.local };
 }
 
 impl Index {
@@ -47,8 +45,7 @@ impl Index {
     {
         Index {
             names: ByName::new(alloc, me),
-            records: BySequence::new(alloc),
-            places: ByDigest::new(alloc),
+            local: Local::new(alloc),
         }
     }
 
@@ -66,22 +63,17 @@ impl Index {
         self.names.choices()
     }
 
-    /// Puts a device's record, in place of what it announced of its name, and chooses the best of the name anew. This device's
-    /// record has a sequence that none of its records has. Returns `Err` only if out of memory, or if the other devices have
+    /// Puts a device's record, in place of what it announced of its name, and chooses the best of the name anew. No
+    /// record of this device of another name has the sequence of a record of this device. Returns `Err` only if out of memory, or if the other devices have
     /// 2^64 - 2 records already, and then nothing changes. O(log n + k^2) for n names and k devices that announce the name,
     /// and O(b log m) for this device's files, with b blocks in the old and the new one and m in all.
     pub fn set(&mut self, device: DeviceId, announced: Record) -> Result<(), AllocError>
-        requires { device ≡ self.old.me → IsFree self.old announced.sequence }
+        requires { device ≡ self.old.me → IsFree self.old announced.name announced.sequence }
         ensures ok { OnOk result (self.new ≡ with_record device announced self.old) }
         ensures err { OnErr result (self.new ≡ self.old) }
     {
         if device == self.names.me() {
-            set_own(
-                &mut self.names,
-                &mut self.records,
-                &mut self.places,
-                announced,
-            )
+            set_own(&mut self.names, &mut self.local, announced)
         } else {
             self.names.set(device, announced)
         }
@@ -94,7 +86,7 @@ impl Index {
         ensures { self.new ≡ without_record device name.now self.old }
     {
         if device == self.names.me() {
-            clear_own(&mut self.names, &mut self.records, &mut self.places, name);
+            clear_own(&mut self.names, &mut self.local, name);
         } else {
             self.names.clear(device, name);
         }
@@ -181,7 +173,7 @@ impl Index {
         ensures page { IfOk result (λ page. page ≡ local_since (folder self.now) sequence limit) }
         ensures none { local_since (folder self.now) sequence limit ≡ [] → IsOk result }
     {
-        self.records.page(sequence, limit)
+        self.local.records.page(sequence, limit)
     }
 
     /// Where a live local file has a block with this digest; `None` where there is none. Returns `Err` only if out of memory,
@@ -190,10 +182,10 @@ impl Index {
         ensures found { IfOk result (λ place. IsSomePlace (folder self.now) hash.now place) }
         ensures none { places (folder self.now) hash.now ≡ [] → IsOk result }
     {
-        let Some((sequence, i)) = self.places.find(hash) else {
+        let Some((number, i)) = self.local.places.find(hash) else {
             return Ok(None);
         };
-        match self.records.get(sequence) {
+        match self.local.records.get(number / 2) {
             Some(announced) => place_in(announced, i),
             None => unreachable!(),
         }
@@ -216,43 +208,77 @@ fn place_in(announced: &Record, i: usize) -> Result<Option<Place>, AllocError>
     }))
 }
 
-/// Puts a record of this device, under a sequence that none of its records has. Returns `Err` only if out of memory, and then
-/// nothing changes.
-fn set_own(
-    names: &mut ByName,
-    records: &mut BySequence,
-    places: &mut ByDigest,
-    announced: Record,
-) -> Result<(), AllocError>
-    requires index { IsIndex names.old records.old places.old }
-    requires free { IsFree names.old announced.sequence }
-    ensures index { IsIndex names.new records.new places.new }
+/// Puts a record of this device, under a sequence that no record of another name has. Returns `Err` only if out of memory, and
+/// then what is announced stays.
+fn set_own(names: &mut ByName, local: &mut Local, announced: Record) -> Result<(), AllocError>
+    requires index { IsIndex names.old local.old }
+    requires free { IsFree names.old announced.name announced.sequence }
+    ensures index { IsIndex names.new local.new }
     ensures ok { OnOk result (names.new ≡ with_record names.old.me announced names.old) }
     ensures err { OnErr result (names.new ≡ names.old) }
 {
-    let me = names.me();
     let sequence = announced.sequence();
-    let replaced = sequence_of(names.get(me, announced.name()));
-    file(records, places, &announced)?;
-    if names.set(me, announced).is_err() {
-        take_out(records, places, sequence);
-        return Err(AllocError);
+    match sequence_of(names.get(names.me(), announced.name())) {
+        None => add_own(names, local, announced),
+        Some(replaced) if replaced == sequence => exchange_own(names, local, announced),
+        Some(replaced) => {
+            add_own(names, local, announced)?;
+            local.take_out(replaced);
+            Ok(())
+        }
     }
-    if let Some(replaced) = replaced {
-        take_out(records, places, replaced);
+}
+
+/// Puts a record of this device, under a sequence that none of its records has. Returns `Err` only if out of memory, and then
+/// nothing changes.
+fn add_own(names: &mut ByName, local: &mut Local, announced: Record) -> Result<(), AllocError>
+    requires unused { (hash : List ℕ) →
+        get local.old.places (hash, number_of local.old.numbers announced.sequence) ≡ None }
+    requires absent { get local.old.records announced.sequence ≡ None }
+    ensures ok { OnOk result (names.new ≡ with_record names.old.me announced names.old) }
+    ensures local { OnOk result (local.new ≡ with_filed announced local.old) }
+    ensures err { OnErr result (names.new ≡ names.old) }
+    ensures local_stays { OnErr result (local.new ≡ local.old) }
+{
+    let sequence = announced.sequence();
+    local.file(&announced)?;
+    if names.set(names.me(), announced).is_err() {
+        local.take_out(sequence);
+        return Err(AllocError);
     }
     Ok(())
 }
 
+/// Puts a record of this device in place of the one of its name and sequence. Returns `Err` only if out of memory, and then
+/// what is announced stays.
+fn exchange_own(names: &mut ByName, local: &mut Local, announced: Record) -> Result<(), AllocError>
+    requires index { IsIndex names.old local.old }
+    requires free { IsFree names.old announced.name announced.sequence }
+    requires replaced { Some announced.sequence
+        ≡ option_map (λ r. r.sequence) (get names.old.announced (key announced.name names.old.me)) }
+    ensures index { IsIndex names.new local.new }
+    ensures ok { OnOk result (names.new ≡ with_record names.old.me announced names.old) }
+    ensures err { OnErr result (names.new ≡ names.old) }
+{
+    let copied = announced.copy()?;
+    local.prepare(&copied)?;
+    if names.set(names.me(), announced).is_err() {
+        local.unprepare(&copied);
+        return Err(AllocError);
+    }
+    local.exchange(copied);
+    Ok(())
+}
+
 /// Takes away this device's record of a name, if there is one. Does not allocate.
-fn clear_own(names: &mut ByName, records: &mut BySequence, places: &mut ByDigest, name: &SafeName)
-    requires { IsIndex names.old records.old places.old }
-    ensures index { IsIndex names.new records.new places.new }
+fn clear_own(names: &mut ByName, local: &mut Local, name: &SafeName)
+    requires { IsIndex names.old local.old }
+    ensures index { IsIndex names.new local.new }
     ensures names { names.new ≡ without_record names.old.me name.now names.old }
 {
     let me = names.me();
     if let Some(sequence) = sequence_of(names.get(me, name)) {
-        take_out(records, places, sequence);
+        local.take_out(sequence);
     }
     names.clear(me, name);
 }

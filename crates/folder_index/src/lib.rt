@@ -13,6 +13,7 @@ mod entries;
 mod group;
 mod index;
 mod local;
+mod numbers;
 mod totals;
 
 pub use by_digest::ByDigest;

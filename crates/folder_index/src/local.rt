@@ -1,15 +1,114 @@
 //! This device's records by their sequences, and the blocks of its live files by their digests.
-ghost use Rattle.std.specs.Prelude.{◌≡◌, ℕ, List, [], None, OnErr, OnOk, option_copied, option_map};
-ghost use Rattle.std.specs.FinMap.{get, insert, remove};
-ghost use Rattle.folder_index.specs.Digests.{with_blocks, without_blocks};
-ghost use Rattle.folder_index.specs.Locals.{blocks_at, live_blocks};
+ghost use Rattle.std.specs.Prelude.{◌≡◌, ◌<◌, ◌^◌, ℕ, IfSome, IsTrue, List, None, OnErr, OnOk, option_copied, option_map};
+ghost use Rattle.std.specs.FinMap.{contains_key, get};
+ghost use Rattle.folder_index.specs.Locals.{live_blocks, no_local, with_exchanged, with_filed, with_prepared, without_filed, without_prepared};
+ghost use Rattle.folder_index.specs.Numbers.{number_of, other_number_of};
 
+use crate::numbers::Numbers;
 use crate::{ByDigest, BySequence};
-use std::alloc::AllocError;
+use std::alloc::{AllocError, Global};
 use sync_record::{Block, Kind, Record};
 
+/// This device's records, and the places of the blocks of the live files among them.
+#[derive(Drop)]
+pub(crate) struct Local {
+    pub(crate) records: BySequence,
+    pub(crate) places: ByDigest,
+    // The numbers under which the blocks are.
+    pub(crate) numbers: Numbers,
+}
+
+impl Local {
+    /// No records. Does not allocate. O(1).
+    pub(crate) fn new(alloc: Global) -> Local
+        ensures { result ≡ no_local }
+    {
+        Local {
+            records: BySequence::new(alloc),
+            places: ByDigest::new(alloc),
+            numbers: Numbers::new(alloc),
+        }
+    }
+
+    /// Files a record under its sequence, which no record has, and the blocks of a live file. Returns `Err` only if out of
+    /// memory, and then nothing changes. O(log n + b log m) for n records, b blocks of the file and m in all.
+    pub(crate) fn file(&mut self, announced: &Record) -> Result<(), AllocError>
+        requires unused { (hash : List ℕ) →
+            get self.old.places (hash, number_of self.old.numbers announced.now.sequence) ≡ None }
+        ensures ok { OnOk result (self.new ≡ with_filed announced.now self.old) }
+        ensures err { OnErr result (self.new ≡ self.old) }
+    {
+        let number = self.numbers.number(announced.sequence());
+        let copied = announced.copy()?;
+        self.places.add(number, live_blocks(announced))?;
+        if self.records.insert(copied).is_err() {
+            self.places.remove(number, live_blocks(announced));
+            return Err(AllocError);
+        }
+        Ok(())
+    }
+
+    /// Takes out the record of a sequence, and the blocks of a live file. Does not allocate. O(log n + b log m) for n records,
+    /// b blocks of the file and m in all.
+    pub(crate) fn take_out(&mut self, sequence: u64)
+        requires { sequence < 2 ^ 63 }
+        ensures { self.new ≡ without_filed sequence self.old }
+    {
+        if let Some(announced) = self.records.get(sequence) {
+            let number = self.numbers.number(sequence);
+            self.places.remove(number, live_blocks(announced));
+        }
+        self.records.remove(sequence);
+    }
+
+    /// Puts the blocks of a record that is to take the place of the one of its sequence beside those of that one. Returns
+    /// `Err` only if out of memory, and then nothing changes. O(log n + b log m) for n records, b blocks of the file and m in
+    /// all.
+    pub(crate) fn prepare(&mut self, announced: &Record) -> Result<(), AllocError>
+        requires { (hash : List ℕ) →
+            get self.old.places (hash, other_number_of self.old.numbers announced.now.sequence) ≡ None }
+        ensures ok { OnOk result (self.new ≡ with_prepared announced.now self.old) }
+        ensures err { OnErr result (self.new ≡ self.old) }
+    {
+        let number = self.numbers.other_number(announced.sequence());
+        self.places.add(number, live_blocks(announced))?;
+        if self.numbers.keep(announced.sequence()).is_err() {
+            self.places.remove(number, live_blocks(announced));
+            return Err(AllocError);
+        }
+        Ok(())
+    }
+
+    /// Takes the blocks of a record that was prepared away again. Does not allocate. O(b log m) for b blocks of the file and m
+    /// in all.
+    pub(crate) fn unprepare(&mut self, announced: &Record)
+        ensures { self.new ≡ without_prepared announced.now self.old }
+    {
+        let number = self.numbers.other_number(announced.sequence());
+        self.places.remove(number, live_blocks(announced));
+    }
+
+    /// Puts a record that was prepared in place of the one of its sequence, and takes away the blocks of that one. Does not
+    /// allocate. O(log n + b log m) for n records, b blocks of the old file and m in all.
+    pub(crate) fn exchange(&mut self, announced: Record)
+        requires prepared { IsTrue (contains_key self.old.numbers announced.sequence) }
+        requires present { IsTrue (contains_key self.old.records announced.sequence) }
+        ensures { self.new ≡ with_exchanged announced self.old }
+    {
+        let sequence = announced.sequence();
+        if let Some(replaced) = self.records.get(sequence) {
+            let number = self.numbers.number(sequence);
+            self.places.remove(number, live_blocks(replaced));
+        }
+        self.numbers.turn(sequence);
+        if self.records.insert(announced).is_err() {
+            unreachable!()
+        }
+    }
+}
+
 /// The blocks of a live file; none of another record. O(1).
-pub(crate) fn live_blocks(announced: &Record) -> &[Block]
+fn live_blocks(announced: &Record) -> &[Block]
     ensures { result.now ≡ live_blocks announced.now }
 {
     if !announced.is_deleted() && announced.kind() == Kind::File {
@@ -21,46 +120,11 @@ pub(crate) fn live_blocks(announced: &Record) -> &[Block]
 
 /// The sequence of a record, if there is one. O(1).
 pub(crate) fn sequence_of(announced: Option<&Record>) -> Option<u64>
-    ensures { result ≡ option_map (λ r. r.sequence) (option_copied announced.entry) }
+    ensures sequence { result ≡ option_map (λ r. r.sequence) (option_copied announced.entry) }
+    ensures fits { IfSome result (λ q. q < 2 ^ 63) }
 {
     match announced {
         Some(announced) => Some(announced.sequence()),
         None => None,
     }
-}
-
-/// Files a record under its sequence, and the blocks of a live file. Returns `Err` only if out of memory, and then nothing
-/// changes. O(log n + b log m) for n records, b blocks of the file and m in all.
-pub(crate) fn file(
-    records: &mut BySequence,
-    places: &mut ByDigest,
-    announced: &Record,
-) -> Result<(), AllocError>
-    requires unused { (hash : List ℕ) → get places.old (hash, announced.now.sequence) ≡ None }
-    requires absent { get records.old announced.now.sequence ≡ None }
-    ensures records { OnOk result (records.new ≡ insert records.old announced.now.sequence announced.now) }
-    ensures places { OnOk result (places.new
-        ≡ with_blocks announced.now.sequence (live_blocks announced.now) places.old) }
-    ensures records_stay { OnErr result (records.new ≡ records.old) }
-    ensures places_stay { OnErr result (places.new ≡ places.old) }
-{
-    let copied = announced.copy()?;
-    places.add(announced.sequence(), live_blocks(announced))?;
-    if records.insert(copied).is_err() {
-        places.remove(announced.sequence(), live_blocks(announced));
-        return Err(AllocError);
-    }
-    Ok(())
-}
-
-/// Takes out the record of a sequence, and the blocks of a live file. Does not allocate. O(log n + b log m) for n records, b
-/// blocks of the file and m in all.
-pub(crate) fn take_out(records: &mut BySequence, places: &mut ByDigest, sequence: u64)
-    ensures records { records.new ≡ remove records.old sequence }
-    ensures places { places.new ≡ without_blocks sequence (blocks_at records.old sequence) places.old }
-{
-    if let Some(announced) = records.get(sequence) {
-        places.remove(sequence, live_blocks(announced));
-    }
-    records.remove(sequence);
 }

@@ -14,9 +14,9 @@ returns-clause-index c =
     let there = c.get.ensures ∙ ap (λ d. get s.announced (key n d)) c.me-me.ensures in
     elim c.match-sequence_of.branch [
       | in-Some w ↦
-          moved (sym names) (sym (w.records-is ∙ w.take_out.ensures.records)) (sym (w.places-is ∙ w.take_out.ensures.places))
-          (index_cleared s c.args.records.now c.args.places.now c.requires n w.in-Some.sequence (w.in-Some.ensures ∙ ap sequence_at there))
+          moved (sym names) (sym (w.local-is ∙ w.take_out.ensures))
+          (index_cleared s c.args.local.now c.requires n w.in-Some.sequence (w.in-Some.ensures.sequence ∙ ap sequence_at there))
       | in_default w ↦
-          moved (sym names) (sym w.records-is) (sym w.places-is)
-          (index_kept s c.args.records.now c.args.places.now c.requires n (w.in_default.ensures ∙ ap sequence_at there))
+          moved (sym names) (sym w.local-is)
+          (index_kept s c.args.local.now c.requires n (w.in_default.ensures.sequence ∙ ap sequence_at there))
     ]

@@ -1,4 +1,4 @@
-use Rattle.std.proofs.Common.{sym, subst, ◌∙◌}
+use Rattle.std.proofs.Common.{◌/◌, sym, subst, ◌∙◌}
 use Rattle.folder_core.specs.Reads.{IsSomePlace}
 use Rattle.folder_core.proofs.ListTests.{ok_then}
 use Rattle.folder_index.specs.Indexes.{folder}
@@ -7,16 +7,16 @@ use Rattle.folder_index.proofs.index.Index.place.Goals as goal
 
 pub returns-in_default-clause-found : goal.returns-in_default-clause-found
 returns-in_default-clause-found c =
-    rw (← c.self.view_is) (nowhere c.self.inside.names c.self.inside.records c.self.inside.places c.self.invariant c.args.hash.now c.in_default.ensures)
+    rw (← c.self.view_is) (nowhere c.self.inside.names c.self.inside.local c.self.invariant c.args.hash.now c.in_default.ensures)
 
 pub returns-clause-found : goal.returns-clause-found
 returns-clause-found c =
     let i = c.self.inside in
-    let found = found_at i.names i.records i.places c.self.invariant c.args.hash.now c.in-Some.sequence c.in-Some.i c.in-Some.ensures in
-    rw (← c.self.view_is) (ok_then c.place_in.result (λ o is. subst (IsSomePlace (folder i.names) c.args.hash.now) (sym (is ∙ is_found i.names i.records i.places c.self.invariant c.args.hash.now c.in-Some.sequence c.in-Some.i found c.in-Some-get.announced.now c.in-Some-get.ensures)) found.place) c.place_in.ensures)
+    let found = found_at i.names i.local c.self.invariant c.args.hash.now c.in-Some.number c.in-Some.i c.in-Some.ensures in
+    rw (← c.self.view_is) (ok_then c.place_in.result (λ o is. subst (IsSomePlace (folder i.names) c.args.hash.now) (sym (is ∙ is_found i.names i.local c.self.invariant c.args.hash.now (c.in-Some.number / 2) c.in-Some.i found c.in-Some-get.announced.now c.in-Some-get.ensures)) found.place) c.place_in.ensures)
 
 pub returns-clause-none : goal.returns-clause-none
 returns-clause-none c =
     let i = c.self.inside in
-    let found = found_at i.names i.records i.places c.self.invariant c.args.hash.now c.in-Some.sequence c.in-Some.i c.in-Some.ensures in
-    rw (← c.self.view_is) (λ none. absurd (not_nowhere i.names i.records i.places c.self.invariant c.args.hash.now c.in-Some.sequence c.in-Some.i found none))
+    let found = found_at i.names i.local c.self.invariant c.args.hash.now c.in-Some.number c.in-Some.i c.in-Some.ensures in
+    rw (← c.self.view_is) (λ none. absurd (not_nowhere i.names i.local c.self.invariant c.args.hash.now (c.in-Some.number / 2) c.in-Some.i found none))

@@ -10,5 +10,5 @@ invariant_of-self-else-eq c =
     let i = c.self.inside in
     let other : c.args.device ≢ i.names.me = λ same. true≢false (sym (alike_bytes c.args.device c.me.result (same ∙ sym c.me.ensures)) ∙ sym c.eq.ensures ∙ c.if-eq.false) in
     whichever c.set.result c.set.ensures.ok c.set.ensures.err
-    (λ ok. moved (sym ok) refl refl (other_index i.names i.records i.places c.self.invariant c.args.device other c.args.announced))
-    (λ err. moved (sym err) refl refl c.self.invariant)
+    (λ ok. moved (sym ok) refl (other_index i.names i.local c.self.invariant c.args.device other c.args.announced))
+    (λ err. moved (sym err) refl c.self.invariant)
