@@ -149,3 +149,15 @@ module _ (s : IndexState) (l : Local) (is : IsIndex s l) where
   pub index_kept : (n : Name) → None ≡ sequence_at (get s.announced (key n s.me)) → IsIndex (without_record s.me n s) l
   index_kept n none =
       subst (λ b. IsIndex (cond b (record { me = s.me; announced = remove s.announced (key n s.me); choices = counted s.choices }) s) l) (sym (ap is_some (none_of (get s.announced (key n s.me)) none))) is
+
+  -- whether a sequence is free is told by its record
+  pub free_none : (n : Name) (q : ℕ) → get l.records q ≡ None → IsFree s n q
+  free_none n q none m r there unlike same = none-some r (sym none ∙ ap (get l.records) (sym same) ∙ is.locals.has m r there)
+
+  pub free_same : (n : Name) (q : ℕ) (o : FileRecord) → get l.records q ≡ Some o → o.name ≡ n → IsFree s n q
+  free_same n q o filed named m r there unlike same =
+      let one : r ≡ o = inside r o (sym (is.locals.has m r there) ∙ ap (get l.records) same ∙ filed) in
+      unlike (sym (is.locals.named (key m s.me) r there) ∙ ap (λ (x : FileRecord). x.name) one ∙ named)
+
+  pub not_free : (n : Name) (q : ℕ) (o : FileRecord) → get l.records q ≡ Some o → o.name ≢ n → IsFree s n q → ⊥
+  not_free n q o filed unlike free = let own = is.locals.only q o filed in free o.name o own.2 unlike own.0

@@ -1,4 +1,4 @@
-ghost use Rattle.std.specs.Prelude.{◌≡◌, ℕ, [], List, IfOk, IsOk, None, OnErr, OnOk, Some, map, option_copied, option_map, slice_get};
+ghost use Rattle.std.specs.Prelude.{◌≡◌, ◌↔◌, ℕ, [], List, IfOk, IsOk, IsTrue, None, OnErr, OnOk, Some, map, option_copied, option_map, slice_get};
 ghost use Rattle.std.specs.FinMap.{empty, entries, get};
 ghost use Rattle.folder_core.specs.Announced.{best, key};
 ghost use Rattle.folder_core.specs.Plain.{filed};
@@ -76,6 +76,16 @@ impl Index {
             set_own(&mut self.names, &mut self.local, announced)
         } else {
             self.names.set(device, announced)
+        }
+    }
+
+    /// Whether no record of this device of another name has a sequence. O(log n) for n records of this device.
+    pub fn is_free(&self, name: &SafeName, sequence: u64) -> bool
+        ensures { IsTrue result ↔ IsFree self.now name.now sequence }
+    {
+        match self.local.records.get(sequence) {
+            Some(announced) => announced.name() == name,
+            None => true,
         }
     }
 
@@ -277,8 +287,8 @@ fn clear_own(names: &mut ByName, local: &mut Local, name: &SafeName)
     ensures names { names.new ≡ without_record names.old.me name.now names.old }
 {
     let me = names.me();
-    if let Some(sequence) = sequence_of(names.get(me, name)) {
-        local.take_out(sequence);
+    if let Some(cleared) = sequence_of(names.get(me, name)) {
+        local.take_out(cleared);
     }
     names.clear(me, name);
 }

@@ -54,9 +54,9 @@ impl Local {
         requires { sequence < 2 ^ 63 }
         ensures { self.new ≡ without_filed sequence self.old }
     {
-        if let Some(announced) = self.records.get(sequence) {
+        if let Some(taken) = self.records.get(sequence) {
             let number = self.numbers.number(sequence);
-            self.places.remove(number, live_blocks(announced));
+            self.places.remove(number, live_blocks(taken));
         }
         self.records.remove(sequence);
     }

@@ -15,7 +15,7 @@ returns-clause-index c =
     elim c.match-sequence_of.branch [
       | in-Some w ↦
           moved (sym names) (sym (w.local-is ∙ w.take_out.ensures))
-          (index_cleared s c.args.local.now c.requires n w.in-Some.sequence (w.in-Some.ensures.sequence ∙ ap sequence_at there))
+          (index_cleared s c.args.local.now c.requires n w.in-Some.cleared (w.in-Some.ensures.sequence ∙ ap sequence_at there))
       | in_default w ↦
           moved (sym names) (sym w.local-is)
           (index_kept s c.args.local.now c.requires n (w.in_default.ensures.sequence ∙ ap sequence_at there))
