@@ -1,0 +1,70 @@
+//! The best of a name, and whether it is needed.
+use crate::calls::{best_of, clear, index, needs, set};
+use crate::rows::{ABC, ABD, Row, device, file, name};
+
+#[test]
+fn takes_the_next_best_of_a_ring(rt: HostRuntime) {
+    let mut index = index(&rt);
+    set(&rt, &mut index, 1, &file("x", &[(1, 2)], 1));
+    set(&rt, &mut index, 2, &file("x", &[(1, 1)], 3));
+    set(&rt, &mut index, 3, &file("x", &[(3, 1)], 2));
+    assert_eq!(rt; best_of(&rt, &index, "x"), Some(device(3)));
+    clear(&rt, &mut index, 3, "x");
+    assert_eq!(rt; best_of(&rt, &index, "x"), Some(device(1)));
+    clear(&rt, &mut index, 1, "x");
+    assert_eq!(rt; best_of(&rt, &index, "x"), Some(device(2)));
+    clear(&rt, &mut index, 1, "x");
+    assert_eq!(rt; index.choices(), 5);
+}
+
+#[test]
+fn prefers_what_is_live(rt: HostRuntime) {
+    let mut index = index(&rt);
+    let deleted = Row {
+        deleted: true,
+        ..file("x", &[(1, 2)], 9)
+    };
+    set(&rt, &mut index, 1, &deleted);
+    assert!(rt; !needs(&rt, &index, "x"));
+    set(&rt, &mut index, 2, &file("x", &[(2, 1)], 1));
+    assert_eq!(rt; best_of(&rt, &index, "x"), Some(device(2)));
+    assert!(rt; needs(&rt, &index, "x"));
+    set(&rt, &mut index, 9, &file("x", &[(2, 1)], 1));
+    assert!(rt; !needs(&rt, &index, "x"));
+}
+
+#[test]
+fn prefers_the_smaller_modifier(rt: HostRuntime) {
+    let mut index = index(&rt);
+    for (number, modified_by) in [(1u8, 5u64), (2, 7)] {
+        let version = [(u64::from(number), 1)];
+        let row = Row {
+            modified_by,
+            ..file("x", &version, 1)
+        };
+        set(&rt, &mut index, number, &row);
+    }
+    assert_eq!(rt; best_of(&rt, &index, "x"), Some(device(1)));
+}
+
+#[test]
+fn lists_devices_of_one_content(rt: HostRuntime) {
+    let mut index = index(&rt);
+    for (number, blocks) in [(1, ABC), (2, ABD)] {
+        let row = Row {
+            size: 3,
+            blocks,
+            ..file("x", &[(1, 1)], 1)
+        };
+        set(&rt, &mut index, number, &row);
+    }
+    let best = index
+        .best_with_devices(&name(&rt, "x"))
+        .expect(&rt, "a best")
+        .expect(&rt, "a best");
+    assert!(rt; best.devices.as_slice() == [device(1)].as_slice());
+    let needed = index.needed(None, 9).expect(&rt, "needed names");
+    assert_eq!(rt; needed.as_slice().len(), 1);
+    let bests = index.bests(Some(&name(&rt, "a")), 1).expect(&rt, "bests");
+    assert_eq!(rt; bests.as_slice().len(), 1);
+}
