@@ -16,3 +16,4 @@ pub mod Numbered
 pub mod Since
 pub mod Placed
 pub mod Indexed
+pub mod Chosen

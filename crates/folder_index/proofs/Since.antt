@@ -23,7 +23,7 @@ exact : IsAntisymmetric nat_cmp
 exact = nat_cmp-IsAntisymmetric
 
 -- options that have the same values are one
-same_option : {A : Type 0} (o p : Option A) → ((x : A) → o ≡ Some x → p ≡ Some x) → ((x : A) → p ≡ Some x → o ≡ Some x) → o ≡ p
+pub same_option : {A : Type 0} (o p : Option A) → ((x : A) → o ≡ Some x → p ≡ Some x) → ((x : A) → p ≡ Some x → o ≡ Some x) → o ≡ p
 same_option None None there back = refl
 same_option None (Some y) there back = back y refl
 same_option (Some x) p there back = sym (there x refl)

@@ -12,6 +12,7 @@ mod by_sequence;
 mod entries;
 mod group;
 mod index;
+pub mod laws;
 mod local;
 mod numbers;
 mod totals;
