@@ -67,9 +67,9 @@ module _ (n m : Name) (other : n ≢ m) where
   pub same_cleared : (s : IndexState) (e : Identity) → SameOf n (without_record e m s).announced s.announced
   same_cleared s e = by (contains_key s.announced (key m e))
     where
-      by : (b : Bool) → SameOf n (cond b (record { me = s.me; announced = remove s.announced (key m e); choices = counted s.choices }) s).announced s.announced
+      by : (b : Bool) → SameOf n (cond b (record { me = s.me; announced = remove s.announced (key m e); choices = counted s.choices; promised = s.promised }) s).announced s.announced
       by true = same_removed s e
       by false = λ d. refl
 
   pub same_me : (s : IndexState) (e : Identity) → (without_record e m s).me ≡ s.me
-  same_me s e = elim (contains_key s.announced (key m e)) as (λ b. (cond b (record { me = s.me; announced = remove s.announced (key m e); choices = counted s.choices }) s).me ≡ s.me) [ true ↦ refl | false ↦ refl ]
+  same_me s e = elim (contains_key s.announced (key m e)) as (λ b. (cond b (record { me = s.me; announced = remove s.announced (key m e); choices = counted s.choices; promised = s.promised }) s).me ≡ s.me) [ true ↦ refl | false ↦ refl ]

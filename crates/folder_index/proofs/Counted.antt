@@ -1,5 +1,5 @@
 -- What the groups have, counted, is what the folder has.
-use Rattle.std.proofs.Common.{◌≡◌, ℕ, ◌+◌, ◌≤◌, Bool, true, false, List, [], ◌∷◌, length, refl, sym, ap, ◌∙◌, inl, inr, arith}
+use Rattle.std.proofs.Common.{◌≡◌, ℕ, ◌+◌, ◌≤◌, Bool, true, false, List, [], ◌∷◌, length, refl, sym, ap, subst, ◌∙◌, inl, inr, arith}
 use Rattle.std.specs.Prelude.{bytes_eq, ◌&&◌, cond, filter, map, not, sum_by}
 use Rattle.std.specs.Bool.{passes}
 use Rattle.std.specs.Map.{values_of}
@@ -19,7 +19,7 @@ use Rattle.folder_core.specs.declared.announcement.Announcement.{Announcement as
 use Rattle.folder_core.specs.Announced.{KeyedRecord, Key, is_by, key_cmp}
 use Rattle.folder_core.specs.Plain.{Rises, filed}
 use Rattle.folder_core.specs.PlainReads.{is_from}
-use Rattle.folder_core.proofs.ListTests.{In, all_in, below_in, in_map, parts, same_bytes}
+use Rattle.folder_core.proofs.ListTests.{alike_bytes, In, all_in, below_in, in_map, parts, same_bytes}
 use Rattle.folder_core.proofs.ListFilters.{filter_map}
 use Rattle.folder_core.proofs.Orders.{bytes_total, keys_total, exact_keys}
 use Rattle.folder_index.specs.declared.group.Group.{Group}
@@ -93,6 +93,17 @@ module _ (me : Identity) where
         | Greater ↦ elim (is_others e) as (λ b. length (cond b (e ∷ filter is_others (put key_cmp k r es)) (filter is_others (put key_cmp k r es))) ≤ length (cond b (e ∷ filter is_others es) (filter is_others es)) + 1) [ true ↦ omega arith | false ↦ omega arith ]
       ]
 
+  -- this device's record is no one else's
+  put_own : (k : Key) (r : FileRecord) (es : List KeyedRecord) → k.device ≡ me → length (filter is_others (put key_cmp k r es)) ≤ length (filter is_others es)
+  put_own k r [] own = let x : KeyedRecord = (k, r) in subst (λ b. length (cond (not b) (x ∷ []) []) ≤ 0) (sym (alike_bytes k.device me own)) (omega arith)
+  put_own k r (e ∷ es) own =
+      let rest = put_own k r es own in
+      elim (key_cmp k e.0) as (λ o. length (filter is_others (by_order o ((k, r) ∷ e ∷ es) ((e.0, r) ∷ es) (e ∷ put key_cmp k r es))) ≤ length (filter is_others (e ∷ es))) [
+        | Less ↦ let x : KeyedRecord = (k, r) in subst (λ b. length (cond (not b) (x ∷ filter is_others (e ∷ es)) (filter is_others (e ∷ es))) ≤ length (filter is_others (e ∷ es))) (sym (alike_bytes k.device me own)) (omega arith)
+        | Equal ↦ let x : KeyedRecord = (e.0, r) in elim (is_others e) as (λ b. length (cond b (x ∷ filter is_others es) (filter is_others es)) ≤ length (cond b (e ∷ filter is_others es) (filter is_others es))) [ true ↦ omega arith | false ↦ omega arith ]
+        | Greater ↦ elim (is_others e) as (λ b. length (cond b (e ∷ filter is_others (put key_cmp k r es)) (filter is_others (put key_cmp k r es))) ≤ length (cond b (e ∷ filter is_others es) (filter is_others es))) [ true ↦ omega arith | false ↦ omega arith ]
+      ]
+
   others_filed : (es : List Entry) → length (filter (λ e. not (is_from me e)) es) ≡ length (filter is_others (map filed es))
   others_filed es = sym (ap length (filter_map filed is_others es) ∙ length-map (filter (λ e. not (is_from me e)) es) filed)
 
@@ -101,6 +112,13 @@ module _ (me : Identity) where
       let a = others_filed old in
       let b = others_filed new ∙ ap (λ es. length (filter is_others es)) is in
       let c = put_others k r (map filed old) in
+      omega arith
+
+  pub no_more_own : (old new : List Entry) (k : Key) (r : FileRecord) → k.device ≡ me → map filed new ≡ put key_cmp k r (map filed old) → length (filter (λ e. not (is_from me e)) new) ≤ length (filter (λ e. not (is_from me e)) old)
+  no_more_own old new k r own is =
+      let a = others_filed old in
+      let b = others_filed new ∙ ap (λ es. length (filter is_others es)) is in
+      let c = put_own k r (map filed old) own in
       omega arith
 
 fewer_pass : {A : Type 0} (p q : A → Bool) (xs : List A) → length (filter p (filter q xs)) ≤ length (filter p xs)

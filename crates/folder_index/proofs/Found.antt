@@ -14,7 +14,7 @@ use Rattle.std.specs.declared.cmp.Ordering.TheVariants.{Less, Equal, Greater}
 use Rattle.std.specs.declared.ops.Bound.TheVariants.{Unbounded}
 use Rattle.std.specs.BTreeMap.Range.{entries_between}
 use Rattle.std.proofs.lemmas.Option.{none-some}
-use Rattle.std.proofs.lemmas.Bool.{true≢false}
+use Rattle.std.proofs.lemmas.Bool.{and_parts, true≢false}
 use Rattle.sync_record.specs.Devices.{Identity, bytes_cmp}
 use Rattle.sync_record.specs.Records.{Name, FileRecord}
 use Rattle.folder_core.specs.declared.announcement.Announcement.{Announcement as Entry}
@@ -156,10 +156,16 @@ no_entries : (es : List Entry) → (length es == 0) ≡ true → es ≡ []
 no_entries [] t = refl
 no_entries (e ∷ es) t = absurd (true≢false (sym t ∙ search rules))
 
--- a group that is found without entries
-pub empty_group : (o : Option Group) {r : Option Group} → r ≡ o → (b : Bool) → b ≡ option_map_or (λ (g : Group). length g.entries.items == 0) r false → b ≡ true → (g : Group) × (o ≡ Some g) × (g.entries.items ≡ [])
-empty_group None {r} is b test t = absurd (true≢false (sym t ∙ test ∙ ap (λ o. option_map_or (λ (g : Group). length g.entries.items == 0) o false) is))
-empty_group (Some g) {r} is b test t = (g, refl, no_entries g.entries.items (sym (test ∙ ap (λ o. option_map_or (λ (g : Group). length g.entries.items == 0) o false) is) ∙ t))
+none_promised : (b : Bool) → not b ≡ true → b ≡ false
+none_promised true e = absurd (true≢false (sym e))
+none_promised false e = refl
+
+-- a group that is found without entries and promises
+pub empty_group : (o : Option Group) {r : Option Group} → r ≡ o → (b : Bool) → b ≡ option_map_or (λ (g : Group). not g.is_promised && length g.entries.items == 0) r false → b ≡ true → (g : Group) × (o ≡ Some g) × (g.entries.items ≡ []) × (g.is_promised ≡ false)
+empty_group None {r} is b test t = absurd (true≢false (sym t ∙ test ∙ ap (λ o. option_map_or (λ (g : Group). not g.is_promised && length g.entries.items == 0) o false) is))
+empty_group (Some g) {r} is b test t =
+    let both = and_parts (not g.is_promised) (length g.entries.items == 0) (sym (test ∙ ap (λ o. option_map_or (λ (g : Group). not g.is_promised && length g.entries.items == 0) o false) is) ∙ t) in
+    (g, refl, no_entries g.entries.items both.1, none_promised g.is_promised both.0)
 
 -- nothing is announced where there are no groups
 pub none_announced : announced_in [] ≡ empty

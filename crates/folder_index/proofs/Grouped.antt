@@ -1,6 +1,6 @@
 -- What a change of its entries leaves of a group.
 use Rattle.std.proofs.Common.{◌≡◌, true, List, [], ◌∷◌, refl, sym, ap, subst, ◌∙◌}
-use Rattle.std.specs.Prelude.{bytes_eq, ◌&&◌, T, filter, map, not, is_some}
+use Rattle.std.specs.Prelude.{IsTrue, ◌<◌, vec_len, vec_capacity, bytes_eq, ◌&&◌, T, filter, map, not, is_some}
 use Rattle.std.specs.Bool.{passes}
 use Rattle.std.specs.List.{list_all}
 use Rattle.std.specs.FinMap.{is_sorted, put}
@@ -37,20 +37,22 @@ put_named n k r (e ∷ es) named all =
       | Greater ↦ and_from (is_of n e) (list_all (is_of n) (put key_cmp k r es)) first rest
     ]
 
-pub group_set : (me d : Identity) (r : FileRecord) (old new : Group) → IsGroup me r.name old → map filed new.entries.items ≡ put key_cmp (key r.name d) r (map filed old.entries.items) → chosen new ≡ best_in new.entries.items → new.is_needed ≡ is_some (needed_of me new.entries.items) → IsGroup me r.name new
-group_set me d r old new group placed best needed = record {
+pub group_set : (me d : Identity) (r : FileRecord) (old new : Group) → IsGroup me r.name old → map filed new.entries.items ≡ put key_cmp (key r.name d) r (map filed old.entries.items) → chosen new ≡ best_in new.entries.items → new.is_needed ≡ is_some (needed_of me new.entries.items) → (IsTrue new.is_promised → vec_len new.entries < vec_capacity new.entries) → IsGroup me r.name new
+group_set me d r old new group placed best needed fits = record {
   rises = is_true _ (subst (λ xs. T (is_sorted key_cmp xs)) (sym placed) (is_sorted-put key_cmp keys_total (key r.name d) r (map filed old.entries.items) (passes _ group.rises)));
   named = named_filed r.name new.entries.items ∙ ap (list_all (is_of r.name)) placed ∙ put_named r.name (key r.name d) r (map filed old.entries.items) refl (sym (named_filed r.name old.entries.items) ∙ group.named);
   best = best;
   needed = needed;
+  fits = fits;
 }
 
-pub group_cleared : (me : Identity) (n : Name) (d : Identity) (old new : Group) → IsGroup me n old → new.entries.items ≡ filter (λ e. not (is_from d e)) old.entries.items → chosen new ≡ best_in new.entries.items → new.is_needed ≡ is_some (needed_of me new.entries.items) → IsGroup me n new
-group_cleared me n d old new group taken best needed = record {
+pub group_cleared : (me : Identity) (n : Name) (d : Identity) (old new : Group) → IsGroup me n old → new.entries.items ≡ filter (λ e. not (is_from d e)) old.entries.items → chosen new ≡ best_in new.entries.items → new.is_needed ≡ is_some (needed_of me new.entries.items) → (IsTrue new.is_promised → vec_len new.entries < vec_capacity new.entries) → IsGroup me n new
+group_cleared me n d old new group taken best needed fits = record {
   rises = ap (λ (es : List Entry). is_sorted key_cmp (map filed es)) taken
       ∙ ap (is_sorted key_cmp) (sym (filter_map filed (λ e. not (bytes_eq e.0.device d)) old.entries.items))
       ∙ is_true _ (is_sorted-where_key key_cmp (λ k. not (bytes_eq k.device d)) (map filed old.entries.items) (passes _ group.rises));
   named = ap (list_all (λ e. bytes_eq e.record.name n)) taken ∙ all_kept (λ e. bytes_eq e.record.name n) (λ e. not (is_from d e)) old.entries.items group.named;
   best = best;
   needed = needed;
+  fits = fits;
 }

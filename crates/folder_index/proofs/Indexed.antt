@@ -2,6 +2,7 @@
 use Rattle.std.proofs.Common.{◌≡◌, ◌≢◌, ℕ, ◌<◌, ◌^◌, Bool, true, false, List, refl, sym, ap, subst, ◌∙◌}
 use Rattle.std.specs.Prelude.{cond, Option, Some, None, is_some, option_map}
 use Rattle.std.specs.Cmp.{nat_cmp_total}
+use Rattle.std.specs.FinSet.{empty as no_names}
 use Rattle.std.specs.FinMap.{contains_key, empty, get, insert, nat_cmp-IsAntisymmetric, remove}
 use Rattle.std.proofs.lemmas.Option.{none-some}
 use Rattle.sync_record.specs.Devices.{Identity}
@@ -49,7 +50,7 @@ filed_undone l r absent unused =
     ∙ undone number (live_blocks r) l.places unused in
     λ i. record { records = records i; places = places i; numbers = l.numbers }
 
-pub index_new : (me : Identity) → IsIndex (record { me = me; announced = empty; choices = 0 }) no_local
+pub index_new : (me : Identity) → IsIndex (record { me = me; announced = empty; choices = 0; promised = no_names }) no_local
 index_new me = record { locals = none_yet me; filed = nothing_filed (number_of empty) }
 
 module _ (s : IndexState) (l : Local) (is : IsIndex s l) where
@@ -67,7 +68,7 @@ module _ (s : IndexState) (l : Local) (is : IsIndex s l) where
     pub other_index_cleared : (n : Name) → IsIndex (without_record d n s) l
     other_index_cleared n = by (contains_key s.announced (key n d))
       where
-        by : (b : Bool) → IsIndex (cond b (record { me = s.me; announced = remove s.announced (key n d); choices = counted s.choices }) s) l
+        by : (b : Bool) → IsIndex (cond b (record { me = s.me; announced = remove s.announced (key n d); choices = counted s.choices; promised = s.promised }) s) l
         by true = record { locals = other_cleared s.me s.announced l.records is.locals d other n; filed = is.filed }
         by false = is
 
@@ -141,14 +142,14 @@ module _ (s : IndexState) (l : Local) (is : IsIndex s l) where
   index_cleared n q there = by (record_of (get s.announced (key n s.me)) q there)
     where
       by : (o : FileRecord) × (get s.announced (key n s.me) ≡ Some o) × (o.sequence ≡ q) → IsIndex (without_record s.me n s) (without_filed q l)
-      by o = subst (λ b. IsIndex (cond b (record { me = s.me; announced = remove s.announced (key n s.me); choices = counted s.choices }) s) (without_filed q l)) (sym (ap is_some o.1)) (record {
+      by o = subst (λ b. IsIndex (cond b (record { me = s.me; announced = remove s.announced (key n s.me); choices = counted s.choices; promised = s.promised }) s) (without_filed q l)) (sym (ap is_some o.1)) (record {
         locals = subst (λ p. AreLocals s.me (remove s.announced (key n s.me)) (remove l.records p)) o.2 (own_cleared s.me s.announced l.records is.locals n o.0 o.1);
         filed = unfiled (number_of l.numbers) (apart l.numbers) l.records l.places is.filed q;
       })
 
   pub index_kept : (n : Name) → None ≡ sequence_at (get s.announced (key n s.me)) → IsIndex (without_record s.me n s) l
   index_kept n none =
-      subst (λ b. IsIndex (cond b (record { me = s.me; announced = remove s.announced (key n s.me); choices = counted s.choices }) s) l) (sym (ap is_some (none_of (get s.announced (key n s.me)) none))) is
+      subst (λ b. IsIndex (cond b (record { me = s.me; announced = remove s.announced (key n s.me); choices = counted s.choices; promised = s.promised }) s) l) (sym (ap is_some (none_of (get s.announced (key n s.me)) none))) is
 
   -- whether a sequence is free is told by its record
   pub free_none : (n : Name) (q : ℕ) → get l.records q ≡ None → IsFree s n q

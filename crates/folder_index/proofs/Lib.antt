@@ -17,3 +17,4 @@ pub mod Since
 pub mod Placed
 pub mod Indexed
 pub mod Chosen
+pub mod Promised

@@ -27,6 +27,10 @@ module _ {A E : Type 0} {P : Type 0} where
   of_err (Err e) t p = p
 
 module _ {A E P : Type 0} where
+  pub always_ok : (r : Result A E) → P → OnOk r P
+  always_ok (Ok x) p = p
+  always_ok (Err e) p = tt
+
   pub on_any_err : (r : Result A E) → P → OnErr r P
   on_any_err (Ok x) p = tt
   on_any_err (Err e) p = p

@@ -1,11 +1,12 @@
 -- What a change of one group leaves of what holds of the groups.
-use Rattle.std.proofs.Common.{◌≡◌, ℕ, ◌+◌, ◌^◌, ◌<◌, ◌≤◌, Bool, true, false, List, [], length, refl, sym, ap, subst, ◌∙◌, arith}
-use Rattle.std.specs.Prelude.{◌&&◌, cond, filter, map, not, Option, Some, None, is_some, option_map, sum_by, unwrap_or}
+use Rattle.std.proofs.Common.{◌≡◌, ◌≢◌, ℕ, ◌+◌, ◌^◌, ◌<◌, ◌≤◌, Bool, true, false, List, [], length, refl, sym, ap, subst, ◌∙◌, arith}
+use Rattle.std.specs.Prelude.{bytes_eq, ◌&&◌, cond, filter, map, not, Option, Some, None, is_some, option_map, sum_by, unwrap_or}
 use Rattle.std.specs.BTreeMap.{insert_entry, is_at}
 use Rattle.std.specs.Map.{lookup, remove_entry, set_value, values_of}
 use Rattle.std.specs.Option.{option_map_or}
 use Rattle.std.specs.FinMap.{insert, put, remove}
 use Rattle.std.proofs.lemmas.Map.Entries.{length-values_of, sum_by-insert_entry, sum_by-remove_entry, sum_by-set_value}
+use Rattle.std.proofs.lemmas.Bool.{true≢false}
 use Rattle.std.proofs.lemmas.Option.{none-some}
 use Rattle.sync_record.specs.Devices.{Identity, bytes_cmp}
 use Rattle.sync_record.specs.Records.{Name, FileRecord, is_directory, is_live, is_live_file}
@@ -13,12 +14,12 @@ use Rattle.folder_core.specs.declared.announcement.Announcement.{Announcement as
 use Rattle.folder_core.specs.Announced.{key, key_cmp}
 use Rattle.folder_core.specs.Plain.{filed}
 use Rattle.folder_core.specs.PlainReads.{is_from, needed_of}
-use Rattle.folder_core.proofs.ListTests.{inside, of_map}
+use Rattle.folder_core.proofs.ListTests.{alike_bytes, inside, of_map, same_bytes}
 use Rattle.folder_core.proofs.Orders.{bytes_total}
 use Rattle.folder_index.specs.declared.group.Group.{Group}
 use Rattle.folder_index.specs.declared.totals.Totals.{Totals}
 use Rattle.folder_index.specs.Groups.{AreGroups, HasRoom, IsChanged, IsGroup, IsSmall, announced_in, deletions_in, directories_in, files_in, needed_in, others_in, totals_in, totals_of}
-use Rattle.folder_index.proofs.Counted.{at_most_each, no_more, one_more, own_once}
+use Rattle.folder_index.proofs.Counted.{at_most_each, no_more, no_more_own, one_more, own_once}
 use Rattle.folder_index.proofs.Listed.{Groups, Sorted, Each, at_same, entries_at, in_lookup}
 use Rattle.folder_index.proofs.Changes as changes
 
@@ -230,3 +231,15 @@ module _ (me : Identity) (gs : Groups) (t : Totals) (are : AreGroups me gs t) (s
     needed = (omega arith, let e = ap (λ (x : Totals). x.needed) are.counted in let a = few needed_in (few_needed me) in omega arith);
     others = (omega arith, are.room);
   }
+
+-- the others' records still fit 64 bits after a record is put
+pub room_left : (me d : Identity) (r : FileRecord) (was is : Group) (t u : Totals) → map filed is.entries.items ≡ put key_cmp (key r.name d) r (map filed was.entries.items) → u.others + others_in me was ≡ t.others + others_in me is
+    → t.others + 1 < 2 ^ 64 → (d ≢ me → t.others + 2 < 2 ^ 64) → u.others + 1 < 2 ^ 64
+room_left me d r was is t u placed changed room more = by (bytes_eq d me) refl
+  where
+    by : (b : Bool) → bytes_eq d me ≡ b → u.others + 1 < 2 ^ 64
+    by true e = let few = no_more_own me was.entries.items is.entries.items (key r.name d) r (same_bytes d me e) placed in omega arith
+    by false e =
+        let few = one_more me was.entries.items is.entries.items (key r.name d) r placed in
+        let left = more (λ s. true≢false (sym (alike_bytes d me s) ∙ e)) in
+        omega arith

@@ -1,5 +1,5 @@
 -- How the records are kept: by name, and of each name by device, with what is chosen of them.
-use Rattle.std.specs.Prelude.{bytes_eq, ◌≡◌, ℕ, ◌+◌, ◌<◌, ◌≤◌, ◌^◌, ◌&&◌, IsTrue, List, length, filter, flat_map, not, option_and_then, option_map, if◌then◌else◌, is_some, Option, slice_get}
+use Rattle.std.specs.Prelude.{[], ◌∷◌, vec_len, vec_capacity, bytes_eq, ◌≡◌, ℕ, ◌+◌, ◌<◌, ◌≤◌, ◌^◌, ◌&&◌, IsTrue, List, length, filter, flat_map, not, option_and_then, option_map, if◌then◌else◌, is_some, Option, slice_get}
 use Rattle.std.specs.List.{list_all}
 use Rattle.std.specs.BTreeMap.{is_at}
 use Rattle.std.specs.Map.{keys_of, lookup, values_of}
@@ -8,6 +8,7 @@ use Rattle.std.specs.Prelude.{None, Some, map, sum_by}
 use Rattle.std.specs.declared.ops.Bound.{Bound}
 use Rattle.std.specs.declared.ops.Bound.TheVariants.{Excluded, Unbounded}
 use Rattle.std.specs.FinMap.{from_sorted}
+use Rattle.std.specs.FinSet as set
 use Rattle.sync_record.specs.Devices.{Identity, bytes_cmp}
 use Rattle.sync_record.specs.Records.{Name, is_directory, is_live, is_live_file}
 use Rattle.folder_core.specs.declared.announcement.Announcement.{Announcement as Entry}
@@ -17,7 +18,7 @@ use Rattle.folder_core.specs.Reads.{BestEntry}
 use Rattle.folder_core.specs.PlainPulls.{best_in}
 use Rattle.folder_core.specs.PlainReads.{is_from, needed_of}
 use Rattle.folder_index.specs.declared.group.Group.{Group}
-use Rattle.folder_index.specs.Indexes.{IndexState}
+use Rattle.folder_index.specs.Indexes.{IndexState, Names}
 use Rattle.folder_index.specs.declared.totals.Totals.{Totals}
 
 abbrev pub entries_in : Group → List Entry
@@ -32,11 +33,13 @@ abbrev pub best_of_group : Group → Option BestEntry
 best_of_group g = option_map {U = BestEntry} (λ b. (b.record, devices_with g.entries.items b.record)) (chosen g)
 
 -- What holds of the group of a name: its entries are of the name, by device, and the best and the need are those of the entries.
+-- Where room is promised, there is room for one entry more.
 pub record IsGroup (me : Identity) (n : Name) (g : Group) : Type 0 where
   pub rises : Rises g.entries.items
   pub named : IsTrue (list_all (λ e. bytes_eq e.record.name n) g.entries.items)
   pub best : chosen g ≡ best_in g.entries.items
   pub needed : g.is_needed ≡ is_some (needed_of me g.entries.items)
+  pub fits : IsTrue g.is_promised → vec_len g.entries < vec_capacity g.entries
 
 -- all entries, by name and then by device
 abbrev pub listed : List (Name × Group) → List Entry
@@ -89,8 +92,13 @@ pub record AreGroups (me : Identity) (gs : List (Name × Group)) (totals : Total
 abbrev pub announced_in : List (Name × Group) → Announced
 announced_in gs = from_sorted (map filed (listed gs))
 
+-- the names with room that is promised
+abbrev pub promised_in : List (Name × Group) → Names
+promised_in [] = set.empty
+promised_in (h ∷ gs) = if h.1.is_promised then set.insert (promised_in gs) h.0 else promised_in gs
+
 abbrev pub index_of : Identity → List (Name × Group) → ℕ → IndexState
-index_of me gs choices = record { me = me; announced = announced_in gs; choices = choices }
+index_of me gs choices = record { me = me; announced = announced_in gs; choices = choices; promised = promised_in gs }
 
 -- where the names after one begin, or all
 abbrev pub start_of : Option Name → Bound Name

@@ -1,14 +1,16 @@
-ghost use Rattle.std.specs.Prelude.{◌≡◌, ◌+◌, ◌<◌, ◌^◌, ◌==◌, [], false, length, IfOk, IsOk, None, OnErr, OnOk, map, option_copied, option_map};
+ghost use Rattle.std.specs.Prelude.{◌&&◌, ◌≢◌, bytes_eq, if◌then◌else◌, IsTrue, not, ◌≡◌, ◌+◌, ◌<◌, ◌^◌, ◌==◌, [], false, length, IfOk, IsOk, None, OnErr, OnOk, map, option_copied, option_map};
 ghost use Rattle.std.specs.BTreeMap.{get as at};
 ghost use Rattle.std.specs.FinMap.{empty, entries, get, insert, remove};
+ghost use Rattle.std.specs.FinSet as set;
+ghost use Rattle.std.specs.FinSet.{contains, empty as no_names};
 ghost use Rattle.std.specs.Option.{option_map_or};
 ghost use Rattle.std.specs.Range.Bound.{bound_map};
 ghost use Rattle.sync_record.specs.Devices.{bytes_cmp};
 ghost use Rattle.folder_core.specs.Announced.{best, key};
 ghost use Rattle.folder_core.specs.Plain.{filed};
 ghost use Rattle.folder_core.specs.Reads.{best_with_devices, bests_page, counts, need_page};
-ghost use Rattle.folder_index.specs.Groups.{AreGroups, announced_in, start_of};
-ghost use Rattle.folder_index.specs.Indexes.{folder, needs, with_record, without_record};
+ghost use Rattle.folder_index.specs.Groups.{AreGroups, announced_in, promised_in, start_of};
+ghost use Rattle.folder_index.specs.Indexes.{folder, needs, with_promise, with_record, without_promise, without_record};
 
 use crate::entries::record_from;
 use crate::group::Group;
@@ -52,7 +54,7 @@ impl Model for ByName {
 impl ByName {
     /// No records. Does not allocate. O(1).
     pub fn new(alloc: Global, me: DeviceId) -> ByName
-        ensures { result ≡ record { me = me; announced = empty; choices = 0 } }
+        ensures { result ≡ record { me = me; announced = empty; choices = 0; promised = no_names } }
     {
         ByName {
             alloc,
@@ -94,8 +96,10 @@ impl ByName {
     pub fn set(&mut self, device: DeviceId, announced: Record) -> Result<(), AllocError>
         ensures ok { OnOk result (self.new ≡ with_record device announced self.old) }
         ensures err { OnErr result (self.new ≡ self.old) }
+        ensures promised { device ≡ self.old.me → IsTrue (contains self.old.promised announced.name) →
+            IsOk result }
     {
-        if self.totals.others >= MAX_OTHERS {
+        if device != self.me && self.totals.others >= MAX_OTHERS {
             return Err(AllocError);
         }
         self.totals = set_in(
@@ -108,6 +112,22 @@ impl ByName {
         )?;
         self.choices = self.choices.saturating_add(1);
         Ok(())
+    }
+
+    /// Makes room for a record of this device: the next `set` of one of this name takes it, and doesn't fail. Returns `Err` only
+    /// if out of memory, and then nothing changes. O(log n) for n names.
+    pub fn reserve(&mut self, name: &SafeName) -> Result<(), AllocError>
+        ensures ok { OnOk result (self.new ≡ with_promise name.now self.old) }
+        ensures err { OnErr result (self.new ≡ self.old) }
+    {
+        promise_in(&mut self.names, self.totals, self.alloc, self.me, name)
+    }
+
+    /// Gives up the room that was made for a record of this device, if there is any. Does not allocate. O(log n) for n names.
+    pub fn release(&mut self, name: &SafeName)
+        ensures { self.new ≡ without_promise name.now self.old }
+    {
+        take_back_in(&mut self.names, self.totals, self.me, name);
     }
 
     /// Takes away what a device announces of a name, if there is anything, and then chooses the best of the name anew. Does
@@ -226,10 +246,17 @@ fn set_in(
     announced: Record,
 ) -> Result<Totals, AllocError>
     requires groups { AreGroups me names.old.entries totals }
-    requires others { totals.others + 2 < 2 ^ 64 }
+    requires others { device ≢ me → totals.others + 2 < 2 ^ 64 }
     ensures groups { IfOk result (λ totals. AreGroups me names.new.entries totals) }
     ensures placed { OnOk result (announced_in names.new.entries
         ≡ insert (announced_in names.old.entries) (key announced.name device) announced) }
+    ensures promised { OnOk result (promised_in names.new.entries
+        ≡ (if bytes_eq device me then set.remove (promised_in names.old.entries) announced.name else
+        promised_in names.old.entries)) }
+    ensures promises_stay { OnErr result (promised_in names.new.entries
+        ≡ promised_in names.old.entries) }
+    ensures fits { device ≡ me → IsTrue (contains (promised_in names.old.entries) announced.name) →
+        IsOk result }
     ensures groups_stay { OnErr result (AreGroups me names.new.entries totals) }
     ensures kept { OnErr result (announced_in names.new.entries ≡ announced_in names.old.entries) }
 {
@@ -250,11 +277,12 @@ fn add(
     announced: Record,
 ) -> Result<Totals, AllocError>
     requires groups { AreGroups me names.old.entries totals }
-    requires others { totals.others + 2 < 2 ^ 64 }
+    requires others { device ≢ me → totals.others + 2 < 2 ^ 64 }
     requires absent { at bytes_cmp names.old announced.name ≡ None }
     ensures groups { IfOk result (λ totals. AreGroups me names.new.entries totals) }
     ensures placed { OnOk result (announced_in names.new.entries
         ≡ insert (announced_in names.old.entries) (key announced.name device) announced) }
+    ensures promised { promised_in names.new.entries ≡ promised_in names.old.entries }
     ensures err { OnErr result (names.new.entries ≡ names.old.entries) }
 {
     prove!(names.len() < 1 << 63);
@@ -263,6 +291,83 @@ fn add(
     let totals = group.set_counted(totals, me, device, announced)?;
     names.insert(name, group)?;
     Ok(totals)
+}
+
+/// Promises room for a record of this device. What is announced stays. Returns `Err` only if out of memory, and then the
+/// promises stay too. O(log n) for n names.
+fn promise_in(
+    names: &mut BTreeMap<SafeName, Group>,
+    totals: Totals,
+    alloc: Global,
+    me: DeviceId,
+    name: &SafeName,
+) -> Result<(), AllocError>
+    requires { AreGroups me names.old.entries totals }
+    ensures groups { AreGroups me names.new.entries totals }
+    ensures kept { announced_in names.new.entries ≡ announced_in names.old.entries }
+    ensures promised { OnOk result (promised_in names.new.entries
+        ≡ set.insert (promised_in names.old.entries) name.now) }
+    ensures promises_stay { OnErr result (promised_in names.new.entries
+        ≡ promised_in names.old.entries) }
+{
+    match names.get_mut(name) {
+        Some(group) => group.promise(),
+        None => add_promised(names, totals, alloc, me, name),
+    }
+}
+
+/// Adds the group of a name of which nothing is announced, with room for a record.
+fn add_promised(
+    names: &mut BTreeMap<SafeName, Group>,
+    totals: Totals,
+    alloc: Global,
+    me: DeviceId,
+    name: &SafeName,
+) -> Result<(), AllocError>
+    requires groups { AreGroups me names.old.entries totals }
+    requires absent { at bytes_cmp names.old name.now ≡ None }
+    ensures groups { AreGroups me names.new.entries totals }
+    ensures kept { announced_in names.new.entries ≡ announced_in names.old.entries }
+    ensures promised { OnOk result (promised_in names.new.entries
+        ≡ set.insert (promised_in names.old.entries) name.now) }
+    ensures promises_stay { OnErr result (promised_in names.new.entries
+        ≡ promised_in names.old.entries) }
+{
+    let name = name.copy()?;
+    let mut group = Group::new(alloc);
+    group.promise()?;
+    names.insert(name, group)?;
+    Ok(())
+}
+
+/// Takes the promise of a name back. What is announced stays. Does not allocate. O(log n) for n names.
+fn take_back_in(
+    names: &mut BTreeMap<SafeName, Group>,
+    totals: Totals,
+    me: DeviceId,
+    name: &SafeName,
+)
+    requires { AreGroups me names.old.entries totals }
+    ensures groups { AreGroups me names.new.entries totals }
+    ensures kept { announced_in names.new.entries ≡ announced_in names.old.entries }
+    ensures promised { promised_in names.new.entries
+        ≡ set.remove (promised_in names.old.entries) name.now }
+{
+    take_back(names, totals, me, name);
+    drop_empty(names, totals, me, name);
+}
+
+/// Takes the promise of a group back, if there is the group.
+fn take_back(names: &mut BTreeMap<SafeName, Group>, totals: Totals, me: DeviceId, name: &SafeName)
+    requires { AreGroups me names.old.entries totals }
+    ensures groups { AreGroups me names.new.entries totals }
+    ensures kept { announced_in names.new.entries ≡ announced_in names.old.entries }
+    ensures promised { promised_in names.new.entries
+        ≡ set.remove (promised_in names.old.entries) name.now }
+{
+    if let Some(group) = names.get_mut(name) {
+        group.take_back();
+    }
 }
 
 /// Takes a device's record out of the groups, and returns the new totals. Does not allocate. O(log n + k^2) for n names and k
@@ -278,6 +383,7 @@ fn clear_in(
     ensures groups { AreGroups me names.new.entries result }
     ensures taken { announced_in names.new.entries
         ≡ remove (announced_in names.old.entries) (key name.now device) }
+    ensures promised { promised_in names.new.entries ≡ promised_in names.old.entries }
 {
     let totals = clear_group(names, totals, me, device, name);
     drop_empty(names, totals, me, name);
@@ -296,6 +402,7 @@ fn clear_group(
     ensures groups { AreGroups me names.new.entries result }
     ensures taken { announced_in names.new.entries
         ≡ remove (announced_in names.old.entries) (key name.now device) }
+    ensures promised { promised_in names.new.entries ≡ promised_in names.old.entries }
 {
     prove!(names.len() < 1 << 63);
     match names.get_mut(name) {
@@ -304,23 +411,25 @@ fn clear_group(
     }
 }
 
-/// Drops the group of a name if it has no entries. What is announced stays. O(log n) for n names.
+/// Drops the group of a name if it has no entries, and no room is promised. What is announced stays. O(log n) for n names.
 fn drop_empty(names: &mut BTreeMap<SafeName, Group>, totals: Totals, me: DeviceId, name: &SafeName)
     requires { AreGroups me names.old.entries totals }
     ensures groups { AreGroups me names.new.entries totals }
     ensures kept { announced_in names.new.entries ≡ announced_in names.old.entries }
+    ensures promised { promised_in names.new.entries ≡ promised_in names.old.entries }
 {
     if is_empty(names.get(name)) {
         drop(names.remove(name));
     }
 }
 
-/// Whether there is a group, and it has no entries.
+/// Whether there is a group, and it has no entries and no promise.
 fn is_empty(group: Option<&Group>) -> bool
-    ensures { result ≡ option_map_or (λ g. length g.entries.items == 0) (option_copied group.entry) false }
+    ensures { result ≡ option_map_or (λ g. not g.is_promised && length g.entries.items == 0)
+        (option_copied group.entry) false }
 {
     match group {
-        Some(group) => group.entries.is_empty(),
+        Some(group) => !group.is_promised && group.entries.is_empty(),
         None => false,
     }
 }

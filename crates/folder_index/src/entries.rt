@@ -31,7 +31,9 @@ pub(crate) fn record_from(entries: &[Announcement], device: DeviceId) -> Option<
 
 /// Takes the device's record away. Does not allocate. O(k) for k entries.
 pub(crate) fn remove_from(entries: &mut Vec<Announcement>, device: DeviceId)
-    ensures { entries.new.items ≡ filter (λ e. not (is_from device e)) entries.old.items }
+    ensures taken { entries.new.items ≡ filter (λ e. not (is_from device e)) entries.old.items }
+    ensures len { vec_len entries.new ≤ vec_len entries.old }
+    ensures capacity { vec_capacity entries.new ≡ vec_capacity entries.old }
 {
     entries.retain(|entry| entry.device != device);
 }
@@ -41,8 +43,10 @@ pub(crate) fn remove_from(entries: &mut Vec<Announcement>, device: DeviceId)
 pub(crate) fn put(entries: &mut Vec<Announcement>, device: DeviceId, announced: Record)
     requires rises { Rises entries.old.items }
     requires fits { vec_len entries.old < vec_capacity entries.old }
-    ensures { map filed entries.new.items
+    ensures placed { map filed entries.new.items
         ≡ put key_cmp (key announced.name device) announced (map filed entries.old.items) }
+    ensures len { vec_len entries.new ≤ vec_len entries.old + 1 }
+    ensures capacity { vec_capacity entries.old ≤ vec_capacity entries.new }
 {
     let place = entries.partition_point(|entry| is_less(entry, device, &announced));
     let order = order(entries.get(place), device, &announced);
@@ -61,7 +65,9 @@ pub(crate) fn put(entries: &mut Vec<Announcement>, device: DeviceId, announced: 
 fn insert_reserved(entries: &mut Vec<Announcement>, place: usize, entry: Announcement)
     requires place { place ≤ vec_len entries.old }
     requires fits { vec_len entries.old < vec_capacity entries.old }
-    ensures { entries.new.items ≡ insert entries.old.items place entry }
+    ensures items { entries.new.items ≡ insert entries.old.items place entry }
+    ensures len { vec_len entries.new ≤ vec_len entries.old + 1 }
+    ensures capacity { vec_capacity entries.old ≤ vec_capacity entries.new }
 {
     if entries.insert(place, entry).is_err() {
         unreachable!()

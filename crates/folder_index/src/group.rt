@@ -1,5 +1,5 @@
 //! What is kept of one name.
-ghost use Rattle.std.specs.Prelude.{◌≡◌, ◌&&◌, ℕ, [], All, IfOk, IsOk, List, OnErr, OnOk, filter, length, map, not, option_and_then, option_copied, option_map, if◌then◌else◌, is_some, false, Some, None};
+ghost use Rattle.std.specs.Prelude.{bytes_eq, IsTrue, true, ◌≡◌, ◌&&◌, ℕ, [], All, IfOk, IsOk, List, OnErr, OnOk, filter, length, map, not, option_and_then, option_copied, option_map, if◌then◌else◌, is_some, false, Some, None};
 ghost use Rattle.std.specs.FinMap.{put};
 ghost use Rattle.sync_record.specs.Records.{Name, is_directory, is_live, is_live_file};
 ghost use Rattle.folder_core.specs.Announced.{key, key_cmp};
@@ -24,6 +24,8 @@ pub(crate) struct Group {
     // Where among the entries the best is.
     pub(crate) best_place: Option<usize>,
     pub(crate) is_needed: bool,
+    // Whether there is to be room for one entry more.
+    pub(crate) is_promised: bool,
 }
 
 impl Group {
@@ -32,11 +34,13 @@ impl Group {
         ensures group { (me : List ℕ) (n : Name) → IsGroup me n result }
         ensures empty { result.entries.items ≡ [] }
         ensures needed { result.is_needed ≡ false }
+        ensures promised { result.is_promised ≡ false }
     {
         Group {
             entries: Vec::new(alloc),
             best_place: None,
             is_needed: false,
+            is_promised: false,
         }
     }
 
@@ -64,13 +68,21 @@ impl Group {
         ensures entries { self.new.entries ≡ self.old.entries }
         ensures best { chosen self.new ≡ best_in self.new.entries.items }
         ensures needed { self.new.is_needed ≡ is_some (needed_of me self.new.entries.items) }
+        ensures promised { self.new.is_promised ≡ self.old.is_promised }
     {
         self.best_place = place_of_best(self.entries.as_slice());
         self.is_needed = self.needs_best(me);
     }
 
-    /// Puts a device's record of the name in its place. Returns `Err` only if out of memory; then nothing changes. O(k^2) for
-    /// k entries.
+    /// Whether room is promised that a device's record doesn't take.
+    fn keeps_promise(&self, me: DeviceId, device: DeviceId) -> bool
+        ensures { result ≡ (self.now.is_promised && not (bytes_eq device me)) }
+    {
+        self.is_promised && device != me
+    }
+
+    /// Puts a device's record of the name in its place. This device's takes the room that is promised. Returns `Err` only if
+    /// out of memory, and never where that is; then nothing changes. O(k^2) for k entries.
     pub(crate) fn set(
         &mut self,
         me: DeviceId,
@@ -83,9 +95,16 @@ impl Group {
             ≡ put key_cmp (key announced.name device) announced (map filed self.old.entries.items)) }
         ensures err { OnErr result (IsGroup me announced.name self.new) }
         ensures kept { OnErr result (self.new.entries.items ≡ self.old.entries.items) }
+        ensures promised { OnOk result (self.new.is_promised
+            ≡ (self.old.is_promised && not (bytes_eq device me))) }
+        ensures promise_stays { OnErr result (self.new.is_promised ≡ self.old.is_promised) }
+        ensures fits { IsTrue (self.old.is_promised && bytes_eq device me) → IsOk result }
     {
-        self.entries.reserve_exact(1)?;
+        let keeps = self.keeps_promise(me, device);
+        let more = if keeps { 2 } else { 1 };
+        self.entries.reserve_exact(more)?;
         put(&mut self.entries, device, announced);
+        self.is_promised = keeps;
         self.choose(me);
         Ok(())
     }
@@ -95,6 +114,7 @@ impl Group {
         ensures group { (n : Name) → IsGroup me n self.old → IsGroup me n self.new }
         ensures taken { self.new.entries.items
             ≡ filter (λ e. not (is_from device e)) self.old.entries.items }
+        ensures promised { self.new.is_promised ≡ self.old.is_promised }
     {
         remove_from(&mut self.entries, device);
         self.choose(me);
@@ -117,6 +137,10 @@ impl Group {
         ensures placed { OnOk result (map filed self.new.entries.items
             ≡ put key_cmp (key announced.name device) announced (map filed self.old.entries.items)) }
         ensures kept { OnErr result (self.new.entries.items ≡ self.old.entries.items) }
+        ensures promised { OnOk result (self.new.is_promised
+            ≡ (self.old.is_promised && not (bytes_eq device me))) }
+        ensures promise_stays { OnErr result (self.new.is_promised ≡ self.old.is_promised) }
+        ensures fits { IsTrue (self.old.is_promised && bytes_eq device me) → IsOk result }
     {
         let was = self.totals(me);
         self.set(me, device, announced)?;
@@ -137,10 +161,33 @@ impl Group {
         ensures totals { IsChanged totals (totals_in me self.old) (totals_in me self.new) result }
         ensures taken { self.new.entries.items
             ≡ filter (λ e. not (is_from device e)) self.old.entries.items }
+        ensures promised { self.new.is_promised ≡ self.old.is_promised }
     {
         let was = self.totals(me);
         self.clear(me, device);
         totals.changed(was, self.totals(me))
+    }
+
+    /// Promises room for one entry more, which this device's record takes. Returns `Err` only if out of memory; then nothing
+    /// changes. O(1).
+    pub(crate) fn promise(&mut self) -> Result<(), AllocError>
+        ensures group { (me : List ℕ) (n : Name) → IsGroup me n self.old → IsGroup me n self.new }
+        ensures kept { self.new.entries.items ≡ self.old.entries.items }
+        ensures promised { OnOk result (self.new.is_promised ≡ true) }
+        ensures promise_stays { OnErr result (self.new.is_promised ≡ self.old.is_promised) }
+    {
+        self.entries.reserve_exact(1)?;
+        self.is_promised = true;
+        Ok(())
+    }
+
+    /// Takes the promise back. Does not allocate. O(1).
+    pub(crate) fn take_back(&mut self)
+        ensures group { (me : List ℕ) (n : Name) → IsGroup me n self.old → IsGroup me n self.new }
+        ensures kept { self.new.entries.items ≡ self.old.entries.items }
+        ensures promised { self.new.is_promised ≡ false }
+    {
+        self.is_promised = false;
     }
 
     /// What the group has, counted. O(k) for k entries.

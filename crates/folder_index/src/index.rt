@@ -1,5 +1,6 @@
 ghost use Rattle.std.specs.Prelude.{◌≡◌, ◌↔◌, ℕ, [], List, IfOk, IsOk, IsTrue, None, OnErr, OnOk, Some, map, option_copied, option_map, slice_get};
 ghost use Rattle.std.specs.FinMap.{empty, entries, get};
+ghost use Rattle.std.specs.FinSet.{empty as no_names};
 ghost use Rattle.folder_core.specs.Announced.{best, key};
 ghost use Rattle.folder_core.specs.Plain.{filed};
 ghost use Rattle.folder_core.specs.Reads.{IsSomePlace, best_with_devices, bests_page, counts, local_since, need_page, places};
@@ -41,7 +42,7 @@ impl Model for Index {
 impl Index {
     /// No records. Does not allocate. O(1).
     pub fn new(alloc: Global, me: DeviceId) -> Index
-        ensures { result ≡ record { me = me; announced = empty; choices = 0 } }
+        ensures { result ≡ record { me = me; announced = empty; choices = 0; promised = no_names } }
     {
         Index {
             names: ByName::new(alloc, me),

@@ -10,6 +10,7 @@ use Rattle.folder_index.proofs.Listed.{Groups}
 use Rattle.folder_core.specs.declared.announcement.Announcement.{Announcement as Entry}
 use Rattle.folder_index.specs.declared.group.Group.{Group}
 use Rattle.folder_index.proofs.Written.{Sums, absent_is, are_written, nothing_at, none_at, found_at, room_at, small_cleared, sums_set, taken_is}
+use Rattle.folder_index.proofs.Promised.{promise_of, promises_kept}
 use Rattle.folder_index.proofs.by_name.clear_group.Goals as goal
 
 pub clear_counted-requires-clause-group : goal.clear_counted-requires-clause-group
@@ -52,3 +53,13 @@ returns-in-None-clause-taken c =
     let none : lookup (is_at (bytes_cmp n)) gs ≡ None = search rules in
     ap (λ (m : _). announced_in m.entries) c.get_mut.follows.holds-at-none
     ∙ absent_is c.args.me gs gs c.args.totals c.requires c.requires.ordered n (nothing_at n gs none) c.args.device (none_at n gs none)
+
+pub returns-in-Some-clause-promised : goal.returns-in-Some-clause-promised
+returns-in-Some-clause-promised c =
+    let n = c.args.name.now in
+    let gs = c.args.names.now.entries in
+    let was = c.in-Some.group.now in
+    let is = c.clear_counted.new.self in
+    let found : lookup (is_at (bytes_cmp n)) gs ≡ Some was = search rules in
+    let write = c.get_mut.follows.holds is in
+    promises_kept gs (c.get_mut.follows.lender is).entries c.requires.ordered write.4 n (Some is) (write.3 (search rules)).0 (c.clear_counted.ensures.promised ∙ sym (ap promise_of found))

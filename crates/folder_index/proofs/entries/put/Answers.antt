@@ -8,8 +8,8 @@ use Rattle.folder_core.proofs.PlainGroup.{partitioned}
 use Rattle.folder_core.proofs.PlainPut.{after_key, got, before_key_down, is_before_key, put-equal, put-inserts}
 use Rattle.folder_index.proofs.entries.put.Goals as goal
 
-pub returns-in-Less : goal.returns-in-Less
-returns-in-Less c =
+pub returns-in-Less-clause-placed : goal.returns-in-Less-clause-placed
+returns-in-Less-clause-placed c =
     let k = key c.args.announced.name c.args.device in
     let old = c.args.entries.now.items in
     let seen = c.deref.result.now in
@@ -19,12 +19,12 @@ returns-in-Less c =
     let pass : AllWithin (λ e. is_before_key k e ≡ true) old 0 c.partition_point-place.result = subst (λ xs. AllWithin (λ e. is_before_key k e ≡ true) xs 0 c.partition_point-place.result) c.deref.ensures.value place.0 in
     let fail : AllWithin (λ e. is_before_key k e ≡ false) old c.partition_point-place.result (length old) = subst (λ xs. AllWithin (λ e. is_before_key k e ≡ false) xs c.partition_point-place.result (length xs)) c.deref.ensures.value place.1 in
     let found : option_copied c.get.result ≡ slice_get old c.partition_point-place.result = got _ _ c.get.result (c.get.ensures.lookup.0, c.get.ensures.lookup.1) ∙ ap (λ xs. slice_get xs c.partition_point-place.result) c.deref-2.ensures.value in
-    ap (map filed) c.insert_reserved.ensures
+    ap (map filed) c.insert_reserved.ensures.items
     ∙ put-inserts (record { device = c.args.device; «record» = c.args.announced }) old c.partition_point-place.result (omega arith) pass
     (after_key k old c.partition_point-place.result _ c.order-order.result (sym found) fail c.order-order.ensures (λ t. cc))
 
-pub returns-in-Greater : goal.returns-in-Greater
-returns-in-Greater c =
+pub returns-in-Greater-clause-placed : goal.returns-in-Greater-clause-placed
+returns-in-Greater-clause-placed c =
     let k = key c.args.announced.name c.args.device in
     let old = c.args.entries.now.items in
     let seen = c.deref.result.now in
@@ -34,12 +34,12 @@ returns-in-Greater c =
     let pass : AllWithin (λ e. is_before_key k e ≡ true) old 0 c.partition_point-place.result = subst (λ xs. AllWithin (λ e. is_before_key k e ≡ true) xs 0 c.partition_point-place.result) c.deref.ensures.value place.0 in
     let fail : AllWithin (λ e. is_before_key k e ≡ false) old c.partition_point-place.result (length old) = subst (λ xs. AllWithin (λ e. is_before_key k e ≡ false) xs c.partition_point-place.result (length xs)) c.deref.ensures.value place.1 in
     let found : option_copied c.get.result ≡ slice_get old c.partition_point-place.result = got _ _ c.get.result (c.get.ensures.lookup.0, c.get.ensures.lookup.1) ∙ ap (λ xs. slice_get xs c.partition_point-place.result) c.deref-2.ensures.value in
-    ap (map filed) c.insert_reserved-in-Greater.ensures
+    ap (map filed) c.insert_reserved-in-Greater.ensures.items
     ∙ put-inserts (record { device = c.args.device; «record» = c.args.announced }) old c.partition_point-place.result (omega arith) pass
     (after_key k old c.partition_point-place.result _ c.order-order.result (sym found) fail c.order-order.ensures (λ t. cc))
 
-pub returns-in-Equal : goal.returns-in-Equal
-returns-in-Equal c =
+pub returns-in-Equal-clause-placed : goal.returns-in-Equal-clause-placed
+returns-in-Equal-clause-placed c =
     let k = key c.args.announced.name c.args.device in
     let old = c.args.entries.now.items in
     let seen = c.deref.result.now in
