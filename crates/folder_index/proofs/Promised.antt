@@ -1,5 +1,5 @@
 -- The names with room that is promised, as groups change.
-use Rattle.std.proofs.Common.{◌≡◌, Bool, true, false, List, [], ◌∷◌, refl, sym, ap, subst, ◌∙◌}
+use Rattle.std.proofs.Common.{◌≡◌, Bool, true, false, [], ◌∷◌, refl, sym, ap, subst, ◌∙◌}
 use Rattle.std.specs.Prelude.{◌&&◌, ◌||◌, cond, not, Option, Some, None}
 use Rattle.std.specs.BTreeMap.{is_at}
 use Rattle.std.specs.Cmp.{Equal-is, eq_by_cmp_equiv}
@@ -15,7 +15,6 @@ use Rattle.sync_record.specs.Records.{Name}
 use Rattle.folder_core.proofs.Orders.{bytes_total, exact_names}
 use Rattle.folder_index.specs.declared.group.Group.{Group}
 use Rattle.folder_index.specs.Groups.{promised_in}
-use Rattle.folder_index.specs.Indexes.{Names}
 use Rattle.folder_index.proofs.Listed.{Groups, Sorted, at_same}
 use Rattle.folder_index.proofs.Written.{HasAt}
 

@@ -2,7 +2,6 @@ use Rattle.std.proofs.Common.{◌≡◌, ℕ, List, Some, map, subst, sym, ap, �
 use Rattle.std.specs.BTreeMap.{insert_entry}
 use Rattle.std.specs.FinMap.{put}
 use Rattle.sync_record.specs.Devices.{bytes_cmp}
-use Rattle.folder_index.specs.declared.totals.Totals.{Totals}
 use Rattle.folder_index.proofs.Listed.{Groups}
 use Rattle.folder_core.specs.declared.announcement.Announcement.{Announcement as Entry}
 use Rattle.folder_core.specs.Announced.{key, key_cmp}

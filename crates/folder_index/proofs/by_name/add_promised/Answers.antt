@@ -1,4 +1,4 @@
-use Rattle.std.proofs.Common.{◌≡◌, ℕ, List, None, Some, subst, sym, ap, ◌∙◌, rules}
+use Rattle.std.proofs.Common.{ℕ, Some, subst, sym, ap, ◌∙◌}
 use Rattle.std.specs.BTreeMap.{insert_entry}
 use Rattle.sync_record.specs.Devices.{bytes_cmp}
 use Rattle.folder_index.specs.declared.group.Group.{Group}
