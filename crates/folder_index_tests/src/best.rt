@@ -1,6 +1,7 @@
 //! The best of a name, and whether it is needed.
 use crate::calls::{best_of, clear, index, needs, set};
-use crate::rows::{ABC, ABD, Row, device, file, name};
+use crate::rows::{ABC, ABD, Row, device, file, name, record};
+use folder_index::ByName;
 
 #[test]
 fn takes_the_next_best_of_a_ring(rt: HostRuntime) {
@@ -67,4 +68,17 @@ fn lists_devices_of_one_content(rt: HostRuntime) {
     assert_eq!(rt; needed.as_slice().len(), 1);
     let bests = index.bests(Some(&name(&rt, "a")), 1).expect(&rt, "bests");
     assert_eq!(rt; bests.as_slice().len(), 1);
+}
+
+#[test]
+fn reserves_room_for_a_record(rt: HostRuntime) {
+    let mut names = ByName::new(rt.alloc(), device(9));
+    names.reserve(&name(&rt, "x")).expect(&rt, "room");
+    let theirs = record(&rt, &file("x", &[(1, 1)], 1));
+    names.set(device(1), theirs).expect(&rt, "a set");
+    names.clear(device(1), &name(&rt, "x"));
+    let own = record(&rt, &file("x", &[(9, 1)], 1));
+    names.set(device(9), own).expect(&rt, "a set");
+    names.release(&name(&rt, "x"));
+    assert!(rt; names.get(device(9), &name(&rt, "x")).is_some());
 }
