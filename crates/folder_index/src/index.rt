@@ -64,10 +64,11 @@ impl Index {
         self.names.choices()
     }
 
-    /// Puts a device's record, in place of what it announced of its name, and chooses the best of the name anew. No
-    /// record of this device of another name has the sequence of a record of this device. Returns `Err` only if out of memory, or if the other devices have
-    /// 2^64 - 2 records already, and then nothing changes. O(log n + k^2) for n names and k devices that announce the name,
-    /// and O(b log m) for this device's files, with b blocks in the old and the new one and m in all.
+    /// Puts a device's record, in place of what it announced of its name, and chooses the best of the name anew. The sequence
+    /// of a record of this device is none of its records of other names ([`is_free`](Index::is_free) tells). Returns `Err`
+    /// only if out of memory, or if the other devices have 2^64 - 2 records already, and then nothing changes.
+    /// O(log n + k^2) for n names and k devices that announce the name, and O(b log m) for a file of this device, with b
+    /// blocks in the old and the new one and m in all.
     pub fn set(&mut self, device: DeviceId, announced: Record) -> Result<(), AllocError>
         requires { device ≡ self.old.me → IsFree self.old announced.name announced.sequence }
         ensures ok { OnOk result (self.new ≡ with_record device announced self.old) }
@@ -80,7 +81,7 @@ impl Index {
         }
     }
 
-    /// Whether no record of this device of another name has a sequence. O(log n) for n records of this device.
+    /// Whether no record of this device of another name has the sequence. O(log n) for n records of this device.
     pub fn is_free(&self, name: &SafeName, sequence: u64) -> bool
         ensures { IsTrue result ↔ IsFree self.now name.now sequence }
     {

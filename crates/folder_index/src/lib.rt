@@ -1,6 +1,7 @@
-//! What devices announce of a folder, kept so that its reads are fast: [`ByName`] has the records of each name, with the best
-//! of the name and whether it is needed, which are found when a record of the name changes, and not when they are asked for;
-//! [`BySequence`] has records in the order of their sequences, and [`ByDigest`] the places of blocks.
+//! What devices announce of a folder, kept so that its reads are fast: [`Index`] is made of [`ByName`], which has the records
+//! of each name, with the best of the name and whether it is needed, which are found when a record of the name changes, and
+//! not when they are asked for; of [`BySequence`], which has this device's records in the order of their sequences; and of
+//! [`ByDigest`], which has the places of the blocks of its live files.
 //!
 //! Contracts say of each what it has, in the words of `folder_core`'s rules, and not how it is kept.
 #![tactic(auto)]
