@@ -20,7 +20,7 @@ use Rattle.clap.specs.declared.parser.matches.ArgMatches.{ArgMatches}
 use Rattle.std.specs.Result.{IsErrAnd}
 use Rattle.clap.specs.declared.parser.matches.Found.{Found}
 use Rattle.clap.proofs.OnLiterals.{clap_on_literals}
-use Rattle.bepd.specs.CommandLine.{IsAsked, IsCommandLine, IsErrorAt, IsGiven, IsPairGiven, IsRequested, begins_with_hyphen, bepd_app, faults, folder_at, is_pair}
+use Rattle.bepd.specs.CommandLine.{IsAsked, IsCommandLine, IsErrorAt, IsGiven, IsPairGiven, IsRequested, IsRunGiven, begins_with_hyphen, bepd_app, config_at, directory_at, faults, folder_at, is_pair, value_at}
 
 pub bepd_is_simple : is_simple_and_free bepd_app ≡ true
 unfolding clap_on_literals
@@ -53,28 +53,39 @@ first_read id (e ∷ es) = go (bytes_eq e.0.now id) refl (first_read id es)
 pub first_of-rows : (f : Found) (id : Text) → first_of id (rows_of f) ≡ first_value f id
 first_of-rows f id = first_read id f.entries.items
 
--- ---- the folder
+-- ---- the value of an argument of one command
 
--- where another command or none was entered, no folder is given
-pub no_folder : (c : Option (Text × List Row)) → (option_map (λ p. p.0) c ≡ Some (codes "best") → ⊥) → folder_at c ≡ None
-no_folder None other = refl
-no_folder (Some c) other = go (bytes_eq c.0 (codes "best")) refl
+-- where another command or none was entered, it has no value
+pub no_value : (name argument : Text) (c : Option (Text × List Row)) → (option_map (λ p. p.0) c ≡ Some name → ⊥) → value_at name argument c ≡ None
+no_value name argument None other = refl
+no_value name argument (Some c) other = go (bytes_eq c.0 name) refl
   where
-    go : (b : Bool) → bytes_eq c.0 (codes "best") ≡ b → folder_at (Some c) ≡ None
-    go true h = absurd (other (ap Some ((bytes_eq-Decides c.0 (codes "best")).0 h)))
+    go : (b : Bool) → bytes_eq c.0 name ≡ b → value_at name argument (Some c) ≡ None
+    go true h = absurd (other (ap Some ((bytes_eq-Decides c.0 name).0 h)))
     go false h = rw h refl
 
 some_is : {A : Type 0} (x y : A) → Some x ≡ Some y → x ≡ y
 some_is x y e = cc
 
-pub given_folder : (c : Option (Text × List Row)) (rows : List Row) → option_map (λ p. p.0) c ≡ Some (codes "best") → option_map (λ p. p.1) c ≡ Some rows
-    → folder_at c ≡ first_of (codes "FOLDER") rows
-given_folder None rows name e = absurd (some_none rows (sym e))
-given_folder (Some c) rows name e = go (bytes_eq c.0 (codes "best")) refl
+pub given_value : (name argument : Text) (c : Option (Text × List Row)) (rows : List Row) → option_map (λ p. p.0) c ≡ Some name → option_map (λ p. p.1) c ≡ Some rows
+    → value_at name argument c ≡ first_of argument rows
+given_value name argument None rows named e = absurd (some_none rows (sym e))
+given_value name argument (Some c) rows named e = go (bytes_eq c.0 name) refl
   where
-    go : (b : Bool) → bytes_eq c.0 (codes "best") ≡ b → folder_at (Some c) ≡ first_of (codes "FOLDER") rows
-    go true h = rw h (ap (λ o. option_and_then (λ r. first_of (codes "FOLDER") r) o) e)
-    go false h = absurd (true≢false (sym ((bytes_eq-Decides c.0 (codes "best")).1 (some_is c.0 (codes "best") name)) ∙ h))
+    go : (b : Bool) → bytes_eq c.0 name ≡ b → value_at name argument (Some c) ≡ first_of argument rows
+    go true h = rw h (ap (λ o. option_and_then (λ r. first_of argument r) o) e)
+    go false h = absurd (true≢false (sym ((bytes_eq-Decides c.0 name).1 (some_is c.0 name named)) ∙ h))
+
+-- a value was given to this command
+entered : (name argument : Text) (c : Option (Text × List Row)) (value : Text) → value_at name argument c ≡ Some value → option_map (λ p. p.0) c ≡ Some name
+entered name argument None value given = absurd (some_none value (sym given))
+entered name argument (Some c) value given = go (bytes_eq c.0 name) refl
+  where
+    go : (b : Bool) → bytes_eq c.0 name ≡ b → Some c.0 ≡ Some name
+    go true h = ap Some ((bytes_eq-Decides c.0 name).0 h)
+    go false h =
+        let none : value_at name argument (Some c) ≡ None = rw h refl in
+        absurd (some_none value (sym given ∙ none))
 
 map_map : {A B C : Type 0} (f : B → C) (g : A → B) (o : Option A) → option_map f (option_map g o) ≡ option_map (λ x. f (g x)) o
 map_map f g None = refl
@@ -108,19 +119,12 @@ error_at app words e same fails = elim (fails (ap is_simple_and_free same ∙ be
   | inr among ↦ inr (inl (subst (λ a. IsAmong (kind_of e) (fault_of a words)) same among))
 ]
 
--- whether a parse that succeeds found `pair` is what the words say
-pub pair_at : (app : App) (words : List Text) (m : ArgMatches) (b : Bool) → app ≡ bepd_app → HasMatchesOf app words m → b ≡ is_pair (subcommand_rows_of m)
-    → is_pair (subcommand_of bepd_app words) ≡ b
-pair_at app words m b same found is =
-    let rows : subcommand_rows_of m ≡ subcommand_of app words = (found (ap is_simple same ∙ bepd_is_plain)).1 in
-    ap (λ a. is_pair (subcommand_of a words)) (sym same) ∙ ap is_pair (sym rows) ∙ sym is
-
 -- what a parse that succeeds found is what the words say
-pub found_at : (app : App) (words : List Text) (m : ArgMatches) (folder : Option Text) → app ≡ bepd_app → HasMatchesOf app words m → folder ≡ folder_at (subcommand_rows_of m)
-    → folder_at (subcommand_of bepd_app words) ≡ folder
-found_at app words m folder same found given =
+pub read_at : {A : Type 0} (read : Option (Text × List Row) → A) (app : App) (words : List Text) (m : ArgMatches) (x : A) → app ≡ bepd_app → HasMatchesOf app words m
+    → x ≡ read (subcommand_rows_of m) → read (subcommand_of bepd_app words) ≡ x
+read_at read app words m x same found given =
     let rows : subcommand_rows_of m ≡ subcommand_of app words = (found (ap is_simple same ∙ bepd_is_plain)).1 in
-    ap (λ a. folder_at (subcommand_of a words)) (sym same) ∙ ap folder_at (sym rows) ∙ sym given
+    ap (λ a. read (subcommand_of a words)) (sym same) ∙ ap read (sym rows) ∙ sym given
 
 pub no_faults : (app : App) (words : List Text) → app ≡ bepd_app → (is_simple_and_free app ≡ true → fault_of app words ≡ []) → faults words ≡ []
 no_faults app words same none = ap (λ a. fault_of a words) (sym same) ∙ none (ap is_simple_and_free same ∙ bepd_is_simple)
@@ -158,20 +162,45 @@ no_mistake words folder kind given (inl out) not = not out
 no_mistake words folder kind given (inr (inl among)) not = subst (IsAmong kind) given.0 among
 no_mistake words folder kind given (inr (inr none)) not = some_none folder (sym given.1 ∙ none.0)
 
--- the words cannot call for a listing and for two peers
-one_command : (c : Option (Text × List Row)) (folder : Text) → folder_at c ≡ Some folder → is_pair c ≡ true → ⊥
-one_command None folder f p = some_none folder (sym f)
-one_command (Some c) folder f p =
-    let name : c.0 ≡ codes "pair" = (bytes_eq-Decides c.0 (codes "pair")).0 p in
-    let other : folder_at (Some c) ≡ None = no_folder (Some c) (λ e. pair_not_best (sym name ∙ some_is c.0 (codes "best") e)) in
-    some_none folder (sym f ∙ other)
-  where
-    pair_not_best : codes "pair" ≡ codes "best" → ⊥
-    pair_not_best e = true≢false (ap (λ word. bytes_eq (codes "pair") word) e)
+-- the command entered is `pair`
+pair_named : (c : Option (Text × List Row)) → is_pair c ≡ true → option_map (λ p. p.0) c ≡ Some (codes "pair")
+pair_named None p = absurd (true≢false (sym p))
+pair_named (Some c) p = ap Some ((bytes_eq-Decides c.0 (codes "pair")).0 p)
+
+-- the words cannot call for two commands
+one_name : (a b : Text) (name : Option Text) → bytes_eq a b ≡ false → name ≡ Some a → name ≡ Some b → ⊥
+one_name a b name other is_a is_b = true≢false (sym ((bytes_eq-Decides a b).1 (some_is a b (sym is_a ∙ is_b))) ∙ other)
+
+pair_not_best : (c : Option (Text × List Row)) (folder : Text) → folder_at c ≡ Some folder → is_pair c ≡ true → ⊥
+pair_not_best c folder f p =
+    one_name (codes "pair") (codes "best") (option_map (λ p. p.0) c) refl (pair_named c p) (entered (codes "best") (codes "FOLDER") c folder f)
+
+run_not_best : (c : Option (Text × List Row)) (folder path : Text) → folder_at c ≡ Some folder → config_at c ≡ Some path → ⊥
+run_not_best c folder path f p =
+    one_name (codes "run") (codes "best") (option_map (λ p. p.0) c) refl (entered (codes "run") (codes "config") c path p) (entered (codes "best") (codes "FOLDER") c folder f)
+
+new_not_best : (c : Option (Text × List Row)) (folder directory : Text) → folder_at c ≡ Some folder → directory_at c ≡ Some directory → ⊥
+new_not_best c folder directory f d =
+    one_name (codes "new") (codes "best") (option_map (λ p. p.0) c) refl (entered (codes "new") (codes "DIRECTORY") c directory d) (entered (codes "best") (codes "FOLDER") c folder f)
+
+new_not_pair : (c : Option (Text × List Row)) (directory : Text) → directory_at c ≡ Some directory → is_pair c ≡ true → ⊥
+new_not_pair c directory d p =
+    one_name (codes "pair") (codes "new") (option_map (λ p. p.0) c) refl (pair_named c p) (entered (codes "new") (codes "DIRECTORY") c directory d)
+
+new_not_run : (c : Option (Text × List Row)) (path directory : Text) → config_at c ≡ Some path → directory_at c ≡ Some directory → ⊥
+new_not_run c path directory f d =
+    one_name (codes "new") (codes "run") (option_map (λ p. p.0) c) refl (entered (codes "new") (codes "DIRECTORY") c directory d) (entered (codes "run") (codes "config") c path f)
+
+run_not_pair : (c : Option (Text × List Row)) (path : Text) → config_at c ≡ Some path → is_pair c ≡ true → ⊥
+run_not_pair c path f p =
+    one_name (codes "pair") (codes "run") (option_map (λ p. p.0) c) refl (pair_named c p) (entered (codes "run") (codes "config") c path f)
 
 asked_at : (words : List Text) (folder : Text) (asked : Request) → IsGiven words folder → IsAsked words asked → IsBestOf folder asked
 asked_at words folder (request.Best f) given h = is_some_of (folder_at (subcommand_of bepd_app words)) f.now folder h.1 given.1
-asked_at words folder request.Pair given h = one_command (subcommand_of bepd_app words) folder given.1 h.1
+asked_at words folder request.Pair given h = pair_not_best (subcommand_of bepd_app words) folder given.1 h.1
+asked_at words folder (request.Run path) given h = run_not_best (subcommand_of bepd_app words) folder path.now given.1 h.1
+asked_at words folder (request.Check path) given h = run_not_best (subcommand_of bepd_app words) folder path.now given.1 h.1
+asked_at words folder (request.New directory) given h = new_not_best (subcommand_of bepd_app words) folder directory.now given.1 h.1
 asked_at words folder (request.Text t) given h = no_mistake words folder h.0 given h.1 (λ out. elim h.2 [
   | inl help ↦ help_not (sym help ∙ out)
   | inr version ↦ version_not (sym version ∙ out)
@@ -204,8 +233,11 @@ no_pair_mistake words kind given (inr (inl among)) not = subst (IsAmong kind) gi
 no_pair_mistake words kind given (inr (inr none)) not = true≢false (sym given.1 ∙ none.1)
 
 pair_asked_at : (words : List Text) (asked : Request) → IsPairGiven words → IsAsked words asked → IsPairRequest asked
-pair_asked_at words (request.Best f) given h = one_command (subcommand_of bepd_app words) f.now h.1 given.1
+pair_asked_at words (request.Best f) given h = pair_not_best (subcommand_of bepd_app words) f.now h.1 given.1
 pair_asked_at words request.Pair given h = tt
+pair_asked_at words (request.Run path) given h = run_not_pair (subcommand_of bepd_app words) path.now h.1 given.1
+pair_asked_at words (request.Check path) given h = run_not_pair (subcommand_of bepd_app words) path.now h.1 given.1
+pair_asked_at words (request.New directory) given h = new_not_pair (subcommand_of bepd_app words) directory.now h.1 given.1
 pair_asked_at words (request.Text t) given h = no_pair_mistake words h.0 given h.1 (λ out. elim h.2 [
   | inl help ↦ help_not (sym help ∙ out)
   | inr version ↦ version_not (sym version ∙ out)
@@ -217,3 +249,41 @@ pair_asked_at words request.OutOfMemory given h = tt
 pub asked_pair : (words : Result (Vec (String Global) Global) IoError) (asked : Request) (program : Text) → IsCommandLine words (program ∷ codes "pair" ∷ []) → IsRequested words asked → IsPairRequest asked
 asked_pair (Ok words) asked program line h = pair_asked_at (program ∷ codes "pair" ∷ []) asked (pair_line program) (subst (λ l. IsAsked l asked) line h)
 asked_pair (Err e) asked program line h = absurd line
+
+-- ---- `PROGRAM run --config FILE`
+
+run_line : (program path : Text) → begins_with_hyphen path ≡ false → IsRunGiven (program ∷ codes "run" ∷ codes "--config" ∷ path ∷ []) path false
+unfolding clap_on_literals
+run_line program [] h = (refl, refl, refl)
+run_line program (b ∷ bs) h = (simp h refl, simp h refl, simp h refl)
+
+-- the request is for a node by this configuration, or memory ran out
+abbrev pub IsRunOf : Text → Request → Type 0
+IsRunOf path (request.Run p) = p.now ≡ path
+IsRunOf path request.OutOfMemory = Unit {0}
+IsRunOf path _ = ⊥
+
+no_run_mistake : (words : List Text) (path : Text) (kind : ErrorKind) → IsRunGiven words path false → IsErrorAt words kind → (kind ≡ OutOfMemory → ⊥) → ⊥
+no_run_mistake words path kind given (inl out) not = not out
+no_run_mistake words path kind given (inr (inl among)) not = subst (IsAmong kind) given.0 among
+no_run_mistake words path kind given (inr (inr none)) not = some_none path (sym given.1 ∙ none.2)
+
+run_asked_at : (words : List Text) (path : Text) (asked : Request) → IsRunGiven words path false → IsAsked words asked → IsRunOf path asked
+run_asked_at words path (request.Best f) given h = run_not_best (subcommand_of bepd_app words) f.now path h.1 given.1
+run_asked_at words path request.Pair given h = run_not_pair (subcommand_of bepd_app words) path given.1 h.1
+run_asked_at words path (request.Run p) given h = is_some_of (config_at (subcommand_of bepd_app words)) p.now path h.1 given.1
+run_asked_at words path (request.Check p) given h = true≢false (sym h.2 ∙ given.2)
+run_asked_at words path (request.New directory) given h = new_not_run (subcommand_of bepd_app words) path directory.now given.1 h.1
+run_asked_at words path (request.Text t) given h = no_run_mistake words path h.0 given h.1 (λ out. elim h.2 [
+  | inl help ↦ help_not (sym help ∙ out)
+  | inr version ↦ version_not (sym version ∙ out)
+])
+run_asked_at words path (request.Refused t) given h = no_run_mistake words path h.0 given h.1 h.2.2
+run_asked_at words path request.OutOfMemory given h = tt
+
+-- the request of the words `PROGRAM run --config FILE`
+pub asked_run : (words : Result (Vec (String Global) Global) IoError) (asked : Request) (program path : Text)
+    → IsCommandLine words (program ∷ codes "run" ∷ codes "--config" ∷ path ∷ []) → begins_with_hyphen path ≡ false → IsRequested words asked → IsRunOf path asked
+asked_run (Ok words) asked program path line plain h =
+    run_asked_at (program ∷ codes "run" ∷ codes "--config" ∷ path ∷ []) path asked (run_line program path plain) (subst (λ l. IsAsked l asked) line h)
+asked_run (Err e) asked program path line plain h = absurd line

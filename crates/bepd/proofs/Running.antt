@@ -6,8 +6,9 @@ use Rattle.bepd.specs.declared.ending.Ending.TheVariants.{Failed}
 use Rattle.bepd.specs.declared.ending.Failure.TheVariants.{OutOfMemory}
 use Rattle.bepd.specs.declared.run.Outcome.{Outcome}
 use Rattle.bepd.specs.Listing.{listing}
-use Rattle.bepd.specs.Runs.{Ends, Lists, Plays, streams}
+use Rattle.bepd.specs.Runs.{Ends, Lists, Plays, RunsNode, streams}
 use Rattle.bepd_pair.specs.declared.playing.PairFailure.TheVariants as pair
+use Rattle.bepd_run.specs.declared.failure.RunFailure.TheVariants as node
 
 each : {A : Type 0} (o : Option A) (P : A → Type 0) → ((x : A) → P x) → IfSome o P
 each None P h = tt
@@ -33,3 +34,8 @@ plays_nothing outcome input output old new ends = record {
   plays = inl (refl, refl, refl);
   ends = ends;
 }
+
+-- and before any node began
+pub runs_nothing : (outcome : Outcome) (input output old new : Option (List ℕ)) → Ends (Failed OutOfMemory) outcome old new
+    → RunsNode outcome (streams input output old) (streams input output new)
+runs_nothing outcome input output old new ends = (Err node.OutOfMemory, (ends.status, ends.line))

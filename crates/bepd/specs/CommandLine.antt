@@ -1,4 +1,4 @@
--- The command lines of `bepd` (own rule): `best FOLDER`, `pair`, and calls for help and the version. How words become commands and
+-- The command lines of `bepd` (own rule): `best FOLDER`, `pair`, `run --config FILE`, `new DIRECTORY`, and calls for help and the version. How words become commands and
 -- values is the rule of `clap`.
 use Rattle.std.specs.Prelude.{◌≡◌, ◌≢◌, ◌⊎◌, ⊤, Bool, true, false, ◌==◌, List, [], ◌∷◌, Option, Some, None, Result, Ok, Err, String, Vec, option_and_then, codes, map, if◌then◌else◌, bytes_eq}
 use Rattle.std.specs.declared.alloc.Global.{Global}
@@ -10,6 +10,7 @@ use Rattle.clap.specs.Words.{App, Kinds, IsAmong, Row, Rule, Text, fault_of, fir
 use Rattle.clap.specs.Simple.{on_top}
 use Rattle.clap.specs.declared.error.kind.ErrorKind.{ErrorKind}
 use Rattle.clap.specs.declared.error.kind.ErrorKind.TheVariants.{DisplayHelp, DisplayVersion, MissingSubcommand, OutOfMemory}
+use Rattle.clap.specs.declared.builder.action.ArgAction.TheVariants.{SetTrue}
 use Rattle.bepd.specs.declared.command.Request.{Request}
 use Rattle.bepd.specs.declared.command.Request.TheVariants as request
 
@@ -22,12 +23,47 @@ best_app = with_rule (new_app (codes "best")) folder_rule
 abbrev pub pair_app : App
 pair_app = new_app (codes "pair")
 
+abbrev pub config_rule : Rule
+config_rule = record (new_rule (codes "config")) { long = Some (codes "config"); value_names = 1; required = true }
+
+abbrev pub check_rule : Rule
+check_rule = record (new_rule (codes "check")) { long = Some (codes "check"); action = Some SetTrue }
+
+abbrev pub run_app : App
+run_app = with_rule (with_rule (new_app (codes "run")) config_rule) check_rule
+
+abbrev pub directory_rule : Rule
+directory_rule = record (new_rule (codes "DIRECTORY")) { required = true }
+
+abbrev pub fresh_app : App
+fresh_app = with_rule (new_app (codes "new")) directory_rule
+
 abbrev pub bepd_app : App
-bepd_app = with_subcommand (with_subcommand (on_top (λ s. record s { has_version = true }) (new_app (codes "bepd"))) best_app.top) pair_app.top
+bepd_app = with_subcommand (with_subcommand (with_subcommand (with_subcommand (on_top (λ s. record s { has_version = true }) (new_app (codes "bepd"))) best_app.top) pair_app.top) run_app.top) fresh_app.top
+
+-- the value of an argument, where the command has this name
+abbrev pub value_at : Text → Text → Option (Text × List Row) → Option Text
+value_at name argument command = option_and_then (λ c. if bytes_eq c.0 name then first_of argument c.1 else None) command
 
 -- the value of FOLDER, where the command is `best`
 abbrev pub folder_at : Option (Text × List Row) → Option Text
-folder_at command = option_and_then (λ c. if bytes_eq c.0 (codes "best") then first_of (codes "FOLDER") c.1 else None) command
+folder_at command = value_at (codes "best") (codes "FOLDER") command
+
+-- the value of `--config`, where the command is `run`
+abbrev pub config_at : Option (Text × List Row) → Option Text
+config_at command = value_at (codes "run") (codes "config") command
+
+-- the value of `--check`, where the command is `run`
+abbrev pub check_at : Option (Text × List Row) → Option Text
+check_at command = value_at (codes "run") (codes "check") command
+
+-- the value of DIRECTORY, where the command is `new`
+abbrev pub directory_at : Option (Text × List Row) → Option Text
+directory_at command = value_at (codes "new") (codes "DIRECTORY") command
+
+abbrev pub is_true : Option Text → Bool
+is_true None = false
+is_true (Some value) = bytes_eq value (codes "true")
 
 -- the command is `pair`
 abbrev pub is_pair : Option (Text × List Row) → Bool
@@ -46,22 +82,38 @@ IsGiven words folder = (faults words ≡ []) × (folder_at (subcommand_of bepd_a
 abbrev pub IsPairGiven : List Text → Type 0
 IsPairGiven words = (faults words ≡ []) × (is_pair (subcommand_of bepd_app words) ≡ true)
 
+-- the words call for a node by the configuration in this file, or only for what it would do
+abbrev pub IsRunGiven : List Text → Text → Bool → Type 0
+IsRunGiven words path check = (faults words ≡ []) × (config_at (subcommand_of bepd_app words) ≡ Some path)
+    × (is_true (check_at (subcommand_of bepd_app words)) ≡ check)
+
+-- the words call for a first configuration in this directory
+abbrev pub IsNewGiven : List Text → Text → Type 0
+IsNewGiven words directory = (faults words ≡ []) × (directory_at (subcommand_of bepd_app words) ≡ Some directory)
+
 -- the words name this command
 abbrev pub IsNamed : List Text → Request → Type 0
 IsNamed words (request.Best folder) = IsGiven words folder.now
 IsNamed words request.Pair = IsPairGiven words
+IsNamed words (request.Run path) = IsRunGiven words path.now false
+IsNamed words (request.Check path) = IsRunGiven words path.now true
+IsNamed words (request.New directory) = IsNewGiven words directory.now
 IsNamed words _ = ⊥
 
 -- the words name no command, for this reason
 abbrev pub IsErrorAt : List Text → ErrorKind → Type 0
 IsErrorAt words kind = (kind ≡ OutOfMemory)
     ⊎ (IsAmong kind (faults words)
-    ⊎ ((folder_at (subcommand_of bepd_app words) ≡ None) × (is_pair (subcommand_of bepd_app words) ≡ false) × (kind ≡ MissingSubcommand)))
+    ⊎ ((folder_at (subcommand_of bepd_app words) ≡ None) × (is_pair (subcommand_of bepd_app words) ≡ false)
+    × (config_at (subcommand_of bepd_app words) ≡ None) × (directory_at (subcommand_of bepd_app words) ≡ None) × (kind ≡ MissingSubcommand)))
 
 -- the answer to such words
 abbrev pub IsAnswered : ErrorKind → Request → Type 0
 IsAnswered kind (request.Best folder) = ⊥
 IsAnswered kind request.Pair = ⊥
+IsAnswered kind (request.Run path) = ⊥
+IsAnswered kind (request.Check path) = ⊥
+IsAnswered kind (request.New directory) = ⊥
 IsAnswered kind (request.Text text) = (kind ≡ DisplayHelp) ⊎ (kind ≡ DisplayVersion)
 IsAnswered kind (request.Refused text) = (kind ≢ DisplayHelp) × (kind ≢ DisplayVersion) × (kind ≢ OutOfMemory)
 IsAnswered kind request.OutOfMemory = ⊤
@@ -70,6 +122,9 @@ IsAnswered kind request.OutOfMemory = ⊤
 abbrev pub IsAsked : List Text → Request → Type 0
 IsAsked words (request.Best folder) = IsGiven words folder.now
 IsAsked words request.Pair = IsPairGiven words
+IsAsked words (request.Run path) = IsRunGiven words path.now false
+IsAsked words (request.Check path) = IsRunGiven words path.now true
+IsAsked words (request.New directory) = IsNewGiven words directory.now
 IsAsked words asked = (kind : ErrorKind) × IsErrorAt words kind × IsAnswered kind asked
 
 -- and words that can't be read: only out of memory isn't their fault

@@ -1,10 +1,10 @@
 -- What the program does for a command line (own rule).
-use Rattle.std.specs.Prelude.{◌≡◌, ℕ, ◌⊎◌, false, List, [], ◌++◌, Option, Result, OnOk, IfSome, codes}
+use Rattle.std.specs.Prelude.{◌≡◌, ℕ, ◌⊎◌, false, List, [], ◌++◌, Option, Result, Ok, Err, OnOk, IfSome, codes}
 use Rattle.std.specs.Io.KnownBytes.{Appends, Consumes}
 use Rattle.std.specs.String.{string_bytes}
 use Rattle.bep_frames.specs.Stream.{stream}
 use Rattle.bepd.specs.declared.command.Request.{Request}
-use Rattle.bepd.specs.declared.command.Request.TheVariants.{Best, Pair, Text, Refused, OutOfMemory}
+use Rattle.bepd.specs.declared.command.Request.TheVariants.{Best, Check, New, Pair, Run, Text, Refused, OutOfMemory}
 use Rattle.bepd.specs.declared.ending.Ending.{Ending}
 use Rattle.bepd.specs.declared.ending.Ending.TheVariants.{Done, Failed}
 use Rattle.bepd.specs.declared.ending.Failure.TheVariants as failure
@@ -14,6 +14,8 @@ use Rattle.bepd.specs.Listing.{Answers, listing}
 use Rattle.bepd.specs.Playing.{played_ending}
 use Rattle.bepd_pair.specs.Playing.{Plays as AnyPlays}
 use Rattle.bepd_pair.specs.declared.playing.PairFailure.{PairFailure}
+use Rattle.bepd_run.specs.Failures.{run_failure_status, run_failure_text}
+use Rattle.bepd_run.specs.declared.failure.RunFailure.{RunFailure}
 
 -- The standard streams: the bytes that the input has left, and those that the output and the errors have, where they are known.
 pub record Streams : Type 0 where
@@ -50,6 +52,16 @@ pub record Plays (outcome : Outcome) (old new : Streams) : Type 0 where
   pub plays : AnyPlays played old.input new.input old.output new.output
   pub ends : Ends (played_ending played) outcome old.errors new.errors
 
+-- how a node's program ends; what the node does, no clause says
+abbrev pub EndsRun : Result (Unit {0}) RunFailure → Outcome → Option (List ℕ) → Option (List ℕ) → Type 0
+EndsRun (Ok done) outcome old new = (outcome.status ≡ 0) × (new ≡ old)
+EndsRun (Err failure) outcome old new = (outcome.status ≡ run_failure_status failure)
+    × OnOk outcome.reported (Appends old new (run_failure_text failure ++ codes "\n"))
+
+-- a node's program ends as some node ended
+abbrev pub RunsNode : Outcome → Streams → Streams → Type 0
+RunsNode outcome old new = (ran : Result (Unit {0}) RunFailure) × EndsRun ran outcome old.errors new.errors
+
 -- the text goes to standard output, or can't be written
 abbrev pub Shows : List ℕ → Outcome → Option (List ℕ) → Option (List ℕ) → Option (List ℕ) → Option (List ℕ) → Type 0
 Shows text outcome old_output new_output old_errors new_errors =
@@ -59,6 +71,9 @@ Shows text outcome old_output new_output old_errors new_errors =
 abbrev pub Does : Request → Outcome → Streams → Streams → Type 0
 Does (Best folder) outcome old new = Lists folder.now outcome old new
 Does Pair outcome old new = Plays outcome old new
+Does (Run path) outcome old new = RunsNode outcome old new
+Does (Check path) outcome old new = (new.input ≡ old.input) × RunsNode outcome old new
+Does (New directory) outcome old new = (new.input ≡ old.input) × RunsNode outcome old new
 Does (Text text) outcome old new =
     (new.input ≡ old.input) × Shows (string_bytes text) outcome old.output new.output old.errors new.errors
 Does (Refused text) outcome old new = (new.input ≡ old.input) × (new.output ≡ old.output) × (outcome.status ≡ 1)

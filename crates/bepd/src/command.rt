@@ -1,30 +1,35 @@
 //! The command line.
 ghost use Rattle.std.specs.Prelude.{◌≡◌, ◌⊎◌, false, Some, IfErr, IfOk, map, option_map};
 ghost use Rattle.std.specs.String.{string_bytes};
-ghost use Rattle.bepd.specs.CommandLine.{IsAnswered, IsNamed, IsRequested, IsErrorAt, bepd_app, best_app, folder_at, is_pair, pair_app};
+ghost use Rattle.bepd.specs.CommandLine.{IsAnswered, IsNamed, IsRequested, IsErrorAt, bepd_app, best_app, check_at, config_at, directory_at, folder_at, fresh_app, is_pair, is_true, pair_app, run_app};
 ghost use Rattle.clap.specs.declared.builder.command.Command.{out-Command};
 ghost use Rattle.clap.specs.Words.{app_of, kind_of, subcommand_rows_of};
 
+mod new_help;
 mod pair_help;
+mod run_help;
 #[cfg(test)]
 mod tests;
 
 use clap::error::ErrorKind;
-use clap::{Arg, ArgMatches, Command, Error};
+use clap::{Arg, ArgAction, ArgMatches, Command, Error};
+use new_help::{NEW_ABOUT, NEW_DIRECTORY, NEW_LONG_ABOUT, NEW_STATUSES};
 use pair_help::{PAIR_ABOUT, PAIR_LONG_ABOUT, PAIR_STATUSES};
+use run_help::{RUN_ABOUT, RUN_CHECK, RUN_CONFIG, RUN_LONG_ABOUT, RUN_STATUSES};
 use std::alloc::{AllocError, Global};
 use std::io;
 
 const PROGRAM_ABOUT: &str = "\
-Lists the best version of each name of a folder, from the bytes that a Syncthing
-device sent, as a proxy recorded them; and plays two peers in memory that sync a
-folder with each other, by commands. It does not sync folders on disk yet.";
+Keeps folders alike with peers over TCP; lists the best version of each name of a
+folder, from the bytes that a Syncthing device sent, as a proxy recorded them; and
+plays two peers in memory that sync a folder with each other, by commands.";
 
 const PROGRAM_STATUSES: &str = "\
 Exit status: 0 for this help and the version, 1 for a command line that is refused;
 the help of a command has the others.
 
-Examples: bepd best docs < docs.frames
+Examples: bepd run --config laptop.toml
+          bepd best docs < docs.frames
           bepd pair < commands";
 
 const BEST_ABOUT: &str = "List the best version of each name of a folder, from what one peer sent";
@@ -76,6 +81,12 @@ pub(crate) enum Request<'a> {
     Best(&'a str),
     /// Two peers in memory, by commands.
     Pair,
+    /// A node by the configuration in this file.
+    Run(&'a str),
+    /// What a node by the configuration in this file would do.
+    Check(&'a str),
+    /// A first configuration in this directory.
+    New(&'a str),
     /// This text: the help or the version.
     Text(String),
     /// Nothing that the program does. The text says why.
@@ -113,7 +124,8 @@ fn request_at<'a>(alloc: Global, error: &Error) -> Request<'a>
     }
 }
 
-/// The command in the words: `PROGRAM best FOLDER`, or `PROGRAM pair`.
+/// The command in the words: `PROGRAM best FOLDER`, `PROGRAM pair`, `PROGRAM run --config FILE`, with `--check` or without, or
+/// `PROGRAM new DIRECTORY`.
 fn command_of<'a>(alloc: Global, words: &'a [String]) -> Result<Request<'a>, Error>
     ensures named { IfOk result (λ command. IsNamed (map string_bytes words.now) command) }
     ensures error { IfErr result (λ e. IsErrorAt (map string_bytes words.now) (kind_of e)) }
@@ -122,6 +134,15 @@ fn command_of<'a>(alloc: Global, words: &'a [String]) -> Result<Request<'a>, Err
     let matches = command.try_get_matches_from_mut(words)?;
     if is_pair(&matches) {
         return Ok(Request::Pair);
+    }
+    if let Some(path) = config_in(&matches) {
+        if is_check(&matches) {
+            return Ok(Request::Check(path));
+        }
+        return Ok(Request::Run(path));
+    }
+    if let Some(directory) = directory_in(&matches) {
+        return Ok(Request::New(directory));
     }
     match folder_in(&matches) {
         Some(folder) => Ok(Request::Best(folder)),
@@ -145,6 +166,37 @@ fn folder_in<'a>(matches: &ArgMatches<'a>) -> Option<&'a str>
     ensures { option_map (λ s. s.now) result ≡ folder_at (subcommand_rows_of matches.now) }
 {
     matches.subcommand_matches("best")?.get_str("FOLDER")
+}
+
+/// The value of `--config`, where the command is `run`.
+fn config_in<'a>(matches: &ArgMatches<'a>) -> Option<&'a str>
+    ensures { option_map (λ s. s.now) result ≡ config_at (subcommand_rows_of matches.now) }
+{
+    matches.subcommand_matches("run")?.get_str("config")
+}
+
+/// Whether the command is `run` with `--check`.
+fn is_check(matches: &ArgMatches<'_>) -> bool
+    ensures { result ≡ is_true (check_at (subcommand_rows_of matches.now)) }
+{
+    match check_in(matches) {
+        Some(value) => value == "true",
+        None => false,
+    }
+}
+
+/// The value of `--check`, where the command is `run`.
+fn check_in<'a>(matches: &ArgMatches<'a>) -> Option<&'a str>
+    ensures { option_map (λ s. s.now) result ≡ check_at (subcommand_rows_of matches.now) }
+{
+    matches.subcommand_matches("run")?.get_str("check")
+}
+
+/// The value of DIRECTORY, where the command is `new`.
+fn directory_in<'a>(matches: &ArgMatches<'a>) -> Option<&'a str>
+    ensures { option_map (λ s. s.now) result ≡ directory_at (subcommand_rows_of matches.now) }
+{
+    matches.subcommand_matches("new")?.get_str("DIRECTORY")
 }
 
 /// The error for words that are not UTF-8.
@@ -195,12 +247,51 @@ fn pair_command<'a>(alloc: Global) -> Command<'a>
         .after_help(PAIR_STATUSES)
 }
 
+/// The command `run`, and what it takes.
+fn run_command<'a>(alloc: Global) -> Result<Command<'a>, AllocError>
+    ensures { IfOk result (λ command.
+        (app_of command ≡ run_app) × ((out-Command command).has_globals ≡ false)) }
+{
+    let config = Arg::new(alloc, "config")
+        .long("config")
+        .value_name("FILE")
+        .required(true)
+        .help(RUN_CONFIG);
+    let check = Arg::new(alloc, "check")
+        .long("check")
+        .action(ArgAction::SetTrue)
+        .help(RUN_CHECK);
+    Command::new(alloc, "run")
+        .about(RUN_ABOUT)
+        .long_about(RUN_LONG_ABOUT)
+        .after_help(RUN_STATUSES)
+        .arg(config)?
+        .arg(check)
+}
+
+/// The command `new`, and what it takes.
+fn fresh_command<'a>(alloc: Global) -> Result<Command<'a>, AllocError>
+    ensures { IfOk result (λ command.
+        (app_of command ≡ fresh_app) × ((out-Command command).has_globals ≡ false)) }
+{
+    let directory = Arg::new(alloc, "DIRECTORY")
+        .required(true)
+        .help(NEW_DIRECTORY);
+    Command::new(alloc, "new")
+        .about(NEW_ABOUT)
+        .long_about(NEW_LONG_ABOUT)
+        .after_help(NEW_STATUSES)
+        .arg(directory)
+}
+
 /// The program with its commands.
 fn program<'a>(alloc: Global) -> Result<Command<'a>, AllocError>
     ensures { IfOk result (λ command. app_of command ≡ bepd_app) }
 {
     let best = best_command(alloc)?;
     let pair = pair_command(alloc);
+    let run = run_command(alloc)?;
+    let fresh = fresh_command(alloc)?;
     Command::new(alloc, "bepd")
         .bin_name("bepd")?
         .version("0.1.0")
@@ -208,5 +299,7 @@ fn program<'a>(alloc: Global) -> Result<Command<'a>, AllocError>
         .about(PROGRAM_ABOUT)
         .after_help(PROGRAM_STATUSES)
         .subcommand(best)?
-        .subcommand(pair)
+        .subcommand(pair)?
+        .subcommand(run)?
+        .subcommand(fresh)
 }

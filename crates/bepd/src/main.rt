@@ -13,6 +13,7 @@ mod run;
 #[cfg(test)]
 mod tests;
 
+use bepd_run::Disks;
 use run::run;
 use std::env::{self, Env};
 use std::io;
@@ -24,6 +25,7 @@ fn main(rt: HostRuntime) -> ExitCode {
     let outcome = run(
         &rt,
         rt.alloc(),
+        &Disks::new(&rt),
         &words,
         &mut input,
         &mut output,

@@ -2,7 +2,7 @@
 ghost use Rattle.std.specs.Prelude.{◌≡◌, ◌∷◌, [], List, ℕ, OnOk, codes, false};
 ghost use Rattle.std.specs.Io.KnownBytes.{Appends};
 ghost use Rattle.bepd.specs.CommandLine.{IsCommandLine, IsRequested, begins_with_hyphen};
-ghost use Rattle.bepd.specs.Runs.{Does, Ends, Lists, Plays, Shows, streams};
+ghost use Rattle.bepd.specs.Runs.{Does, Ends, EndsRun, Lists, Plays, RunsNode, Shows, streams};
 ghost use Rattle.bepd.specs.declared.command.Request.{Request as AnyRequest};
 ghost use Rattle.bepd.specs.declared.ending.Ending.TheVariants.{Done};
 
@@ -12,10 +12,15 @@ use crate::ending::{Ending, Failure};
 use crate::playing::ending_of;
 use crate::received::own_device;
 use bepd_pair::pair;
+use bepd_run::{RunFailure, StateFiles, Stores, check_config, new_config, run_config};
 use folder_core::PlainFolder;
 use std::alloc::Global;
-use std::io::{self, Read, Write};
+use std::fs::{File, Files};
+use std::io::{self, BufRead, Write};
+use std::net::{Net, TcpListener, TcpStream};
+use std::sync::Wait;
 use std::thread::Threads;
+use std::time::Clock;
 
 /// The exit status of a refused command line.
 const REFUSED_STATUS: u8 = 1;
@@ -32,16 +37,30 @@ pub(crate) struct Outcome {
 /// Does what the words of the command line ask for, of which the first is the program's name.
 ///
 /// `best FOLDER` reads the input and lists on the output; `pair` reads commands from the input and writes what they come to on the
-/// output. The help and the version go to the output, and why words are
+/// output; `run` reads commands and writes answers likewise. The help and the version go to the output, and why words are
 /// refused to `errors`, as does the line of each ending with a status above 0.
-pub(crate) fn run<T: Threads + Sync, R: Read, W: Write, E: Write>(
+pub(crate) fn run<T, S, R, W, E>(
     rt: &T,
     alloc: Global,
+    stores: &S,
     words: &io::Result<Vec<String>>,
     input: &mut R,
     output: &mut W,
     errors: &mut E,
 ) -> Outcome
+where
+    T: Clock
+        + Files<File = File>
+        + Net<Listener = TcpListener, Stream = TcpStream>
+        + StateFiles
+        + Sync
+        + Threads
+        + Wait,
+    S: Stores + Sync,
+    S::Store: Send,
+    R: BufRead + Send,
+    W: Write + Send,
+    E: Write,
     // What the words ask for is done, and nothing else.
     ensures does { (asked : AnyRequest) × IsRequested words.now asked × Does asked result
         (streams (R.remaining input.old) (W.contents output.old) (E.contents errors.old))
@@ -57,6 +76,13 @@ pub(crate) fn run<T: Threads + Sync, R: Read, W: Write, E: Write>(
         → Plays result
         (streams (R.remaining input.old) (W.contents output.old) (E.contents errors.old))
         (streams (R.remaining input.new) (W.contents output.new) (E.contents errors.new)) }
+    // The words `PROGRAM run --config FILE` ask for a node.
+    ensures node { (program path : List ℕ)
+        → IsCommandLine words.now (program ∷ codes "run" ∷ codes "--config" ∷ path ∷ [])
+        → begins_with_hyphen path ≡ false
+        → RunsNode result
+        (streams (R.remaining input.old) (W.contents output.old) (E.contents errors.old))
+        (streams (R.remaining input.new) (W.contents output.new) (E.contents errors.new)) }
     // Standard error stays as it was where the status is 0.
     ensures quiet { result.status ≡ 0 → errors.new ≡ errors.old }
 {
@@ -67,6 +93,9 @@ pub(crate) fn run<T: Threads + Sync, R: Read, W: Write, E: Write>(
             end(ending, errors)
         }
         Request::Pair => end(ending_of(pair(rt, alloc, input, output)), errors),
+        Request::Run(path) => end_run(run_config(rt, alloc, stores, path, input, output), errors),
+        Request::Check(path) => end_run(check_config(rt, alloc, path, output), errors),
+        Request::New(directory) => end_run(new_config(rt, alloc, directory, output), errors),
         Request::Text(text) => show(text.as_str(), output, errors),
         Request::Refused(text) => Outcome {
             status: REFUSED_STATUS,
@@ -88,6 +117,23 @@ fn end<E: Write>(ending: Ending, errors: &mut E) -> Outcome
     Outcome {
         status: ending.status(),
         reported,
+    }
+}
+
+/// Ends as a node did, after its line on standard error where it did not end well.
+fn end_run<E: Write>(ran: Result<(), RunFailure>, errors: &mut E) -> Outcome
+    ensures ends { EndsRun ran result (E.contents errors.old) (E.contents errors.new) }
+    ensures quiet { result.status ≡ 0 → errors.new ≡ errors.old }
+{
+    match ran {
+        Ok(()) => Outcome {
+            status: 0,
+            reported: Ok(()),
+        },
+        Err(failure) => Outcome {
+            status: failure.status(),
+            reported: writeln!(errors, "{failure}"),
+        },
     }
 }
 

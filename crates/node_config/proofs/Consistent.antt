@@ -24,7 +24,7 @@ use Rattle.node_config.specs.declared.config.PeerAddress.{PeerAddress}
 use Rattle.node_config.specs.declared.config.PeerAddress.TheVariants.{Dial, Listen}
 use Rattle.node_config.specs.declared.fault.ConfigFault.TheVariants.{BadKey}
 use Rattle.node_config.specs.declared.key.Key.{Key}
-use Rattle.node_config.specs.declared.key.Key.TheVariants.{Name, State, Folder as FolderKey, Peer as PeerKey, Id, Path, HistoryLimit, MaxConflicts, Folders, Dial as DialKey, Listen as ListenKey}
+use Rattle.node_config.specs.declared.key.Key.TheVariants.{Name, State, Folder as FolderKey, Peer as PeerKey, Id, Path, HistoryLimit, MaxConflicts, Rescan, Folders, Dial as DialKey, Listen as ListenKey}
 use Rattle.node_config.specs.declared.key.Place.{Place}
 use Rattle.node_config.specs.declared.key.Place.TheVariants.{Node, Folder, Peer}
 use Rattle.node_config.specs.declared.key.Problem.TheVariants.{NotInteger, NotStrings}
@@ -50,6 +50,10 @@ limit_range : (z : ℤ) → pos 1 ≤ℤ z → z ≤ℤ pos 100000000 → (1 ≤
 limit_range (pos n) l g = (omega (arith, ints), omega (arith, ints))
 limit_range (negsuc n) l g = absurd (omega (arith, ints))
 
+rescan_range : (z : ℤ) → pos 0 ≤ℤ z → z ≤ℤ pos 31536000 → unsigned_abs z ≤ 31536000
+rescan_range (pos n) l g = omega (arith, ints)
+rescan_range (negsuc n) l g = absurd (omega (arith, ints))
+
 not_empty : (id : List ℕ) → (length id == 0) ≡ false → id ≢ []
 not_empty [] h = cc h
 not_empty (x ∷ xs) h = λ e. cc e
@@ -69,12 +73,15 @@ folder_found earlier value folder h =
     let (path, p, h4) = both (text_at table (Folder (length earlier + 1)) Path) _ folder h3 in
     let (limit, l, h5) = both (number_at table (Folder (length earlier + 1)) HistoryLimit (pos 1) (pos 100000000) (pos 1000000)) _ folder h4 in
     let (most, m, h6) = both (number_at table (Folder (length earlier + 1)) MaxConflicts (negsuc 0) (pos 1000) (negsuc 0)) _ folder h5 in
-    let made : FolderConfig = record { id = id; path = path; history_limit = unsigned_abs limit; max_conflicts = most } in
-    let same : made ≡ folder = cc h6 in
+    let (seconds, r, h7) = both (number_at table (Folder (length earlier + 1)) Rescan (pos 0) (pos 31536000) (pos 3600)) _ folder h6 in
+    let made : FolderConfig = record { id = id; path = path; history_limit = unsigned_abs limit; max_conflicts = most; rescan = unsigned_abs seconds } in
+    let same : made ≡ folder = cc h7 in
     let is = id_found earlier (Folder (length earlier + 1)) text id i in
     let a = number_found (Folder (length earlier + 1)) HistoryLimit (pos 1) (pos 100000000) (pos 1000000) limit (get_member (key_name HistoryLimit) table) (omega (arith, ints)) (omega (arith, ints)) l in
     let b = number_found (Folder (length earlier + 1)) MaxConflicts (negsuc 0) (pos 1000) (negsuc 0) most (get_member (key_name MaxConflicts) table) (omega (arith, ints)) (omega (arith, ints)) m in
-    subst (λ (f : FolderConfig). IsFolder f × (list_any (has_id f.id) earlier ≡ false)) same (record { id = is.0; history_limit = limit_range limit a.0 a.1; max_conflicts = b }, is.1)
+    let c = number_found (Folder (length earlier + 1)) Rescan (pos 0) (pos 31536000) (pos 3600) seconds (get_member (key_name Rescan) table) (omega (arith, ints)) (omega (arith, ints)) r in
+    subst (λ (f : FolderConfig). IsFolder f × (list_any (has_id f.id) earlier ≡ false)) same
+    (record { id = is.0; history_limit = limit_range limit a.0 a.1; max_conflicts = b; rescan = rescan_range seconds c.0 c.1 }, is.1)
 
 more_folders : (earlier : List FolderConfig) (folder : FolderConfig) → AreFolders earlier → IsFolder folder × (list_any (has_id folder.id) earlier ≡ false) → AreFolders (earlier ++ folder ∷ [])
 more_folders earlier folder e h = (

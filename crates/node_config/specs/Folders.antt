@@ -7,7 +7,7 @@ use Rattle.node_config.specs.Values.{◌>>=◌, text_at, number_at, table_of, ta
 use Rattle.node_config.specs.declared.config.FolderConfig.{FolderConfig}
 use Rattle.node_config.specs.declared.fault.ConfigFault.{ConfigFault}
 use Rattle.node_config.specs.declared.fault.ConfigFault.TheVariants.{BadKey}
-use Rattle.node_config.specs.declared.key.Key.TheVariants.{Folder as FolderKey, Id, Path, HistoryLimit, MaxConflicts}
+use Rattle.node_config.specs.declared.key.Key.TheVariants.{Folder as FolderKey, Id, Path, HistoryLimit, MaxConflicts, Rescan}
 use Rattle.node_config.specs.declared.key.Place.{Place}
 use Rattle.node_config.specs.declared.key.Place.TheVariants.{Folder}
 use Rattle.node_config.specs.declared.key.Problem.TheVariants.{Empty, Repeats}
@@ -32,7 +32,8 @@ folder_of earlier value = do
   path ← text_at table (Folder (length earlier + 1)) Path
   history_limit ← number_at table (Folder (length earlier + 1)) HistoryLimit (pos 1) (pos 100000000) (pos 1000000)
   max_conflicts ← number_at table (Folder (length earlier + 1)) MaxConflicts (negsuc 0) (pos 1000) (negsuc 0)
-  Ok (record { id = id; path = path; history_limit = unsigned_abs history_limit; max_conflicts = max_conflicts })
+  rescan ← number_at table (Folder (length earlier + 1)) Rescan (pos 0) (pos 31536000) (pos 3600)
+  Ok (record { id = id; path = path; history_limit = unsigned_abs history_limit; max_conflicts = max_conflicts; rescan = unsigned_abs rescan })
 
 -- the earlier folders, and those of the tables
 abbrev pub folders_after : List FolderConfig → Items → Result (List FolderConfig) ConfigFault

@@ -10,6 +10,7 @@ use Rattle.node_config.specs.declared.config.PeerAddress.TheVariants.{Listen}
 pub record IsFolder (folder : FolderConfig) : Type 0 where
   pub id : folder.id ≢ []
   pub history_limit : (1 ≤ folder.history_limit) × (folder.history_limit ≤ 100000000)
+  pub rescan : folder.rescan ≤ 31536000
   pub max_conflicts : (negsuc 0 ≤ℤ folder.max_conflicts) × (folder.max_conflicts ≤ℤ pos 1000)
 
 -- folders of different ids

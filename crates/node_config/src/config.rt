@@ -27,6 +27,8 @@ pub struct FolderConfig {
     pub history_limit: u64,
     /// The most conflict copies that are kept of a name: 0 to 1,000, or -1 for any number.
     pub max_conflicts: i32,
+    /// How many seconds lie between two scans by the clock: at most 31,536,000, and 0 for no such scans.
+    pub rescan: u64,
 }
 
 /// Another device, with which a node keeps folders alike.

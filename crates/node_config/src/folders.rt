@@ -21,6 +21,11 @@ const GREATEST_MAX_CONFLICTS: i64 = 1_000;
 
 const ANY_CONFLICTS: i64 = -1;
 
+/// A year.
+const GREATEST_RESCAN: i64 = 31_536_000;
+
+const DEFAULT_RESCAN: i64 = 3_600;
+
 /// The folders of a document.
 pub(crate) fn read_folders(
     alloc: Global,
@@ -79,11 +84,20 @@ fn read_folder(
         GREATEST_MAX_CONFLICTS,
         ANY_CONFLICTS,
     )?;
+    let rescan = number_at(
+        table,
+        place,
+        Key::Rescan,
+        0,
+        GREATEST_RESCAN,
+        DEFAULT_RESCAN,
+    )?;
     Ok(FolderConfig {
         id: Text::from_str(alloc, id)?,
         path: Text::from_str(alloc, path)?,
         history_limit: history_limit as u64,
         max_conflicts: max_conflicts as i32,
+        rescan: rescan as u64,
     })
 }
 

@@ -29,6 +29,7 @@ id = \"\u{e9}\"
 path = \"\"
 history_limit = 1
 max_conflicts = 1000
+rescan = 31_536_000
 more = 1979-05-27
 
 [[peer]]
@@ -59,13 +60,14 @@ fn reads_a_configuration(rt: HostRuntime) -> Result<(), Fail> {
             folder.path.as_str(),
             folder.history_limit,
             folder.max_conflicts,
+            folder.rescan,
         ))?;
     }
     assert_eq!(rt;
         folders.as_slice(),
         [
-            ("docs", "/srv/docs", 1_000_000, -1),
-            ("\u{e9}", "", 1, 1000)
+            ("docs", "/srv/docs", 1_000_000, -1, 3_600),
+            ("\u{e9}", "", 1, 1000, 31_536_000)
         ]
         .as_slice()
     );
@@ -92,12 +94,14 @@ fn reads_a_configuration(rt: HostRuntime) -> Result<(), Fail> {
 #[test]
 fn takes_the_ends_of_each_range(rt: HostRuntime) -> Result<(), Fail> {
     let table = [
-        ("history_limit = 1", (1, -1)),
-        ("history_limit = 100000000", (100_000_000, -1)),
-        ("history_limit = 0x10", (16, -1)),
-        ("max_conflicts = -1", (1_000_000, -1)),
-        ("max_conflicts = 0", (1_000_000, 0)),
-        ("max_conflicts = 1_000", (1_000_000, 1000)),
+        ("history_limit = 1", (1, -1, 3_600)),
+        ("history_limit = 100000000", (100_000_000, -1, 3_600)),
+        ("history_limit = 0x10", (16, -1, 3_600)),
+        ("max_conflicts = -1", (1_000_000, -1, 3_600)),
+        ("max_conflicts = 0", (1_000_000, 0, 3_600)),
+        ("max_conflicts = 1_000", (1_000_000, 1000, 3_600)),
+        ("rescan = 0", (1_000_000, -1, 0)),
+        ("rescan = 31_536_000", (1_000_000, -1, 31_536_000)),
     ];
     for (line, limits) in table {
         let text = format!(in rt.alloc(); "{NODE}[[folder]]\nid = 'f'\npath = 'p'\n{line}\n")?;
@@ -107,7 +111,7 @@ fn takes_the_ends_of_each_range(rt: HostRuntime) -> Result<(), Fail> {
             return Ok(());
         };
         assert_eq!(rt;
-            (folder.history_limit, folder.max_conflicts),
+            (folder.history_limit, folder.max_conflicts, folder.rescan),
             limits,
             "of {line}"
         );
@@ -205,6 +209,14 @@ fn names_the_fault(rt: HostRuntime) -> Result<(), Fail> {
         (
             [node, folder, "max_conflicts = 1001\n", ""],
             "folder 1: max_conflicts is not from -1 to 1000",
+        ),
+        (
+            [node, folder, "rescan = -1\n", ""],
+            "folder 1: rescan is not from 0 to 31536000",
+        ),
+        (
+            [node, folder, "rescan = 31536001\n", ""],
+            "folder 1: rescan is not from 0 to 31536000",
         ),
         (
             [node, mine, "listen = 'a'\n", ""],

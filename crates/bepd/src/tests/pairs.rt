@@ -1,11 +1,10 @@
 //! Two peers by commands: what they print, an input in pieces, and reads and writes that fail.
 use super::{MOST, Sink, Source, in_steps};
 use crate::run::run;
+use bepd_run::Disks;
 use std::alloc::{AllocError, Global};
 use std::io;
-use std::process::Abort;
 use std::test::Fail;
-use std::thread::Threads;
 
 /// An edit that travels. The last line has no line feed.
 const COMMANDS: &str = "put A a abc\nscan A\nsync\npull B\nnone\nshow B";
@@ -29,7 +28,7 @@ fn words(alloc: Global) -> io::Result<Vec<String>> {
 /// Plays the commands of the source. The sink, which took nothing before, has a front of what they print then; returned are the
 /// status and how many bytes were written. Out of memory must be reported, and ends the test.
 fn play(
-    rt: &(impl AllocGlobal + Abort + Threads + Sync),
+    rt: &HostRuntime,
     mut source: Source<'_>,
     step: usize,
     fails_at: u64,
@@ -40,6 +39,7 @@ fn play(
     let outcome = run(
         rt,
         rt.alloc(),
+        &Disks::new(rt),
         &words,
         &mut source,
         &mut sink,

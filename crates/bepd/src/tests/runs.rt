@@ -1,11 +1,10 @@
 //! Whole runs: a command line and an input, and what goes to the output, to the errors and to the status.
 use super::{COMPRESSED, FILE, MOST, Sink, both};
 use crate::run::run;
+use bepd_run::Disks;
 use std::alloc::{AllocError, Global};
 use std::io;
-use std::process::Abort;
 use std::test::Fail;
-use std::thread::Threads;
 
 const LISTING: &str = "best file 0 0000000000000001:1 a\nskipped 0\n";
 
@@ -19,7 +18,7 @@ fn words(alloc: Global, line: &str) -> io::Result<Vec<String>> {
 
 /// Runs the line on the bytes, and returns the status. Out of memory must be reported, and ends the test.
 fn status(
-    rt: &(impl AllocGlobal + Abort + Threads + Sync),
+    rt: &HostRuntime,
     line: &str,
     mut bytes: &[u8],
     output: &str,
@@ -31,6 +30,7 @@ fn status(
     let outcome = run(
         rt,
         rt.alloc(),
+        &Disks::new(rt),
         &words,
         &mut bytes,
         &mut written,
@@ -86,6 +86,7 @@ fn reports_help_that_cannot_be_written(rt: HostRuntime) -> Result<(), AllocError
         let outcome = run(
             &rt,
             rt.alloc(),
+            &Disks::new(&rt),
             &words,
             &mut input,
             &mut sink,

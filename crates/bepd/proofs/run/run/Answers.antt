@@ -1,7 +1,7 @@
 use Rattle.std.proofs.Common.{subst}
 use Rattle.bepd.specs.Runs.{Lists, streams}
-use Rattle.bepd.proofs.Matching.{asked_best, asked_pair}
-use Rattle.bepd.proofs.Running.{lists_nothing, plays_nothing}
+use Rattle.bepd.proofs.Matching.{asked_best, asked_pair, asked_run}
+use Rattle.bepd.proofs.Running.{lists_nothing, plays_nothing, runs_nothing}
 use Rattle.bepd.proofs.run.run.Goals as goal
 
 pub returns-in-Best-clause-best : goal.returns-in-Best-clause-best
@@ -46,3 +46,47 @@ pub returns-in-OutOfMemory-clause-pair : goal.returns-in-OutOfMemory-clause-pair
 returns-in-OutOfMemory-clause-pair g c = λ program line.
     plays_nothing c.end-in-OutOfMemory.result (g.R.Read.remaining c.args.input.now) (g.W.Write.contents c.args.output.now)
     (g.E.Write.contents c.args.errors.now) (g.E.Write.contents c.end-in-OutOfMemory.new.errors) c.end-in-OutOfMemory.ensures.ends
+
+pub returns-in-Run-clause-best : goal.returns-in-Run-clause-best
+returns-in-Run-clause-best g c = λ program folder line plain. absurd (asked_best c.args.words.now _ program folder line plain c.in-Run.ensures)
+
+pub returns-in-Run-clause-pair : goal.returns-in-Run-clause-pair
+returns-in-Run-clause-pair g c = λ program line. absurd (asked_pair c.args.words.now _ program line c.in-Run.ensures)
+
+pub returns-in-Check-clause-best : goal.returns-in-Check-clause-best
+returns-in-Check-clause-best g c = λ program folder line plain. absurd (asked_best c.args.words.now _ program folder line plain c.in-Check.ensures)
+
+pub returns-in-Check-clause-pair : goal.returns-in-Check-clause-pair
+returns-in-Check-clause-pair g c = λ program line. absurd (asked_pair c.args.words.now _ program line c.in-Check.ensures)
+
+pub returns-in-Best-clause-node : goal.returns-in-Best-clause-node
+returns-in-Best-clause-node g c = λ program path line plain. absurd (asked_run c.args.words.now _ program path line plain c.in-Best.ensures)
+
+pub returns-in-Pair-clause-node : goal.returns-in-Pair-clause-node
+returns-in-Pair-clause-node g c = λ program path line plain. absurd (asked_run c.args.words.now _ program path line plain c.in-Pair.ensures)
+
+pub returns-in-Check-clause-node : goal.returns-in-Check-clause-node
+returns-in-Check-clause-node g c = λ program path line plain. absurd (asked_run c.args.words.now _ program path line plain c.in-Check.ensures)
+
+pub returns-in-Text-clause-node : goal.returns-in-Text-clause-node
+returns-in-Text-clause-node g c = λ program path line plain. absurd (asked_run c.args.words.now _ program path line plain c.in-Text.ensures)
+
+pub returns-in-Refused-clause-node : goal.returns-in-Refused-clause-node
+returns-in-Refused-clause-node g c = λ program path line plain. absurd (asked_run c.args.words.now _ program path line plain c.in-Refused.ensures)
+
+pub returns-in-Run-clause-node : goal.returns-in-Run-clause-node
+returns-in-Run-clause-node g c = λ program path line plain. (c.run_config.result, c.end_run.ensures.ends)
+
+pub returns-in-OutOfMemory-clause-node : goal.returns-in-OutOfMemory-clause-node
+returns-in-OutOfMemory-clause-node g c = λ program path line plain.
+    runs_nothing c.end-in-OutOfMemory.result (g.R.Read.remaining c.args.input.now) (g.W.Write.contents c.args.output.now)
+    (g.E.Write.contents c.args.errors.now) (g.E.Write.contents c.end-in-OutOfMemory.new.errors) c.end-in-OutOfMemory.ensures.ends
+
+pub returns-in-New-clause-best : goal.returns-in-New-clause-best
+returns-in-New-clause-best g c = λ program folder line plain. absurd (asked_best c.args.words.now _ program folder line plain c.in-New.ensures)
+
+pub returns-in-New-clause-pair : goal.returns-in-New-clause-pair
+returns-in-New-clause-pair g c = λ program line. absurd (asked_pair c.args.words.now _ program line c.in-New.ensures)
+
+pub returns-in-New-clause-node : goal.returns-in-New-clause-node
+returns-in-New-clause-node g c = λ program path line plain. absurd (asked_run c.args.words.now _ program path line plain c.in-New.ensures)

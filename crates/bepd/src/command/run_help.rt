@@ -1,0 +1,80 @@
+//! The help of `bepd run`.
+
+pub(super) const RUN_ABOUT: &str = "Keep folders alike with peers over TCP";
+
+pub(super) const RUN_CONFIG: &str = "The configuration, a TOML document";
+
+pub(super) const RUN_CHECK: &str = "Say what the configuration asks for, and end";
+
+pub(super) const RUN_LONG_ABOUT: &str = "\
+Keep folders alike with peers over TCP.
+
+Each folder of the configuration is scanned when it begins, each hour (rescan; 0 is
+never), and by command. What a peer announces is pulled as soon as it is needed. The
+Block Exchange Protocol v1 is spoken without TLS: use it where the line is safe, as in
+a tunnel. What a folder's files were found to be is kept in the state file. A folder
+has a marker, .stfolder: while it is missing, as where a disk is not mounted, nothing
+is recorded as deleted.
+
+Configuration, by example; history_limit, max_conflicts and rescan, which has seconds,
+may be left out:
+
+    device = \"0000000000000000000000000000000000000000000000000000000000000001\"
+    name = \"laptop\"
+    state = \"/home/me/bepd.state\"
+
+    [[folder]]
+    id = \"docs\"
+    path = \"/home/me/docs\"
+    history_limit = 1000000
+    max_conflicts = -1
+    rescan = 3600
+
+    [[peer]]
+    device = \"0000000000000002000000000000000000000000000000000000000000000000\"
+    folders = [\"docs\"]
+    dial = \"192.0.2.1:22000\"
+
+A device's identity has 64 hexadecimal digits, of which the first 16 must differ
+between devices. In place of dial, listen has the address of this device at which
+the peer makes the connection; localhost:22000 is an address too.
+
+Input: on standard input a command a line, with one space between words. F is the
+id of a folder.
+
+    scan F      the folder is scanned
+    need F      its names of which a better version is announced
+    best F      the best version of each name, where it is needed or recorded here
+    local F     the records of this device
+    peers       which peers are connected
+    history F   how many changes were made since the start, and how many pulls are
+                under way
+    verify F    whether these changes lead to what the folder is now
+    quit        the program ends, as it does at the end of the input
+
+Output: need, best, local and peers print a line for each, and then `end`; the
+others one line, and quit none:
+
+    scan F recorded R unchanged U other O
+    need NAME
+    best KIND SIZE VERSION NAME
+    local KIND SIZE VERSION NAME
+    peer ID up, or peer ID down
+    history F changes N open P
+    verify F yes, or verify F no
+    error NUMBER NAME, as error 46 FolderMissing, error unknown folder or
+    error unknown command
+
+`bepd help best` says what KIND, SIZE, VERSION and NAME are.";
+
+pub(super) const RUN_STATUSES: &str = "\
+Exit status; from 1 on a line on standard error says why:
+  0  the program was told to quit, or the input ended
+  1  the command line was refused, or `fault 60 BadConfig`, and a second line says
+     which key, or which line of the file, is wrong
+  4  `fault 33 OutOfMemory`: memory ran out
+  5  `fault 40 StoreFault`: the path of a folder is no directory; or `fault read or
+     write`: a file, or the commands, or an answer could not be read or written
+  6  `fault 61 BadState`: the state file is not one; `fault 63 StateInUse`: another run
+     has it
+  7  `fault 62 BadAddress`: an address can't be read, or not be listened on";
