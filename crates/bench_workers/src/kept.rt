@@ -64,7 +64,13 @@ fn read_file<S: FileStore>(
     Ok(bytes)
 }
 
-impl BlockSource for KeptFiles {
+/// Who asks for their blocks.
+#[derive(Drop)]
+pub struct KeptSource<'a> {
+    pub files: &'a KeptFiles,
+}
+
+impl BlockSource for KeptSource<'_> {
     ghost may_ask = { λ device. ⊤ };
 
     fn fetch(
@@ -74,7 +80,7 @@ impl BlockSource for KeptFiles {
         block: &Block,
         bytes: &mut Vec<u8>,
     ) -> Result<bool, AllocError> {
-        let Some(file) = self.bytes_of(name) else {
+        let Some(file) = self.files.bytes_of(name) else {
             return Ok(false);
         };
         let offset = usize::try_from(block.offset).unwrap_or(0);

@@ -20,7 +20,7 @@ use Rattle.clap.specs.declared.parser.matches.ArgMatches.{ArgMatches}
 use Rattle.std.specs.Result.{IsErrAnd}
 use Rattle.clap.specs.declared.parser.matches.Found.{Found}
 use Rattle.clap.proofs.OnLiterals.{clap_on_literals}
-use Rattle.bepd.specs.CommandLine.{IsAsked, IsCommandLine, IsErrorAt, IsGiven, IsPairGiven, IsRequested, IsRunGiven, begins_with_hyphen, bepd_app, config_at, directory_at, faults, folder_at, is_pair, value_at}
+use Rattle.bepd.specs.CommandLine.{IsAsked, IsCommandLine, IsErrorAt, IsGiven, IsPairGiven, IsQuiet, IsRequested, IsRunGiven, begins_with_hyphen, bepd_app, config_at, directory_at, faults, folder_at, is_pair, value_at}
 
 pub bepd_is_simple : is_simple_and_free bepd_app ≡ true
 unfolding clap_on_literals
@@ -198,7 +198,8 @@ run_not_pair c path f p =
 asked_at : (words : List Text) (folder : Text) (asked : Request) → IsGiven words folder → IsAsked words asked → IsBestOf folder asked
 asked_at words folder (request.Best f) given h = is_some_of (folder_at (subcommand_of bepd_app words)) f.now folder h.1 given.1
 asked_at words folder request.Pair given h = pair_not_best (subcommand_of bepd_app words) folder given.1 h.1
-asked_at words folder (request.Run path) given h = run_not_best (subcommand_of bepd_app words) folder path.now given.1 h.1
+asked_at words folder (request.Run path) given h = run_not_best (subcommand_of bepd_app words) folder path.now given.1 h.0.1
+asked_at words folder (request.QuietRun path) given h = run_not_best (subcommand_of bepd_app words) folder path.now given.1 h.0.1
 asked_at words folder (request.Check path) given h = run_not_best (subcommand_of bepd_app words) folder path.now given.1 h.1
 asked_at words folder (request.New directory) given h = new_not_best (subcommand_of bepd_app words) folder directory.now given.1 h.1
 asked_at words folder (request.Text t) given h = no_mistake words folder h.0 given h.1 (λ out. elim h.2 [
@@ -235,7 +236,8 @@ no_pair_mistake words kind given (inr (inr none)) not = true≢false (sym given.
 pair_asked_at : (words : List Text) (asked : Request) → IsPairGiven words → IsAsked words asked → IsPairRequest asked
 pair_asked_at words (request.Best f) given h = pair_not_best (subcommand_of bepd_app words) f.now h.1 given.1
 pair_asked_at words request.Pair given h = tt
-pair_asked_at words (request.Run path) given h = run_not_pair (subcommand_of bepd_app words) path.now h.1 given.1
+pair_asked_at words (request.Run path) given h = run_not_pair (subcommand_of bepd_app words) path.now h.0.1 given.1
+pair_asked_at words (request.QuietRun path) given h = run_not_pair (subcommand_of bepd_app words) path.now h.0.1 given.1
 pair_asked_at words (request.Check path) given h = run_not_pair (subcommand_of bepd_app words) path.now h.1 given.1
 pair_asked_at words (request.New directory) given h = new_not_pair (subcommand_of bepd_app words) directory.now h.1 given.1
 pair_asked_at words (request.Text t) given h = no_pair_mistake words h.0 given h.1 (λ out. elim h.2 [
@@ -252,10 +254,14 @@ asked_pair (Err e) asked program line h = absurd line
 
 -- ---- `PROGRAM run --config FILE`
 
-run_line : (program path : Text) → begins_with_hyphen path ≡ false → IsRunGiven (program ∷ codes "run" ∷ codes "--config" ∷ path ∷ []) path false
+-- the words call for a node by this configuration that tells what happens
+abbrev IsTold : List Text → Text → Type 0
+IsTold words path = IsRunGiven words path false × IsQuiet words false
+
+run_line : (program path : Text) → begins_with_hyphen path ≡ false → IsTold (program ∷ codes "run" ∷ codes "--config" ∷ path ∷ []) path
 unfolding clap_on_literals
-run_line program [] h = (refl, refl, refl)
-run_line program (b ∷ bs) h = (simp h refl, simp h refl, simp h refl)
+run_line program [] h = ((refl, refl, refl), refl)
+run_line program (b ∷ bs) h = ((simp h refl, simp h refl, simp h refl), simp h refl)
 
 -- the request is for a node by this configuration, or memory ran out
 abbrev pub IsRunOf : Text → Request → Type 0
@@ -263,17 +269,18 @@ IsRunOf path (request.Run p) = p.now ≡ path
 IsRunOf path request.OutOfMemory = Unit {0}
 IsRunOf path _ = ⊥
 
-no_run_mistake : (words : List Text) (path : Text) (kind : ErrorKind) → IsRunGiven words path false → IsErrorAt words kind → (kind ≡ OutOfMemory → ⊥) → ⊥
+no_run_mistake : (words : List Text) (path : Text) (kind : ErrorKind) → IsTold words path → IsErrorAt words kind → (kind ≡ OutOfMemory → ⊥) → ⊥
 no_run_mistake words path kind given (inl out) not = not out
-no_run_mistake words path kind given (inr (inl among)) not = subst (IsAmong kind) given.0 among
-no_run_mistake words path kind given (inr (inr none)) not = some_none path (sym given.1 ∙ none.2)
+no_run_mistake words path kind given (inr (inl among)) not = subst (IsAmong kind) given.0.0 among
+no_run_mistake words path kind given (inr (inr none)) not = some_none path (sym given.0.1 ∙ none.2)
 
-run_asked_at : (words : List Text) (path : Text) (asked : Request) → IsRunGiven words path false → IsAsked words asked → IsRunOf path asked
-run_asked_at words path (request.Best f) given h = run_not_best (subcommand_of bepd_app words) f.now path h.1 given.1
-run_asked_at words path request.Pair given h = run_not_pair (subcommand_of bepd_app words) path given.1 h.1
-run_asked_at words path (request.Run p) given h = is_some_of (config_at (subcommand_of bepd_app words)) p.now path h.1 given.1
-run_asked_at words path (request.Check p) given h = true≢false (sym h.2 ∙ given.2)
-run_asked_at words path (request.New directory) given h = new_not_run (subcommand_of bepd_app words) path directory.now given.1 h.1
+run_asked_at : (words : List Text) (path : Text) (asked : Request) → IsTold words path → IsAsked words asked → IsRunOf path asked
+run_asked_at words path (request.Best f) given h = run_not_best (subcommand_of bepd_app words) f.now path h.1 given.0.1
+run_asked_at words path request.Pair given h = run_not_pair (subcommand_of bepd_app words) path given.0.1 h.1
+run_asked_at words path (request.Run p) given h = is_some_of (config_at (subcommand_of bepd_app words)) p.now path h.0.1 given.0.1
+run_asked_at words path (request.QuietRun p) given h = true≢false (sym h.1 ∙ given.1)
+run_asked_at words path (request.Check p) given h = true≢false (sym h.2 ∙ given.0.2)
+run_asked_at words path (request.New directory) given h = new_not_run (subcommand_of bepd_app words) path directory.now given.0.1 h.1
 run_asked_at words path (request.Text t) given h = no_run_mistake words path h.0 given h.1 (λ out. elim h.2 [
   | inl help ↦ help_not (sym help ∙ out)
   | inr version ↦ version_not (sym version ∙ out)

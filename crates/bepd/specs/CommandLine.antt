@@ -3,6 +3,7 @@
 use Rattle.std.specs.Prelude.{◌≡◌, ◌≢◌, ◌⊎◌, ⊤, Bool, true, false, ◌==◌, List, [], ◌∷◌, Option, Some, None, Result, Ok, Err, String, Vec, option_and_then, codes, map, if◌then◌else◌, bytes_eq}
 use Rattle.std.specs.declared.alloc.Global.{Global}
 use Rattle.std.specs.IoError.{error_kind}
+use Rattle.std.specs.Borrow.{Bor}
 use Rattle.std.specs.String.{string_bytes}
 use Rattle.std.specs.declared.io.Error.{Error as IoError}
 use Rattle.std.specs.declared.io.ErrorKind.TheVariants as io
@@ -29,8 +30,11 @@ config_rule = record (new_rule (codes "config")) { long = Some (codes "config");
 abbrev pub check_rule : Rule
 check_rule = record (new_rule (codes "check")) { long = Some (codes "check"); action = Some SetTrue }
 
+abbrev pub quiet_rule : Rule
+quiet_rule = record (new_rule (codes "quiet")) { long = Some (codes "quiet"); action = Some SetTrue }
+
 abbrev pub run_app : App
-run_app = with_rule (with_rule (new_app (codes "run")) config_rule) check_rule
+run_app = with_rule (with_rule (with_rule (new_app (codes "run")) config_rule) check_rule) quiet_rule
 
 abbrev pub directory_rule : Rule
 directory_rule = record (new_rule (codes "DIRECTORY")) { required = true }
@@ -56,6 +60,10 @@ config_at command = value_at (codes "run") (codes "config") command
 -- the value of `--check`, where the command is `run`
 abbrev pub check_at : Option (Text × List Row) → Option Text
 check_at command = value_at (codes "run") (codes "check") command
+
+-- the value of `--quiet`, where the command is `run`
+abbrev pub quiet_at : Option (Text × List Row) → Option Text
+quiet_at command = value_at (codes "run") (codes "quiet") command
 
 -- the value of DIRECTORY, where the command is `new`
 abbrev pub directory_at : Option (Text × List Row) → Option Text
@@ -87,6 +95,10 @@ abbrev pub IsRunGiven : List Text → Text → Bool → Type 0
 IsRunGiven words path check = (faults words ≡ []) × (config_at (subcommand_of bepd_app words) ≡ Some path)
     × (is_true (check_at (subcommand_of bepd_app words)) ≡ check)
 
+-- the node is to tell nothing, or what happens
+abbrev pub IsQuiet : List Text → Bool → Type 0
+IsQuiet words quiet = is_true (quiet_at (subcommand_of bepd_app words)) ≡ quiet
+
 -- the words call for a first configuration in this directory
 abbrev pub IsNewGiven : List Text → Text → Type 0
 IsNewGiven words directory = (faults words ≡ []) × (directory_at (subcommand_of bepd_app words) ≡ Some directory)
@@ -95,7 +107,8 @@ IsNewGiven words directory = (faults words ≡ []) × (directory_at (subcommand_
 abbrev pub IsNamed : List Text → Request → Type 0
 IsNamed words (request.Best folder) = IsGiven words folder.now
 IsNamed words request.Pair = IsPairGiven words
-IsNamed words (request.Run path) = IsRunGiven words path.now false
+IsNamed words (request.Run path) = IsRunGiven words path.now false × IsQuiet words false
+IsNamed words (request.QuietRun path) = IsRunGiven words path.now false × IsQuiet words true
 IsNamed words (request.Check path) = IsRunGiven words path.now true
 IsNamed words (request.New directory) = IsNewGiven words directory.now
 IsNamed words _ = ⊥
@@ -112,6 +125,7 @@ abbrev pub IsAnswered : ErrorKind → Request → Type 0
 IsAnswered kind (request.Best folder) = ⊥
 IsAnswered kind request.Pair = ⊥
 IsAnswered kind (request.Run path) = ⊥
+IsAnswered kind (request.QuietRun path) = ⊥
 IsAnswered kind (request.Check path) = ⊥
 IsAnswered kind (request.New directory) = ⊥
 IsAnswered kind (request.Text text) = (kind ≡ DisplayHelp) ⊎ (kind ≡ DisplayVersion)
@@ -122,7 +136,8 @@ IsAnswered kind request.OutOfMemory = ⊤
 abbrev pub IsAsked : List Text → Request → Type 0
 IsAsked words (request.Best folder) = IsGiven words folder.now
 IsAsked words request.Pair = IsPairGiven words
-IsAsked words (request.Run path) = IsRunGiven words path.now false
+IsAsked words (request.Run path) = IsRunGiven words path.now false × IsQuiet words false
+IsAsked words (request.QuietRun path) = IsRunGiven words path.now false × IsQuiet words true
 IsAsked words (request.Check path) = IsRunGiven words path.now true
 IsAsked words (request.New directory) = IsNewGiven words directory.now
 IsAsked words asked = (kind : ErrorKind) × IsErrorAt words kind × IsAnswered kind asked
@@ -136,6 +151,10 @@ IsUnread error _ = ⊥
 abbrev pub IsRequested : Result (Vec (String Global) Global) IoError → Request → Type 0
 IsRequested (Ok words) asked = IsAsked (map string_bytes words.items) asked
 IsRequested (Err error) asked = IsUnread error asked
+
+-- the words ask for a node that tells what happens
+abbrev pub AreForTelling : Result (Vec (String Global) Global) IoError → Type 0
+AreForTelling words = (path : Bor Text) × IsRequested words (request.Run path)
 
 -- the words were read, and are these
 abbrev pub IsCommandLine : Result (Vec (String Global) Global) IoError → List Text → Type 0

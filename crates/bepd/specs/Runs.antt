@@ -4,7 +4,7 @@ use Rattle.std.specs.Io.KnownBytes.{Appends, Consumes}
 use Rattle.std.specs.String.{string_bytes}
 use Rattle.bep_frames.specs.Stream.{stream}
 use Rattle.bepd.specs.declared.command.Request.{Request}
-use Rattle.bepd.specs.declared.command.Request.TheVariants.{Best, Check, New, Pair, Run, Text, Refused, OutOfMemory}
+use Rattle.bepd.specs.declared.command.Request.TheVariants.{Best, Check, New, Pair, QuietRun, Run, Text, Refused, OutOfMemory}
 use Rattle.bepd.specs.declared.ending.Ending.{Ending}
 use Rattle.bepd.specs.declared.ending.Ending.TheVariants.{Done, Failed}
 use Rattle.bepd.specs.declared.ending.Failure.TheVariants as failure
@@ -58,6 +58,10 @@ EndsRun (Ok done) outcome old new = (outcome.status ≡ 0) × (new ≡ old)
 EndsRun (Err failure) outcome old new = (outcome.status ≡ run_failure_status failure)
     × OnOk outcome.reported (Appends old new (run_failure_text failure ++ codes "\n"))
 
+-- the same of a node that tells what happens: standard error has its line after what the node told, which no clause says either
+abbrev pub TellsRun : Outcome → Streams → Streams → Type 0
+TellsRun outcome old new = (ran : Result (Unit {0}) RunFailure) × (told : Option (List ℕ)) × EndsRun ran outcome told new.errors
+
 -- a node's program ends as some node ended
 abbrev pub RunsNode : Outcome → Streams → Streams → Type 0
 RunsNode outcome old new = (ran : Result (Unit {0}) RunFailure) × EndsRun ran outcome old.errors new.errors
@@ -71,7 +75,8 @@ Shows text outcome old_output new_output old_errors new_errors =
 abbrev pub Does : Request → Outcome → Streams → Streams → Type 0
 Does (Best folder) outcome old new = Lists folder.now outcome old new
 Does Pair outcome old new = Plays outcome old new
-Does (Run path) outcome old new = RunsNode outcome old new
+Does (Run path) outcome old new = TellsRun outcome old new
+Does (QuietRun path) outcome old new = RunsNode outcome old new
 Does (Check path) outcome old new = (new.input ≡ old.input) × RunsNode outcome old new
 Does (New directory) outcome old new = (new.input ≡ old.input) × RunsNode outcome old new
 Does (Text text) outcome old new =

@@ -1,7 +1,7 @@
 //! The command line.
 ghost use Rattle.std.specs.Prelude.{◌≡◌, ◌⊎◌, false, Some, IfErr, IfOk, map, option_map};
 ghost use Rattle.std.specs.String.{string_bytes};
-ghost use Rattle.bepd.specs.CommandLine.{IsAnswered, IsNamed, IsRequested, IsErrorAt, bepd_app, best_app, check_at, config_at, directory_at, folder_at, fresh_app, is_pair, is_true, pair_app, run_app};
+ghost use Rattle.bepd.specs.CommandLine.{IsAnswered, IsNamed, IsRequested, IsErrorAt, bepd_app, best_app, check_at, config_at, directory_at, folder_at, fresh_app, is_pair, is_true, pair_app, quiet_at, run_app};
 ghost use Rattle.clap.specs.declared.builder.command.Command.{out-Command};
 ghost use Rattle.clap.specs.Words.{app_of, kind_of, subcommand_rows_of};
 
@@ -15,7 +15,7 @@ use clap::error::ErrorKind;
 use clap::{Arg, ArgAction, ArgMatches, Command, Error};
 use new_help::{NEW_ABOUT, NEW_DIRECTORY, NEW_LONG_ABOUT, NEW_STATUSES};
 use pair_help::{PAIR_ABOUT, PAIR_LONG_ABOUT, PAIR_STATUSES};
-use run_help::{RUN_ABOUT, RUN_CHECK, RUN_CONFIG, RUN_LONG_ABOUT, RUN_STATUSES};
+use run_help::{RUN_ABOUT, RUN_CHECK, RUN_CONFIG, RUN_LONG_ABOUT, RUN_QUIET, RUN_STATUSES};
 use std::alloc::{AllocError, Global};
 use std::io;
 
@@ -81,8 +81,10 @@ pub(crate) enum Request<'a> {
     Best(&'a str),
     /// Two peers in memory, by commands.
     Pair,
-    /// A node by the configuration in this file.
+    /// A node by the configuration in this file, which tells what happens.
     Run(&'a str),
+    /// One that tells nothing.
+    QuietRun(&'a str),
     /// What a node by the configuration in this file would do.
     Check(&'a str),
     /// A first configuration in this directory.
@@ -124,8 +126,8 @@ fn request_at<'a>(alloc: Global, error: &Error) -> Request<'a>
     }
 }
 
-/// The command in the words: `PROGRAM best FOLDER`, `PROGRAM pair`, `PROGRAM run --config FILE`, with `--check` or without, or
-/// `PROGRAM new DIRECTORY`.
+/// The command in the words: `PROGRAM best FOLDER`, `PROGRAM pair`, `PROGRAM run --config FILE`, with `--check`, with `--quiet` or
+/// without, or `PROGRAM new DIRECTORY`.
 fn command_of<'a>(alloc: Global, words: &'a [String]) -> Result<Request<'a>, Error>
     ensures named { IfOk result (λ command. IsNamed (map string_bytes words.now) command) }
     ensures error { IfErr result (λ e. IsErrorAt (map string_bytes words.now) (kind_of e)) }
@@ -138,6 +140,9 @@ fn command_of<'a>(alloc: Global, words: &'a [String]) -> Result<Request<'a>, Err
     if let Some(path) = config_in(&matches) {
         if is_check(&matches) {
             return Ok(Request::Check(path));
+        }
+        if is_quiet(&matches) {
+            return Ok(Request::QuietRun(path));
         }
         return Ok(Request::Run(path));
     }
@@ -179,7 +184,14 @@ fn config_in<'a>(matches: &ArgMatches<'a>) -> Option<&'a str>
 fn is_check(matches: &ArgMatches<'_>) -> bool
     ensures { result ≡ is_true (check_at (subcommand_rows_of matches.now)) }
 {
-    match check_in(matches) {
+    is_true(check_in(matches))
+}
+
+/// Whether the value is `true`, which that of a flag is where it is given.
+fn is_true(value: Option<&str>) -> bool
+    ensures { result ≡ is_true (option_map (λ s. s.now) value) }
+{
+    match value {
         Some(value) => value == "true",
         None => false,
     }
@@ -190,6 +202,20 @@ fn check_in<'a>(matches: &ArgMatches<'a>) -> Option<&'a str>
     ensures { option_map (λ s. s.now) result ≡ check_at (subcommand_rows_of matches.now) }
 {
     matches.subcommand_matches("run")?.get_str("check")
+}
+
+/// Whether the command is `run` with `--quiet`.
+fn is_quiet(matches: &ArgMatches<'_>) -> bool
+    ensures { result ≡ is_true (quiet_at (subcommand_rows_of matches.now)) }
+{
+    is_true(quiet_in(matches))
+}
+
+/// The value of `--quiet`, where the command is `run`.
+fn quiet_in<'a>(matches: &ArgMatches<'a>) -> Option<&'a str>
+    ensures { option_map (λ s. s.now) result ≡ quiet_at (subcommand_rows_of matches.now) }
+{
+    matches.subcommand_matches("run")?.get_str("quiet")
 }
 
 /// The value of DIRECTORY, where the command is `new`.
@@ -261,12 +287,17 @@ fn run_command<'a>(alloc: Global) -> Result<Command<'a>, AllocError>
         .long("check")
         .action(ArgAction::SetTrue)
         .help(RUN_CHECK);
+    let quiet = Arg::new(alloc, "quiet")
+        .long("quiet")
+        .action(ArgAction::SetTrue)
+        .help(RUN_QUIET);
     Command::new(alloc, "run")
         .about(RUN_ABOUT)
         .long_about(RUN_LONG_ABOUT)
         .after_help(RUN_STATUSES)
         .arg(config)?
-        .arg(check)
+        .arg(check)?
+        .arg(quiet)
 }
 
 /// The command `new`, and what it takes.

@@ -13,20 +13,26 @@ mod run;
 #[cfg(test)]
 mod tests;
 
-use bepd_run::Disks;
+use bepd_run::{Disks, Progress};
 use run::run;
 use std::env::{self, Env};
-use std::io;
+use std::io::{self, IsTerminal};
 use std::process::ExitCode;
 
 fn main(rt: HostRuntime) -> ExitCode {
     let words = words(&rt);
     let (mut input, mut output, mut errors) = (rt.reader(), rt.stdout(), rt.stderr());
+    let progress = if errors.is_terminal() {
+        Progress::InPlace
+    } else {
+        Progress::ByLines
+    };
     let outcome = run(
         &rt,
         rt.alloc(),
         &Disks::new(&rt),
         &words,
+        progress,
         &mut input,
         &mut output,
         &mut errors,

@@ -1,8 +1,8 @@
 //! The whole program, from the words of the command line and the standard streams to the exit status.
-ghost use Rattle.std.specs.Prelude.{◌≡◌, ◌∷◌, [], List, ℕ, OnOk, codes, false};
+ghost use Rattle.std.specs.Prelude.{◌≡◌, ◌⊎◌, ◌∷◌, [], List, ℕ, OnOk, codes, false};
 ghost use Rattle.std.specs.Io.KnownBytes.{Appends};
-ghost use Rattle.bepd.specs.CommandLine.{IsCommandLine, IsRequested, begins_with_hyphen};
-ghost use Rattle.bepd.specs.Runs.{Does, Ends, EndsRun, Lists, Plays, RunsNode, Shows, streams};
+ghost use Rattle.bepd.specs.CommandLine.{AreForTelling, IsCommandLine, IsRequested, begins_with_hyphen};
+ghost use Rattle.bepd.specs.Runs.{Does, Ends, EndsRun, Lists, Plays, Shows, TellsRun, streams};
 ghost use Rattle.bepd.specs.declared.command.Request.{Request as AnyRequest};
 ghost use Rattle.bepd.specs.declared.ending.Ending.TheVariants.{Done};
 
@@ -12,7 +12,9 @@ use crate::ending::{Ending, Failure};
 use crate::playing::ending_of;
 use crate::received::own_device;
 use bepd_pair::pair;
-use bepd_run::{RunFailure, StateFiles, Stores, check_config, new_config, run_config};
+use bepd_run::{
+    Progress, RunFailure, StateFiles, Stores, check_config, new_config, run_and_tell, run_config,
+};
 use folder_core::PlainFolder;
 use std::alloc::Global;
 use std::fs::{File, Files};
@@ -37,13 +39,14 @@ pub(crate) struct Outcome {
 /// Does what the words of the command line ask for, of which the first is the program's name.
 ///
 /// `best FOLDER` reads the input and lists on the output; `pair` reads commands from the input and writes what they come to on the
-/// output; `run` reads commands and writes answers likewise. The help and the version go to the output, and why words are
-/// refused to `errors`, as does the line of each ending with a status above 0.
+/// output; `run` reads commands and writes answers likewise, and tells what happens on `errors`, unless it is to be quiet. The help
+/// and the version go to the output, and why words are refused to `errors`, as does the line of each ending with a status above 0.
 pub(crate) fn run<T, S, R, W, E>(
     rt: &T,
     alloc: Global,
     stores: &S,
     words: &io::Result<Vec<String>>,
+    progress: Progress,
     input: &mut R,
     output: &mut W,
     errors: &mut E,
@@ -60,7 +63,7 @@ where
     S::Store: Send,
     R: BufRead + Send,
     W: Write + Send,
-    E: Write,
+    E: Write + Send,
     // What the words ask for is done, and nothing else.
     ensures does { (asked : AnyRequest) × IsRequested words.now asked × Does asked result
         (streams (R.remaining input.old) (W.contents output.old) (E.contents errors.old))
@@ -80,11 +83,11 @@ where
     ensures node { (program path : List ℕ)
         → IsCommandLine words.now (program ∷ codes "run" ∷ codes "--config" ∷ path ∷ [])
         → begins_with_hyphen path ≡ false
-        → RunsNode result
+        → TellsRun result
         (streams (R.remaining input.old) (W.contents output.old) (E.contents errors.old))
         (streams (R.remaining input.new) (W.contents output.new) (E.contents errors.new)) }
-    // Standard error stays as it was where the status is 0.
-    ensures quiet { result.status ≡ 0 → errors.new ≡ errors.old }
+    // Standard error stays as it was where the status is 0, unless a node tells what happens.
+    ensures quiet { AreForTelling words.now ⊎ (result.status ≡ 0 → errors.new ≡ errors.old) }
 {
     match request_of(alloc, words) {
         Request::Best(folder) => {
@@ -93,7 +96,13 @@ where
             end(ending, errors)
         }
         Request::Pair => end(ending_of(pair(rt, alloc, input, output)), errors),
-        Request::Run(path) => end_run(run_config(rt, alloc, stores, path, input, output), errors),
+        Request::Run(path) => {
+            let ran = run_and_tell(rt, alloc, stores, path, progress, input, output, errors);
+            end_run(ran, errors)
+        }
+        Request::QuietRun(path) => {
+            end_run(run_config(rt, alloc, stores, path, input, output), errors)
+        }
         Request::Check(path) => end_run(check_config(rt, alloc, path, output), errors),
         Request::New(directory) => end_run(new_config(rt, alloc, directory, output), errors),
         Request::Text(text) => show(text.as_str(), output, errors),

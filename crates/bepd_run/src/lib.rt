@@ -15,5 +15,5 @@ pub use checking::check_config;
 pub use failure::RunFailure;
 pub use files::StateFiles;
 pub use fresh::new_config;
-pub use peer_node::{Disks, Stores};
-pub use running::run_config;
+pub use peer_node::{Disks, Progress, Stores};
+pub use running::{run_and_tell, run_config};

@@ -5,14 +5,14 @@ use crate::files::{StateFiles, read_config_file, read_state_file};
 use crate::keeping::{begin_all, end_all, shares_of};
 use crate::kept::StateKeeper;
 use crate::lock::Locked;
-use crossbeam_channel::{Receiver, bounded};
+use crossbeam_channel::{Receiver, Sender, bounded};
 use file_store::OpenGate;
 use folder_core::PlainFolder;
 use node_config::{Config, read_config};
 use node_state::State;
 use peer_node::{
-    Heard, Listeners, NodeEnd, NodeFolder, NodePeer, Share, Stores, Why, begin_folders, listen_all,
-    read_commands, run_node,
+    Heard, Listeners, Log, NodeEnd, NodeFolder, NodePeer, Progress, Share, Stores, Why,
+    begin_folders, listen_all, read_commands, run_node, write_log,
 };
 use std::alloc::Global;
 use std::fs::{File, Files};
@@ -61,24 +61,163 @@ where
     I: BufRead + Send,
     O: Write + Send,
 {
+    let config = config_at(rt, alloc, path)?;
+    let ready = Ready::new(rt, alloc, stores, &config)?;
+    let Ready {
+        lock,
+        run,
+        listeners,
+        lines,
+    } = ready;
+    let log = Log::quiet(alloc);
+    let ended = run_by_commands(
+        rt, alloc, stores, &config, run, listeners, lines, &log, input, output,
+    );
+    end(&lock, ended)
+}
+
+/// The same, and tells on `errors` what happens, a line each: the time in UTC, and
+///
+/// | Line | |
+/// |---|---|
+/// | `connected ID` | a connection with the peer is made |
+/// | `gone ID: WHY` | it ended |
+/// | `received F up to N from ID` | more of the peer's index of the folder F came |
+/// | `scanned F recorded N unchanged N other N` | a scan that recorded changes, or left names out |
+/// | `away F: ..`, `back F` | the folder isn't there, or has no marker; it is there again |
+/// | `pulled F NAME` | the best of the name is in place |
+/// | `conflict copy F NAME` | what was there before is kept under this name |
+/// | `failed F NAME: WHY` | the name could not be pulled; it is tried again |
+/// | `history full F: ..` | the node ends, and begins anew |
+/// | `state not written: ..` | it is tried again within a minute |
+/// | `scanning F N of N`, `pulling F N of N` | how far a scan or a pull of many names is |
+pub fn run_and_tell<R, T, I, O, E>(
+    rt: &R,
+    alloc: Global,
+    stores: &T,
+    path: &str,
+    progress: Progress,
+    input: &mut I,
+    output: &mut O,
+    errors: &mut E,
+) -> Result<(), RunFailure>
+where
+    R: Clock
+        + Files<File = File>
+        + Net<Listener = TcpListener, Stream = TcpStream>
+        + StateFiles
+        + Sync
+        + Threads
+        + Wait,
+    T: Stores + Sync,
+    T::Store: Send,
+    I: BufRead + Send,
+    O: Write + Send,
+    E: Write + Send,
+{
+    let config = config_at(rt, alloc, path)?;
+    let ready = Ready::new(rt, alloc, stores, &config)?;
+    let Ready {
+        lock,
+        run,
+        listeners,
+        lines,
+    } = ready;
+    let log = Log::new(alloc, progress);
+    let (ended, ()) = join(
+        rt,
+        || {
+            let ended = run_by_commands(
+                rt, alloc, stores, &config, run, listeners, lines, &log, input, output,
+            );
+            log.end(rt);
+            ended
+        },
+        || write_log(rt, &log, errors),
+    );
+    end(&lock, ended)
+}
+
+fn config_at<R: Files>(rt: &R, alloc: Global, path: &str) -> Result<Config, RunFailure> {
     let text = read_config_file(rt, alloc, path)?;
-    let config = read_config(alloc, text.as_slice())?;
-    let mut lock = Locked::take(rt, alloc, config.state.as_str())?;
-    if lock.is_left {
-        // (what that run recorded in this second may be forgotten, and must not get the same version again)
-        thread::sleep(rt, Duration::from_secs(1));
+    Ok(read_config(alloc, text.as_slice())?)
+}
+
+// What a run has before its threads begin.
+#[derive(Drop)]
+struct Ready {
+    lock: Locked,
+    run: Run,
+    listeners: Listeners,
+    lines: Lines,
+}
+
+// The lines of the commands: where they are sent, and where they are received.
+type Lines = (Sender<Heard>, Receiver<Heard>);
+
+impl Ready {
+    fn new<R, T>(rt: &R, alloc: Global, stores: &T, config: &Config) -> Result<Ready, RunFailure>
+    where
+        R: Clock
+            + Files<File = File>
+            + Net<Listener = TcpListener, Stream = TcpStream>
+            + Threads
+            + Wait,
+        T: Stores,
+    {
+        let mut lock = Locked::take(rt, alloc, config.state.as_str())?;
+        if lock.is_left {
+            // (what that run recorded in this second may be forgotten, and must not get the same version again)
+            thread::sleep(rt, Duration::from_secs(1));
+        }
+        let state = read_state_file(rt, alloc, config.device, config.state.as_str())?;
+        let run = Run::begin(rt, alloc, config, state, lock.is_left)?;
+        let listeners = listen_all(rt, alloc, run.peers.as_slice())?;
+        begin_folders(alloc, stores, run.folders.as_slice())?;
+        let lines = bounded::<Heard, Global>(alloc, 1)?;
+        lock.begin()?;
+        Ok(Ready {
+            lock,
+            run,
+            listeners,
+            lines,
+        })
     }
-    let state = read_state_file(rt, alloc, config.device, config.state.as_str())?;
-    let run = Run::begin(rt, alloc, &config, state, lock.is_left)?;
-    let listeners = listen_all(rt, alloc, run.peers.as_slice())?;
-    begin_folders(alloc, stores, run.folders.as_slice())?;
-    let (answerer, commands) = bounded::<Heard, Global>(alloc, 1)?;
-    lock.begin()?;
+}
+
+// Runs until the commands end. Returns whether all were answered.
+fn run_by_commands<R, T, I, O>(
+    rt: &R,
+    alloc: Global,
+    stores: &T,
+    config: &Config,
+    run: Run,
+    listeners: Listeners,
+    lines: Lines,
+    log: &Log,
+    input: &mut I,
+    output: &mut O,
+) -> Result<io::Result<()>, RunFailure>
+where
+    R: Clock + Net<Listener = TcpListener, Stream = TcpStream> + StateFiles + Sync + Threads + Wait,
+    T: Stores + Sync,
+    T::Store: Send,
+    I: BufRead + Send,
+    O: Write + Send,
+{
+    let (answerer, commands) = lines;
     let ((), ended) = join(
         rt,
         || read_commands(rt, alloc, input, answerer),
-        || run_on(rt, alloc, stores, &config, run, listeners, commands, output),
+        || run_on(
+            rt, alloc, stores, config, run, listeners, log, commands, output,
+        ),
     );
+    ended
+}
+
+// The run ended well where all was answered or could not be, and its state is written.
+fn end(lock: &Locked, ended: Result<io::Result<()>, RunFailure>) -> Result<(), RunFailure> {
     let answered = ended?;
     lock.end()?;
     Ok(answered?)
@@ -139,6 +278,7 @@ fn run_on<R, T, O>(
     config: &Config,
     run: Run,
     listeners: Listeners,
+    log: &Log,
     commands: Receiver<Heard>,
     output: &mut O,
 ) -> Result<io::Result<()>, RunFailure>
@@ -151,7 +291,7 @@ where
     let (mut run, mut listeners) = (run, listeners);
     for _ in rt.forever() {
         let (state, answered, why) = run_once(
-            rt, alloc, stores, config, run, listeners, &commands, output,
+            rt, alloc, stores, config, run, listeners, log, &commands, output,
         )?;
         if why == Why::Quit {
             return Ok(answered);
@@ -170,6 +310,7 @@ fn run_once<R, T, O>(
     config: &Config,
     run: Run,
     listeners: Listeners,
+    log: &Log,
     commands: &Receiver<Heard>,
     output: &mut O,
 ) -> Result<(State, io::Result<()>, Why), RunFailure>
@@ -201,6 +342,7 @@ where
         listeners,
         &OpenGate,
         &keeper,
+        log,
         commands,
         output,
     )?;

@@ -16,6 +16,9 @@ use sync_names::SafeName;
 pub(crate) trait Marked {
     /// Whether the folder is there, with its marker.
     fn is_there(&mut self) -> bool;
+
+    /// The name to which a file was moved last, if one was since this was called last.
+    fn take_moved(&mut self) -> Option<SafeName>;
 }
 
 /// When the calls of a store give up.
@@ -38,6 +41,8 @@ pub(crate) struct FolderStore<'a, T, S, R> {
     connections: &'a Connections,
     gives_up: GivesUp,
     root: Root<'a, T, S>,
+    // The name to which a file was moved last.
+    moved: Option<SafeName>,
     faults: u64,
 }
 
@@ -71,6 +76,7 @@ impl<'a, T, S, R> FolderStore<'a, T, S, R> {
                 path,
                 store: None,
             },
+            moved: None,
             faults: 0,
         }
     }
@@ -164,6 +170,10 @@ impl<T: Stores<Store = S>, S: FileStore + Drop> Root<'_, T, S> {
 impl<T: Stores<Store = S>, S: FileStore + Drop, R> Marked for FolderStore<'_, T, S, R> {
     fn is_there(&mut self) -> bool {
         self.root.is_there()
+    }
+
+    fn take_moved(&mut self) -> Option<SafeName> {
+        self.moved.take()
     }
 }
 
@@ -268,6 +278,10 @@ impl<T: Stores<Store = S>, S: FileStore + Drop, R: Wait> FileStore for FolderSto
             Ok(store) => store.rename(from, to),
             Err(refusal) => Err(refusal),
         };
+        if answer.is_ok() {
+            // (out of memory, it is not told that it was)
+            self.moved = to.copy().ok();
+        }
         counted(&mut self.faults, answer)
     }
 

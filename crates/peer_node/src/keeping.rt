@@ -1,6 +1,7 @@
 //! What is kept of a node while it runs.
 use crate::connections::Connections;
 use crate::host::Host;
+use crate::log::{Event, Log};
 use folder_calls::FolderCalls;
 use std::alloc::{AllocError, Global};
 use sync_record::Record;
@@ -42,6 +43,7 @@ pub(crate) fn run_keeper<R, W, K>(
     alloc: Global,
     connections: &Connections,
     keeper: &K,
+    log: &Log,
     folders: &mut [W],
 )
 where
@@ -62,6 +64,8 @@ where
         if let Ok(records) = all_records(alloc, folders) {
             if keeper.keep(records) {
                 kept = now;
+            } else {
+                log.tell(rt, &Event::NotKept);
             }
         }
     }

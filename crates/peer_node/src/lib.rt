@@ -10,6 +10,7 @@ mod host;
 mod input;
 mod keeping;
 mod lent;
+mod log;
 mod moments;
 mod node;
 mod pauses;
@@ -23,6 +24,7 @@ pub use connections::Why;
 pub use fault::NodeFault;
 pub use input::{Heard, read_commands};
 pub use keeping::{Keeper, LocalRecords, NoKeeper};
+pub use log::{Event, Log, Progress, write_log};
 pub use node::{
     Listeners, NodeAddress, NodeEnd, NodeFolder, NodePeer, Share, begin_folders, listen_all,
     run_node,

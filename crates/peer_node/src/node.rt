@@ -11,6 +11,7 @@ use crate::host::Host;
 use crate::input::Heard;
 use crate::keeping::{Keeper, run_keeper};
 use crate::lent::Lent;
+use crate::log::Log;
 use crate::pauses::Pauses;
 use crate::peer::{PeerJob, Reach, run_peer};
 use crate::rounds::{HANDS, Hand, PulledFolder, run_rounds};
@@ -163,6 +164,7 @@ pub fn run_node<R, T, C, G, K, O>(
     listeners: Listeners,
     gate: &G,
     keeper: &K,
+    log: &Log,
     commands: &Receiver<Heard>,
     writer: &mut O,
 ) -> Result<NodeEnd<C>, NodeFault>
@@ -189,6 +191,7 @@ where
         name,
         places: places.as_slice(),
         peers,
+        log,
     };
     let wanted = places_of_callers(alloc, node)?;
     let (kept, answered) = run_shared(
@@ -239,6 +242,7 @@ struct Node<'a> {
     name: &'a str,
     places: &'a [FolderPlace],
     peers: &'a [NodePeer],
+    log: &'a Log,
 }
 
 // The socket that listens, if one does, is shut down once the node quits.
@@ -513,7 +517,7 @@ where
     K: Keeper + Sync,
     C: FolderCore + Drop + Send + Sync,
 {
-    let (alloc, connections) = (work.alloc, work.connections);
+    let (alloc, connections, log) = (work.alloc, work.connections, work.node.log);
     let (left, ()) = join(
         rt,
         || {
@@ -523,7 +527,7 @@ where
             }
             left
         },
-        || keep_by_members(rt, alloc, connections, keeper, keepers),
+        || keep_by_members(rt, alloc, connections, keeper, log, keepers),
     );
     left
 }
@@ -584,6 +588,7 @@ fn keep_by_members<'x, R, K, C>(
     alloc: Global,
     connections: &'x Connections,
     keeper: &'x K,
+    log: &'x Log,
     callers: &mut [Member<'x, C, R>],
 )
 where
@@ -591,7 +596,7 @@ where
     K: Keeper,
     C: FolderCore + Drop,
 {
-    run_keeper(rt, alloc, connections, keeper, callers)
+    run_keeper(rt, alloc, connections, keeper, log, callers)
 }
 
 // Answers the commands by these callers, one of each folder.
@@ -865,6 +870,7 @@ fn jobs_of<'a, 'b, F: FolderFiles, W: FolderCalls>(
             device: peer.device,
             name: node.name,
             book,
+            log: node.log,
             reach,
             folders: link_folders(alloc, files, node, callers, peer)?,
         })?;
@@ -917,11 +923,12 @@ fn scanned_of<'a, 'b, F: FolderFiles, W: FolderCalls>(
     files: &F,
     node: Node<'a>,
     callers: &mut Vec<Lent<'b, W>>,
-) -> Result<Vec<ScannedFolder<F::Store, Lent<'b, W>>>, NodeFault> {
+) -> Result<Vec<ScannedFolder<'a, F::Store, Lent<'b, W>>>, NodeFault> {
     let mut scanned = Vec::with_capacity(alloc, node.places.len())?;
     for (at, place) in node.places.iter().enumerate() {
         let store = files.of(at, GivesUp::AtQuit)?;
-        scanned.push(ScannedFolder::new(store, take_caller(callers, at)?, place.rescan))?;
+        let calls = take_caller(callers, at)?;
+        scanned.push(ScannedFolder::new(place.id.as_str(), node.log, store, calls, place.rescan))?;
     }
     Ok(scanned)
 }
@@ -937,6 +944,10 @@ fn pulled_of<'a, 'b, F: FolderFiles, W: FolderCalls>(
     let mut pulled = Vec::with_capacity(alloc, node.places.len())?;
     for (at, place) in node.places.iter().enumerate() {
         let (peers, places) = peers_of(alloc, node.peers, books, at)?;
+        let mut known = Vec::with_capacity(alloc, peers.len())?;
+        for _ in peers.iter() {
+            known.push(0)?;
+        }
         let mut hands = Vec::with_capacity(alloc, HANDS)?;
         for _ in 0..HANDS {
             let store = files.of(at, GivesUp::AtQuit)?;
@@ -944,9 +955,11 @@ fn pulled_of<'a, 'b, F: FolderFiles, W: FolderCalls>(
         }
         pulled.push(PulledFolder {
             id: place.id.as_str(),
+            log: node.log,
             hands,
             peers,
             places,
+            known,
             most: place.most,
             history_limit: place.history_limit,
             pauses: Pauses::new(alloc),

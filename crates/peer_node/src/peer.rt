@@ -1,6 +1,7 @@
 //! One peer: a connection with it, again and again.
 use crate::connections::Connections;
 use crate::host::Host;
+use crate::log::{Event, Log};
 use bep_messages::{ClusterConfig, Hello, Items, Text};
 use crossbeam_channel::{Receiver, Sender, bounded};
 use file_store::{FileStore, Gate};
@@ -8,7 +9,7 @@ use folder_calls::FolderCalls;
 use peer_asks::AskBook;
 use peer_conn::{FolderTold, cluster_config};
 use peer_link::{Line, LinkEnd, LinkFolders, run_link};
-use peer_reader::{PeerFolder, are_apart};
+use peer_reader::{PeerFolder, ReaderStop, are_apart};
 use std::alloc::{AllocError, Global};
 use std::net::{Shutdown, SocketAddr, TcpListener, TcpStream};
 use std::thread::join;
@@ -39,6 +40,7 @@ pub(crate) struct PeerJob<'a, S, W> {
     // The name of this device.
     pub(crate) name: &'a str,
     pub(crate) book: &'a AskBook,
+    pub(crate) log: &'a Log,
     pub(crate) reach: Reach,
     pub(crate) folders: LinkFolders<S, W>,
 }
@@ -50,6 +52,7 @@ struct Peer<'a> {
     device: DeviceId,
     name: &'a str,
     book: &'a AskBook,
+    log: &'a Log,
     connections: &'a Connections,
 }
 
@@ -84,6 +87,7 @@ where
         device,
         name,
         book,
+        log,
         reach,
         folders,
     } = job;
@@ -92,6 +96,7 @@ where
         device,
         name,
         book,
+        log,
         connections,
     };
     match reach {
@@ -228,6 +233,7 @@ where
     G: Gate + Sync,
 {
     let place = peer.place;
+    peer.log.tell(rt, &Event::Connected(peer.device));
     let folders = run_once(rt, alloc, peer, folders, gate, stream);
     let _ = stream.shutdown(Shutdown::Both);
     peer.connections.end(rt, place);
@@ -267,8 +273,21 @@ where
         rt, alloc, device, &hello, config, folders, gate, book, stream, stream, &line,
     );
     match ended {
-        Ok(LinkEnd { folders, .. }) => folders,
-        Err(folders) => folders,
+        Ok(
+            LinkEnd {
+                reader,
+                folders,
+                ..
+            },
+        ) => {
+            peer.log.tell(rt, &Event::Gone(device, &reader.why));
+            folders
+        }
+        Err(folders) => {
+            let event = Event::Gone(device, &ReaderStop::OutOfMemory);
+            peer.log.tell(rt, &event);
+            folders
+        }
     }
 }
 

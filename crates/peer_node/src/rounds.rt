@@ -2,6 +2,7 @@
 use crate::connections::{Connections, Why};
 use crate::folder_store::Marked;
 use crate::host::Host;
+use crate::log::{Event, Log};
 use crate::moments::moment;
 use crate::pauses::{Pauses, Wanted};
 use file_store::{FileStore, Gate};
@@ -25,10 +26,13 @@ pub(crate) const HANDS: usize = 8;
 #[derive(Drop)]
 pub(crate) struct PulledFolder<'a, S, W> {
     pub(crate) id: &'a str,
+    pub(crate) log: &'a Log,
     pub(crate) hands: Vec<Hand<S, W>>,
     // Those that it is shared with, with their places among all peers.
     pub(crate) peers: Vec<PeerBook<'a>>,
     pub(crate) places: Vec<usize>,
+    // The greatest sequence that is known of each.
+    pub(crate) known: Vec<u64>,
     pub(crate) most: MaxConflicts,
     pub(crate) history_limit: u64,
     pub(crate) pauses: Pauses,
@@ -71,6 +75,9 @@ where
     G: Gate + Sync,
 {
     let mut folders = folders;
+    for folder in folders.iter_mut() {
+        note_known(folder);
+    }
     if connections.wait_for_scans(rt) {
         return;
     }
@@ -79,6 +86,7 @@ where
             // (out of memory ends a round; the next one begins anew)
             let _ = pull_round(rt, alloc, connections, gate, folder);
             if is_full(folder) {
+                folder.log.tell(rt, &Event::HistoryFull(folder.id));
                 connections.quit(rt, Why::HistoryFull);
             }
         }
@@ -115,7 +123,11 @@ where
 {
     let up = up_count(rt, connections, folder.places.as_slice());
     let PulledFolder {
+        id,
+        log,
         hands,
+        peers,
+        known,
         pauses,
         idle_at,
         ..
@@ -128,6 +140,14 @@ where
     if *idle_at == Some(at) {
         return Ok(());
     }
+    tell_received(
+        rt,
+        id,
+        log,
+        &mut hand.calls,
+        peers.as_slice(),
+        known.as_mut_slice(),
+    );
     let needed = hand.calls.need(None, usize::MAX)?.value;
     pauses.keep(needed.as_slice());
     if needed.as_slice().is_empty() {
@@ -145,6 +165,41 @@ where
     let deleted = round.deleted.as_slice();
     pull_in_turn(rt, alloc, connections, gate, folder, deleted)?;
     settle(folder, deleted, up)
+}
+
+// Notes what is known of each peer before it is heard.
+fn note_known<S, W: FolderCalls>(folder: &mut PulledFolder<S, W>) {
+    let PulledFolder {
+        hands,
+        peers,
+        known,
+        ..
+    } = folder;
+    let Some(hand) = hands.first_mut() else {
+        return;
+    };
+    for (peer, known) in peers.iter().zip(known.iter_mut()) {
+        *known = hand.calls.known(peer.device).value;
+    }
+}
+
+// Tells of each peer that more of its index came.
+fn tell_received<R: Host, W: FolderCalls>(
+    rt: &R,
+    id: &str,
+    log: &Log,
+    calls: &mut W,
+    peers: &[PeerBook],
+    known: &mut [u64],
+) {
+    for (peer, known) in peers.iter().zip(known.iter_mut()) {
+        let device = peer.device;
+        let now = calls.known(device).value;
+        if now > *known {
+            log.tell(rt, &Event::Received(id, device, now));
+        }
+        *known = now;
+    }
 }
 
 // The names that could not be pulled are left alone for a time.
@@ -176,18 +231,19 @@ fn pull_side_by_side<R, S, W, G>(
 )
 where
     R: Host,
-    S: FileStore + Drop + Send,
+    S: FileStore + Marked + Drop + Send,
     W: FolderCalls + Drop + Send,
     G: Gate + Sync,
 {
     let PulledFolder {
         id,
+        log,
         hands,
         peers,
         most,
         ..
     } = folder;
-    let (id, peers, most) = (*id, peers.as_slice(), *most);
+    let (id, log, peers, most) = (*id, *log, peers.as_slice(), *most);
     let next = Mutex::new(0usize);
     let threads = wanted.len().min(HANDS).max(1);
     for_each_mut(
@@ -201,6 +257,7 @@ where
                 connections,
                 gate,
                 id,
+                log,
                 peers,
                 most,
                 wanted,
@@ -222,12 +279,13 @@ fn pull_in_turn<R, S, W, G>(
 ) -> Result<(), AllocError>
 where
     R: Host,
-    S: FileStore,
+    S: FileStore + Marked,
     W: FolderCalls,
     G: Gate,
 {
     let PulledFolder {
         id,
+        log,
         hands,
         peers,
         most,
@@ -242,6 +300,7 @@ where
         connections,
         gate,
         id,
+        log,
         peers.as_slice(),
         *most,
         wanted,
@@ -257,6 +316,7 @@ fn pull_some<R, S, W, G>(
     connections: &Connections,
     gate: &G,
     id: &str,
+    log: &Log,
     peers: &[PeerBook],
     most: MaxConflicts,
     wanted: &[Wanted],
@@ -265,7 +325,7 @@ fn pull_some<R, S, W, G>(
 ) -> Result<(), AllocError>
 where
     R: Host,
-    S: FileStore,
+    S: FileStore + Marked,
     W: FolderCalls,
     G: Gate,
 {
@@ -275,6 +335,7 @@ where
         failed,
     } = hand;
     let mut source = PeerSource::new(rt, alloc, id, peers)?;
+    let wanted_count = wanted.len() as u64;
     for _ in wanted {
         if connections.is_quitting(rt) {
             return Ok(());
@@ -295,11 +356,40 @@ where
             most,
         );
         source.let_go();
+        let (at, of) = (place as u64 + 1, wanted_count);
+        log.tell(rt, &Event::Pulling(id, at, of));
+        tell_answer(rt, id, log, &wanted.name, answer, store.take_moved());
         if let PullAnswer::Failed(_) | PullAnswer::Unsupported = answer {
             failed.push(place)?;
         }
     }
     Ok(())
+}
+
+// Tells what a pull of a name came to, and the name under which what was there is kept, if it is.
+fn tell_answer<R: Host>(
+    rt: &R,
+    id: &str,
+    log: &Log,
+    name: &SafeName,
+    answer: PullAnswer,
+    kept: Option<SafeName>,
+) {
+    match answer {
+        PullAnswer::Done(_) => {
+            if let Some(copy) = &kept {
+                log.tell(rt, &Event::Kept(id, copy));
+            }
+            log.tell(rt, &Event::Pulled(id, name));
+        }
+        PullAnswer::Failed(why) => log.tell(rt, &Event::Failed(id, name, why)),
+        PullAnswer::Refused(why) => log.tell(rt, &Event::Refused(id, name, why)),
+        PullAnswer::Unsupported => log.tell(rt, &Event::Unsupported(id, name)),
+        PullAnswer::NotNeeded
+        | PullAnswer::Busy
+        | PullAnswer::LocalMoved
+        | PullAnswer::Superseded => {}
+    }
 }
 
 // The next place that nobody took.

@@ -2,11 +2,14 @@
 use crate::connections::Connections;
 use crate::folder_store::Marked;
 use crate::host::Host;
+use crate::log::{Event, Log};
 use crate::moments::moment;
 use file_store::{FileStore, Gate};
 use folder_calls::FolderCalls;
 use std::alloc::Global;
-use sync_scan::{NoProgress, scan_all};
+use std::sync::Wait;
+use std::time::Clock;
+use sync_scan::{Progress, scan_all};
 
 /// After how many seconds a folder is scanned again of which some names could not be recorded, as a file that changed while it was read. Each
 /// time that this is so once more they are twice as many, up to an hour.
@@ -34,9 +37,12 @@ enum Came {
 
 /// A folder, for the scanner.
 #[derive(Drop)]
-pub(crate) struct ScannedFolder<S, W> {
+pub(crate) struct ScannedFolder<'a, S, W> {
+    id: &'a str,
+    log: &'a Log,
     store: S,
     calls: W,
+    is_away: bool,
     // How many seconds lie between two scans, or 0 for none by the clock.
     every: u64,
     // How many seconds are left until the next scan, if there is to be one.
@@ -45,12 +51,21 @@ pub(crate) struct ScannedFolder<S, W> {
     soon: u64,
 }
 
-impl<S, W> ScannedFolder<S, W> {
+impl<'a, S, W> ScannedFolder<'a, S, W> {
     /// A folder that was not scanned yet, and is to be scanned again after so many seconds each time, or never for 0.
-    pub(crate) fn new(store: S, calls: W, every: u64) -> ScannedFolder<S, W> {
+    pub(crate) fn new(
+        id: &'a str,
+        log: &'a Log,
+        store: S,
+        calls: W,
+        every: u64,
+    ) -> ScannedFolder<'a, S, W> {
         ScannedFolder {
+            id,
+            log,
             store,
             calls,
+            is_away: false,
             every,
             left: Some(0),
             soon: 0,
@@ -121,6 +136,40 @@ where
     }
 }
 
+// How far a scan is, for the log.
+#[derive(Drop)]
+struct Far<'a, R> {
+    rt: &'a R,
+    id: &'a str,
+    log: &'a Log,
+}
+
+impl<R: Clock + Wait> Progress for Far<'_, R> {
+    fn hashed(&mut self, _bytes: u64) {}
+
+    fn scanned(&mut self, names: u64, listed: u64) {
+        self.log
+            .tell(self.rt, &Event::Scanning(self.id, names, listed));
+    }
+}
+
+// Tells that a folder is away, or back, where it was not so before.
+fn tell_away<R, S, W>(rt: &R, folder: &mut ScannedFolder<S, W>, is_away: bool)
+where
+    R: Clock + Wait,
+{
+    if folder.is_away == is_away {
+        return;
+    }
+    folder.is_away = is_away;
+    let event = if is_away {
+        Event::Away(folder.id)
+    } else {
+        Event::Back(folder.id)
+    };
+    folder.log.tell(rt, &event);
+}
+
 // Scans a folder, if it is there.
 fn scan<R, S, W, G>(rt: &R, alloc: Global, gate: &G, folder: &mut ScannedFolder<S, W>) -> Came
 where
@@ -129,11 +178,27 @@ where
     W: FolderCalls,
     G: Gate,
 {
-    let ScannedFolder { store, calls, .. } = folder;
-    if !store.is_there() {
+    let is_away = !folder.store.is_there();
+    tell_away(rt, folder, is_away);
+    if is_away {
         return Came::Away;
     }
-    let sum = scan_all(rt, alloc, store, calls, gate, moment(rt), &mut NoProgress);
+    let ScannedFolder {
+        id,
+        log,
+        store,
+        calls,
+        ..
+    } = folder;
+    let mut far = Far {
+        rt,
+        id: *id,
+        log: *log,
+    };
+    let sum = scan_all(rt, alloc, store, calls, gate, moment(rt), &mut far);
+    if sum.recorded > 0 || sum.other > 0 || sum.stopped.is_some() {
+        log.tell(rt, &Event::Scanned(*id, sum));
+    }
     if sum.other == 0 && sum.stopped.is_none() {
         Came::Whole
     } else {

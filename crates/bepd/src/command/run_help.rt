@@ -6,6 +6,8 @@ pub(super) const RUN_CONFIG: &str = "The configuration, a TOML document";
 
 pub(super) const RUN_CHECK: &str = "Say what the configuration asks for, and end";
 
+pub(super) const RUN_QUIET: &str = "Tell nothing on standard error of what happens";
+
 pub(super) const RUN_LONG_ABOUT: &str = "\
 Keep folders alike with peers over TCP.
 
@@ -64,6 +66,22 @@ others one line, and quit none:
     verify F yes, or verify F no
     error NUMBER NAME, as error 46 FolderMissing, error unknown folder or
     error unknown command
+
+Standard error has a line for each thing that happens, unless --quiet is given: the
+time in UTC, and
+
+    connected ID, gone ID: WHY
+    received F up to N from ID         more of a peer's index came, up to sequence N
+    scanned F recorded R unchanged U other O
+    pulled F NAME                      the best version is in place
+    conflict copy F NAME               what was there before is kept under this name
+    failed F NAME: NUMBER WHY          it could not be pulled, and is tried again
+    away F: WHY, back F                the folder lacks its marker; it has it again
+    history full F: WHY                the node ends, and begins anew
+    state not written: WHY
+
+and each ten seconds, or on a terminal each second in place, how far a long scan or
+pull is.
 
 `bepd help best` says what KIND, SIZE, VERSION and NAME are.";
 

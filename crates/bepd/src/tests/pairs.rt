@@ -1,7 +1,7 @@
 //! Two peers by commands: what they print, an input in pieces, and reads and writes that fail.
 use super::{MOST, Sink, Source, in_steps};
 use crate::run::run;
-use bepd_run::Disks;
+use bepd_run::{Disks, Progress};
 use std::alloc::{AllocError, Global};
 use std::io;
 use std::test::Fail;
@@ -41,6 +41,7 @@ fn play(
         rt.alloc(),
         &Disks::new(rt),
         &words,
+        Progress::ByLines,
         &mut source,
         &mut sink,
         &mut reported,

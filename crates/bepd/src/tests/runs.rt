@@ -1,7 +1,7 @@
 //! Whole runs: a command line and an input, and what goes to the output, to the errors and to the status.
 use super::{COMPRESSED, FILE, MOST, Sink, both};
 use crate::run::run;
-use bepd_run::Disks;
+use bepd_run::{Disks, Progress};
 use std::alloc::{AllocError, Global};
 use std::io;
 use std::test::Fail;
@@ -32,6 +32,7 @@ fn status(
         rt.alloc(),
         &Disks::new(rt),
         &words,
+        Progress::ByLines,
         &mut bytes,
         &mut written,
         &mut reported,
@@ -88,6 +89,7 @@ fn reports_help_that_cannot_be_written(rt: HostRuntime) -> Result<(), AllocError
             rt.alloc(),
             &Disks::new(&rt),
             &words,
+            Progress::ByLines,
             &mut input,
             &mut sink,
             &mut reported,

@@ -1,7 +1,7 @@
 use Rattle.std.proofs.Common.{map, Some, false, true, sym, ◌∙◌}
 use Rattle.std.specs.String.{string_bytes}
 use Rattle.clap.specs.Words.{app_of}
-use Rattle.bepd.specs.CommandLine.{check_at, config_at, directory_at, folder_at, is_pair, is_true}
+use Rattle.bepd.specs.CommandLine.{check_at, config_at, directory_at, folder_at, is_pair, is_true, quiet_at}
 use Rattle.bepd.proofs.Matching.{at_error, error_at, no_faults, read_at}
 use Rattle.bepd.proofs.command.command_of.Goals as goal
 
@@ -23,9 +23,24 @@ pub returns-in-Some-clause-named : goal.returns-in-Some-clause-named
 returns-in-Some-clause-named c =
     let words = map string_bytes c.args.words.now in
     let app = app_of c.in_ok-command.command in (
-      no_faults app words c.in_ok-command.ensures c.in_ok-matches.ensures.kinds,
-      read_at config_at app words c.in_ok-matches.matches (Some c.in-Some.path.now) c.in_ok-command.ensures c.in_ok-matches.ensures.ok.2 c.in-Some.ensures,
-      read_at (λ command. is_true (check_at command)) app words c.in_ok-matches.matches false c.in_ok-command.ensures c.in_ok-matches.ensures.ok.2 (sym c.if-is_check.false ∙ c.is_check.ensures),
+      (
+        no_faults app words c.in_ok-command.ensures c.in_ok-matches.ensures.kinds,
+        read_at config_at app words c.in_ok-matches.matches (Some c.in-Some.path.now) c.in_ok-command.ensures c.in_ok-matches.ensures.ok.2 c.in-Some.ensures,
+        read_at (λ command. is_true (check_at command)) app words c.in_ok-matches.matches false c.in_ok-command.ensures c.in_ok-matches.ensures.ok.2 (sym c.if-is_check.false ∙ c.is_check.ensures),
+      ),
+      read_at (λ command. is_true (quiet_at command)) app words c.in_ok-matches.matches false c.in_ok-command.ensures c.in_ok-matches.ensures.ok.2 (sym c.if-is_quiet.false ∙ c.is_quiet.ensures),
+    )
+
+pub returns-then-is_quiet-clause-named : goal.returns-then-is_quiet-clause-named
+returns-then-is_quiet-clause-named c =
+    let words = map string_bytes c.args.words.now in
+    let app = app_of c.in_ok-command.command in (
+      (
+        no_faults app words c.in_ok-command.ensures c.in_ok-matches.ensures.kinds,
+        read_at config_at app words c.in_ok-matches.matches (Some c.in-Some.path.now) c.in_ok-command.ensures c.in_ok-matches.ensures.ok.2 c.in-Some.ensures,
+        read_at (λ command. is_true (check_at command)) app words c.in_ok-matches.matches false c.in_ok-command.ensures c.in_ok-matches.ensures.ok.2 (sym c.if-is_check.false ∙ c.is_check.ensures),
+      ),
+      read_at (λ command. is_true (quiet_at command)) app words c.in_ok-matches.matches true c.in_ok-command.ensures c.in_ok-matches.ensures.ok.2 (sym c.if-is_quiet.true ∙ c.is_quiet.ensures),
     )
 
 pub returns-then-is_check-clause-named : goal.returns-then-is_check-clause-named

@@ -75,7 +75,7 @@ pub returns-in-Refused-clause-node : goal.returns-in-Refused-clause-node
 returns-in-Refused-clause-node g c = λ program path line plain. absurd (asked_run c.args.words.now _ program path line plain c.in-Refused.ensures)
 
 pub returns-in-Run-clause-node : goal.returns-in-Run-clause-node
-returns-in-Run-clause-node g c = λ program path line plain. (c.run_config.result, c.end_run.ensures.ends)
+returns-in-Run-clause-node g c = λ program path line plain. (c.run_and_tell.result, g.E.Write.contents c.run_and_tell.new.errors, c.end_run.ensures.ends)
 
 pub returns-in-OutOfMemory-clause-node : goal.returns-in-OutOfMemory-clause-node
 returns-in-OutOfMemory-clause-node g c = λ program path line plain.
@@ -90,3 +90,12 @@ returns-in-New-clause-pair g c = λ program line. absurd (asked_pair c.args.word
 
 pub returns-in-New-clause-node : goal.returns-in-New-clause-node
 returns-in-New-clause-node g c = λ program path line plain. absurd (asked_run c.args.words.now _ program path line plain c.in-New.ensures)
+
+pub returns-in-QuietRun-clause-best : goal.returns-in-QuietRun-clause-best
+returns-in-QuietRun-clause-best g c = λ program folder line plain. absurd (asked_best c.args.words.now _ program folder line plain c.in-QuietRun.ensures)
+
+pub returns-in-QuietRun-clause-pair : goal.returns-in-QuietRun-clause-pair
+returns-in-QuietRun-clause-pair g c = λ program line. absurd (asked_pair c.args.words.now _ program line c.in-QuietRun.ensures)
+
+pub returns-in-QuietRun-clause-node : goal.returns-in-QuietRun-clause-node
+returns-in-QuietRun-clause-node g c = λ program path line plain. absurd (asked_run c.args.words.now _ program path line plain c.in-QuietRun.ensures)
