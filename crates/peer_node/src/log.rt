@@ -18,9 +18,6 @@ use sync_version::Moment;
 /// How many bytes of lines may wait to be written. What happens while there are more is counted, and not told.
 const MAX_WAITING: usize = 1_048_576;
 
-/// How many seconds lie between two lines of how far something is, where each stays.
-const FAR_SECONDS: u64 = 10;
-
 /// How it is shown how far a scan or a pull is.
 #[derive(Clone, Copy, Debug, PartialEq, Eq)]
 pub enum Progress {
@@ -28,6 +25,16 @@ pub enum Progress {
     InPlace,
     /// By a line, each ten seconds.
     ByLines,
+}
+
+impl Progress {
+    // How many seconds lie between two times that it is shown.
+    fn seconds(self) -> u64 {
+        match self {
+            Progress::InPlace => 1,
+            Progress::ByLines => 10,
+        }
+    }
 }
 
 /// What happened. Folders are named by their ids.
@@ -66,11 +73,11 @@ pub enum Event<'a> {
 }
 
 impl Event<'_> {
-    // Whether it only says how far something is.
-    fn is_progress(&self) -> bool {
+    // How far something is, where it only says that.
+    fn far(&self) -> Option<u64> {
         match self {
-            Event::Scanning(..) | Event::Pulling(..) => true,
-            _ => false,
+            Event::Scanning(_, at, _) | Event::Pulling(_, at, _) => Some(*at),
+            _ => None,
         }
     }
 }
@@ -132,11 +139,12 @@ impl Log {
         };
         let now = moment(rt);
         let mut waiting = self.waiting.lock(rt);
-        let is_new = if event.is_progress() {
-            waiting.take_far(progress, now, event)
-        } else {
-            waiting.take(now, event);
-            true
+        let is_new = match event.far() {
+            Some(at) => waiting.take_far(progress, now, at, event),
+            None => {
+                waiting.take(now, event);
+                true
+            }
         };
         drop(waiting);
         if is_new {
@@ -164,24 +172,24 @@ impl Waiting {
         }
     }
 
-    // How far something is, if it is time to tell it. Returns whether it is.
-    fn take_far(&mut self, progress: Progress, now: Moment, event: &Event) -> bool {
+    // How far something is, if it has taken long enough since it began, or was told. Returns whether it has.
+    fn take_far(&mut self, progress: Progress, now: Moment, at: u64, event: &Event) -> bool {
         let seconds = now.seconds();
-        if seconds < self.next {
+        let is_due = at > 1 && seconds >= self.next;
+        if at <= 1 || is_due {
+            self.next = seconds.saturating_add(progress.seconds());
+        }
+        if !is_due {
             return false;
         }
         match progress {
             Progress::InPlace => {
-                self.next = seconds.saturating_add(1);
                 self.far.clear();
                 if push_event(&mut self.far, event).is_err() {
                     self.far.clear();
                 }
             }
-            Progress::ByLines => {
-                self.next = seconds.saturating_add(FAR_SECONDS);
-                self.take(now, event);
-            }
+            Progress::ByLines => self.take(now, event),
         }
         true
     }
