@@ -46,6 +46,32 @@ fn calls_for_two_peers(rt: HostRuntime) -> Result<(), AllocError> {
     Ok(())
 }
 
+#[test]
+fn calls_for_a_node(rt: HostRuntime) -> Result<(), AllocError> {
+    let rows = [
+        ("bepd run --config c", "run c"),
+        ("bepd run --config=c", "run c"),
+        ("bepd run --config c --quiet", "quiet c"),
+        ("bepd run --quiet --config c", "quiet c"),
+        ("bepd run --check --config c", "check c"),
+        ("bepd run --config c --quiet --check", "check c"),
+        ("bepd new c", "new c"),
+    ];
+    for (line, wanted) in rows {
+        let words = words(&rt, line);
+        let (kind, path) = match request_of(rt.alloc(), &words) {
+            Request::Run(path) => ("run ", path),
+            Request::QuietRun(path) => ("quiet ", path),
+            Request::Check(path) => ("check ", path),
+            Request::New(path) => ("new ", path),
+            Request::OutOfMemory => return Err(AllocError),
+            _ => ("", ""),
+        };
+        assert_eq!(rt; wanted.strip_prefix(kind), Some(path), "{line}");
+    }
+    Ok(())
+}
+
 /// Whether the text that the line is answered with is an error.
 fn is_refused(rt: &(impl AllocGlobal + Abort), line: &str, text: &str) -> Result<bool, AllocError> {
     let words = words(rt, line);
@@ -59,7 +85,7 @@ fn is_refused(rt: &(impl AllocGlobal + Abort), line: &str, text: &str) -> Result
             Ok(true)
         }
         Request::OutOfMemory => Err(AllocError),
-        Request::Best(_) | Request::Pair => {
+        _ => {
             assert!(rt; false, "{line}");
             Ok(false)
         }
@@ -80,6 +106,14 @@ fn refuses_other_lines(rt: HostRuntime) -> Result<(), AllocError> {
         "bepd pair f",
         "bepd pair --version",
         "bepd -pair",
+        "bepd run",
+        "bepd run --config",
+        "bepd run --check",
+        "bepd run c",
+        "bepd run --config c d",
+        "bepd run --config c --loud",
+        "bepd new",
+        "bepd new a b",
     ];
     for line in lines {
         assert!(rt; is_refused(&rt, line, "Usage: bepd")?, "{line}");
@@ -98,6 +132,9 @@ fn answers_calls_for_help(rt: HostRuntime) -> Result<(), AllocError> {
         ("bepd best --help", "Usage: bepd best <FOLDER>"),
         ("bepd help pair", "Usage: bepd pair"),
         ("bepd pair --help", "Usage: bepd pair"),
+        ("bepd help run", "Usage: bepd run"),
+        ("bepd run --help", "Usage: bepd run"),
+        ("bepd help new", "Usage: bepd new <DIRECTORY>"),
         ("bepd -V", "bepd 0.1.0"),
         ("bepd --version", "bepd 0.1.0"),
     ];

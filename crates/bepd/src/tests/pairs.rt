@@ -1,10 +1,16 @@
 //! Two peers by commands: what they print, an input in pieces, and reads and writes that fail.
 use super::{MOST, Sink, Source, in_steps};
 use crate::run::run;
-use bepd_run::{Disks, Progress};
+use bepd_run::{Disks, Progress, StateFiles, Stores};
 use std::alloc::{AllocError, Global};
-use std::io;
+use std::fs::{File, Files};
+use std::io::{self, BufReader};
+use std::net::{Net, TcpListener, TcpStream};
+use std::process::Abort;
+use std::sync::Wait;
 use std::test::Fail;
+use std::thread::Threads;
+use std::time::Clock;
 
 /// An edit that travels. The last line has no line feed.
 const COMMANDS: &str = "put A a abc\nscan A\nsync\npull B\nnone\nshow B";
@@ -27,22 +33,39 @@ fn words(alloc: Global) -> io::Result<Vec<String>> {
 
 /// Plays the commands of the source. The sink, which took nothing before, has a front of what they print then; returned are the
 /// status and how many bytes were written. Out of memory must be reported, and ends the test.
-fn play(
-    rt: &HostRuntime,
-    mut source: Source<'_>,
+fn play<R, S>(
+    rt: &R,
+    stores: &S,
+    source: Source<'_>,
     step: usize,
     fails_at: u64,
-) -> Result<(u8, usize), AllocError> {
+) -> Result<(u8, usize), AllocError>
+where
+    R: AllocGlobal
+        + Abort
+        + Clock
+        + Files<File = File>
+        + Net<Listener = TcpListener, Stream = TcpStream>
+        + StateFiles
+        + Sync
+        + Threads
+        + Wait,
+    S: Stores + Sync,
+    S::Store: Send,
+{
     let mut sink = Sink::new(rt.alloc(), step, fails_at)?;
     let mut reported = Vec::with_capacity(rt.alloc(), MOST)?;
     let words = words(rt.alloc());
+    let Ok(mut input) = BufReader::new(rt.alloc(), source) else {
+        return Err(AllocError);
+    };
     let outcome = run(
         rt,
         rt.alloc(),
-        &Disks::new(rt),
+        stores,
         &words,
         Progress::ByLines,
-        &mut source,
+        &mut input,
         &mut sink,
         &mut reported,
     );
@@ -67,7 +90,10 @@ fn plays_in_pieces(rt: HostRuntime) -> Result<(), Fail> {
                 interrupts,
                 ..in_steps(COMMANDS.as_bytes(), step)
             };
-            assert_eq!(rt; play(&rt, source, 5, 0)?, (0, PRINTED.len()));
+            assert_eq!(rt;
+                play(&rt, &Disks::new(&rt), source, 5, 0)?,
+                (0, PRINTED.len())
+            );
         }
     }
     Ok(())
@@ -81,7 +107,7 @@ fn plays_up_to_a_failed_read(rt: HostRuntime) -> Result<(), Fail> {
             fails_at,
             ..in_steps(COMMANDS.as_bytes(), 9)
         };
-        let (status, count) = play(&rt, source, 100, 0)?;
+        let (status, count) = play(&rt, &Disks::new(&rt), source, 100, 0)?;
         assert_eq!(rt; status, 5);
         assert!(rt; count < PRINTED.len());
     }
@@ -93,9 +119,12 @@ fn plays_up_to_a_failed_write(rt: HostRuntime) -> Result<(), Fail> {
     // Each of the five lines is a write and a flush; an eleventh call is never made.
     for fails_at in 1..11 {
         let source = in_steps(COMMANDS.as_bytes(), 100);
-        assert_eq!(rt; play(&rt, source, 100, fails_at)?.0, 5);
+        assert_eq!(rt; play(&rt, &Disks::new(&rt), source, 100, fails_at)?.0, 5);
     }
     let source = in_steps(COMMANDS.as_bytes(), 100);
-    assert_eq!(rt; play(&rt, source, 100, 11)?, (0, PRINTED.len()));
+    assert_eq!(rt;
+        play(&rt, &Disks::new(&rt), source, 100, 11)?,
+        (0, PRINTED.len())
+    );
     Ok(())
 }

@@ -1,10 +1,16 @@
 //! Whole runs: a command line and an input, and what goes to the output, to the errors and to the status.
 use super::{COMPRESSED, FILE, MOST, Sink, both};
 use crate::run::run;
-use bepd_run::{Disks, Progress};
+use bepd_run::{Disks, Progress, StateFiles, Stores};
 use std::alloc::{AllocError, Global};
+use std::fs::{File, Files};
 use std::io;
+use std::net::{Net, TcpListener, TcpStream};
+use std::process::Abort;
+use std::sync::Wait;
 use std::test::Fail;
+use std::thread::Threads;
+use std::time::Clock;
 
 const LISTING: &str = "best file 0 0000000000000001:1 a\nskipped 0\n";
 
@@ -17,20 +23,34 @@ fn words(alloc: Global, line: &str) -> io::Result<Vec<String>> {
 }
 
 /// Runs the line on the bytes, and returns the status. Out of memory must be reported, and ends the test.
-fn status(
-    rt: &HostRuntime,
+fn status<R, S>(
+    rt: &R,
+    stores: &S,
     line: &str,
     mut bytes: &[u8],
     output: &str,
     errors: &str,
-) -> Result<u8, AllocError> {
+) -> Result<u8, AllocError>
+where
+    R: AllocGlobal
+        + Abort
+        + Clock
+        + Files<File = File>
+        + Net<Listener = TcpListener, Stream = TcpStream>
+        + StateFiles
+        + Sync
+        + Threads
+        + Wait,
+    S: Stores + Sync,
+    S::Store: Send,
+{
     let mut written = Vec::with_capacity(rt.alloc(), MOST)?;
     let mut reported = Vec::with_capacity(rt.alloc(), MOST)?;
     let words = words(rt.alloc(), line);
     let outcome = run(
         rt,
         rt.alloc(),
-        &Disks::new(rt),
+        stores,
         &words,
         Progress::ByLines,
         &mut bytes,
@@ -72,7 +92,11 @@ fn runs_lines(rt: HostRuntime) -> Result<(), Fail> {
         ("bepd --version", 0, "bepd 0.1.0\n", "", 0),
     ] {
         let input = &bytes.as_slice()[..count.min(bytes.len())];
-        assert_eq!(rt; status(&rt, line, input, output, errors)?, wanted, "{line}");
+        assert_eq!(rt;
+            status(&rt, &Disks::new(&rt), line, input, output, errors)?,
+            wanted,
+            "{line}"
+        );
     }
     Ok(())
 }
