@@ -6,7 +6,7 @@ use Rattle.bepd.specs.declared.ending.Ending.TheVariants.{Failed}
 use Rattle.bepd.specs.declared.ending.Failure.TheVariants.{OutOfMemory}
 use Rattle.bepd.specs.declared.run.Outcome.{Outcome}
 use Rattle.bepd.specs.Listing.{listing}
-use Rattle.bepd.specs.Runs.{Ends, Lists, Plays, RunsNode, streams}
+use Rattle.bepd.specs.Runs.{Ends, Lists, Plays, TellsRun, streams}
 use Rattle.bepd_pair.specs.declared.playing.PairFailure.TheVariants as pair
 use Rattle.bepd_run.specs.declared.failure.RunFailure.TheVariants as node
 
@@ -36,6 +36,6 @@ plays_nothing outcome input output old new ends = record {
 }
 
 -- and before any node began
-pub runs_nothing : (outcome : Outcome) (input output old new : Option (List ℕ)) → Ends (Failed OutOfMemory) outcome old new
-    → RunsNode outcome (streams input output old) (streams input output new)
-runs_nothing outcome input output old new ends = (Err node.OutOfMemory, (ends.status, ends.line))
+pub tells_nothing : (outcome : Outcome) (input output old new : Option (List ℕ)) → Ends (Failed OutOfMemory) outcome old new
+    → TellsRun outcome (streams input output old) (streams input output new)
+tells_nothing outcome input output old new ends = (Err node.OutOfMemory, old, (ends.status, ends.line))

@@ -1,9 +1,9 @@
 //! The command line.
 ghost use Rattle.std.specs.Prelude.{◌≡◌, ◌⊎◌, false, Some, IfErr, IfOk, map, option_map};
 ghost use Rattle.std.specs.String.{string_bytes};
-ghost use Rattle.bepd.specs.CommandLine.{IsAnswered, IsNamed, IsRequested, IsErrorAt, bepd_app, best_app, check_at, config_at, directory_at, folder_at, fresh_app, is_pair, is_true, pair_app, quiet_at, run_app};
+ghost use Rattle.bepd.specs.CommandLine.{IsAnswered, IsNamed, IsRequested, IsErrorAt, bepd_app, best_app, check_at, check_rule, config_at, config_rule, directory_at, folder_at, fresh_app, is_pair, is_true, pair_app, quiet_at, quiet_rule, run_app};
 ghost use Rattle.clap.specs.declared.builder.command.Command.{out-Command};
-ghost use Rattle.clap.specs.Words.{app_of, kind_of, subcommand_rows_of};
+ghost use Rattle.clap.specs.Words.{app_of, kind_of, rule_of, subcommand_rows_of};
 
 mod new_help;
 mod pair_help;
@@ -189,7 +189,7 @@ fn is_check(matches: &ArgMatches<'_>) -> bool
 
 /// Whether the value is `true`, which that of a flag is where it is given.
 fn is_true(value: Option<&str>) -> bool
-    ensures { result ≡ is_true (option_map (λ s. s.now) value) }
+    ensures { result ≡ is_true (option_map (λ s. s.now) value.entry) }
 {
     match value {
         Some(value) => value == "true",
@@ -273,24 +273,48 @@ fn pair_command<'a>(alloc: Global) -> Command<'a>
         .after_help(PAIR_STATUSES)
 }
 
+/// `--config FILE`.
+fn config_arg<'a>(alloc: Global) -> Arg<'a>
+    ensures rule { rule_of result ≡ config_rule }
+    ensures local { result.global ≡ false }
+{
+    Arg::new(alloc, "config")
+        .long("config")
+        .value_name("FILE")
+        .required(true)
+        .help(RUN_CONFIG)
+}
+
+/// `--check`.
+fn check_arg<'a>(alloc: Global) -> Arg<'a>
+    ensures rule { rule_of result ≡ check_rule }
+    ensures local { result.global ≡ false }
+{
+    Arg::new(alloc, "check")
+        .long("check")
+        .action(ArgAction::SetTrue)
+        .help(RUN_CHECK)
+}
+
+/// `--quiet`.
+fn quiet_arg<'a>(alloc: Global) -> Arg<'a>
+    ensures rule { rule_of result ≡ quiet_rule }
+    ensures local { result.global ≡ false }
+{
+    Arg::new(alloc, "quiet")
+        .long("quiet")
+        .action(ArgAction::SetTrue)
+        .help(RUN_QUIET)
+}
+
 /// The command `run`, and what it takes.
 fn run_command<'a>(alloc: Global) -> Result<Command<'a>, AllocError>
     ensures { IfOk result (λ command.
         (app_of command ≡ run_app) × ((out-Command command).has_globals ≡ false)) }
 {
-    let config = Arg::new(alloc, "config")
-        .long("config")
-        .value_name("FILE")
-        .required(true)
-        .help(RUN_CONFIG);
-    let check = Arg::new(alloc, "check")
-        .long("check")
-        .action(ArgAction::SetTrue)
-        .help(RUN_CHECK);
-    let quiet = Arg::new(alloc, "quiet")
-        .long("quiet")
-        .action(ArgAction::SetTrue)
-        .help(RUN_QUIET);
+    let config = config_arg(alloc);
+    let check = check_arg(alloc);
+    let quiet = quiet_arg(alloc);
     Command::new(alloc, "run")
         .about(RUN_ABOUT)
         .long_about(RUN_LONG_ABOUT)

@@ -1,7 +1,7 @@
 use Rattle.std.proofs.Common.{subst}
 use Rattle.bepd.specs.Runs.{Lists, streams}
 use Rattle.bepd.proofs.Matching.{asked_best, asked_pair, asked_run}
-use Rattle.bepd.proofs.Running.{lists_nothing, plays_nothing, runs_nothing}
+use Rattle.bepd.proofs.Running.{lists_nothing, plays_nothing, tells_nothing}
 use Rattle.bepd.proofs.run.run.Goals as goal
 
 pub returns-in-Best-clause-best : goal.returns-in-Best-clause-best
@@ -75,11 +75,11 @@ pub returns-in-Refused-clause-node : goal.returns-in-Refused-clause-node
 returns-in-Refused-clause-node g c = λ program path line plain. absurd (asked_run c.args.words.now _ program path line plain c.in-Refused.ensures)
 
 pub returns-in-Run-clause-node : goal.returns-in-Run-clause-node
-returns-in-Run-clause-node g c = λ program path line plain. (c.run_and_tell.result, g.E.Write.contents c.run_and_tell.new.errors, c.end_run.ensures.ends)
+returns-in-Run-clause-node g c = λ program path line plain. (c.run_and_tell-ran.result, g.E.Write.contents c.run_and_tell-ran.new.errors, c.end_run.ensures.ends)
 
 pub returns-in-OutOfMemory-clause-node : goal.returns-in-OutOfMemory-clause-node
 returns-in-OutOfMemory-clause-node g c = λ program path line plain.
-    runs_nothing c.end-in-OutOfMemory.result (g.R.Read.remaining c.args.input.now) (g.W.Write.contents c.args.output.now)
+    tells_nothing c.end-in-OutOfMemory.result (g.R.Read.remaining c.args.input.now) (g.W.Write.contents c.args.output.now)
     (g.E.Write.contents c.args.errors.now) (g.E.Write.contents c.end-in-OutOfMemory.new.errors) c.end-in-OutOfMemory.ensures.ends
 
 pub returns-in-New-clause-best : goal.returns-in-New-clause-best
