@@ -18,3 +18,4 @@ pub mod Placed
 pub mod Indexed
 pub mod Chosen
 pub mod Promised
+pub mod Lately

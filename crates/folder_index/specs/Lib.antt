@@ -5,4 +5,5 @@ pub mod Groups
 pub mod Sequences
 pub mod Digests
 pub mod Numbers
+pub mod Latest
 pub mod Locals

@@ -123,6 +123,16 @@ impl ByName {
         promise_in(&mut self.names, self.totals, self.alloc, self.me, name)
     }
 
+    /// Whether there is room that was made for a record of this device. O(log n) for n names.
+    pub fn is_promised(&self, name: &SafeName) -> bool
+        ensures { result ≡ contains self.now.promised name.now }
+    {
+        match self.names.get(name) {
+            Some(group) => group.is_promised,
+            None => false,
+        }
+    }
+
     /// Gives up the room that was made for a record of this device, if there is any. Does not allocate. O(log n) for n names.
     pub fn release(&mut self, name: &SafeName)
         ensures { self.new ≡ without_promise name.now self.old }
