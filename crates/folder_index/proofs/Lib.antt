@@ -19,3 +19,4 @@ pub mod Indexed
 pub mod Chosen
 pub mod Promised
 pub mod Lately
+pub mod Announcing

@@ -6,4 +6,5 @@ pub mod Sequences
 pub mod Digests
 pub mod Numbers
 pub mod Latest
+pub mod Devices
 pub mod Locals

@@ -10,9 +10,10 @@ ghost use Rattle.folder_core.specs.Announced.{best, key};
 ghost use Rattle.folder_core.specs.Plain.{filed};
 ghost use Rattle.folder_core.specs.Reads.{best_with_devices, bests_page, counts, need_page};
 ghost use Rattle.folder_index.specs.Groups.{AreGroups, announced_in, promised_in, start_of};
+ghost use Rattle.folder_index.specs.Devices.{greatest_of, names_by, sequences_by, without_device};
 ghost use Rattle.folder_index.specs.Indexes.{folder, needs, with_promise, with_record, without_promise, without_record};
 
-use crate::entries::record_from;
+use crate::entries::{greatest_from, push_copies, push_names, record_from};
 use crate::group::Group;
 use crate::{Best, Totals};
 use bep_messages::Items;
@@ -152,6 +153,19 @@ impl ByName {
         self.choices = self.choices.saturating_add(1);
     }
 
+    /// Takes away all that a device announces, name by name. Returns `Err` only if out of memory, and then nothing changes.
+    /// O(n + m log n) for n records, of which m are the device's, and copies of the names of these.
+    pub fn forget(&mut self, device: DeviceId) -> Result<(), AllocError>
+        ensures ok { OnOk result (self.new ≡ without_device device self.old) }
+        ensures err { OnErr result (self.new ≡ self.old) }
+    {
+        let names = self.names_of(device)?;
+        for name in names.as_slice() {
+            self.clear(device, name);
+        }
+        Ok(())
+    }
+
     /// The best of a name, and the device that announces it; `None` where no valid record of the name is announced. O(log n)
     /// for n names.
     pub fn best(&self, name: &SafeName) -> Option<&Announcement>
@@ -231,6 +245,43 @@ impl ByName {
             }
         }
         Ok(Items::from_vec(page))
+    }
+
+    /// The greatest sequence of a device's records, 0 without any. O(n) for n records.
+    pub fn greatest_sequence(&self, device: DeviceId) -> u64
+        ensures { result ≡ greatest_of (sequences_by device (entries self.now.announced)) }
+    {
+        let mut greatest = 0;
+        for group in self.names.values() {
+            greatest = greatest_from(greatest, group.entries.as_slice(), device);
+        }
+        greatest
+    }
+
+    /// The names of which a device announces something, in byte order. Returns `Err` only if out of memory. O(n) for n records,
+    /// and the copies. It does not allocate where there are none.
+    pub fn names_of(&self, device: DeviceId) -> Result<Items<SafeName>, AllocError>
+        ensures names { IfOk result (λ names. names ≡ names_by device (entries self.now.announced)) }
+        ensures none { names_by device (entries self.now.announced) ≡ [] → IsOk result }
+    {
+        let mut names = Vec::new(self.alloc);
+        for group in self.names.values() {
+            push_names(&mut names, group.entries.as_slice(), device)?;
+        }
+        Ok(Items::from_vec(names))
+    }
+
+    /// Every record with the device that announces it, by name and then by device. The records are not copied but shared. Returns
+    /// `Err` only if out of memory. O(n) for n records. It does not allocate where there are none.
+    pub fn announcements(&self) -> Result<Items<Announcement>, AllocError>
+        ensures all { IfOk result (λ all. map filed all ≡ entries self.now.announced) }
+        ensures none { self.now.announced ≡ empty → IsOk result }
+    {
+        let mut all = Vec::new(self.alloc);
+        for group in self.names.values() {
+            push_copies(&mut all, group.entries.as_slice())?;
+        }
+        Ok(Items::from_vec(all))
     }
 
     /// How much there is. O(1).

@@ -1,9 +1,10 @@
-ghost use Rattle.std.specs.Prelude.{bytes_eq, ◌≡◌, ◌↔◌, ℕ, [], List, IfOk, IsOk, IsTrue, None, OnErr, OnOk, Some, map, option_copied, option_map, find, slice_get};
+ghost use Rattle.std.specs.Prelude.{bytes_eq, ◌≡◌, ◌≢◌, ◌↔◌, ℕ, [], List, IfOk, IsOk, IsTrue, None, OnErr, OnOk, Some, map, option_copied, option_map, find, slice_get};
 ghost use Rattle.std.specs.FinMap.{empty, entries, get};
 ghost use Rattle.std.specs.FinSet.{contains, empty as no_names};
 ghost use Rattle.folder_core.specs.Announced.{best, key};
 ghost use Rattle.folder_core.specs.Plain.{filed};
 ghost use Rattle.folder_core.specs.Reads.{IsSomePlace, best_with_devices, bests_page, counts, local_since, need_page, places};
+ghost use Rattle.folder_index.specs.Devices.{greatest_of, names_by, sequences_by, without_device};
 ghost use Rattle.folder_index.specs.Indexes.{folder, needs, with_promise, with_record, without_promise, without_record};
 ghost use Rattle.folder_index.specs.Locals.{AreEarlier, HasNoBlock, IsFree, IsIndex, IsPlaceAmong, IsSettled, with_filed};
 ghost use Rattle.folder_index.specs.Numbers.{number_of};
@@ -160,6 +161,16 @@ impl Index {
         }
     }
 
+    /// Takes away all that another device announces, name by name. Returns `Err` only if out of memory, and then nothing
+    /// changes. O(n + m log n) for n records, of which m are the device's, and copies of the names of these.
+    pub fn forget(&mut self, device: DeviceId) -> Result<(), AllocError>
+        requires { device ≢ self.old.me }
+        ensures ok { OnOk result (self.new ≡ without_device device self.old) }
+        ensures err { OnErr result (self.new ≡ self.old) }
+    {
+        self.names.forget(device)
+    }
+
     /// The record that a device announces of a name, if there is one. O(log n + k) for n names and k devices that announce
     /// the name.
     pub fn get(&self, device: DeviceId, name: &SafeName) -> Option<&Record>
@@ -220,6 +231,31 @@ impl Index {
         ensures none { need_page (folder self.now) (option_copied after.entry) limit ≡ [] → IsOk result }
     {
         self.names.need(after, limit)
+    }
+
+    /// The greatest sequence of a device's records, 0 without any. O(n) for n records.
+    pub fn greatest_sequence(&self, device: DeviceId) -> u64
+        ensures { result ≡ greatest_of (sequences_by device (entries self.now.announced)) }
+    {
+        self.names.greatest_sequence(device)
+    }
+
+    /// The names of which a device announces something, in byte order. Returns `Err` only if out of memory. O(n) for n records,
+    /// and the copies. It does not allocate where there are none.
+    pub fn names_of(&self, device: DeviceId) -> Result<Items<SafeName>, AllocError>
+        ensures names { IfOk result (λ names. names ≡ names_by device (entries self.now.announced)) }
+        ensures none { names_by device (entries self.now.announced) ≡ [] → IsOk result }
+    {
+        self.names.names_of(device)
+    }
+
+    /// Every record with the device that announces it, by name and then by device. The records are not copied but shared. Returns
+    /// `Err` only if out of memory. O(n) for n records. It does not allocate where there are none.
+    pub fn announcements(&self) -> Result<Items<Announcement>, AllocError>
+        ensures all { IfOk result (λ all. map filed all ≡ entries self.now.announced) }
+        ensures none { self.now.announced ≡ empty → IsOk result }
+    {
+        self.names.announcements()
     }
 
     /// How much there is. O(1).

@@ -82,3 +82,29 @@ fn reserves_room_for_a_record(rt: HostRuntime) {
     names.release(&name(&rt, "x"));
     assert!(rt; names.get(device(9), &name(&rt, "x")).is_some());
 }
+
+#[test]
+fn forgets_a_device(rt: HostRuntime) {
+    let mut index = index(&rt);
+    for (number, text, sequence) in [(1u8, "x", 7), (1, "y", 3), (2, "x", 5), (9, "z", 8)] {
+        let version = [(u64::from(number), 1)];
+        let row = Row {
+            sequence,
+            ..file(text, &version, 1)
+        };
+        set(&rt, &mut index, number, &row);
+    }
+    assert_eq!(rt; index.greatest_sequence(device(1)), 7);
+    let all = index.announcements().expect(&rt, "records");
+    assert_eq!(rt; all.as_slice().len(), 4);
+    let names = index.names_of(device(1)).expect(&rt, "names");
+    let wanted = [name(&rt, "x"), name(&rt, "y")];
+    assert!(rt; names.as_slice() == wanted.as_slice());
+    assert!(rt; device(1) != index.me());
+    index.forget(device(1)).expect(&rt, "a device forgotten");
+    assert_eq!(rt; index.greatest_sequence(device(1)), 0);
+    assert_eq!(rt; best_of(&rt, &index, "x"), Some(device(2)));
+    assert_eq!(rt; best_of(&rt, &index, "y"), None);
+    let left = index.announcements().expect(&rt, "records");
+    assert_eq!(rt; left.as_slice().len(), 2);
+}
