@@ -20,3 +20,4 @@ pub mod Chosen
 pub mod Promised
 pub mod Lately
 pub mod Announcing
+pub mod Spared

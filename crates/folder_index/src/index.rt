@@ -5,7 +5,7 @@ ghost use Rattle.folder_core.specs.Announced.{best, key};
 ghost use Rattle.folder_core.specs.Plain.{filed};
 ghost use Rattle.folder_core.specs.Reads.{IsSomePlace, best_with_devices, bests_page, counts, local_since, need_page, places};
 ghost use Rattle.folder_index.specs.Devices.{greatest_of, names_by, sequences_by, without_device};
-ghost use Rattle.folder_index.specs.Indexes.{folder, needs, with_promise, with_record, without_promise, without_record};
+ghost use Rattle.folder_index.specs.Indexes.{AreApart, folder, needs, with_promise, with_record, with_records, without_promise, without_record};
 ghost use Rattle.folder_index.specs.Locals.{AreEarlier, HasNoBlock, IsFree, IsIndex, IsPlaceAmong, IsSettled, with_filed};
 ghost use Rattle.folder_index.specs.Numbers.{number_of};
 
@@ -80,6 +80,19 @@ impl Index {
         } else {
             self.names.set(device, announced)
         }
+    }
+
+    /// Puts records of another device, no two of one name, each in place of what the device announced of its name, and
+    /// chooses the bests of these names anew. Returns `Err` only if out of memory, or if the other devices would have more
+    /// than 2^64 - 2 records, and then nothing changes. O(m log n + m k^2) for m records given, n names and k devices that
+    /// announce a name.
+    pub fn set_all(&mut self, device: DeviceId, records: Items<Record>) -> Result<(), AllocError>
+        requires other { device ≢ self.old.me }
+        requires apart { AreApart records }
+        ensures ok { OnOk result (self.new ≡ with_records device records self.old) }
+        ensures err { OnErr result (self.new ≡ self.old) }
+    {
+        self.names.set_all(device, records)
     }
 
     /// Whether no record of this device of another name has the sequence. O(log n) for n records of this device.
