@@ -1,6 +1,7 @@
 //! The best of a name, and whether it is needed.
 use crate::calls::{best_of, clear, index, needs, set};
 use crate::rows::{ABC, ABD, Row, device, file, name, record};
+use bep_messages::Items;
 use folder_index::ByName;
 
 #[test]
@@ -107,4 +108,18 @@ fn forgets_a_device(rt: HostRuntime) {
     assert_eq!(rt; best_of(&rt, &index, "y"), None);
     let left = index.announcements().expect(&rt, "records");
     assert_eq!(rt; left.as_slice().len(), 2);
+}
+
+#[test]
+fn puts_all_of_a_message(rt: HostRuntime) {
+    let mut index = index(&rt);
+    set(&rt, &mut index, 1, &file("x", &[(1, 1)], 1));
+    let mut records = Items::new(rt.alloc());
+    let announced = record(&rt, &file("x", &[(1, 2)], 2));
+    records.push(announced).expect(&rt, "a record");
+    assert!(rt; device(1) != index.me());
+    index.set_all(device(1), records).expect(&rt, "a message");
+    assert_eq!(rt; index.totals().others, 1);
+    assert_eq!(rt; index.choices(), 2);
+    assert_eq!(rt; best_of(&rt, &index, "x"), Some(device(1)));
 }

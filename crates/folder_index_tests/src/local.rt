@@ -61,12 +61,10 @@ fn takes_records_of_one_sequence(rt: HostRuntime) {
 fn puts_reserved_records_last(rt: HostRuntime) {
     let mut index = index(&rt);
     set(&rt, &mut index, 9, &block_file("x", 1, ABC));
-    for text in ["x", "y", "z"] {
-        reserve(&rt, &mut index, text);
-    }
+    reserve(&rt, &mut index, "x");
+    reserve(&rt, &mut index, "y");
     set_reserved(&rt, &mut index, &block_file("y", 2, ABD));
     set_reserved(&rt, &mut index, &block_file("x", 3, ABD));
-    assert!(rt; !index.is_reserved(&name(&rt, "x")));
     pages(&rt, &index, 0, 9, &[2, 3]);
     pages(&rt, &index, 2, 9, &[3]);
     pages(&rt, &index, 0, 1, &[2]);
@@ -74,6 +72,16 @@ fn puts_reserved_records_last(rt: HostRuntime) {
     assert!(rt; place(&rt, &index, 0xa5).is_some());
     assert!(rt; !index.is_free(&name(&rt, "x"), 2));
     clear(&rt, &mut index, 9, "y");
+    pages(&rt, &index, 0, 9, &[3]);
+}
+
+#[test]
+fn settles_reserved_records(rt: HostRuntime) {
+    let mut index = index(&rt);
+    reserve(&rt, &mut index, "x");
+    reserve(&rt, &mut index, "z");
+    set_reserved(&rt, &mut index, &block_file("x", 3, ABD));
+    assert!(rt; !index.is_reserved(&name(&rt, "x")));
     index.settle().expect(&rt, "a settled index");
     pages(&rt, &index, 0, 9, &[3]);
     let found = place(&rt, &index, 0xa5).expect(&rt, "a place");
