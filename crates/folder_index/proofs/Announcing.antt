@@ -14,7 +14,7 @@ use Rattle.std.proofs.lemmas.List.Sums.{fold-append}
 use Rattle.sync_record.specs.Devices.{Identity}
 use Rattle.sync_record.specs.Records.{Name, FileRecord}
 use Rattle.folder_core.specs.declared.announcement.Announcement.{Announcement as Entry}
-use Rattle.folder_core.specs.Announced.{Announced, Key, KeyedRecord, is_by, key, key_cmp, without}
+use Rattle.folder_core.specs.Announced.{Announced, Key, KeyedRecord, is_by, is_of, key, key_cmp, without}
 use Rattle.folder_core.specs.Plain.{filed}
 use Rattle.folder_core.specs.PlainReads.{is_from}
 use Rattle.folder_core.proofs.AnnouncedMaps.{remove_here, remove_other}
@@ -30,7 +30,7 @@ use Rattle.folder_index.specs.declared.local.Local.{Local}
 use Rattle.folder_index.specs.Locals.{IsIndex}
 use Rattle.folder_index.proofs.Found.{none_announced}
 use Rattle.folder_index.proofs.Indexed.{other_index_cleared}
-use Rattle.folder_index.proofs.Listed.{Groups, rises}
+use Rattle.folder_index.proofs.Listed.{Groups, at_is, entries_at, rises}
 use Rattle.folder_index.proofs.Written.{each_of}
 
 map_map : {A B C : Type 0} (f : A → B) (g : B → C) (xs : List A) → map g (map f xs) ≡ map (λ x. g (f x)) xs
@@ -60,6 +60,12 @@ module _ (me : Identity) (gs : Groups) (t : Totals) (are : AreGroups me gs t) (c
 
   pub sequences_are : (d : Identity) → sequences_from d (listed gs) ≡ sequences_by d (entries (index_of me gs choices).announced)
   sequences_are d = sym (sequences_listed d (listed gs)) ∙ ap (sequences_by d) entries_are
+
+  pub entries_named : (n : Name) → map filed (entries_at n gs) ≡ filter (is_of n) (entries (index_of me gs choices).announced)
+  entries_named n =
+      ap (map filed) (sym (at_is me gs are.ordered (each_of me gs t are) n))
+      ∙ sym (filter_map filed (is_of n) (listed gs))
+      ∙ ap (filter (is_of n)) entries_are
 
 -- of two lists of entries
 module _ (d : Identity) (xs ys : List Entry) where

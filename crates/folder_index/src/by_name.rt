@@ -1,4 +1,4 @@
-ghost use Rattle.std.specs.Prelude.{◌&&◌, ◌≢◌, bytes_eq, if◌then◌else◌, IsTrue, not, ◌≡◌, ◌+◌, ◌<◌, ◌≤◌, ◌^◌, ◌==◌, [], false, Contains, length, IfOk, IsOk, None, OnErr, OnOk, map, option_copied, option_map};
+ghost use Rattle.std.specs.Prelude.{◌&&◌, ◌≢◌, bytes_eq, if◌then◌else◌, IsTrue, not, ◌≡◌, ◌+◌, ◌<◌, ◌≤◌, ◌^◌, ◌==◌, [], false, Contains, filter, length, IfOk, IsOk, None, OnErr, OnOk, map, option_copied, option_map};
 ghost use Rattle.std.specs.BTreeMap.{get as at};
 ghost use Rattle.std.specs.FinMap.{empty, entries, get, insert, remove};
 ghost use Rattle.std.specs.FinSet as set;
@@ -7,7 +7,7 @@ ghost use Rattle.std.specs.Option.{option_map_or};
 ghost use Rattle.std.specs.Range.Bound.{bound_map};
 ghost use Rattle.sync_record.specs.Devices.{bytes_cmp};
 ghost use Rattle.sync_record.specs.Records.{FileRecord, Name};
-ghost use Rattle.folder_core.specs.Announced.{announce, best, key};
+ghost use Rattle.folder_core.specs.Announced.{announce, best, is_of, key};
 ghost use Rattle.folder_core.specs.Plain.{filed};
 ghost use Rattle.folder_core.specs.Reads.{best_with_devices, bests_page, counts, need_page};
 ghost use Rattle.folder_index.specs.Groups.{AreGroups, HasSpareAt, announced_in, promised_in, start_of};
@@ -199,6 +199,16 @@ impl ByName {
             self.clear(device, name);
         }
         Ok(())
+    }
+
+    /// The records of a name, by device, with the devices that announce them. Does not allocate. O(log n) for n names.
+    pub fn announcements_of(&self, name: &SafeName) -> &[Announcement]
+        ensures { map filed result.now ≡ filter (is_of name.now) (entries self.now.announced) }
+    {
+        match self.names.get(name) {
+            Some(group) => group.entries.as_slice(),
+            None => &[],
+        }
     }
 
     /// The best of a name, and the device that announces it; `None` where no valid record of the name is announced. O(log n)

@@ -1,7 +1,7 @@
-ghost use Rattle.std.specs.Prelude.{bytes_eq, ◌≡◌, ◌≢◌, ◌↔◌, ℕ, [], List, IfOk, IsOk, IsTrue, None, OnErr, OnOk, Some, map, option_copied, option_map, find, slice_get};
+ghost use Rattle.std.specs.Prelude.{bytes_eq, ◌≡◌, ◌≢◌, ◌↔◌, ℕ, [], List, IfOk, IsOk, IsTrue, None, OnErr, OnOk, Some, filter, map, option_copied, option_map, find, slice_get};
 ghost use Rattle.std.specs.FinMap.{empty, entries, get};
 ghost use Rattle.std.specs.FinSet.{contains, empty as no_names};
-ghost use Rattle.folder_core.specs.Announced.{best, key};
+ghost use Rattle.folder_core.specs.Announced.{best, is_of, key};
 ghost use Rattle.folder_core.specs.Plain.{filed};
 ghost use Rattle.folder_core.specs.Reads.{IsSomePlace, best_with_devices, bests_page, counts, local_since, need_page, places};
 ghost use Rattle.folder_index.specs.Devices.{greatest_of, names_by, sequences_by, without_device};
@@ -190,6 +190,13 @@ impl Index {
         ensures { option_copied result ≡ get self.now.announced (key name.now device) }
     {
         self.names.get(device, name)
+    }
+
+    /// The records of a name, by device, with the devices that announce them. Does not allocate. O(log n) for n names.
+    pub fn announcements_of(&self, name: &SafeName) -> &[Announcement]
+        ensures { map filed result.now ≡ filter (is_of name.now) (entries self.now.announced) }
+    {
+        self.names.announcements_of(name)
     }
 
     /// The best of a name, and the device that announces it; `None` where no valid record of the name is announced. O(log n)

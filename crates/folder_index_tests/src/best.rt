@@ -101,11 +101,13 @@ fn forgets_a_device(rt: HostRuntime) {
     let names = index.names_of(device(1)).expect(&rt, "names");
     let wanted = [name(&rt, "x"), name(&rt, "y")];
     assert!(rt; names.as_slice() == wanted.as_slice());
-    assert!(rt; device(1) != index.me());
-    index.forget(device(1)).expect(&rt, "a device forgotten");
+    let peer = device(1);
+    assert!(rt; peer != index.me());
+    index.forget(peer).expect(&rt, "a device forgotten");
     assert_eq!(rt; index.greatest_sequence(device(1)), 0);
     assert_eq!(rt; best_of(&rt, &index, "x"), Some(device(2)));
     assert_eq!(rt; best_of(&rt, &index, "y"), None);
+    assert_eq!(rt; index.announcements_of(&name(&rt, "x")).len(), 1);
     let left = index.announcements().expect(&rt, "records");
     assert_eq!(rt; left.as_slice().len(), 2);
 }
@@ -117,8 +119,9 @@ fn puts_all_of_a_message(rt: HostRuntime) {
     let mut records = Items::new(rt.alloc());
     let announced = record(&rt, &file("x", &[(1, 2)], 2));
     records.push(announced).expect(&rt, "a record");
-    assert!(rt; device(1) != index.me());
-    index.set_all(device(1), records).expect(&rt, "a message");
+    let peer = device(1);
+    assert!(rt; peer != index.me());
+    index.set_all(peer, records).expect(&rt, "a message");
     assert_eq!(rt; index.totals().others, 1);
     assert_eq!(rt; index.choices(), 2);
     assert_eq!(rt; best_of(&rt, &index, "x"), Some(device(1)));
