@@ -18,3 +18,6 @@ pub mod Placed
 pub mod Indexed
 pub mod Chosen
 pub mod Promised
+pub mod Lately
+pub mod Announcing
+pub mod Spared

@@ -1,19 +1,21 @@
 -- Where a block is found is one of the folder's places.
-use Rattle.std.proofs.Common.{◌≡◌, ℕ, ◌/◌, ◌<◌, ◌^◌, Bool, true, false, [], refl, sym, ap, subst, ◌∙◌}
-use Rattle.std.specs.Prelude.{cond, Option, Some, None, Contains, option_map, slice_get}
+use Rattle.std.proofs.Common.{◌≡◌, ◌≢◌, ◌∷◌, ◌++◌, List, ℕ, ◌/◌, ◌<◌, ◌^◌, Bool, true, false, [], refl, sym, ap, subst, ◌∙◌, ◌⊎◌, inl, inr}
+use Rattle.std.specs.Prelude.{bytes_eq, cond, find, Option, Some, None, Contains, option_map, slice_get}
 use Rattle.std.specs.FinMap.{get}
+use Rattle.std.proofs.lemmas.Bool.{true≢false}
 use Rattle.std.proofs.lemmas.Option.{none-some}
 use Rattle.sync_blocks.specs.declared.block.Block.{Block}
 use Rattle.sync_record.specs.Records.{FileRecord, is_live_file}
 use Rattle.folder_core.specs.declared.place.Place.{Place}
 use Rattle.folder_core.specs.Codes.{Bytes}
 use Rattle.folder_core.specs.Reads.{IsSomePlace, places as places_of}
-use Rattle.folder_core.proofs.ListTests.{In, contains_in, in_contains, inside}
-use Rattle.folder_core.proofs.ReadAnswers.{no_place-read, place-read}
+use Rattle.folder_core.proofs.ListTests.{In, alike_bytes, contains_in, found_in, in_contains, inside, same_bytes}
+use Rattle.folder_core.proofs.ReadAnswers.{IsPlaceOf, no_place-read, place-read}
 use Rattle.folder_index.specs.declared.local.Local.{Local}
 use Rattle.folder_index.specs.Indexes.{IndexState, folder}
-use Rattle.folder_index.specs.Locals.{IsIndex, blocks_at, live_blocks}
+use Rattle.folder_index.specs.Locals.{HasNoBlock, IsBlockPlace, IsIndex, IsPlaceAmong, all_local, blocks_at, live_blocks, placed}
 use Rattle.folder_index.specs.Numbers.{number_of}
+use Rattle.folder_index.proofs.Lately.{get_below, get_latest, latest_of}
 use Rattle.folder_index.proofs.Filed.{item_in, none_at, some_at}
 use Rattle.folder_index.proofs.Numbered.{number_fits, sequence_told}
 
@@ -25,7 +27,55 @@ live_block r i b e = by (is_live_file r) refl e
     by true t f = (t, f)
     by false t f = absurd (none-some b f)
 
+-- a block of a live file, among all of its blocks
+among_blocks : (r : FileRecord) (b : Block) → In b (live_blocks r) → (is_live_file r ≡ true) × In b r.blocks
+among_blocks r b i = by (is_live_file r) refl i
+  where
+    by : (t : Bool) → is_live_file r ≡ t → In b (cond t r.blocks []) → (is_live_file r ≡ true) × In b r.blocks
+    by true t j = (t, j)
+    by false t j = absurd j
+
+-- a block that is found in a live file among records, and none that is found
+module _ (rs : List FileRecord) (hash : Bytes) (r : FileRecord) where
+  abbrev is_wanted : Block → Bool
+  is_wanted b = bytes_eq b.hash hash
+
+  pub block_found : (b : Block) → Contains rs r → Some b ≡ find is_wanted (live_blocks r) → IsBlockPlace rs hash (placed r b)
+  block_found b among found =
+      let f = found_in is_wanted (live_blocks r) b (sym found) in
+      record { it = r; block = b; among = among; has = in_contains (live_blocks r) b f.0; digest = same_bytes b.hash hash f.1; place = refl }
+
+  not_found : (bs : List Block) → None ≡ find is_wanted bs → (b : Block) → In b bs → b.hash ≢ hash
+  not_found [] none b i = absurd i
+  not_found (x ∷ bs) none b i = by (is_wanted x) refl none i (not_found bs)
+    where
+      by : (t : Bool) → is_wanted x ≡ t → None ≡ cond t (Some x) (find is_wanted bs) → (b ≡ x) ⊎ In b bs → (None ≡ find is_wanted bs → (b : Block) → In b bs → b.hash ≢ hash) → b.hash ≢ hash
+      by true t e j rest = absurd (none-some x e)
+      by false t e (inl s) rest = λ same. true≢false (sym (alike_bytes x.hash hash (ap (λ (y : Block). y.hash) (sym s) ∙ same)) ∙ t)
+      by false t e (inr j) rest = rest e b j
+
+  either : (xs : List FileRecord) (x : FileRecord) → In x (xs ++ r ∷ []) → In x xs ⊎ (x ≡ r)
+  either [] x (inl s) = inr s
+  either [] x (inr i) = absurd i
+  either (y ∷ ys) x (inl s) = inl (inl s)
+  either (y ∷ ys) x (inr i) = by (either ys x i)
+    where
+      by : In x ys ⊎ (x ≡ r) → In x (y ∷ ys) ⊎ (x ≡ r)
+      by (inl j) = inl (inr j)
+      by (inr s) = inr s
+
+  pub none_more : HasNoBlock rs hash → None ≡ find is_wanted (live_blocks r) → HasNoBlock (rs ++ r ∷ []) hash
+  none_more none absent p b = by (either rs b.it (contains_in (rs ++ r ∷ []) b.it b.among))
+    where
+      by : In b.it rs ⊎ (b.it ≡ r) → ⊥
+      by (inl i) = none p (record { it = b.it; block = b.block; among = in_contains rs b.it i; has = b.has; digest = b.digest; place = b.place })
+      by (inr s) = not_found (live_blocks r) absent b.block (contains_in (live_blocks r) b.block (subst (λ x. Contains (live_blocks x) b.block) s b.has)) b.digest
+
 module _ (s : IndexState) (l : Local) (is : IsIndex s l) (hash : Bytes) where
+  -- a filed record is one of all
+  filed_all : (q : ℕ) (r : FileRecord) → get l.records q ≡ Some r → get (all_local l) q ≡ Some r
+  filed_all q r e = get_below l.latest.records l.records q (is.kept.latest.above q r e) ∙ e
+
   -- what is found under a digest, of a sequence
   pub record Found (q i : ℕ) : Type 0 where
     pub it : FileRecord
@@ -44,25 +94,49 @@ module _ (s : IndexState) (l : Local) (is : IsIndex s l) (hash : Bytes) where
         filed = e;
         at = live.1;
         place = (place-read (folder s) hash (record { name = r.name; offset = b.offset; size = b.size })).1
-            (r.name, r, b, (is.locals.only q r e).2, live.0, in_contains r.blocks b (item_in r.blocks i b live.1), same, refl);
+            (r.name, r, b, (is.locals.only q r (filed_all q r e)).2, live.0, in_contains r.blocks b (item_in r.blocks i b live.1), same, refl);
       }
 
   pub found_at : (o i : ℕ) → get l.places (hash, o) ≡ Some i → Found (o / 2) i
   found_at o i e =
-      let f = is.filed.only hash o i e in
+      let f = is.kept.filed.only hash o i e in
       subst (λ p. Found p i) (sym (ap (λ n. n / 2) f.2 ∙ sequence_told l.numbers f.0)) (found_by f.0 i f.1 f.3 f.4 (get l.records f.0) refl)
 
-  pub nowhere : ((o : ℕ) → o < 2 ^ 64 → get l.places (hash, o) ≡ None) → IsSomePlace (folder s) hash None
-  nowhere none = (no_place-read (folder s) hash).1 (λ p there.
-      let r = there.1 in
-      let filed = is.locals.has there.0 r there.3 in
-      let low = (is.locals.only r.sequence r filed).1 in
-      let blocks : live_blocks r ≡ r.blocks = ap (λ t. cond t r.blocks []) there.4 in
-      let block = is.filed.has r.sequence there.2 (subst (λ bs. Contains bs there.2) (sym (some_at l.records r.sequence r filed ∙ blocks)) there.5) in
-      none-some block.0 (sym (ap (λ h. get l.places (h, number_of l.numbers r.sequence)) there.6 ∙ none (number_of l.numbers r.sequence) (number_fits l.numbers r.sequence low)) ∙ block.1))
+  pub nowhere : ((o : ℕ) → o < 2 ^ 64 → get l.places (hash, o) ≡ None) → HasNoBlock l.latest.records hash → IsSomePlace (folder s) hash None
+  nowhere none not_last = (no_place-read (folder s) hash).1 (λ p there. by p there (latest_of l.latest.records l.records there.1.sequence there.1 (is.locals.has there.0 there.1 there.3)))
+    where
+      by : (p : Place) (there : IsPlaceOf (folder s) hash p) → (get l.records there.1.sequence ≡ Some there.1) ⊎ In there.1 l.latest.records → ⊥
+      by p there (inl filed) =
+          let r = there.1 in
+          let low = (is.locals.only r.sequence r (filed_all r.sequence r filed)).1 in
+          let blocks : live_blocks r ≡ r.blocks = ap (λ t. cond t r.blocks []) there.4 in
+          let block = is.kept.filed.has r.sequence there.2 (subst (λ bs. Contains bs there.2) (sym (some_at l.records r.sequence r filed ∙ blocks)) there.5) in
+          none-some block.0 (sym (ap (λ h. get l.places (h, number_of l.numbers r.sequence)) there.6 ∙ none (number_of l.numbers r.sequence) (number_fits l.numbers r.sequence low)) ∙ block.1)
+      by p there (inr i) =
+          let r = there.1 in
+          let blocks : live_blocks r ≡ r.blocks = ap (λ t. cond t r.blocks []) there.4 in
+          not_last p (record {
+            it = r;
+            block = there.2;
+            among = in_contains l.latest.records r i;
+            has = subst (λ bs. Contains bs there.2) (sym blocks) there.5;
+            digest = there.6;
+            place = there.7;
+          })
 
-  abbrev pub placed : FileRecord → Block → Place
-  placed r b = record { name = r.name; offset = b.offset; size = b.size }
+  -- a block of a record that was put last
+  pub last_place : (p : Place) → IsBlockPlace l.latest.records hash p → IsSomePlace (folder s) hash (Some p)
+  last_place p b =
+      let own = is.locals.only b.it.sequence b.it (get_latest l.latest.records is.kept.latest.rises l.records b.it (contains_in l.latest.records b.it b.among)) in
+      let live = among_blocks b.it b.block (contains_in (live_blocks b.it) b.block b.has) in
+      (place-read (folder s) hash p).1 (b.it.name, b.it, b.block, own.2, live.0, in_contains b.it.blocks b.block live.1, b.digest, b.place)
+
+  pub place_told : ((o : ℕ) → o < 2 ^ 64 → get l.places (hash, o) ≡ None) → (found : Option Place) → IsPlaceAmong l.latest.records hash found → IsSomePlace (folder s) hash found
+  place_told none None among = nowhere none among
+  place_told none (Some p) among = last_place p among
+
+  pub none_last : places_of (folder s) hash ≡ [] → HasNoBlock l.latest.records hash
+  none_last none p b = subst (In p) none (contains_in (places_of (folder s) hash) p (last_place p b))
 
   -- the place that is made of what is found
   pub is_found : (q i : ℕ) (f : Found q i) (r : FileRecord) → Some r ≡ get l.records q → option_map (placed r) (slice_get r.blocks i) ≡ Some (placed f.it f.block)

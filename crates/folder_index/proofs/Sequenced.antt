@@ -13,6 +13,7 @@ use Rattle.std.specs.declared.ops.Bound.TheVariants.{Excluded, Unbounded}
 use Rattle.std.specs.BTreeMap.Range.{entries_between}
 use Rattle.std.specs.FinMap.{IsAntisymmetric, empty, empty_of_len, entries-from_sorted, from_sorted, len-entries, nat_cmp-IsAntisymmetric, values, get, get-from_sorted, get-insert, get-remove, insert, is_sorted, find, remove, same_map}
 use Rattle.std.specs.FinMap.Entries.{below_all}
+use Rattle.std.proofs.lemmas.Bool.{ltb-false, true≢false}
 use Rattle.std.proofs.lemmas.Map.Keys.{sorted_head, sorted_tail}
 use Rattle.std.proofs.lemmas.Option.{none-some}
 use Rattle.std.proofs.lemmas.List.{length-append}
@@ -140,3 +141,16 @@ total_is limit front r sum blocks fits short counted added = by front counted (f
     by front counted (inl few) all = omega arith
     by [] counted (inr one) all = (let zero : sum ≡ 0 = counted in omega arith)
     by (x ∷ front) counted (inr one) all = absurd (let l = length-append (x ∷ front) (r ∷ []) in omega arith)
+
+-- what the order of two numbers says
+pub not_above : (a b : ℕ) → is_lt (nat_cmp a b) ≡ false → b ≤ a
+not_above a b =
+    elim (nat_lt a b) as (λ t. nat_lt a b ≡ t → is_lt (cond t Less (cond (a == b) Equal Greater)) ≡ false → b ≤ a) [
+      | true ↦ λ t f. absurd (true≢false f)
+      | false ↦ λ t f. ltb-false a b t
+    ] refl
+
+-- of no entries there is no value
+pub none_in : (es : Sequences) (q : ℕ) (r : FileRecord) → lookup (is_at (nat_cmp q)) es ≡ Some r → 0 < length es
+none_in [] q r e = absurd (none-some r e)
+none_in (e ∷ es) q r f = omega arith

@@ -1,21 +1,23 @@
 -- A page of the local records, out of those by sequence.
-use Rattle.std.proofs.Common.{◌≡◌, ℕ, Bool, true, false, List, [], ◌∷◌, refl, sym, ap, ◌∙◌, ◌⊎◌, inl, inr}
+use Rattle.std.proofs.Common.{◌≡◌, ℕ, suc, ◌+◌, ◌<◌, ◌≤◌, ◌++◌, length, get_or, drop, drop-cons, arith, Bool, true, false, List, [], ◌∷◌, refl, sym, ap, ◌∙◌, ◌⊎◌, inl, inr}
 use Rattle.std.specs.Prelude.{cond, filter, fold, map, nat_lt, Option, Some, None}
 use Rattle.std.specs.Cmp.{nat_cmp_total}
 use Rattle.std.specs.FinMap.{IsAntisymmetric, empty, entries, entries-from_sorted, entries-insert, get, get-empty, get-retain_keys, insert, nat_cmp-IsAntisymmetric, put, retain_keys, same_map, values}
 use Rattle.std.specs.Ordering.{nat_cmp}
-use Rattle.std.proofs.lemmas.Bool.{cases_eq}
+use Rattle.std.proofs.lemmas.Bool.{cases_eq, le-ltb, lt-ltb}
+use Rattle.std.proofs.lemmas.List.{length-append}
 use Rattle.std.proofs.lemmas.Option.{none-some}
 use Rattle.sync_record.specs.Records.{FileRecord}
-use Rattle.folder_core.specs.Reads.{by_sequence, local_since, locals, page_of}
+use Rattle.folder_core.specs.Reads.{by_sequence, fits_page, local_since, locals, page_of}
 use Rattle.folder_core.proofs.AnnouncedMaps.{insert_here, insert_other, insert_split}
 use Rattle.folder_core.proofs.ListFilters.{filter_in, filter_map}
 use Rattle.folder_core.proofs.ListTests.{In, in_filter, in_get, of_filter}
 use Rattle.folder_core.proofs.Orders.{entries-retain_keys}
 use Rattle.folder_core.proofs.ReadAnswers.{listed-own, own-listed}
+use Rattle.folder_core.proofs.ReadPages.{fits-is}
 use Rattle.folder_index.specs.Indexes.{IndexState, folder}
 use Rattle.folder_index.specs.Locals.{AreLocals}
-use Rattle.folder_index.specs.Sequences.{Sequenced}
+use Rattle.folder_index.specs.Sequences.{Sequenced, later_than}
 use Rattle.folder_index.proofs.Locals.{one_each}
 use Rattle.folder_index.proofs.Sequenced.{none_sequenced, record_of}
 
@@ -121,3 +123,21 @@ module _ (s : IndexState) (records : Sequenced) (are : AreLocals s.me s.announce
 
   pub page_is : (limit : ℕ) → page_of limit (filter (λ r. nat_lt sequence r.sequence) (values records)) ≡ local_since (folder s) sequence limit
   page_is limit = ap (page_of limit) later_is
+
+-- ---- a page, record by record
+
+pub some_limit : (limit : ℕ) (front : List FileRecord) (r : FileRecord) → fits_page limit (front ++ r ∷ []) ≡ true → 1 ≤ limit
+some_limit limit front r fits = (let f = (fits-is limit (front ++ r ∷ []) fits).0 in let l = length-append front (r ∷ []) in omega arith)
+
+module _ (q : ℕ) (r : FileRecord) (rs : List FileRecord) where
+  pub later_next : q < r.sequence → later_than q (r ∷ rs) ≡ r ∷ later_than q rs
+  later_next less = ap (λ t. cond t (r ∷ later_than q rs) (later_than q rs)) (lt-ltb q r.sequence less)
+
+  pub later_skips : r.sequence ≤ q → later_than q (r ∷ rs) ≡ later_than q rs
+  later_skips le = ap (λ t. cond t (r ∷ later_than q rs) (later_than q rs)) (le-ltb q r.sequence le)
+
+pub next_of : (rs : List FileRecord) (i : ℕ) (r : FileRecord) → i < length rs → r ≡ get_or rs i r → drop i rs ≡ r ∷ drop (i + 1) rs
+next_of rs i r short here = drop-cons rs i r short ∙ (λ j. sym here j ∷ drop (suc-is j) rs)
+  where
+    suc-is : suc i ≡ i + 1
+    suc-is = omega arith

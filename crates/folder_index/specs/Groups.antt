@@ -128,3 +128,11 @@ pub record IsChanged (t was is u : Totals) : Type 0 where
   pub deletions : u.deletions + was.deletions ≡ t.deletions + is.deletions
   pub needed : u.needed + was.needed ≡ t.needed + is.needed
   pub others : u.others + was.others ≡ t.others + is.others
+
+-- There is room for one entry more, beside the one that is promised.
+abbrev pub HasSpare : Group → Type 0
+HasSpare g = vec_len g.entries + (if g.is_promised then 2 else 1) ≤ vec_capacity g.entries
+
+-- the name has a group, where there is
+abbrev pub HasSpareAt : Name → List (Name × Group) → Type 0
+HasSpareAt n gs = (g : Group) × (lookup (is_at (bytes_cmp n)) gs ≡ Some g) × HasSpare g

@@ -1,5 +1,5 @@
 -- What an index has, and what its changes make of it.
-use Rattle.std.specs.Prelude.{bytes_eq, ℕ, ◌+◌, ◌-◌, ◌^◌, Bool, false, if◌then◌else◌, min, refl}
+use Rattle.std.specs.Prelude.{bytes_eq, ◌≢◌, ℕ, ◌+◌, ◌-◌, ◌^◌, Bool, false, List, [], ◌∷◌, length, if◌then◌else◌, min, refl}
 use Rattle.std.specs.Option.{option_map_or}
 use Rattle.std.specs.FinMap.{empty, entries, contains_key, insert, remove}
 use Rattle.std.specs.FinMap as map
@@ -7,7 +7,7 @@ use Rattle.std.specs.FinSet as set
 use Rattle.std.specs.Coded.{Coded, code_by, coded_ℕ, coded×}
 use Rattle.sync_record.specs.Devices.{Identity, bytes_cmp}
 use Rattle.sync_record.specs.Records.{Name, FileRecord}
-use Rattle.folder_core.specs.Announced.{Announced, best, key}
+use Rattle.folder_core.specs.Announced.{Announced, announce, best, key}
 use Rattle.folder_core.specs.Codes.{Bytes, coded_bytes, coded_key, coded_record}
 use Rattle.folder_core.specs.States.{FolderState, is_needed}
 
@@ -60,3 +60,22 @@ abbrev pub coded_index : Coded IndexState
 coded_index = code_by (Bytes × (Announced × (ℕ × Names)))
     (coded× coded_bytes (coded× (map.code coded_key coded_record) (coded× coded_ℕ (set.code coded_bytes))))
     (λ s. (s.me, (s.announced, (s.choices, s.promised)))) (λ p. record { me = p.0; announced = p.1.0; choices = p.1.1.0; promised = p.1.1.1 }) (λ _. refl)
+
+-- none of the records is of the name
+abbrev pub AreUnlike : Name → List FileRecord → Type 0
+AreUnlike n [] = Unit {0}
+AreUnlike n (r ∷ rs) = (r.name ≢ n) × AreUnlike n rs
+
+-- no two of the records are of one name
+abbrev pub AreApart : List FileRecord → Type 0
+AreApart [] = Unit {0}
+AreApart (r ∷ rs) = AreUnlike r.name rs × AreApart rs
+
+-- another device announces the records, each in place of what it announced of its name
+abbrev pub with_records : Identity → List FileRecord → IndexState → IndexState
+with_records d rs s = record {
+  me = s.me;
+  announced = announce d rs s.announced;
+  choices = min (s.choices + length rs) (2 ^ 64 - 1);
+  promised = s.promised;
+}

@@ -5,4 +5,6 @@ pub mod Groups
 pub mod Sequences
 pub mod Digests
 pub mod Numbers
+pub mod Latest
+pub mod Devices
 pub mod Locals

@@ -1,4 +1,4 @@
-ghost use Rattle.std.specs.Prelude.{◌&&◌, ◌≢◌, bytes_eq, if◌then◌else◌, IsTrue, not, ◌≡◌, ◌+◌, ◌<◌, ◌^◌, ◌==◌, [], false, length, IfOk, IsOk, None, OnErr, OnOk, map, option_copied, option_map};
+ghost use Rattle.std.specs.Prelude.{◌&&◌, ◌≢◌, bytes_eq, if◌then◌else◌, IsTrue, not, ◌≡◌, ◌+◌, ◌<◌, ◌≤◌, ◌^◌, ◌==◌, [], false, Contains, filter, length, IfOk, IsOk, None, OnErr, OnOk, map, option_copied, option_map};
 ghost use Rattle.std.specs.BTreeMap.{get as at};
 ghost use Rattle.std.specs.FinMap.{empty, entries, get, insert, remove};
 ghost use Rattle.std.specs.FinSet as set;
@@ -6,13 +6,15 @@ ghost use Rattle.std.specs.FinSet.{contains, empty as no_names};
 ghost use Rattle.std.specs.Option.{option_map_or};
 ghost use Rattle.std.specs.Range.Bound.{bound_map};
 ghost use Rattle.sync_record.specs.Devices.{bytes_cmp};
-ghost use Rattle.folder_core.specs.Announced.{best, key};
+ghost use Rattle.sync_record.specs.Records.{FileRecord, Name};
+ghost use Rattle.folder_core.specs.Announced.{announce, best, is_of, key};
 ghost use Rattle.folder_core.specs.Plain.{filed};
 ghost use Rattle.folder_core.specs.Reads.{best_with_devices, bests_page, counts, need_page};
-ghost use Rattle.folder_index.specs.Groups.{AreGroups, announced_in, promised_in, start_of};
-ghost use Rattle.folder_index.specs.Indexes.{folder, needs, with_promise, with_record, without_promise, without_record};
+ghost use Rattle.folder_index.specs.Groups.{AreGroups, HasSpareAt, announced_in, promised_in, start_of};
+ghost use Rattle.folder_index.specs.Devices.{greatest_of, names_by, sequences_by, without_device};
+ghost use Rattle.folder_index.specs.Indexes.{AreApart, folder, needs, with_promise, with_record, with_records, without_promise, without_record};
 
-use crate::entries::record_from;
+use crate::entries::{greatest_from, push_copies, push_names, record_from};
 use crate::group::Group;
 use crate::{Best, Totals};
 use bep_messages::Items;
@@ -114,6 +116,40 @@ impl ByName {
         Ok(())
     }
 
+    /// Puts records of another device, no two of one name, each in place of what the device announced of its name, and
+    /// chooses the bests of these names anew. Returns `Err` only if out of memory, or if the other devices would have more
+    /// than 2^64 - 2 records, and then nothing changes. O(m log n + m k^2) for m records given, n names and k devices that
+    /// announce a name.
+    pub fn set_all(&mut self, device: DeviceId, records: Items<Record>) -> Result<(), AllocError>
+        requires other { device ≢ self.old.me }
+        requires apart { AreApart records }
+        ensures ok { OnOk result (self.new ≡ with_records device records self.old) }
+        ensures err { OnErr result (self.new ≡ self.old) }
+    {
+        let records = records.into_vec();
+        let count = records.len() as u64;
+        if count > MAX_OTHERS - self.totals.others {
+            return Err(AllocError);
+        }
+        spare_all(
+            &mut self.names,
+            self.totals,
+            self.alloc,
+            self.me,
+            records.as_slice(),
+        )?;
+        self.totals = put_all(
+            &mut self.names,
+            self.totals,
+            self.alloc,
+            self.me,
+            device,
+            records,
+        );
+        self.choices = self.choices.saturating_add(count);
+        Ok(())
+    }
+
     /// Makes room for a record of this device: the next `set` of one of this name takes it, and doesn't fail. Returns `Err` only
     /// if out of memory, and then nothing changes. O(log n) for n names.
     pub fn reserve(&mut self, name: &SafeName) -> Result<(), AllocError>
@@ -121,6 +157,16 @@ impl ByName {
         ensures err { OnErr result (self.new ≡ self.old) }
     {
         promise_in(&mut self.names, self.totals, self.alloc, self.me, name)
+    }
+
+    /// Whether there is room that was made for a record of this device. O(log n) for n names.
+    pub fn is_promised(&self, name: &SafeName) -> bool
+        ensures { result ≡ contains self.now.promised name.now }
+    {
+        match self.names.get(name) {
+            Some(group) => group.is_promised,
+            None => false,
+        }
     }
 
     /// Gives up the room that was made for a record of this device, if there is any. Does not allocate. O(log n) for n names.
@@ -140,6 +186,29 @@ impl ByName {
         }
         self.totals = clear_in(&mut self.names, self.totals, self.me, device, name);
         self.choices = self.choices.saturating_add(1);
+    }
+
+    /// Takes away all that a device announces, name by name. Returns `Err` only if out of memory, and then nothing changes.
+    /// O(n + m log n) for n records, of which m are the device's, and copies of the names of these.
+    pub fn forget(&mut self, device: DeviceId) -> Result<(), AllocError>
+        ensures ok { OnOk result (self.new ≡ without_device device self.old) }
+        ensures err { OnErr result (self.new ≡ self.old) }
+    {
+        let names = self.names_of(device)?;
+        for name in names.as_slice() {
+            self.clear(device, name);
+        }
+        Ok(())
+    }
+
+    /// The records of a name, by device, with the devices that announce them. Does not allocate. O(log n) for n names.
+    pub fn announcements_of(&self, name: &SafeName) -> &[Announcement]
+        ensures { map filed result.now ≡ filter (is_of name.now) (entries self.now.announced) }
+    {
+        match self.names.get(name) {
+            Some(group) => group.entries.as_slice(),
+            None => &[],
+        }
     }
 
     /// The best of a name, and the device that announces it; `None` where no valid record of the name is announced. O(log n)
@@ -223,6 +292,43 @@ impl ByName {
         Ok(Items::from_vec(page))
     }
 
+    /// The greatest sequence of a device's records, 0 without any. O(n) for n records.
+    pub fn greatest_sequence(&self, device: DeviceId) -> u64
+        ensures { result ≡ greatest_of (sequences_by device (entries self.now.announced)) }
+    {
+        let mut greatest = 0;
+        for group in self.names.values() {
+            greatest = greatest_from(greatest, group.entries.as_slice(), device);
+        }
+        greatest
+    }
+
+    /// The names of which a device announces something, in byte order. Returns `Err` only if out of memory. O(n) for n records,
+    /// and the copies. It does not allocate where there are none.
+    pub fn names_of(&self, device: DeviceId) -> Result<Items<SafeName>, AllocError>
+        ensures names { IfOk result (λ names. names ≡ names_by device (entries self.now.announced)) }
+        ensures none { names_by device (entries self.now.announced) ≡ [] → IsOk result }
+    {
+        let mut names = Vec::new(self.alloc);
+        for group in self.names.values() {
+            push_names(&mut names, group.entries.as_slice(), device)?;
+        }
+        Ok(Items::from_vec(names))
+    }
+
+    /// Every record with the device that announces it, by name and then by device. The records are not copied but shared. Returns
+    /// `Err` only if out of memory. O(n) for n records. It does not allocate where there are none.
+    pub fn announcements(&self) -> Result<Items<Announcement>, AllocError>
+        ensures all { IfOk result (λ all. map filed all ≡ entries self.now.announced) }
+        ensures none { self.now.announced ≡ empty → IsOk result }
+    {
+        let mut all = Vec::new(self.alloc);
+        for group in self.names.values() {
+            push_copies(&mut all, group.entries.as_slice())?;
+        }
+        Ok(Items::from_vec(all))
+    }
+
     /// How much there is. O(1).
     pub fn totals(&self) -> Totals
         ensures files { result.files ≡ (counts (folder self.now)).files }
@@ -259,6 +365,10 @@ fn set_in(
         IsOk result }
     ensures groups_stay { OnErr result (AreGroups me names.new.entries totals) }
     ensures kept { OnErr result (announced_in names.new.entries ≡ announced_in names.old.entries) }
+    ensures roomy { HasSpareAt announced.name names.old.entries → IsOk result }
+    ensures spares { (n : Name) → n ≢ announced.name → HasSpareAt n names.old.entries →
+        HasSpareAt n names.new.entries }
+    ensures one_more { IfOk result (λ u. u.others ≤ totals.others + 1) }
 {
     prove!(names.len() < 1 << 63);
     match names.get_mut(announced.name()) {
@@ -284,6 +394,8 @@ fn add(
         ≡ insert (announced_in names.old.entries) (key announced.name device) announced) }
     ensures promised { promised_in names.new.entries ≡ promised_in names.old.entries }
     ensures err { OnErr result (names.new.entries ≡ names.old.entries) }
+    ensures spares { (n : Name) → HasSpareAt n names.old.entries → HasSpareAt n names.new.entries }
+    ensures one_more { IfOk result (λ u. u.others ≤ totals.others + 1) }
 {
     prove!(names.len() < 1 << 63);
     let name = announced.name().copy()?;
@@ -291,6 +403,128 @@ fn add(
     let totals = group.set_counted(totals, me, device, announced)?;
     names.insert(name, group)?;
     Ok(totals)
+}
+
+/// Makes room for a record of each of these names. What is announced and what is promised stays. Returns `Err` only if out of
+/// memory. O(m log n) for m records given and n names.
+fn spare_all(
+    names: &mut BTreeMap<SafeName, Group>,
+    totals: Totals,
+    alloc: Global,
+    me: DeviceId,
+    records: &[Record],
+) -> Result<(), AllocError>
+    requires { AreGroups me names.old.entries totals }
+    ensures groups { AreGroups me names.new.entries totals }
+    ensures kept { announced_in names.new.entries ≡ announced_in names.old.entries }
+    ensures promises_stay { promised_in names.new.entries ≡ promised_in names.old.entries }
+    ensures spares { OnOk result ((r : FileRecord) → Contains records.now r →
+        HasSpareAt r.name names.new.entries) }
+{
+    for announced in records {
+        spare_in(names, totals, alloc, me, announced.name())?;
+    }
+    Ok(())
+}
+
+/// Puts records of another device, no two of one name, where there is room for each, and returns the new totals. Does not
+/// allocate. O(m log n + m k^2) for m records given, n names and k devices that announce a name.
+fn put_all(
+    names: &mut BTreeMap<SafeName, Group>,
+    totals: Totals,
+    alloc: Global,
+    me: DeviceId,
+    device: DeviceId,
+    records: Vec<Record>,
+) -> Totals
+    requires groups { AreGroups me names.old.entries totals }
+    requires other { device ≢ me }
+    requires fits { totals.others + length records.items + 1 < 2 ^ 64 }
+    requires apart { AreApart records.items }
+    requires spares { (r : FileRecord) → Contains records.items r →
+        HasSpareAt r.name names.old.entries }
+    ensures groups { AreGroups me names.new.entries result }
+    ensures placed { announced_in names.new.entries
+        ≡ announce device records.items (announced_in names.old.entries) }
+    ensures promised { promised_in names.new.entries ≡ promised_in names.old.entries }
+{
+    let mut totals = totals;
+    for announced in records {
+        totals = put_spared(names, totals, alloc, me, device, announced);
+    }
+    totals
+}
+
+/// Puts a record of another device, where there is room for it, and returns the new totals. Does not allocate.
+fn put_spared(
+    names: &mut BTreeMap<SafeName, Group>,
+    totals: Totals,
+    alloc: Global,
+    me: DeviceId,
+    device: DeviceId,
+    announced: Record,
+) -> Totals
+    requires groups { AreGroups me names.old.entries totals }
+    requires other { device ≢ me }
+    requires fits { totals.others + 2 < 2 ^ 64 }
+    requires spare { HasSpareAt announced.name names.old.entries }
+    ensures groups { AreGroups me names.new.entries result }
+    ensures placed { announced_in names.new.entries
+        ≡ insert (announced_in names.old.entries) (key announced.name device) announced }
+    ensures promised { promised_in names.new.entries ≡ promised_in names.old.entries }
+    ensures spares { (n : Name) → n ≢ announced.name → HasSpareAt n names.old.entries →
+        HasSpareAt n names.new.entries }
+    ensures one_more { result.others ≤ totals.others + 1 }
+{
+    match set_in(names, totals, alloc, me, device, announced) {
+        Ok(totals) => totals,
+        Err(_) => unreachable!(),
+    }
+}
+
+/// Makes room for a record of a name. What is announced and what is promised stays. Returns `Err` only if out of memory.
+/// O(log n) for n names.
+fn spare_in(
+    names: &mut BTreeMap<SafeName, Group>,
+    totals: Totals,
+    alloc: Global,
+    me: DeviceId,
+    name: &SafeName,
+) -> Result<(), AllocError>
+    requires { AreGroups me names.old.entries totals }
+    ensures groups { AreGroups me names.new.entries totals }
+    ensures kept { announced_in names.new.entries ≡ announced_in names.old.entries }
+    ensures promises_stay { promised_in names.new.entries ≡ promised_in names.old.entries }
+    ensures spare { OnOk result (HasSpareAt name.now names.new.entries) }
+    ensures spares { (n : Name) → HasSpareAt n names.old.entries → HasSpareAt n names.new.entries }
+{
+    match names.get_mut(name) {
+        Some(group) => group.spare(),
+        None => add_spare(names, totals, alloc, me, name),
+    }
+}
+
+/// Adds the group of a name of which nothing is announced, with room for a record.
+fn add_spare(
+    names: &mut BTreeMap<SafeName, Group>,
+    totals: Totals,
+    alloc: Global,
+    me: DeviceId,
+    name: &SafeName,
+) -> Result<(), AllocError>
+    requires groups { AreGroups me names.old.entries totals }
+    requires absent { at bytes_cmp names.old name.now ≡ None }
+    ensures groups { AreGroups me names.new.entries totals }
+    ensures kept { announced_in names.new.entries ≡ announced_in names.old.entries }
+    ensures promises_stay { promised_in names.new.entries ≡ promised_in names.old.entries }
+    ensures spare { OnOk result (HasSpareAt name.now names.new.entries) }
+    ensures spares { (n : Name) → HasSpareAt n names.old.entries → HasSpareAt n names.new.entries }
+{
+    let name = name.copy()?;
+    let mut group = Group::new(alloc);
+    group.spare()?;
+    names.insert(name, group)?;
+    Ok(())
 }
 
 /// Promises room for a record of this device. What is announced stays. Returns `Err` only if out of memory, and then the

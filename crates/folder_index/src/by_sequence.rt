@@ -1,6 +1,8 @@
-ghost use Rattle.std.specs.Prelude.{◌≡◌, ◌&&◌, ◌||◌, [], IfOk, IsOk, None, OnErr, OnOk, filter, nat_le, nat_lt, option_copied};
+ghost use Rattle.std.specs.Prelude.{◌≡◌, ◌↔◌, ◌<◌, ◌&&◌, ◌||◌, ◌++◌, ◌∷◌, [], ℕ, true, IfOk, IsOk, IsTrue, MatchOption, None, OnErr, OnOk, Some, filter, nat_le, nat_lt, option_copied};
+ghost use Rattle.sync_record.specs.Records.{FileRecord};
 ghost use Rattle.std.specs.FinMap.{empty, get, insert, remove, values};
-ghost use Rattle.folder_core.specs.Reads.{max_page_blocks, page_of};
+ghost use Rattle.folder_core.specs.Reads.{fits_page, max_page_blocks, page_of};
+ghost use Rattle.folder_index.specs.Sequences.{IsAdded, IsFull, blocks_in, later_than};
 
 use bep_messages::Items;
 use std::alloc::{AllocError, Global};
@@ -50,6 +52,16 @@ impl BySequence {
         self.records.get(&sequence)
     }
 
+    /// Whether each record has a lesser sequence. O(log n) for n records.
+    pub fn are_below(&self, sequence: u64) -> bool
+        ensures { IsTrue result ↔ ((q : ℕ) (r : FileRecord) → get self.now q ≡ Some r → q < sequence) }
+    {
+        match self.records.last_key_value() {
+            Some((last, _)) => *last < sequence,
+            None => true,
+        }
+    }
+
     /// Puts a record under its sequence, in place of the one that was there. Returns `Err` only if out of memory, and never
     /// where one was there; then nothing changes. O(log n) for n records.
     pub fn insert(&mut self, announced: Record) -> Result<(), AllocError>
@@ -77,20 +89,67 @@ impl BySequence {
         ensures none { page_of limit (filter (λ r. nat_lt sequence r.sequence) (values self.now)) ≡ [] →
             IsOk result }
     {
+        self.page_with(&[], sequence, limit)
+    }
+
+    /// The same of these records and of others, which are given in rising sequence and have greater sequences than these.
+    /// O(log n + k + p) for n records, k others and p of the page.
+    pub(crate) fn page_with(
+        &self,
+        others: &[Record],
+        sequence: u64,
+        limit: usize,
+    ) -> Result<Items<Record>, AllocError>
+        ensures page { IfOk result (λ page. page ≡ page_of limit
+            (later_than sequence (values self.now) ++ later_than sequence others.now)) }
+        ensures none { page_of limit
+            (later_than sequence (values self.now) ++ later_than sequence others.now) ≡ [] →
+            IsOk result }
+    {
         let mut page = Vec::new(self.alloc);
         let mut total = 0usize;
         for (_, announced) in self
             .records
             .range((Bound::Excluded(sequence), Bound::Unbounded))
         {
-            total = total.saturating_add(announced.blocks().len());
-            if !fits(page.len() + 1, total, limit) {
-                break;
+            match add(&mut page, total, limit, announced)? {
+                Some(more) => total = more,
+                None => return Ok(Items::from_vec(page)),
             }
-            page.push(announced.copy()?)?;
+        }
+        for other in others {
+            if other.sequence() > sequence {
+                match add(&mut page, total, limit, other)? {
+                    Some(more) => total = more,
+                    None => return Ok(Items::from_vec(page)),
+                }
+            }
         }
         Ok(Items::from_vec(page))
     }
+}
+
+/// Puts a record at the end of a page with so many blocks, and returns how many it has then; `None` where the record doesn't fit.
+/// Returns `Err` only if out of memory, and never where the record doesn't fit.
+fn add(
+    page: &mut Vec<Record>,
+    total: usize,
+    limit: usize,
+    announced: &Record,
+) -> Result<Option<usize>, AllocError>
+    requires fits { fits_page limit page.old.items ≡ true }
+    requires total { total ≡ blocks_in page.old.items }
+    ensures added { IfOk result (λ more. MatchOption more
+        (IsFull limit page.old.items announced.now page.new.items)
+        (λ total. IsAdded limit page.old.items announced.now page.new.items total)) }
+    ensures err { OnErr result (fits_page limit (page.old.items ++ announced.now ∷ []) ≡ true) }
+{
+    let more = total.saturating_add(announced.blocks().len());
+    if !fits(page.len() + 1, more, limit) {
+        return Ok(None);
+    }
+    page.push(announced.copy()?)?;
+    Ok(Some(more))
 }
 
 /// Whether a page may have this many records with this many blocks: one record may have any number.

@@ -1,5 +1,5 @@
 //! The records of one name, by device.
-ghost use Rattle.std.specs.Prelude.{◌≡◌, ◌+◌, ◌<◌, ◌≤◌, MatchOption, filter, find, map, not, option_copied, vec_len, vec_capacity};
+ghost use Rattle.std.specs.Prelude.{◌≡◌, ◌+◌, ◌<◌, ◌≤◌, ◌++◌, [], IsOk, MatchOption, OnOk, filter, find, fold, map, max, not, option_copied, vec_len, vec_capacity};
 ghost use Rattle.std.specs.FinMap.{put};
 ghost use Rattle.std.specs.List.{insert};
 ghost use Rattle.std.specs.Ordering.{is_lt};
@@ -7,9 +7,12 @@ ghost use Rattle.std.specs.declared.cmp.Ordering.TheVariants.{Less};
 ghost use Rattle.folder_core.specs.Announced.{key, key_cmp};
 ghost use Rattle.folder_core.specs.Plain.{Rises, filed};
 ghost use Rattle.folder_core.specs.PlainReads.{is_from, record_from};
+ghost use Rattle.folder_index.specs.Devices.{names_from, sequences_from};
 
 use folder_core::Announcement;
+use std::alloc::AllocError;
 use std::cmp::Ordering;
+use sync_names::SafeName;
 use sync_record::{DeviceId, Record};
 
 /// The first of the entries that is the device's. O(k) for k entries.
@@ -91,4 +94,52 @@ fn order(entry: Option<&Announcement>, device: DeviceId, announced: &Record) -> 
     };
     let by_device = entry.device.cmp(&device);
     entry.record.name().cmp(announced.name()).then(by_device)
+}
+
+/// The greater of a number and the greatest sequence of the device's records. O(k) for k entries.
+pub(crate) fn greatest_from(greatest: u64, entries: &[Announcement], device: DeviceId) -> u64
+    ensures { result ≡ fold max greatest (sequences_from device entries.now) }
+{
+    entries
+        .iter()
+        .filter(|entry| entry.device == device)
+        .map(|entry| entry.record.sequence())
+        .fold(greatest, |greatest, sequence| sequence.max(greatest))
+}
+
+/// Puts the names of the device's records at the end of a list. Returns `Err` only if out of memory, and never where there are
+/// none. O(k) for k entries, and the copies.
+pub(crate) fn push_names(
+    names: &mut Vec<SafeName>,
+    entries: &[Announcement],
+    device: DeviceId,
+) -> Result<(), AllocError>
+    ensures ok { OnOk result (names.new.items
+        ≡ names.old.items ++ names_from device entries.now) }
+    ensures none { names_from device entries.now ≡ [] → IsOk result }
+{
+    for entry in entries {
+        if entry.device == device {
+            names.push(entry.record.name().copy()?)?;
+        }
+    }
+    Ok(())
+}
+
+/// Puts copies of entries at the end of a list. Their records are not copied but shared. Returns `Err` only if out of memory, and
+/// never where there are no entries. O(k) for k entries.
+pub(crate) fn push_copies(
+    all: &mut Vec<Announcement>,
+    entries: &[Announcement],
+) -> Result<(), AllocError>
+    ensures ok { OnOk result (all.new.items ≡ all.old.items ++ entries.now) }
+    ensures none { entries.now ≡ [] → IsOk result }
+{
+    for entry in entries {
+        all.push(Announcement {
+            device: entry.device,
+            record: entry.record.copy()?,
+        })?;
+    }
+    Ok(())
 }

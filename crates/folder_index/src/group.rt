@@ -1,12 +1,12 @@
 //! What is kept of one name.
-ghost use Rattle.std.specs.Prelude.{bytes_eq, IsTrue, true, ◌≡◌, ◌&&◌, ℕ, [], All, IfOk, IsOk, List, OnErr, OnOk, filter, length, map, not, option_and_then, option_copied, option_map, if◌then◌else◌, is_some, false, Some, None};
+ghost use Rattle.std.specs.Prelude.{bytes_eq, IsTrue, true, ◌≡◌, ◌+◌, ◌≤◌, ◌&&◌, ℕ, [], All, IfOk, IsOk, List, OnErr, OnOk, filter, length, map, not, option_and_then, option_copied, option_map, if◌then◌else◌, is_some, false, Some, None};
 ghost use Rattle.std.specs.FinMap.{put};
 ghost use Rattle.sync_record.specs.Records.{Name, is_directory, is_live, is_live_file};
 ghost use Rattle.folder_core.specs.Announced.{key, key_cmp};
 ghost use Rattle.folder_core.specs.Plain.{filed};
 ghost use Rattle.folder_core.specs.PlainPulls.{best_in};
 ghost use Rattle.folder_core.specs.PlainReads.{is_from, is_needed_over, needed_of, record_from};
-ghost use Rattle.folder_index.specs.Groups.{HasRoom, IsChanged, IsGroup, best_of_group, chosen, totals_in};
+ghost use Rattle.folder_index.specs.Groups.{HasRoom, HasSpare, IsChanged, IsGroup, best_of_group, chosen, totals_in};
 
 use crate::best::{devices_with, is_needed_over, place_of_best};
 use crate::entries::{put, record_from, remove_from};
@@ -99,6 +99,7 @@ impl Group {
             ≡ (self.old.is_promised && not (bytes_eq device me))) }
         ensures promise_stays { OnErr result (self.new.is_promised ≡ self.old.is_promised) }
         ensures fits { IsTrue (self.old.is_promised && bytes_eq device me) → IsOk result }
+        ensures roomy { HasSpare self.old → IsOk result }
     {
         let keeps = self.keeps_promise(me, device);
         let more = if keeps { 2 } else { 1 };
@@ -141,6 +142,8 @@ impl Group {
             ≡ (self.old.is_promised && not (bytes_eq device me))) }
         ensures promise_stays { OnErr result (self.new.is_promised ≡ self.old.is_promised) }
         ensures fits { IsTrue (self.old.is_promised && bytes_eq device me) → IsOk result }
+        ensures roomy { HasSpare self.old → IsOk result }
+        ensures one_more { IfOk result (λ u. u.others ≤ totals.others + 1) }
     {
         let was = self.totals(me);
         self.set(me, device, announced)?;
@@ -178,6 +181,20 @@ impl Group {
     {
         self.entries.reserve_exact(1)?;
         self.is_promised = true;
+        Ok(())
+    }
+
+    /// Makes room for one entry more, beside the one that is promised. Returns `Err` only if out of memory; then nothing
+    /// changes. O(1).
+    pub(crate) fn spare(&mut self) -> Result<(), AllocError>
+        ensures group { (me : List ℕ) (n : Name) → IsGroup me n self.old → IsGroup me n self.new }
+        ensures kept { self.new.entries.items ≡ self.old.entries.items }
+        ensures promised { self.new.is_promised ≡ self.old.is_promised }
+        ensures spare { OnOk result (HasSpare self.new) }
+        ensures stays { HasSpare self.old → HasSpare self.new }
+    {
+        let more = if self.is_promised { 2 } else { 1 };
+        self.entries.reserve_exact(more)?;
         Ok(())
     }
 

@@ -13,6 +13,7 @@ mod by_sequence;
 mod entries;
 mod group;
 mod index;
+mod latest;
 pub mod laws;
 mod local;
 mod numbers;

@@ -1,9 +1,11 @@
 //! This device's records by their sequences, and the blocks of its live files by their digests.
-ghost use Rattle.std.specs.Prelude.{◌≡◌, ◌<◌, ◌^◌, ℕ, IfSome, IsTrue, List, None, OnErr, OnOk, option_copied, option_map};
+ghost use Rattle.std.specs.Prelude.{◌≡◌, ◌+◌, ◌<◌, ◌^◌, ℕ, [], IfSome, IsTrue, List, None, OnErr, OnOk, length, option_copied, option_map};
 ghost use Rattle.std.specs.FinMap.{contains_key, get};
-ghost use Rattle.folder_index.specs.Locals.{live_blocks, no_local, with_exchanged, with_filed, with_prepared, without_filed, without_prepared};
+ghost use Rattle.folder_index.specs.Latest.{AreRising};
+ghost use Rattle.folder_index.specs.Locals.{AreKept, all_local, live_blocks, no_local, with_exchanged, with_filed, with_prepared, without_filed, without_local, without_prepared};
 ghost use Rattle.folder_index.specs.Numbers.{number_of, other_number_of};
 
+use crate::latest::Latest;
 use crate::numbers::Numbers;
 use crate::{ByDigest, BySequence};
 use std::alloc::{AllocError, Global};
@@ -16,6 +18,8 @@ pub(crate) struct Local {
     pub(crate) places: ByDigest,
     // The numbers under which the blocks are.
     pub(crate) numbers: Numbers,
+    // Records that were put last, which are not among these yet, and neither are the places of their blocks.
+    pub(crate) latest: Latest,
 }
 
 impl Local {
@@ -27,6 +31,7 @@ impl Local {
             records: BySequence::new(alloc),
             places: ByDigest::new(alloc),
             numbers: Numbers::new(alloc),
+            latest: Latest::new(alloc),
         }
     }
 
@@ -48,9 +53,19 @@ impl Local {
         Ok(())
     }
 
-    /// Takes out the record of a sequence, and the blocks of a live file. Does not allocate. O(log n + b log m) for n records,
-    /// b blocks of the file and m in all.
+    /// Takes out the record of a sequence, and the blocks of a live file, if it was put last or is filed. Does not allocate.
+    /// O(log n + b log m + k) for n records, b blocks of the file, m in all and k records that were put last.
     pub(crate) fn take_out(&mut self, sequence: u64)
+        requires { sequence < 2 ^ 63 }
+        ensures { self.new ≡ without_local sequence self.old }
+    {
+        self.latest.remove(sequence);
+        self.unfile(sequence);
+    }
+
+    /// Takes out the record that is filed under a sequence, and the blocks of a live file. Does not allocate.
+    /// O(log n + b log m) for n records, b blocks of the file and m in all.
+    pub(crate) fn unfile(&mut self, sequence: u64)
         requires { sequence < 2 ^ 63 }
         ensures { self.new ≡ without_filed sequence self.old }
     {
@@ -107,8 +122,56 @@ impl Local {
     }
 }
 
+impl Local {
+    /// The record of a sequence, if there is one. O(log n + k) for n records and k that were put last.
+    pub(crate) fn get(&self, sequence: u64) -> Option<&Record>
+        requires { AreRising self.now.latest.records }
+        ensures { option_copied result ≡ get (all_local self.now) sequence }
+    {
+        match self.latest.get(sequence) {
+            Some(announced) => Some(announced),
+            None => self.records.get(sequence),
+        }
+    }
+
+    /// Files the first of the records that were put last. Returns `Err` only if out of memory, and then nothing changes.
+    /// O(log n + b log m + k) for n records, b blocks of the file, m in all and k records that were put last.
+    fn settle_first(&mut self) -> Result<(), AllocError>
+        requires kept { AreKept self.old }
+        requires some { 0 < length self.old.latest.records }
+        ensures kept { AreKept self.new }
+        ensures all { all_local self.new ≡ all_local self.old }
+        ensures promised { self.new.latest.promised ≡ self.old.latest.promised }
+        ensures fewer { OnOk result
+            (length self.new.latest.records + 1 ≡ length self.old.latest.records) }
+    {
+        let Some(first) = self.latest.records().first() else {
+            unreachable!()
+        };
+        let first = first.copy()?;
+        self.file(&first)?;
+        self.latest.remove_first();
+        Ok(())
+    }
+
+    /// Files the records that were put last. Returns `Err` only if out of memory, and then some of them may be filed.
+    /// O(k log n + b log m + k^2) for n records, k that were put last, b blocks of these and m in all.
+    pub(crate) fn settle(&mut self) -> Result<(), AllocError>
+        requires { AreKept self.old }
+        ensures kept { AreKept self.new }
+        ensures all { all_local self.new ≡ all_local self.old }
+        ensures promised { self.new.latest.promised ≡ self.old.latest.promised }
+        ensures settled { OnOk result (self.new.latest.records ≡ []) }
+    {
+        while !self.latest.records().is_empty() {
+            self.settle_first()?;
+        }
+        Ok(())
+    }
+}
+
 /// The blocks of a live file; none of another record. O(1).
-fn live_blocks(announced: &Record) -> &[Block]
+pub(crate) fn live_blocks(announced: &Record) -> &[Block]
     ensures { result.now ≡ live_blocks announced.now }
 {
     if !announced.is_deleted() && announced.kind() == Kind::File {

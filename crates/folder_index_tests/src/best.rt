@@ -1,6 +1,7 @@
 //! The best of a name, and whether it is needed.
 use crate::calls::{best_of, clear, index, needs, set};
 use crate::rows::{ABC, ABD, Row, device, file, name, record};
+use bep_messages::Items;
 use folder_index::ByName;
 
 #[test]
@@ -81,4 +82,47 @@ fn reserves_room_for_a_record(rt: HostRuntime) {
     names.set(device(9), own).expect(&rt, "a set");
     names.release(&name(&rt, "x"));
     assert!(rt; names.get(device(9), &name(&rt, "x")).is_some());
+}
+
+#[test]
+fn forgets_a_device(rt: HostRuntime) {
+    let mut index = index(&rt);
+    for (number, text, sequence) in [(1u8, "x", 7), (1, "y", 3), (2, "x", 5), (9, "z", 8)] {
+        let version = [(u64::from(number), 1)];
+        let row = Row {
+            sequence,
+            ..file(text, &version, 1)
+        };
+        set(&rt, &mut index, number, &row);
+    }
+    assert_eq!(rt; index.greatest_sequence(device(1)), 7);
+    let all = index.announcements().expect(&rt, "records");
+    assert_eq!(rt; all.as_slice().len(), 4);
+    let names = index.names_of(device(1)).expect(&rt, "names");
+    let wanted = [name(&rt, "x"), name(&rt, "y")];
+    assert!(rt; names.as_slice() == wanted.as_slice());
+    let peer = device(1);
+    assert!(rt; peer != index.me());
+    index.forget(peer).expect(&rt, "a device forgotten");
+    assert_eq!(rt; index.greatest_sequence(device(1)), 0);
+    assert_eq!(rt; best_of(&rt, &index, "x"), Some(device(2)));
+    assert_eq!(rt; best_of(&rt, &index, "y"), None);
+    assert_eq!(rt; index.announcements_of(&name(&rt, "x")).len(), 1);
+    let left = index.announcements().expect(&rt, "records");
+    assert_eq!(rt; left.as_slice().len(), 2);
+}
+
+#[test]
+fn puts_all_of_a_message(rt: HostRuntime) {
+    let mut index = index(&rt);
+    set(&rt, &mut index, 1, &file("x", &[(1, 1)], 1));
+    let mut records = Items::new(rt.alloc());
+    let announced = record(&rt, &file("x", &[(1, 2)], 2));
+    records.push(announced).expect(&rt, "a record");
+    let peer = device(1);
+    assert!(rt; peer != index.me());
+    index.set_all(peer, records).expect(&rt, "a message");
+    assert_eq!(rt; index.totals().others, 1);
+    assert_eq!(rt; index.choices(), 2);
+    assert_eq!(rt; best_of(&rt, &index, "x"), Some(device(1)));
 }

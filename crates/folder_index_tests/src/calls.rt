@@ -48,3 +48,17 @@ pub(crate) fn pages(rt: &impl Abort, index: &Index, after: u64, limit: usize, wa
         assert_eq!(rt; record.sequence(), *sequence);
     }
 }
+
+/// Reserves what a record of this device of a name needs.
+pub(crate) fn reserve(rt: &(impl AllocGlobal + Abort), index: &mut Index, text: &str) {
+    index.reserve(&name(rt, text)).expect(rt, "a reservation");
+}
+
+/// Device 9 announces the record of a row, whose name is reserved and whose sequence is greater than those of its other rows.
+pub(crate) fn set_reserved(rt: &(impl AllocGlobal + Abort), index: &mut Index, row: &Row) {
+    let announced = record(rt, row);
+    let copied = announced.copy().expect(rt, "a copy");
+    assert!(rt; index.is_reserved(announced.name()));
+    assert!(rt; index.is_next(announced.sequence()));
+    index.set_reserved(announced, copied);
+}

@@ -1,5 +1,5 @@
 //! Pages of local records, and places of blocks.
-use crate::calls::{clear, index, pages, place, set};
+use crate::calls::{clear, index, pages, place, reserve, set, set_reserved};
 use crate::rows::{ABC, ABD, Row, block_file, device, file, name};
 
 #[test]
@@ -55,4 +55,40 @@ fn takes_records_of_one_sequence(rt: HostRuntime) {
     clear(&rt, &mut index, 9, "x");
     assert!(rt; place(&rt, &index, 0xa5).is_none());
     assert!(rt; index.is_free(&name(&rt, "y"), 4));
+}
+
+#[test]
+fn puts_reserved_records_last(rt: HostRuntime) {
+    let mut index = index(&rt);
+    set(&rt, &mut index, 9, &block_file("x", 1, ABC));
+    reserve(&rt, &mut index, "x");
+    reserve(&rt, &mut index, "y");
+    set_reserved(&rt, &mut index, &block_file("y", 2, ABD));
+    set_reserved(&rt, &mut index, &block_file("x", 3, ABD));
+    pages(&rt, &index, 0, 9, &[2, 3]);
+    pages(&rt, &index, 2, 9, &[3]);
+    pages(&rt, &index, 0, 1, &[2]);
+    assert!(rt; place(&rt, &index, 0xba).is_none());
+    assert!(rt; place(&rt, &index, 0xa5).is_some());
+    assert!(rt; !index.is_free(&name(&rt, "x"), 2));
+    clear(&rt, &mut index, 9, "y");
+    pages(&rt, &index, 0, 9, &[3]);
+}
+
+#[test]
+fn settles_reserved_records(rt: HostRuntime) {
+    let mut index = index(&rt);
+    reserve(&rt, &mut index, "x");
+    reserve(&rt, &mut index, "z");
+    set_reserved(&rt, &mut index, &block_file("x", 3, ABD));
+    assert!(rt; !index.is_reserved(&name(&rt, "x")));
+    index.settle().expect(&rt, "a settled index");
+    pages(&rt, &index, 0, 9, &[3]);
+    let found = place(&rt, &index, 0xa5).expect(&rt, "a place");
+    assert!(rt; found.name == name(&rt, "x"));
+    index.release(&name(&rt, "z"));
+    assert!(rt; !index.is_reserved(&name(&rt, "z")));
+    set(&rt, &mut index, 9, &block_file("z", 4, ABC));
+    pages(&rt, &index, 0, 9, &[3, 4]);
+    assert_eq!(rt; index.totals().files, 2);
 }

@@ -11,6 +11,8 @@ use Rattle.folder_index.specs.Groups.{HasRoom, IsChanged, totals_in}
 use Rattle.folder_index.proofs.Written.{HasAt, Sums, are_written, none_at, nothing_in, placed_is, room_for_new, room_left, sums_added}
 use Rattle.std.specs.Prelude.{◌&&◌, bytes_eq, not}
 use Rattle.folder_index.proofs.Promised.{promise_of, promises_kept}
+use Rattle.folder_index.specs.Groups.{HasSpareAt}
+use Rattle.folder_index.proofs.Spared.{not_spare, spare_kept}
 use Rattle.folder_index.proofs.by_name.add.Goals as goal
 
 pub set_counted-requires-clause-room : goal.set_counted-requires-clause-room
@@ -58,3 +60,16 @@ returns-clause-promised c =
     let at : HasAt n (Some is) gs new = subst (λ m. HasAt m (Some is) gs new) same c.in_ok-insert.ensures.updates.0 in
     promises_kept gs new c.requires.groups.ordered c.insert.ensures.ordered n (Some is) at
     (c.in_ok-totals.ensures.promised ∙ ap (λ b. b && not (bytes_eq c.args.device c.args.me)) c.new-group.ensures.promised ∙ sym (ap promise_of c.requires.absent))
+
+pub returns-clause-spares : goal.returns-clause-spares
+returns-clause-spares c = λ m spare.
+    let n = c.args.announced.name in
+    let gs = c.args.names.now.entries in
+    let new = c.insert.new.self.entries in
+    let is = c.set_counted.new.self in
+    let same : c.in_ok-name.name ≡ n = c.in_ok-name.ensures ∙ c.name.ensures in
+    let at : HasAt n (Some is) gs new = subst (λ m. HasAt m (Some is) gs new) same c.in_ok-insert.ensures.updates.0 in
+    spare_kept n (Some is) gs new at m (λ e. not_spare n gs c.requires.absent (subst (λ k. HasSpareAt k gs) e spare)) spare
+
+pub returns-in_err-insert-clause-spares : goal.returns-in_err-insert-clause-spares
+returns-in_err-insert-clause-spares c = λ m spare. subst (HasSpareAt m) (sym c.in_err-insert.ensures.err) spare

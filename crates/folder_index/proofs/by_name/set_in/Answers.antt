@@ -7,7 +7,7 @@ use Rattle.folder_core.specs.declared.announcement.Announcement.{Announcement as
 use Rattle.folder_core.specs.Announced.{key, key_cmp}
 use Rattle.folder_core.specs.Plain.{filed}
 use Rattle.folder_index.specs.declared.group.Group.{Group}
-use Rattle.folder_index.specs.Groups.{totals_in}
+use Rattle.folder_index.specs.Groups.{HasSpareAt, totals_in}
 use Rattle.folder_index.proofs.Listed.{Groups}
 use Rattle.folder_index.proofs.Results.{always_ok, ok_and, on_ok, on_err}
 use Rattle.folder_index.proofs.Written.{HasAt, Sums, are_written, found_at, kept_is, placed_is, room_at, room_left, same_totals, sums_set, unchanged}
@@ -17,6 +17,7 @@ use Rattle.std.proofs.lemmas.Bool.{and_from, true≢false}
 use Rattle.folder_core.proofs.ListTests.{alike_bytes}
 use Rattle.folder_index.specs.Groups.{promised_in}
 use Rattle.folder_index.proofs.Promised.{none_taken, promise_of, promised_at, promises_kept, promises_set}
+use Rattle.folder_index.proofs.Spared.{spare_kept, spare_of}
 use Rattle.folder_index.proofs.by_name.set_in.Goals as goal
 
 pub set_counted-requires-clause-group : goal.set_counted-requires-clause-group
@@ -144,3 +145,24 @@ returns-in-None-clause-fits c = λ own promised.
     let gs = c.args.names.now.entries in
     let none : lookup (is_at (bytes_cmp n)) gs ≡ None = search rules in
     absurd (true≢false (sym promised ∙ promised_at gs c.requires.groups.ordered n ∙ ap promise_of none))
+
+pub returns-in-Some-clause-roomy : goal.returns-in-Some-clause-roomy
+returns-in-Some-clause-roomy c = λ spare.
+    let n = c.args.announced.name in
+    let gs = c.args.names.now.entries in
+    let was = c.in-Some.group.now in
+    let found : lookup (is_at (bytes_cmp n)) gs ≡ Some was = search rules in
+    c.set_counted.ensures.roomy (spare_of n gs was found spare)
+
+pub returns-in-Some-clause-spares : goal.returns-in-Some-clause-spares
+returns-in-Some-clause-spares c = λ m other spare.
+    let n = c.args.announced.name in
+    let gs = c.args.names.now.entries in
+    let is = c.set_counted.new.self in
+    let write = c.get_mut.follows.holds is in
+    let new = (c.get_mut.follows.lender is).entries in
+    let at : HasAt n (Some is) gs new = subst (λ m. HasAt m (Some is) gs new) c.name.ensures (write.3 (search rules)).0 in
+    spare_kept n (Some is) gs new at m other spare
+
+pub returns-in-None-clause-spares : goal.returns-in-None-clause-spares
+returns-in-None-clause-spares c = λ m other spare. c.add.ensures.spares m (subst (λ (gs : Groups). HasSpareAt m gs) (λ i. (sym c.get_mut.follows.holds-at-none i).entries) spare)

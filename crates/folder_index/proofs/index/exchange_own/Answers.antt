@@ -4,7 +4,7 @@ use Rattle.sync_record.specs.Records.{FileRecord}
 use Rattle.folder_index.specs.Indexes.{with_record}
 use Rattle.folder_index.specs.Locals.{with_exchanged, with_prepared, without_prepared}
 use Rattle.folder_index.specs.Numbers.{other_number_of}
-use Rattle.folder_index.proofs.Indexed.{index_exchanged, index_unprepared, is_prepared, low_there, moved, unprepared}
+use Rattle.folder_index.proofs.Indexed.{index_exchanged, index_unprepared, is_prepared, low_there, settled_moved, unprepared}
 use Rattle.folder_index.proofs.Results.{of_err, of_ok}
 use Rattle.folder_index.proofs.index.exchange_own.Goals as goal
 
@@ -13,7 +13,7 @@ prepare-requires c = λ hash.
     let s = c.args.names.now in
     let l = c.args.local.now in
     let r = c.args.announced in
-    let low = low_there s l c.requires.index r.name r.sequence c.requires.replaced in
+    let low = low_there s l.records c.requires.index.locals r.name r.sequence c.requires.replaced in
     ap (λ (x : FileRecord). get l.places (hash, other_number_of l.numbers x.sequence)) c.in_ok-copied.ensures
     ∙ unprepared s l c.requires.index r low c.requires.free hash
 
@@ -22,18 +22,18 @@ returns-then-is_err-clause-index c =
     let s = c.args.names.now in
     let l = c.args.local.now in
     let r = c.args.announced in
-    let low = low_there s l c.requires.index r.name r.sequence c.requires.replaced in
+    let low = low_there s l.records c.requires.index.locals r.name r.sequence c.requires.replaced in
     let same = c.in_ok-copied.ensures in
     let prepared = c.in_ok-prepare.ensures.ok ∙ ap (λ x. with_prepared x l) same in
     let names = of_err c.set.result (sym c.is_err.ensures.value ∙ c.if-is_err.true) c.set.ensures.err in
-    moved (sym names) (sym (c.unprepare.ensures ∙ (λ i. without_prepared (same i) (prepared i)))) (index_unprepared s l c.requires.index r low c.requires.free)
+    settled_moved (sym names) (sym (c.unprepare.ensures ∙ (λ i. without_prepared (same i) (prepared i)))) (index_unprepared s l c.requires.index r low c.requires.free)
 
 pub exchange-requires-clause-prepared : goal.exchange-requires-clause-prepared
 exchange-requires-clause-prepared c =
     let s = c.args.names.now in
     let l = c.args.local.now in
     let r = c.args.announced in
-    let low = low_there s l c.requires.index r.name r.sequence c.requires.replaced in
+    let low = low_there s l.records c.requires.index.locals r.name r.sequence c.requires.replaced in
     let same = c.in_ok-copied.ensures in
     let prepared = c.in_ok-prepare.ensures.ok ∙ ap (λ x. with_prepared x l) same in
     (λ i. contains_key (prepared i).numbers (same i).sequence) ∙ is_prepared s l c.requires.index r low c.requires.free c.requires.replaced
@@ -43,8 +43,8 @@ returns-clause-index c =
     let s = c.args.names.now in
     let l = c.args.local.now in
     let r = c.args.announced in
-    let low = low_there s l c.requires.index r.name r.sequence c.requires.replaced in
+    let low = low_there s l.records c.requires.index.locals r.name r.sequence c.requires.replaced in
     let same = c.in_ok-copied.ensures in
     let prepared = c.in_ok-prepare.ensures.ok ∙ ap (λ x. with_prepared x l) same in
     let names = of_ok c.set.result (sym c.is_err.ensures.value ∙ c.if-is_err.false) c.set.ensures.ok ∙ ap (λ d. with_record d r s) c.me.ensures in
-    moved (sym names) (sym (c.exchange.ensures ∙ (λ i. with_exchanged (same i) (prepared i)))) (index_exchanged s l c.requires.index r low c.requires.free c.requires.replaced)
+    settled_moved (sym names) (sym (c.exchange.ensures ∙ (λ i. with_exchanged (same i) (prepared i)))) (index_exchanged s l c.requires.index r low c.requires.free c.requires.replaced)

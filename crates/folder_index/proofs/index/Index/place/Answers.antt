@@ -2,12 +2,21 @@ use Rattle.std.proofs.Common.{◌/◌, sym, subst, ◌∙◌}
 use Rattle.folder_core.specs.Reads.{IsSomePlace}
 use Rattle.folder_core.proofs.ListTests.{ok_then}
 use Rattle.folder_index.specs.Indexes.{folder}
-use Rattle.folder_index.proofs.Placed.{found_at, is_found, not_nowhere, nowhere}
+use Rattle.folder_index.specs.Locals.{HasNoBlock, IsPlaceAmong}
+use Rattle.folder_index.proofs.Placed.{found_at, is_found, none_last, not_nowhere, place_told}
 use Rattle.folder_index.proofs.index.Index.place.Goals as goal
 
 pub returns-in_default-clause-found : goal.returns-in_default-clause-found
 returns-in_default-clause-found c =
-    rw (← c.self.view_is) (nowhere c.self.inside.names c.self.inside.local c.self.invariant c.args.hash.now c.in_default.ensures)
+    let i = c.self.inside in
+    let hash = c.args.hash.now in
+    rw (← c.self.view_is) (ok_then c.place_among.result (λ o among. place_told i.names i.local c.self.invariant hash c.in_default.ensures o (subst (λ rs. IsPlaceAmong rs hash o) c.records.ensures among)) c.place_among.ensures.found)
+
+pub returns-in_default-clause-none : goal.returns-in_default-clause-none
+returns-in_default-clause-none c =
+    let i = c.self.inside in
+    let hash = c.args.hash.now in
+    rw (← c.self.view_is) (λ none. c.place_among.ensures.none (subst (λ rs. HasNoBlock rs hash) (sym c.records.ensures) (none_last i.names i.local c.self.invariant hash none)))
 
 pub returns-clause-found : goal.returns-clause-found
 returns-clause-found c =

@@ -17,4 +17,4 @@ returns-then-is_err-clause-err c =
     ∙ (λ i. without_blocks (number i) (c.live_blocks-then-is_err.ensures i) (added i))
     ∙ undone (number_of l.numbers r.sequence) (live_blocks r) l.places c.requires.unused in
     let records = of_err c.insert.result (sym c.is_err.ensures.value ∙ c.if-is_err.true) c.insert.ensures.err in
-    λ i. record { records = records i; places = places i; numbers = l.numbers }
+    λ i. record { records = records i; places = places i; numbers = l.numbers; latest = l.latest }

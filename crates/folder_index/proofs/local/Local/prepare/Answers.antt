@@ -17,4 +17,4 @@ returns-then-is_err-clause-err c =
     ∙ (λ i. without_blocks (number i) (c.live_blocks-then-is_err.ensures i) (added i))
     ∙ undone (other_number_of l.numbers r.sequence) (live_blocks r) l.places c.requires in
     let numbers = of_err c.keep.result (sym c.is_err.ensures.value ∙ c.if-is_err.true) c.keep.ensures.err in
-    λ i. record { records = l.records; places = places i; numbers = numbers i }
+    λ i. record { records = l.records; places = places i; numbers = numbers i; latest = l.latest }
