@@ -88,7 +88,7 @@ fn runs_lines(rt: HostRuntime) -> Result<(), Fail> {
         ("bepd best f", partial, LISTING, "rest 1\n", 3),
         ("bepd best g", whole, "skipped 0\n", "", 0),
         ("bepd", whole, "", "error: a command is required\n", 1),
-        ("bepd --help", 0, "Lists", "", 0),
+        ("bepd --help", 0, "Keeps", "", 0),
         ("bepd --version", 0, "bepd 0.1.0\n", "", 0),
     ] {
         let input = &bytes.as_slice()[..count.min(bytes.len())];
