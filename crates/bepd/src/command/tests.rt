@@ -107,7 +107,6 @@ fn refuses_other_lines(rt: HostRuntime) -> Result<(), AllocError> {
         "bepd pair --version",
         "bepd -pair",
         "bepd run",
-        "bepd run --config",
         "bepd run --check",
         "bepd run c",
         "bepd run --config c d",
