@@ -64,13 +64,7 @@ fn read_file<S: FileStore>(
     Ok(bytes)
 }
 
-/// Who asks for their blocks.
-#[derive(Drop)]
-pub struct KeptSource<'a> {
-    pub files: &'a KeptFiles,
-}
-
-impl BlockSource for KeptSource<'_> {
+impl BlockSource for KeptFiles {
     ghost may_ask = { λ device. ⊤ };
 
     fn fetch(
@@ -80,7 +74,7 @@ impl BlockSource for KeptSource<'_> {
         block: &Block,
         bytes: &mut Vec<u8>,
     ) -> Result<bool, AllocError> {
-        let Some(file) = self.files.bytes_of(name) else {
+        let Some(file) = self.bytes_of(name) else {
             return Ok(false);
         };
         let offset = usize::try_from(block.offset).unwrap_or(0);

@@ -3,13 +3,11 @@
 //! - `bench_workers scan FOLDER` scans a folder of a disk anew, and again.
 //! - `bench_workers serve FOLDER` scans it, and then answers a request for each 128 KiB of its files.
 //! - `bench_workers pull FROM TO` scans a folder and reads its files into memory, and pulls them from there into another.
-//! - `bench_workers pull-by-hands FROM TO` does so by eight pulls side by side, as a node does.
 //! - `bench_workers pages NAMES` gives so many local records out in pages, and encodes the pages.
 //!
 //! How many names, bytes and answers there were goes to standard output, the times to standard error.
 #![tactic(auto)]
 
-mod hands;
 mod kept;
 mod pages;
 mod pulls;
@@ -32,14 +30,9 @@ use sync_version::Moment;
 /// A store in a folder of a disk.
 type Disk<'a, R> = DirStore<&'a R>;
 
-/// The records of a device that knows nothing yet.
-fn empty_core(alloc: Global, device: u8) -> PlainFolder {
-    PlainFolder::new(alloc, DeviceId::new([device; 32]))
-}
-
 /// The folder of a device, of which nothing is known yet.
 fn empty_folder(alloc: Global, device: u8) -> io::Result<Lone<PlainFolder>> {
-    let folder = empty_core(alloc, device);
+    let folder = PlainFolder::new(alloc, DeviceId::new([device; 32]));
     if folder.counts().pulls != 0 {
         return Err(AllocError.into());
     }
@@ -75,22 +68,18 @@ fn main(rt: HostRuntime) -> io::Result<()> {
     let first = words.next();
     let second = words.next();
     let Some(first) = first else {
-        return println!(rt;
-            "bench_workers scan FOLDER, serve FOLDER, pull FROM TO, pull-by-hands FROM TO or pages NAMES"
-        );
+        return println!(rt; "bench_workers scan FOLDER, serve FOLDER, pull FROM TO or pages NAMES");
     };
     let work = match &work {
         Some(work) => work.as_str(),
         None => "",
     };
-    let to = second.unwrap_or(String::new(rt.alloc()));
     match work {
         "scan" => scans::measure(&rt, first.as_str()),
         "serve" => serves::measure(&rt, first.as_str()),
-        "pull" => pulls::measure(&rt, first.as_str(), to.as_str()),
-        "pull-by-hands" => {
-            let disks = hands::Disks { files: &rt };
-            hands::measure(&rt, &disks, first.as_str(), to.as_str())
+        "pull" => {
+            let to = second.unwrap_or(String::new(rt.alloc()));
+            pulls::measure(&rt, first.as_str(), to.as_str())
         }
         _ => pages::measure(&rt, first.as_str().parse::<u32>().unwrap_or(1)),
     }

@@ -1,7 +1,7 @@
 //! Pulls into a folder of a disk, of files that are kept in memory.
-use crate::kept::{KeptFiles, KeptSource};
+use crate::kept::KeptFiles;
 use crate::{Disk, empty_folder, epoch, failed, open, tell};
-use file_store::{FileStore, OpenGate};
+use file_store::OpenGate;
 use folder_calls::{FolderCalls, Lone};
 use folder_core::PlainFolder;
 use std::alloc::AllocError;
@@ -21,8 +21,7 @@ pub fn measure<R: AllocGlobal + Print + Eprint + Clock + Files + Threads + Sync>
     to: &str,
 ) -> io::Result<()> {
     let mut calls = empty_folder(rt.alloc(), 1)?;
-    let files = announced(rt, &mut open(rt, rt.alloc(), from)?, &mut calls)?;
-    let mut source = KeptSource { files: &files };
+    let mut source = announced(rt, from, &mut calls)?;
     let mut store = open(rt, rt.alloc(), to)?;
     let start = Instant::now(rt)?;
     let done = pull_all(rt, &mut store, &mut calls, &mut source)?;
@@ -33,17 +32,18 @@ pub fn measure<R: AllocGlobal + Print + Eprint + Clock + Files + Threads + Sync>
 }
 
 /// Scans a folder as another device's, and announces its records. Returns its files.
-pub fn announced<R: AllocGlobal + Threads + Sync, S: FileStore, W: FolderCalls>(
+fn announced<R: AllocGlobal + Clock + Files + Threads + Sync>(
     rt: &R,
-    store: &mut S,
-    calls: &mut W,
+    from: &str,
+    calls: &mut Lone<PlainFolder>,
 ) -> io::Result<KeptFiles> {
     let peer = DeviceId::new([2; 32]);
+    let mut store = open(rt, rt.alloc(), from)?;
     let mut theirs = empty_folder(rt.alloc(), 2)?;
     let _ = scan_all(
         rt,
         rt.alloc(),
-        store,
+        &mut store,
         &mut theirs,
         &OpenGate,
         epoch(),
@@ -54,7 +54,7 @@ pub fn announced<R: AllocGlobal + Threads + Sync, S: FileStore, W: FolderCalls>(
         let _ = calls.index_full(peer, records)?;
     }
     let _ = theirs.close();
-    KeptFiles::read(rt.alloc(), store).map_err(failed)
+    KeptFiles::read(rt.alloc(), &mut store).map_err(failed)
 }
 
 /// Pulls the needed names. Returns how many were done.
@@ -62,7 +62,7 @@ fn pull_all<R: AllocGlobal + Files + Threads + Sync>(
     rt: &R,
     store: &mut Disk<R>,
     calls: &mut Lone<PlainFolder>,
-    source: &mut KeptSource,
+    source: &mut KeptFiles,
 ) -> Result<u64, AllocError> {
     let names = calls.need(None, usize::MAX)?.value;
     let mut done = 0u64;
@@ -78,7 +78,7 @@ fn pull_one<R: AllocGlobal + Files + Threads + Sync>(
     rt: &R,
     store: &mut Disk<R>,
     calls: &mut Lone<PlainFolder>,
-    source: &mut KeptSource,
+    source: &mut KeptFiles,
     name: &SafeName,
 ) -> bool {
     let most = MaxConflicts::new(-1).unwrap();
