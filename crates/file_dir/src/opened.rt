@@ -12,12 +12,22 @@ use std::io::{Read, Seek, SeekFrom, Write};
 use std::rt::Files;
 use sync_blocks::fill;
 
+/// How many bytes are written before they are made to reach the disk, while the next ones are still to come. So the wait at the end is short, and the
+/// system doesn't hold a large file in memory that the disk could have been writing.
+const UNSYNCED_BYTES: usize = 67_108_864;
+
 /// An open file, its path, and which file it is.
 #[derive(Drop)]
 pub(crate) struct Opened<F> {
     path: String,
     id: FileId,
     file: F,
+    // The mode that it was given last, if it was given one.
+    mode: Option<u32>,
+    // Whether all that was written since it was opened, and its mode, have reached the disk.
+    is_synced: bool,
+    // How many bytes were written since the last sync.
+    unsynced: usize,
 }
 
 /// What a file is opened for.
@@ -45,11 +55,19 @@ impl<F: Read + Write + Seek + OpenFile + Drop> Opened<F> {
             path,
             id: opened,
             file,
+            mode: None,
+            is_synced: false,
+            unsynced: 0,
         })
     }
 
+    /// Whether it was opened at the path.
+    pub(crate) fn is_at(&self, path: &str) -> bool {
+        self.path.as_str() == path
+    }
+
     fn is_of(&self, path: &str, id: FileId) -> bool {
-        self.id == id && self.path.as_str() == path
+        self.id == id && self.is_at(path)
     }
 
     /// Reads from an offset on until the buffer is full or the file ends.
@@ -61,26 +79,44 @@ impl<F: Read + Write + Seek + OpenFile + Drop> Opened<F> {
         or_fault(fill(&mut self.file, buffer))
     }
 
-    /// Writes all bytes from an offset on.
+    /// Writes all bytes from an offset on. After each 64 MiB what was written reaches the disk.
     pub(crate) fn write_at(&mut self, offset: u64, bytes: &[u8]) -> Result<(), StoreRefusal>
         ensures { IfErr result IsPlain }
     {
+        self.is_synced = false;
         or_fault(self.file.seek(SeekFrom::Start(offset)))?;
-        or_fault(self.file.write_all(bytes))
+        or_fault(self.file.write_all(bytes))?;
+        self.unsynced = self.unsynced.saturating_add(bytes.len());
+        if self.unsynced >= UNSYNCED_BYTES {
+            self.sync()?;
+        }
+        Ok(())
     }
 
-    /// Gives the file this mode.
-    pub(crate) fn set_mode(&self, mode: u32) -> Result<(), StoreRefusal>
+    /// Gives the file this mode, unless that is the one that it was given last.
+    pub(crate) fn set_mode(&mut self, mode: u32) -> Result<(), StoreRefusal>
         ensures { IfErr result IsPlain }
     {
-        set_mode(&self.file, mode)
+        if self.mode == Some(mode) {
+            return Ok(());
+        }
+        self.is_synced = false;
+        set_mode(&self.file, mode)?;
+        self.mode = Some(mode);
+        Ok(())
     }
 
-    /// Waits until the file's bytes and its mode have reached the disk.
-    pub(crate) fn sync(&self) -> Result<(), StoreRefusal>
+    /// Waits until the file's bytes and its mode have reached the disk. Does nothing if they have.
+    pub(crate) fn sync(&mut self) -> Result<(), StoreRefusal>
         ensures { IfErr result IsPlain }
     {
-        or_fault(self.file.sync_all())
+        if self.is_synced {
+            return Ok(());
+        }
+        or_fault(self.file.sync_all())?;
+        self.is_synced = true;
+        self.unsynced = 0;
+        Ok(())
     }
 }
 

@@ -16,7 +16,8 @@ use sync_names::SafeName;
 /// nothing, but nothing is put in their place. Several stores may be on one folder. The folder itself may be reached
 /// through links. While it is missing, or on another device than when the store was opened, each call returns `StoreFault`.
 ///
-/// What `commit_temp`, `rename` and `make_dir` have done has reached the disk when they return.
+/// What `commit_temp`, `rename` and `make_dir` have done has reached the disk when they return. A temporary file reaches the disk when `stat` looks at its
+/// name, so that between that look and `commit_temp` little time passes in which somebody can change the file that is replaced.
 ///
 /// Each call takes a call of the system for the folder and for each parent of the name.
 #[derive(Drop)]
@@ -107,7 +108,7 @@ impl<R: Files> FileStore for DirStore<R> {
     }
 
     fn stat(&mut self, name: &SafeName) -> Result<Stat, StoreRefusal> {
-        let answer = changes::stat(&self.disk, name.as_str());
+        let answer = temps::stat(&self.disk, &mut self.writing, name);
         settle(&mut self.faults, answer)
     }
 

@@ -3,6 +3,7 @@ ghost use Rattle.std.specs.Prelude.{◌≢◌, Err, IfErr};
 ghost use Rattle.file_store.specs.Refusals.{IsPlain};
 ghost use Rattle.file_store.specs.declared.refusal.StoreRefusal.TheVariants.{NotEmpty};
 
+use crate::changes;
 use crate::disk::Disk;
 use crate::found::Found;
 use crate::mode::{create, permissions_of};
@@ -10,7 +11,7 @@ use crate::opened::{Access, Opened, reopen};
 use crate::parents::{find, make_parents, open_folder, sync_folder};
 use crate::refuse::or_fault;
 use crate::walk::walk_folder;
-use file_store::StoreRefusal;
+use file_store::{Stat, StoreRefusal};
 use std::fs;
 use std::io::ErrorKind;
 use std::rt::Files;
@@ -78,8 +79,43 @@ pub(crate) fn write_at<R: Files>(
     }
 }
 
+/// What is at a name. Where the name's temporary file is the open one, that reaches the disk before the look.
+pub(crate) fn stat<R: Files>(
+    disk: &Disk<R>,
+    slot: &mut Option<Opened<R::File>>,
+    name: &SafeName,
+) -> Result<Stat, StoreRefusal>
+    ensures { IfErr result IsPlain }
+{
+    sync_temp(disk, slot, name)?;
+    changes::stat(disk, name.as_str())
+}
+
+/// Has the temporary file of a name reach the disk, with the permissions of the file that it is to replace, if it is the open one. Does
+/// nothing if it is not, or if nothing was written since the last time.
+fn sync_temp<R: Files>(
+    disk: &Disk<R>,
+    slot: &mut Option<Opened<R::File>>,
+    name: &SafeName,
+) -> Result<(), StoreRefusal>
+    ensures { IfErr result IsPlain }
+{
+    let Some(opened) = slot else {
+        return Ok(());
+    };
+    let temp = disk.temp_path_of(name)?;
+    if !opened.is_at(temp.as_str()) {
+        return Ok(());
+    }
+    let path = disk.path_of(name.as_str())?;
+    if let Found::File(old) = disk.look(path.as_str())? {
+        opened.set_mode(permissions_of(old.mode))?;
+    }
+    opened.sync()
+}
+
 /// Puts the temporary file in its place, with the permissions of the file that it replaces. Its bytes reach the disk before,
-/// and the new name before this returns.
+/// unless they have by [`stat`], and the new name before this returns.
 pub(crate) fn commit_temp<R: Files>(
     disk: &Disk<R>,
     slot: &mut Option<Opened<R::File>>,
@@ -90,7 +126,7 @@ pub(crate) fn commit_temp<R: Files>(
     let path = disk.path_of(name.as_str())?;
     let temp = disk.temp_path_of(name)?;
     open_temp(disk, slot, temp.as_str())?;
-    let Some(opened) = slot.take() else {
+    let Some(mut opened) = slot.take() else {
         return Err(StoreRefusal::StoreFault);
     };
     match disk.look(path.as_str())? {

@@ -96,12 +96,15 @@ impl Connections {
 
     /// Waits for so many seconds, or until the node quits, and returns whether it does.
     pub(crate) fn pause<R: Clock + Wait>(&self, rt: &R, seconds: u64) -> bool {
+        self.pause_for(rt, Duration::from_secs(seconds))
+    }
+
+    /// Waits for so long, or until the node quits, and returns whether it does.
+    pub(crate) fn pause_for<R: Clock + Wait>(&self, rt: &R, time: Duration) -> bool {
         let state = self.state.lock(rt);
         let (state, _) = self
             .changes
-            .wait_timeout_while(rt, state, Duration::from_secs(seconds), |state| {
-                state.why.is_none()
-            });
+            .wait_timeout_while(rt, state, time, |state| state.why.is_none());
         state.why.is_some()
     }
 

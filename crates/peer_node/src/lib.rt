@@ -8,6 +8,7 @@ mod fault;
 mod folder_store;
 mod host;
 mod input;
+mod jobs;
 mod keeping;
 mod lent;
 mod log;
@@ -19,6 +20,7 @@ mod rounds;
 mod scans;
 mod shared;
 mod stores;
+mod ways;
 
 pub use connections::Why;
 pub use fault::NodeFault;

@@ -3,10 +3,10 @@ use std::alloc::{AllocError, Global};
 use sync_names::SafeName;
 use sync_record::Record;
 
-/// How many rounds a name is left alone that could not be pulled. Each time that it can't be pulled again these are twice as many.
+/// How many seconds a name is left alone that could not be pulled. Each time that it can't be pulled again these are twice as many.
 const FIRST_PAUSE: u32 = 1;
 
-/// The most rounds that a name is left alone, which are some minutes.
+/// The most seconds that a name is left alone.
 const MAX_PAUSE: u32 = 256;
 
 /// What is known of a name when it is to be pulled.
@@ -49,12 +49,12 @@ struct Pause {
     wanted: Wanted,
     // How many peers of the folder were up.
     up: usize,
-    // How many rounds it is left alone after it can't be pulled again, and how many it still is.
+    // How many seconds it is left alone after it can't be pulled again, and how many it still is.
     next: u32,
     left: u32,
 }
 
-/// Names that could not be pulled, in byte order. Each is left alone for a round, then for two, four and so on, some minutes at most, until something
+/// Names that could not be pulled, in byte order. Each is left alone for a second, then for two, four and so on, some minutes at most, until something
 /// happens at it, or another number of peers is up. So a file that someone is editing, or a full disk, costs no endless downloads, and a history doesn't
 /// fill with pulls that fail.
 #[derive(Drop)]
@@ -76,8 +76,8 @@ impl Pauses {
             .binary_search_by(|pause| pause.wanted.name.as_str().cmp(text))
     }
 
-    /// Whether the name may be pulled in this round, in which so many peers are up.
-    pub(crate) fn is_over(&mut self, wanted: &Wanted, up: usize) -> bool {
+    /// Whether the name may be pulled in this round, in which so many peers are up, and which may be a second later than the last one.
+    pub(crate) fn is_over(&mut self, wanted: &Wanted, up: usize, is_later: bool) -> bool {
         let Ok(place) = self.place_of(&wanted.name) else {
             return true;
         };
@@ -91,7 +91,9 @@ impl Pauses {
         if pause.left == 0 {
             return true;
         }
-        pause.left -= 1;
+        if is_later {
+            pause.left -= 1;
+        }
         false
     }
 

@@ -5,6 +5,7 @@ use crate::host::Host;
 use crate::log::{Event, Log};
 use crate::moments::moment;
 use crate::pauses::{Pauses, Wanted};
+use crate::ways::make_way;
 use file_store::{FileStore, Gate};
 use folder_calls::FolderCalls;
 use peer_asks::{PeerBook, PeerSource};
@@ -12,12 +13,16 @@ use std::alloc::{AllocError, Global};
 use std::mem::replace;
 use std::sync::{Mutex, Wait};
 use std::thread::for_each_mut;
+use std::time::{Clock, Duration};
 use sync_names::SafeName;
-use sync_pull::{MaxConflicts, PullAnswer, pull_name};
+use sync_pull::{MaxConflicts, PullAnswer, PullFailure, pull_name};
 use sync_record::Kind;
 
-/// How many seconds lie between two rounds.
-const ROUND_SECONDS: u64 = 1;
+/// How many milliseconds lie between two rounds of which the first pulled something, so that what peers announced meanwhile is pulled soon.
+const LEAST_PAUSE: u64 = 25;
+
+/// How many lie between two rounds where nothing is pulled. Each such round is followed by twice the pause, up to this one.
+const MOST_PAUSE: u64 = 1_000;
 
 /// How many threads pull files of a folder side by side: a small file waits for the disk, and the next one need not.
 pub(crate) const HANDS: usize = 8;
@@ -47,6 +52,8 @@ pub(crate) struct Hand<S, W> {
     calls: W,
     // The places of names among those that are pulled that it could not pull.
     failed: Vec<usize>,
+    // Whether it pulled any.
+    has_pulled: bool,
 }
 
 impl<S, W> Hand<S, W> {
@@ -55,12 +62,13 @@ impl<S, W> Hand<S, W> {
             store,
             calls,
             failed: Vec::new(alloc),
+            has_pulled: false,
         }
     }
 }
 
-/// Once the folders were scanned, pulls what is needed of each, in their order, and again each second, until the node quits. A history that is full
-/// makes it quit.
+/// Once the folders were scanned, pulls what is needed of each, in their order, and again each second, or sooner after something was pulled and at the
+/// start, until the node quits. A history that is full makes it quit.
 pub(crate) fn run_rounds<R, S, W, G>(
     rt: &R,
     alloc: Global,
@@ -81,18 +89,40 @@ where
     if connections.wait_for_scans(rt) {
         return;
     }
+    let mut pause = LEAST_PAUSE;
+    let mut last = None;
     for _ in rt.forever() {
+        let second = second_of(rt);
+        // (without a clock each round is taken for one that a second lies before)
+        let is_later = second.is_none() || second != last;
+        last = second;
+        let mut has_pulled = false;
         for folder in folders.iter_mut() {
             // (out of memory ends a round; the next one begins anew)
-            let _ = pull_round(rt, alloc, connections, gate, folder);
+            if let Ok(true) = pull_round(rt, alloc, connections, gate, folder, is_later) {
+                has_pulled = true;
+            }
             if is_full(folder) {
                 folder.log.tell(rt, &Event::HistoryFull(folder.id));
                 connections.quit(rt, Why::HistoryFull);
             }
         }
-        if connections.pause(rt, ROUND_SECONDS) {
+        pause = if has_pulled {
+            LEAST_PAUSE
+        } else {
+            pause.saturating_mul(2).min(MOST_PAUSE)
+        };
+        if connections.pause_for(rt, Duration::from_millis(pause)) {
             return;
         }
+    }
+}
+
+// The second that it is, since an arbitrary start.
+fn second_of<R: Clock>(rt: &R) -> Option<u64> {
+    match rt.monotonic() {
+        Ok(time) => Some(time.as_secs()),
+        Err(_) => None,
     }
 }
 
@@ -107,14 +137,16 @@ fn is_full<S, W: FolderCalls>(folder: &mut PulledFolder<S, W>) -> bool {
     at > 0 && at.saturating_add(1) >= limit
 }
 
-// Pulls each needed name of a folder once, but those that are left alone.
+// Pulls each needed name of a folder once, but those that are left alone. Returns whether any was pulled. Whether a second lies between this round and the
+// last one tells whether the time passes for which names are left alone.
 fn pull_round<R, S, W, G>(
     rt: &R,
     alloc: Global,
     connections: &Connections,
     gate: &G,
     folder: &mut PulledFolder<S, W>,
-) -> Result<(), AllocError>
+    is_later: bool,
+) -> Result<bool, AllocError>
 where
     R: Host,
     S: FileStore + Marked + Drop + Send,
@@ -133,12 +165,12 @@ where
         ..
     } = folder;
     let Some(hand) = hands.first_mut() else {
-        return Ok(());
+        return Ok(false);
     };
     let me = hand.calls.me();
     let at = hand.calls.known(me).at;
     if *idle_at == Some(at) {
-        return Ok(());
+        return Ok(false);
     }
     tell_received(
         rt,
@@ -152,19 +184,23 @@ where
     pauses.keep(needed.as_slice());
     if needed.as_slice().is_empty() {
         *idle_at = Some(at);
-        return Ok(());
+        return Ok(false);
     }
     if !hand.store.is_there() {
-        return Ok(());
+        return Ok(false);
     }
-    let round = Round::of(alloc, &mut hand.calls, needed.as_slice(), pauses, up)?;
+    let needed = needed.as_slice();
+    let round = Round::of(alloc, &mut hand.calls, needed, pauses, up, is_later)?;
+    let mut has_pulled = false;
     for wanted in round.live.iter().filter(|wanted| !wanted.is_empty()) {
         pull_side_by_side(rt, alloc, connections, gate, folder, wanted.as_slice());
-        settle(folder, wanted.as_slice(), up)?;
+        if settle(folder, wanted.as_slice(), up)? {
+            has_pulled = true;
+        }
     }
     let deleted = round.deleted.as_slice();
     pull_in_turn(rt, alloc, connections, gate, folder, deleted)?;
-    settle(folder, deleted, up)
+    Ok(settle(folder, deleted, up)? || has_pulled)
 }
 
 // Notes what is known of each peer before it is heard.
@@ -202,14 +238,18 @@ fn tell_received<R: Host, W: FolderCalls>(
     }
 }
 
-// The names that could not be pulled are left alone for a time.
+// The names that could not be pulled are left alone for a time. Returns whether any was pulled.
 fn settle<S, W>(
     folder: &mut PulledFolder<S, W>,
     wanted: &[Wanted],
     up: usize,
-) -> Result<(), AllocError> {
+) -> Result<bool, AllocError> {
     let PulledFolder { hands, pauses, .. } = folder;
+    let mut has_pulled = false;
     for hand in hands.iter_mut() {
+        if replace(&mut hand.has_pulled, false) {
+            has_pulled = true;
+        }
         for place in hand.failed.iter() {
             if let Some(wanted) = wanted.get(*place) {
                 pauses.begin(wanted.copy()?, up)?;
@@ -217,7 +257,7 @@ fn settle<S, W>(
         }
         hand.failed.clear();
     }
-    Ok(())
+    Ok(has_pulled)
 }
 
 // Pulls names by all hands, each the next one that none has. Out of memory, the others are left to the next round.
@@ -333,6 +373,7 @@ where
         store,
         calls,
         failed,
+        has_pulled,
     } = hand;
     let mut source = PeerSource::new(rt, alloc, id, peers)?;
     let wanted_count = wanted.len() as u64;
@@ -359,8 +400,17 @@ where
         let (at, of) = (place as u64 + 1, wanted_count);
         log.tell(rt, &Event::Pulling(id, at, of));
         tell_answer(rt, id, log, &wanted.name, answer, store.take_moved());
-        if let PullAnswer::Failed(_) | PullAnswer::Unsupported = answer {
-            failed.push(place)?;
+        match answer {
+            PullAnswer::Done(_) => *has_pulled = true,
+            PullAnswer::Failed(PullFailure::BadParent)
+                if make_way(alloc, store, calls, gate, &wanted.name, moment(rt)) => {
+                if let Some(copy) = store.take_moved() {
+                    log.tell(rt, &Event::Kept(id, &copy));
+                }
+                *has_pulled = true;
+            }
+            PullAnswer::Failed(_) | PullAnswer::Unsupported => failed.push(place)?,
+            _ => {}
         }
     }
     Ok(())
@@ -424,6 +474,7 @@ impl Round {
         needed: &[SafeName],
         pauses: &mut Pauses,
         up: usize,
+        is_later: bool,
     ) -> Result<Round, AllocError> {
         let mut live = Vec::new(alloc);
         let mut files = Vec::new(alloc);
@@ -443,7 +494,7 @@ impl Round {
                 best,
                 local: calls.local(name)?.value,
             };
-            if !pauses.is_over(&wanted, up) {
+            if !pauses.is_over(&wanted, up, is_later) {
                 continue;
             }
             match kind {
