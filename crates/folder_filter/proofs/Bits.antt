@@ -1,12 +1,11 @@
 -- What is put into a filter is held from then on.
-use Rattle.std.proofs.Common.{◌≡◌, ◌≢◌, ℕ, zero, ◌<◌, ◌/◌, ◌%◌, ◌^◌, max, length, get_or, take, arith, Bool, true, false, List, [], ◌∷◌, refl, sym, ap, subst, ◌∙◌, inl, inr}
-use Rattle.std.proofs.lemmas.Bool.{eq-eqb, eqb-true, ne_eqb, true≢false}
+use Rattle.std.proofs.Common.{◌≡◌, ◌≢◌, ℕ, ◌<◌, ◌/◌, ◌%◌, ◌^◌, ◌+◌, ◌-◌, min, max, length, get_or, take, arith, true, false, List, [], ◌∷◌, refl, sym, ap, subst, ◌∙◌, inl, inr}
+use Rattle.std.proofs.lemmas.Bool.{eq-eqb, eqb-true, true≢false}
 use Rattle.std.proofs.lemmas.List.{get_or-set_other, get_or-set_same, length-replicate, length-set}
 use Rattle.std.proofs.lemmas.Nat.{mod_below}
 use Rattle.std.proofs.lemmas.Nat.Bits.{bit_at-lt, bit_at-pow_same, bit_at-zero, bit_at_or}
 use Rattle.std.specs.Int.{bit_at, from_be_bytes, w64}
-use Rattle.std.specs.List.{list_all}
-use Rattle.std.specs.Prelude.{bit_or, fold, set, ◌⊎◌, ◌==◌, Contains, IsTrue}
+use Rattle.std.specs.Prelude.{bit_or, fold, if◌then◌else◌, set, ◌==◌, Contains, IsTrue}
 use Rattle.sync_blocks.specs.declared.block.Block.{Block}
 use Rattle.sync_record.specs.Records.{FileRecord}
 use Rattle.folder_core.proofs.ListTests.{In, all_in, contains_in, in_all}
@@ -80,15 +79,27 @@ parts-come words (q ∷ ps) p some (inl s) =
 parts-come words (q ∷ ps) p some (inr i) = parts-come (with_set words q) ps p (longer words q some) i
 
 -- a digest that is put in is held, and so is each one that was
+abbrev put_in : Filter → List ℕ → Filter
+put_in f digest = record f { words = fold with_set f.words (parts digest); put = min (f.put + 1) (2 ^ 64 - 1) }
+
+-- what holds of the filter where the digest was held, and of the one it is put in
+either : (P : Filter → Type 0) (f : Filter) (digest : List ℕ) → (holds f digest ≡ true → P f) → P (put_in f digest) → P (with_digest f digest)
+either P f digest held new =
+    elim (holds f digest) as (λ b. holds f digest ≡ b → P (if b then f else put_in f digest)) [ true ↦ λ t. held t | false ↦ λ _. new ] refl
+
+digest-length : (f : Filter) (digest : List ℕ) → length (with_digest f digest).words ≡ length f.words
+digest-length f digest = either (λ g. length g.words ≡ length f.words) f digest (λ _. refl) (parts-length f.words (parts digest))
+
 digest-some : (f : Filter) (digest : List ℕ) → 0 < length f.words → 0 < length (with_digest f digest).words
-digest-some f digest some = subst (λ n. 0 < n) (sym (parts-length f.words (parts digest))) some
+digest-some f digest some = subst (λ n. 0 < n) (sym (digest-length f digest)) some
 
 digest-stays : (f : Filter) (digest other : List ℕ) → 0 < length f.words → holds f other ≡ true → holds (with_digest f digest) other ≡ true
-digest-stays f digest other some e = in_all (is_set (with_digest f digest).words) (parts other)
-    (λ p i. parts-stay f.words (parts digest) p some (all_in (is_set f.words) (parts other) e p i))
+digest-stays f digest other some e = either (λ g. holds g other ≡ true) f digest (λ _. e)
+    (in_all (is_set (put_in f digest).words) (parts other) (λ p i. parts-stay f.words (parts digest) p some (all_in (is_set f.words) (parts other) e p i)))
 
 digest-comes : (f : Filter) (digest : List ℕ) → 0 < length f.words → holds (with_digest f digest) digest ≡ true
-digest-comes f digest some = in_all (is_set (with_digest f digest).words) (parts digest) (λ p i. parts-come f.words (parts digest) p some i)
+digest-comes f digest some = either (λ g. holds g digest ≡ true) f digest (λ t. t)
+    (in_all (is_set (put_in f digest).words) (parts digest) (λ p i. parts-come f.words (parts digest) p some i))
 
 -- a table in which a digest is held has words
 set-some : (words part : List ℕ) → is_set words part ≡ true → 0 < length words
@@ -98,13 +109,13 @@ set-some [] part e = absurd (let z = bit_at-zero (bit_of part) in let o = eqb-tr
     one-apart n x y = omega arith
 set-some (w ∷ ws) part e = omega arith
 
-holds-some : (f : Filter) (digest : List ℕ) → holds f digest ≡ true → 0 < length f.words
+pub holds-some : (f : Filter) (digest : List ℕ) → holds f digest ≡ true → 0 < length f.words
 holds-some f digest e = set-some f.words (take 8 digest) (all_in (is_set f.words) (parts digest) e (take 8 digest) (inl refl))
 
 -- those of blocks
 blocks-length : (f : Filter) (bs : List Block) → length (with_blocks f bs).words ≡ length f.words
 blocks-length f [] = refl
-blocks-length f (b ∷ bs) = blocks-length (with_digest f b.hash) bs ∙ parts-length f.words (parts b.hash)
+blocks-length f (b ∷ bs) = blocks-length (with_digest f b.hash) bs ∙ digest-length f b.hash
 
 blocks-stay : (f : Filter) (bs : List Block) (other : List ℕ) → 0 < length f.words → holds f other ≡ true → holds (with_blocks f bs) other ≡ true
 blocks-stay f [] other some e = e

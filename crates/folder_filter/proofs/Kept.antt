@@ -1,17 +1,16 @@
 -- A filter that covers a folder covers it after each change, once what the change brings was put in.
-use Rattle.std.proofs.Common.{◌≡◌, ◌≢◌, ℕ, ◌<◌, length, true, false, List, [], ◌∷◌, refl, sym, ap, subst, ◌∙◌, ◌⊎◌, inl, inr}
-use Rattle.std.specs.Prelude.{Option, option_map, pos, Some, None, Contains, IsTrue}
+use Rattle.std.proofs.Common.{◌≡◌, ℕ, true, false, List, [], refl, sym, ap, subst, ◌∙◌, ◌⊎◌, inl, inr}
+use Rattle.std.specs.Prelude.{Option, option_map, pos, Some, None, Contains}
 use Rattle.sync_blocks.specs.declared.block.Block.{Block}
-use Rattle.sync_record.specs.Devices.{Identity}
 use Rattle.sync_record.specs.Records.{Name, FileRecord}
 use Rattle.sync_version.specs.Versions.{Vector}
 use Rattle.folder_core.specs.Announced.{Announced, announce, without}
 use Rattle.folder_core.specs.Calls.{Changes}
-use Rattle.folder_core.specs.States.{FolderState, Pull, local}
+use Rattle.folder_core.specs.States.{FolderState, local}
 use Rattle.folder_core.specs.Steps.{MayChange, next_ticket, next_version, step, with_commit, with_content, with_local, with_pull, without_pull, committed_record}
 use Rattle.folder_core.specs.declared.answer.Answer.{Answer}
 use Rattle.folder_core.specs.declared.change.Change.{Change}
-use Rattle.folder_core.specs.declared.change.Change.TheVariants.{ScanFound, ScanGone, IndexFull, IndexMore, Forget, BeginPull, EnterCommit, Finish, GiveUp, Abort}
+use Rattle.folder_core.specs.declared.change.Change.TheVariants.{ScanFound, Finish}
 use Rattle.folder_core.specs.declared.finding.Finding.{Finding}
 use Rattle.folder_core.specs.declared.finding.FoundContent.{FoundContent}
 use Rattle.folder_core.specs.declared.finding.FoundContent.TheVariants.{Directory as FoundDirectory, File as FoundFile}

@@ -13,7 +13,7 @@ use Rattle.folder_core.specs.Reads.{LocalSince, Reads, max_page_blocks}
 use Rattle.folder_core.specs.States.{FolderState, IsFolder, local}
 use Rattle.folder_core.proofs.ListTests.{contains_in}
 use Rattle.folder_filter.specs.Covered.{Covers, IsFilterOf, MayHave}
-use Rattle.folder_filter.specs.Filters.{Filter, holds, no_digests, with_blocks, with_records}
+use Rattle.folder_filter.specs.Filters.{Filter, holds, made, no_digests, with_blocks, with_records}
 use Rattle.folder_filter.proofs.Bits.{records-held}
 
 -- what the law says of pages of local records
@@ -63,9 +63,9 @@ no-last (r ∷ rs) e = absurd (none-some _ (e ∙ slice_get-get_or (r ∷ rs) (l
 module _ (only : Only) (all : All) (s : FolderState) (folder : IsFolder s) (len after limit : ℕ) (f : Filter) (filled : IsFilled s len after f)
     (page : List FileRecord) (reads : Reads s (LocalSince after limit) page) where
   pub filled-more : (end : FileRecord) → Some end ≡ slice_get page (length page - 1) → (g : Filter) → g ≡ with_records f page → IsFilled s len end.sequence g
-  filled-more end e g made = record {
+  filled-more end e g is = record {
     records = filled.records ++ page;
-    made = made ∙ ap (λ (h : Filter). with_records h page) filled.made
+    made = is ∙ ap (λ (h : Filter). with_records h page) filled.made
         ∙ sym (fold-append (λ (h : Filter) (r : FileRecord). with_blocks h r.blocks) (no_digests len) filled.records page);
     only = λ r i. of_both r (Contains-append_cases filled.records page r i);
     each = λ n r is few. at_most_or r.sequence after
@@ -76,25 +76,28 @@ module _ (only : Only) (all : All) (s : FolderState) (folder : IsFolder s) (len 
       of_both : (r : FileRecord) → Contains filled.records r ⊎ Contains page r → (n : Name) × (local s n ≡ Some r)
       of_both r (inl i) = filled.only r i
       of_both r (inr i) = let h = only s after limit page r folder reads i in (h.0, h.1)
+
       unless : (r : FileRecord) → r.sequence ≤ end.sequence → Contains page r ⊎ Stops s limit page r → Contains page r
       unless r few (inl i) = i
       unless r few (inr stop) = absurd (let above = stop.4 end (last-there page end e) in let from = stop.3 in absurd (omega arith))
+
       in_page : (n : Name) (r : FileRecord) → local s n ≡ Some r → r.sequence ≤ end.sequence → after < r.sequence → Contains page r
       in_page n r is few above = unless r few (all s after limit page n r folder reads is above)
 
   pub rises : (end : FileRecord) → Some end ≡ slice_get page (length page - 1) → after < end.sequence
   rises end e = (only s after limit page end folder reads (last-there page end e)).2
 
-  pub filled-all : 1 ≤ limit → page ≡ [] → IsFilterOf s len f
-  filled-all some end = record {
+  pub filled-all : 1 ≤ limit → page ≡ [] → (g : Filter) → g ≡ made f → IsFilterOf s len g
+  filled-all some end g e = record {
     records = filled.records;
-    made = filled.made;
+    is = e ∙ ap made filled.made;
     only = filled.only;
     each = λ n r is. at_most_or r.sequence after (λ before. filled.each n r is before) (λ above. absurd (nothing r (all s after limit page n r folder reads is above)));
   }
     where
       empty : length page ≡ 0
       empty = ap length end
+
       nothing : (r : FileRecord) → Contains page r ⊎ Stops s limit page r → ⊥
       nothing r (inl i) = contains_in [] r (subst (λ (rs : List FileRecord). Contains rs r) end i)
       nothing r (inr stop) = elim stop.5 [ inl h ↦ (let z = empty in absurd (omega arith)) | inr h ↦ (let z = empty in let w = h.0 in absurd (omega arith)) ]
@@ -102,7 +105,7 @@ module _ (only : Only) (all : All) (s : FolderState) (folder : IsFolder s) (len 
 -- the filter of a folder covers it
 pub covers-of : (s : FolderState) (len : ℕ) (f : Filter) → 0 < len → IsFilterOf s len f → Covers s (Some f)
 covers-of s len f some of n r b is has =
-    subst (λ (g : Filter). IsTrue (holds g b.hash)) (sym of.made) (records-held len of.records r b some (of.each n r is) has)
+    subst (λ (g : Filter). IsTrue (holds g b.hash)) (sym of.is) (records-held len of.records r b some (of.each n r is) has)
 
 pub covers-made : (s : FolderState) (len : ℕ) (r : Result Filter AllocError) (made : Option Filter) → 0 < len → IfOk r (IsFilterOf s len) → made ≡ result_ok r → Covers s made
 covers-made s len (Ok f) made some of e = subst (Covers s) (sym e) (covers-of s len f some of)

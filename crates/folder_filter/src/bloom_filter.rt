@@ -1,7 +1,7 @@
 //! A Bloom filter of digests.
 ghost use Rattle.std.specs.Prelude.{◌≡◌, ◌<◌, Contains, IfOk, IfSome, IsTrue, length};
 ghost use Rattle.sync_blocks.specs.declared.block.Block.{Block};
-ghost use Rattle.folder_filter.specs.Filters.{grown_len, holds, is_set, no_digests, with_blocks, with_digest, with_records, with_set};
+ghost use Rattle.folder_filter.specs.Filters.{holds, is_set, made, no_digests, renewed_len, with_blocks, with_digest, with_records, with_set};
 
 use std::alloc::{AllocError, Global};
 use std::marker::Model;
@@ -17,8 +17,10 @@ const MAX_WORDS: usize = 1 << 24;
 #[derive(Drop)]
 pub(crate) struct BloomFilter {
     words: Vec<u64>,
-    // How many digests were put in, one that was put in again counted again.
+    // How many digests were put in that it did not hold before.
     put: usize,
+    // How many of them when it was made of a folder.
+    first: usize,
 }
 
 impl Model for BloomFilter {
@@ -29,7 +31,7 @@ impl Model for BloomFilter {
 
     ghost coded = { coded_filter };
 
-    ghost view = { λ f. record { words = f.words.items; put = f.put } };
+    ghost view = { λ f. record { words = f.words.items; put = f.put; first = f.first } };
 
     ghost invariant = { λ f. 0 < vec_len f.words };
 }
@@ -44,6 +46,7 @@ impl BloomFilter {
         Ok(BloomFilter {
             words: vec![in alloc; 0; len]?,
             put: 0,
+            first: 0,
         })
     }
 
@@ -55,11 +58,14 @@ impl BloomFilter {
         parts.iter().all(|part| self.is_set(part))
     }
 
-    /// Puts a digest in. Does not allocate. O(1).
+    /// Puts a digest in, if it is not held. Does not allocate. O(1).
     pub(crate) fn insert(&mut self, digest: &[u8; 32])
         ensures put { self.new ≡ with_digest self.old digest.now }
         ensures table { 0 < length self.new.words }
     {
+        if self.holds(digest) {
+            return;
+        }
         let (parts, _) = digest.as_chunks::<8>();
         for part in parts {
             self.set(part);
@@ -86,17 +92,31 @@ impl BloomFilter {
         }
     }
 
-    /// How many words a table that takes the place of this one needs: four times as many, where there are fewer than 16 bits for
-    /// each digest that was put in, and the table may grow. O(1).
-    pub(crate) fn grown_len(&self) -> Option<usize>
-        ensures grown { result ≡ grown_len self.now }
+    /// The same filter, once the digests of what a folder has were put in, and no others. O(1).
+    pub(crate) fn made(mut self) -> BloomFilter
+        ensures { result ≡ made self }
+    {
+        self.first = self.put;
+        self
+    }
+
+    /// How many words the table of a filter that takes the place of this one needs, if this one has fewer than 16 bits for each digest
+    /// that was put in: as many, where less than half of that was put in at first, so that most of it may be gone; and else four
+    /// times as many, unless it is too large for that. O(1).
+    pub(crate) fn renewed_len(&self) -> Option<usize>
+        ensures renewed { result ≡ renewed_len self.now }
         ensures some { IfSome result (λ len. 0 < len) }
     {
         let len = self.words.len();
-        if self.put / 4 < len || len > MAX_WORDS {
-            return None;
+        if self.put / 4 < len {
+            None
+        } else if self.first / 2 < len {
+            Some(len)
+        } else if len > MAX_WORDS {
+            None
+        } else {
+            Some(4 * len)
         }
-        Some(4 * len)
     }
 
     // Whether the bit of a part of a digest is set.

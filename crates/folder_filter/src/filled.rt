@@ -25,7 +25,7 @@ pub(crate) fn filled<F: FolderCore>(
     loop {
         let page = folder.local_since(sequence, usize::MAX)?;
         let Some(last) = page.as_slice().last() else {
-            return Ok(filter);
+            return Ok(filter.made());
         };
         sequence = last.sequence();
         filter.insert_records(page.as_slice());

@@ -9,8 +9,8 @@ use crate::filled::filled;
 use bep_messages::Items;
 use folder_core::laws::blocks_are_found_where_they_are;
 use folder_core::{
-    BeginAnswer, Best, Change, Commit, Counts, EnterFault, Finding, FolderCore, FoundContent, Place,
-    PlainFolder, ScanAnswer, ScanFault, Stray, Ticket,
+    BeginAnswer, Best, Change, Commit, Counts, EnterFault, Finding, FolderCore, FoundContent,
+    Place, PlainFolder, ScanAnswer, ScanFault, Stray, Ticket,
 };
 use std::alloc::{AllocError, Global};
 use std::marker::Model;
@@ -25,9 +25,10 @@ const MIN_WORDS: usize = 1024;
 /// A folder that is asked for the place of a block only where it may have one: a Bloom filter keeps the digests of the blocks of
 /// the local records, and of those that were local before.
 ///
-/// The filter takes 2 to 8 bytes a block, and 8 KiB at least. Once it is too small it is made anew from the folder, four times as
-/// large, when a scan is recorded or a pull begins. Without the memory for that it stays as it is, and without the memory for the
-/// first one the folder is asked for each block, until there is memory at one of these calls. Contracts see the folder's state.
+/// The filter takes 2 to 16 bytes for each different block of the local records when they had most, and 8 KiB at least, up to
+/// 512 MiB. Once it is too full it is made anew of what the folder has, four times as large where the folder has that much, when
+/// something is found or a pull begins. Without the memory for that it stays as it is, and without the memory for the first one the
+/// folder is asked for each block, until there is memory at one of these calls. Contracts see the folder's state.
 #[derive(Drop)]
 pub struct FilteredFolder<F: FolderCore> {
     folder: F,
@@ -206,7 +207,7 @@ fn wanted_len(filter: &Option<BloomFilter>) -> Option<usize>
     ensures some { IfSome result (λ len. 0 < len) }
 {
     match filter {
-        Some(filter) => filter.grown_len(),
+        Some(filter) => filter.renewed_len(),
         None => Some(MIN_WORDS),
     }
 }

@@ -17,6 +17,7 @@ returns-in_default g c =
     filled-all laws.only laws.all (g.F.FolderCore.state c.args.folder.now) c.me.ensures.folder c.args.len c.loop-filter.sequence (2 ^ 64 - 1)
     c.loop-filter.filter c.loop-filter.invariant c.in_ok-page.page c.in_ok-page.ensures (omega arith)
     (no-last c.in_ok-page.page (subst (λ (rs : List FileRecord). None ≡ slice_get rs (length rs - 1)) c.as_slice.ensures c.in_default.ensures.value))
+    c.made.result c.made.ensures
 
 pub loop-filter-smaller : goal.loop-filter-smaller
 loop-filter-smaller g c =

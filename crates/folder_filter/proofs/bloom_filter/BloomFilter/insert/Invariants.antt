@@ -7,4 +7,5 @@ abbrev pub invariant-loop-part : goal.invariant-loop-part
 invariant-loop-part l = record {
   words : fold with_set l.self.words (drop l.part-index l.parts) ≡ fold with_set l.fn.self.words l.parts;
   put : l.self.put ≡ l.fn.self.put;
+  first : l.self.first ≡ l.fn.self.first;
 }

@@ -11,7 +11,7 @@ pub invariant_of-self : goal.invariant_of-self
 invariant_of-self g c =
     let s = g.F.FolderCore.state c.self.inside.folder in
     let blocks : c.blocks-2.result.now ≡ c.args.commit.target.blocks =
-        c.blocks-2.ensures ∙ ap (λ (r : FileRecord). r.blocks) (c.target.ensures.value ∙ c.requires) in
+    c.blocks-2.ensures ∙ ap (λ (r : FileRecord). r.blocks) (c.target.ensures.value ∙ c.requires) in
     kept s (g.F.FolderCore.state c.finish.new.self) (Finish c.args.commit c.args.assembled.now) (Some (finish_answer c.finish.result))
     c.self.inside.filter c.put_in.new.filter (c.requires, c.target.ensures.assembled) c.finish.ensures c.self.invariant
     (put-kept c.self.inside.filter c.put_in.new.filter c.blocks-2.result.now c.put_in.ensures.put)
