@@ -1,0 +1,11 @@
+use Rattle.std.proofs.Common.{refl}
+use Rattle.std.specs.Prelude.{Some}
+use Rattle.folder_core.specs.Calls.{close_answer}
+use Rattle.folder_core.specs.declared.change.Change.TheVariants.{Abort}
+use Rattle.folder_filter.proofs.Kept.{kept-simply}
+use Rattle.folder_filter.proofs.filtered_folder.FilteredFolderFolderCore.abort.Goals as goal
+
+pub invariant_of-self : goal.invariant_of-self
+invariant_of-self g c =
+    kept-simply (g.F.FolderCore.state c.self.inside.folder) (g.F.FolderCore.state c.abort.new.self) (Abort c.args.commit) (Some (close_answer c.abort.result))
+    c.self.inside.filter tt refl c.abort.ensures c.self.invariant

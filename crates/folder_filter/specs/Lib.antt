@@ -1,0 +1,4 @@
+-- a Bloom filter
+pub mod Filters
+-- what it has of a folder
+pub mod Covered
