@@ -2,6 +2,7 @@
 use crate::failure::RunFailure;
 use bep_messages::{Items, Text};
 use folder_core::{FolderCore, PlainFolder};
+use folder_filter::FilteredFolder;
 use node_config::{Config, FolderConfig, PeerConfig};
 use node_state::{KeptIndexes, State, StoredFolder};
 use peer_node::{NodeFolder, Share};
@@ -9,10 +10,13 @@ use std::alloc::{AllocError, Global};
 use sync_pull::MaxConflicts;
 use sync_record::DeviceId;
 
+/// What a node keeps a folder in. The filter spares it a look through all records for each block that is pulled.
+pub(crate) type Core = FilteredFolder<PlainFolder>;
+
 /// A folder as a run begins with it.
 #[derive(Drop)]
 pub(crate) struct Begun {
-    pub(crate) folder: NodeFolder<PlainFolder>,
+    pub(crate) folder: NodeFolder<Core>,
     /// The numbers of the peers' indexes that its records are of.
     pub(crate) kept: KeptIndexes,
 }
@@ -63,7 +67,7 @@ fn node_folder(
     folder: &FolderConfig,
     index_id: u64,
     core: PlainFolder,
-) -> Result<NodeFolder<PlainFolder>, RunFailure> {
+) -> Result<NodeFolder<Core>, RunFailure> {
     let Some(most) = MaxConflicts::new(folder.max_conflicts) else {
         return Err(RunFailure::OutOfMemory);
     };
@@ -74,7 +78,7 @@ fn node_folder(
         history_limit: folder.history_limit,
         most,
         rescan: folder.rescan,
-        core,
+        core: FilteredFolder::new(alloc, core),
     })
 }
 
@@ -150,7 +154,7 @@ pub(crate) fn end_all(
     config: &Config,
     index_ids: &[u64],
     shares: &[Vec<Share>],
-    cores: Vec<PlainFolder>,
+    cores: Vec<Core>,
     kept: &[Vec<u64>],
 ) -> Result<State, AllocError> {
     let mut folders = Items::new(alloc);
@@ -165,7 +169,7 @@ pub(crate) fn end_all(
         folders.push(StoredFolder {
             id: Text::from_str(alloc, folder.id.as_str())?,
             index_id: *index_id,
-            folder: core,
+            folder: core.into_inner(),
             peers: kept_indexes(alloc, config, place, shares, kept)?,
         })?;
         place = place.saturating_add(1);

@@ -2,12 +2,11 @@
 use crate::addresses::address_of;
 use crate::failure::RunFailure;
 use crate::files::{StateFiles, read_config_file, read_state_file};
-use crate::keeping::{begin_all, end_all, shares_of};
+use crate::keeping::{Core, begin_all, end_all, shares_of};
 use crate::kept::StateKeeper;
 use crate::lock::Locked;
 use crossbeam_channel::{Receiver, Sender, bounded};
 use file_store::OpenGate;
-use folder_core::PlainFolder;
 use node_config::{Config, read_config};
 use node_state::State;
 use peer_node::{
@@ -226,7 +225,7 @@ fn end(lock: &Locked, ended: Result<io::Result<()>, RunFailure>) -> Result<(), R
 // What a node begins with.
 #[derive(Drop)]
 struct Run {
-    folders: Vec<NodeFolder<PlainFolder>>,
+    folders: Vec<NodeFolder<Core>>,
     index_ids: Vec<u64>,
     peers: Vec<NodePeer>,
     // The folders that are shared with each peer.
