@@ -18,6 +18,7 @@ use file_dir::DirStore;
 use file_store::StoreRefusal;
 use folder_calls::Lone;
 use folder_core::{FolderCore, PlainFolder};
+use folder_filter::FilteredFolder;
 use std::alloc::{AllocError, Global};
 use std::env::{self, Args};
 use std::io;
@@ -30,9 +31,12 @@ use sync_version::Moment;
 /// A store in a folder of a disk.
 type Disk<'a, R> = DirStore<&'a R>;
 
+/// What a folder is kept in, as a node does.
+type Core = FilteredFolder<PlainFolder>;
+
 /// The folder of a device, of which nothing is known yet.
-fn empty_folder(alloc: Global, device: u8) -> io::Result<Lone<PlainFolder>> {
-    let folder = PlainFolder::new(alloc, DeviceId::new([device; 32]));
+fn empty_folder(alloc: Global, device: u8) -> io::Result<Lone<Core>> {
+    let folder = FilteredFolder::new(alloc, PlainFolder::new(alloc, DeviceId::new([device; 32])));
     if folder.counts().pulls != 0 {
         return Err(AllocError.into());
     }

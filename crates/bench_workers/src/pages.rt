@@ -2,10 +2,10 @@
 ghost use Rattle.std.specs.Prelude.{IfOk, IsTrue};
 ghost use Rattle.folder_core.specs.Steps.{is_recordable};
 
-use crate::{empty_folder, epoch, tell};
+use crate::{Core, empty_folder, epoch, tell};
 use bep_messages::{Index, Items, ProtoMessage, Text};
 use folder_calls::{FolderCalls, Lone};
-use folder_core::{Finding, FoundContent, PlainFolder};
+use folder_core::{Finding, FoundContent};
 use index_sender::{IndexSender, Page, file_infos};
 use std::alloc::{AllocError, Global};
 use std::io;
@@ -51,7 +51,7 @@ fn found_file(alloc: Global) -> Result<Finding, AllocError>
 }
 
 /// Records a file under each of so many names.
-fn record(alloc: Global, calls: &mut Lone<PlainFolder>, names: u32) -> Result<(), AllocError> {
+fn record(alloc: Global, calls: &mut Lone<Core>, names: u32) -> Result<(), AllocError> {
     for place in 0..names {
         let text = format!(in alloc; "documents/folder-with-a-name/file-{place:08}")?;
         let name = SafeName::from_string(text).map_err(|_| AllocError)?;
@@ -60,7 +60,7 @@ fn record(alloc: Global, calls: &mut Lone<PlainFolder>, names: u32) -> Result<()
     Ok(())
 }
 
-fn given(alloc: Global, calls: &mut Lone<PlainFolder>) -> Result<Vec<Items<Record>>, AllocError> {
+fn given(alloc: Global, calls: &mut Lone<Core>) -> Result<Vec<Items<Record>>, AllocError> {
     let mut sender = IndexSender::new(None);
     let mut pages = Vec::new(alloc);
     for _ in 0..u64::MAX {

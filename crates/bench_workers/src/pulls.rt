@@ -1,9 +1,8 @@
 //! Pulls into a folder of a disk, of files that are kept in memory.
 use crate::kept::KeptFiles;
-use crate::{Disk, empty_folder, epoch, failed, open, tell};
+use crate::{Core, Disk, empty_folder, epoch, failed, open, tell};
 use file_store::OpenGate;
 use folder_calls::{FolderCalls, Lone};
-use folder_core::PlainFolder;
 use std::alloc::AllocError;
 use std::io;
 use std::rt::{Clock, Files};
@@ -35,7 +34,7 @@ pub fn measure<R: AllocGlobal + Print + Eprint + Clock + Files + Threads + Sync>
 fn announced<R: AllocGlobal + Clock + Files + Threads + Sync>(
     rt: &R,
     from: &str,
-    calls: &mut Lone<PlainFolder>,
+    calls: &mut Lone<Core>,
 ) -> io::Result<KeptFiles> {
     let peer = DeviceId::new([2; 32]);
     let mut store = open(rt, rt.alloc(), from)?;
@@ -61,7 +60,7 @@ fn announced<R: AllocGlobal + Clock + Files + Threads + Sync>(
 fn pull_all<R: AllocGlobal + Files + Threads + Sync>(
     rt: &R,
     store: &mut Disk<R>,
-    calls: &mut Lone<PlainFolder>,
+    calls: &mut Lone<Core>,
     source: &mut KeptFiles,
 ) -> Result<u64, AllocError> {
     let names = calls.need(None, usize::MAX)?.value;
@@ -77,7 +76,7 @@ fn pull_all<R: AllocGlobal + Files + Threads + Sync>(
 fn pull_one<R: AllocGlobal + Files + Threads + Sync>(
     rt: &R,
     store: &mut Disk<R>,
-    calls: &mut Lone<PlainFolder>,
+    calls: &mut Lone<Core>,
     source: &mut KeptFiles,
     name: &SafeName,
 ) -> bool {

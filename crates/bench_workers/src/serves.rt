@@ -1,10 +1,9 @@
 //! Blocks that are served from a folder of a disk.
-use crate::{Disk, empty_folder, epoch, open, tell};
+use crate::{Core, Disk, empty_folder, epoch, open, tell};
 use bep_messages::{Request, ShortOctets, Text};
 use block_server::answer;
 use file_store::{FileStore, OpenGate, Stat};
 use folder_calls::Lone;
-use folder_core::PlainFolder;
 use std::alloc::{AllocError, Global};
 use std::io;
 use std::rt::{Clock, Files};
@@ -49,7 +48,7 @@ pub fn measure<R: AllocGlobal + Print + Eprint + Clock + Files + Threads + Sync>
 fn serve<R: Files>(
     alloc: Global,
     store: &mut Disk<R>,
-    calls: &mut Lone<PlainFolder>,
+    calls: &mut Lone<Core>,
     name: &SafeName,
 ) -> Result<u64, AllocError> {
     let size = match store.stat(name) {

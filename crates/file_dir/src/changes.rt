@@ -5,6 +5,7 @@ ghost use Rattle.file_store.specs.declared.refusal.StoreRefusal.TheVariants.{Not
 
 use crate::disk::Disk;
 use crate::found::Found;
+use crate::look::{Look, is_as_seen};
 use crate::opened::{Access, Opened, reopen};
 use crate::parents::{
     Parents, find, folder_of, make_directory, make_parents, open_folder, parents_of, sync_folder,
@@ -15,12 +16,19 @@ use std::fs;
 use std::io::ErrorKind;
 use std::rt::Files;
 
-/// What is at a name.
-pub(crate) fn stat<R: Files>(disk: &Disk<R>, name: &str) -> Result<Stat, StoreRefusal>
+/// What is at a name, which then is the last look.
+pub(crate) fn stat<R: Files>(
+    disk: &Disk<R>,
+    look: &mut Option<Look>,
+    name: &str,
+) -> Result<Stat, StoreRefusal>
     ensures { IfErr result IsPlain }
 {
+    *look = None;
     let path = disk.path_of(name)?;
-    Ok(match find(disk, path.as_str())? {
+    let found = find(disk, path.as_str())?;
+    *look = Some(Look::new(path, found));
+    Ok(match found {
         Found::Nothing => Stat::Missing,
         Found::Other => Stat::Other,
         Found::Directory => Stat::Directory,
@@ -55,9 +63,15 @@ pub(crate) fn read_at<R: Files>(
 }
 
 /// Moves a file to where nothing is. Both its folders reach the disk before this returns.
-pub(crate) fn rename<R: Files>(disk: &Disk<R>, from: &str, to: &str) -> Result<(), StoreRefusal>
+pub(crate) fn rename<R: Files>(
+    disk: &Disk<R>,
+    look: &mut Option<Look>,
+    from: &str,
+    to: &str,
+) -> Result<(), StoreRefusal>
     ensures { result ≢ Err NotEmpty }
 {
+    *look = None;
     let from = disk.path_of(from)?;
     let to = disk.path_of(to)?;
     match parents_of(disk, to.as_str())? {
@@ -76,6 +90,7 @@ pub(crate) fn rename<R: Files>(disk: &Disk<R>, from: &str, to: &str) -> Result<(
         Some(open_folder(disk, from.as_str())?)
     };
     or_fault(fs::rename(&disk.files, from.as_str(), to.as_str()))?;
+    *look = Some(Look::gone(from));
     sync_folder::<R>(&new_folder)?;
     if let Some(folder) = old_folder {
         sync_folder::<R>(&folder)?;
@@ -83,14 +98,26 @@ pub(crate) fn rename<R: Files>(disk: &Disk<R>, from: &str, to: &str) -> Result<(
     Ok(())
 }
 
-pub(crate) fn remove<R: Files>(disk: &Disk<R>, name: &str) -> Result<(), StoreRefusal>
+/// Removes a file, unless it changed since the last look, if that was at it.
+pub(crate) fn remove<R: Files>(
+    disk: &Disk<R>,
+    look: &mut Option<Look>,
+    name: &str,
+) -> Result<(), StoreRefusal>
     ensures { IfErr result IsPlain }
 {
+    let last = look.take();
     let path = disk.path_of(name)?;
-    match find(disk, path.as_str())? {
-        Found::File(_) => or_fault(fs::remove_file(&disk.files, path.as_str())),
-        _ => Err(StoreRefusal::StoreFault),
+    let found = find(disk, path.as_str())?;
+    let Found::File(_) = found else {
+        return Err(StoreRefusal::StoreFault);
+    };
+    if !is_as_seen(&last, path.as_str(), &found) {
+        return Err(StoreRefusal::StoreFault);
     }
+    or_fault(fs::remove_file(&disk.files, path.as_str()))?;
+    *look = Some(Look::gone(path));
+    Ok(())
 }
 
 pub(crate) fn make_dir<R: Files>(disk: &Disk<R>, name: &str) -> Result<(), StoreRefusal>
@@ -102,15 +129,23 @@ pub(crate) fn make_dir<R: Files>(disk: &Disk<R>, name: &str) -> Result<(), Store
     Ok(())
 }
 
-pub(crate) fn remove_dir<R: Files>(disk: &Disk<R>, name: &str) -> Result<(), StoreRefusal>
+pub(crate) fn remove_dir<R: Files>(
+    disk: &Disk<R>,
+    look: &mut Option<Look>,
+    name: &str,
+) -> Result<(), StoreRefusal>
     ensures { result ≢ Err BadParent }
 {
+    *look = None;
     let path = disk.path_of(name)?;
     let Found::Directory = find(disk, path.as_str())? else {
         return Err(StoreRefusal::StoreFault);
     };
     match fs::remove_dir(&disk.files, path.as_str()) {
-        Ok(()) => Ok(()),
+        Ok(()) => {
+            *look = Some(Look::gone(path));
+            Ok(())
+        }
         Err(error) if error.kind() == ErrorKind::DirectoryNotEmpty => Err(StoreRefusal::NotEmpty),
         Err(_) => Err(StoreRefusal::StoreFault),
     }

@@ -16,13 +16,21 @@ pub(crate) enum Found {
     Other,
 }
 
-/// What the system says of a file: its bytes, when it was modified, its mode, and which file it is.
+/// What the system says of a file: its bytes, when it was modified, its mode, which file it is, and when it was changed last in whatever way.
 #[derive(Clone, Copy)]
 pub(crate) struct FileFacts {
     pub(crate) len: u64,
     pub(crate) modified: Moment,
     pub(crate) mode: u32,
     pub(crate) id: FileId,
+    changed: Change,
+}
+
+/// When a file was changed last: the seconds since 1970, and nanoseconds.
+#[derive(Clone, Copy, PartialEq, Eq)]
+struct Change {
+    seconds: i64,
+    nanoseconds: i64,
 }
 
 /// Which file it is, whatever its path.
@@ -42,9 +50,24 @@ impl Found {
                 modified: moment_of(metadata.mtime()),
                 mode: metadata.mode(),
                 id: FileId::new(metadata),
+                changed: Change {
+                    seconds: metadata.ctime(),
+                    nanoseconds: metadata.ctime_nsec(),
+                },
             })
         } else {
             Found::Other
+        }
+    }
+
+    /// Whether it is what was found before: nothing, or the same file, unchanged.
+    pub(crate) fn is_as(&self, before: &Found) -> bool {
+        match (self, before) {
+            (Found::Nothing, Found::Nothing) => true,
+            (Found::File(now), Found::File(before)) => {
+                now.id == before.id && now.len == before.len && now.changed == before.changed
+            }
+            _ => false,
         }
     }
 }

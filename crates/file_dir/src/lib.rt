@@ -8,6 +8,7 @@
 mod changes;
 mod disk;
 mod found;
+mod look;
 mod marker;
 mod mode;
 mod opened;

@@ -3,6 +3,7 @@ ghost use Rattle.std.specs.Prelude.{◌≡◌, IfOk, IfErr};
 ghost use Rattle.file_store.specs.Refusals.{count_after, IsPlain};
 
 use crate::disk::Disk;
+use crate::look::Look;
 use crate::opened::Opened;
 use crate::{changes, marker, temps, walk};
 use file_store::{FileStore, Listing, Stat, StoreRefusal};
@@ -17,7 +18,12 @@ use sync_names::SafeName;
 /// through links. While it is missing, or on another device than when the store was opened, each call returns `StoreFault`.
 ///
 /// What `commit_temp`, `rename` and `make_dir` have done has reached the disk when they return. A temporary file reaches the disk when `stat` looks at its
-/// name, so that between that look and `commit_temp` little time passes in which somebody can change the file that is replaced.
+/// name.
+///
+/// Others may change the folder at any time. Of the name that `stat` looked at last, or of which this store moved or removed the file since, `commit_temp` and `remove` return `StoreFault`, and change nothing, where
+/// something else is there now than then: another file, or the same one, written to or given other permissions. So what somebody writes after a look
+/// is not lost, but for what comes in the moment between that test and the call of the system; where nothing was at the name, `commit_temp` replaces nothing, however late something
+/// comes, on file systems that have hard links.
 ///
 /// Each call takes a call of the system for the folder and for each parent of the name.
 #[derive(Drop)]
@@ -25,6 +31,7 @@ pub struct DirStore<R: Files> {
     disk: Disk<R>,
     reading: Option<Opened<R::File>>,
     writing: Option<Opened<R::File>>,
+    look: Option<Look>,
     faults: u64,
 }
 
@@ -42,6 +49,7 @@ impl<R: Files + Drop> DirStore<R> {
             disk,
             reading: None,
             writing: None,
+            look: None,
             faults: 0,
         })
     }
@@ -108,7 +116,7 @@ impl<R: Files> FileStore for DirStore<R> {
     }
 
     fn stat(&mut self, name: &SafeName) -> Result<Stat, StoreRefusal> {
-        let answer = temps::stat(&self.disk, &mut self.writing, name);
+        let answer = temps::stat(&self.disk, &mut self.writing, &mut self.look, name);
         settle(&mut self.faults, answer)
     }
 
@@ -134,7 +142,7 @@ impl<R: Files> FileStore for DirStore<R> {
 
     fn commit_temp(&mut self, name: &SafeName) -> Result<(), StoreRefusal> {
         self.reading = None;
-        let answer = temps::commit_temp(&self.disk, &mut self.writing, name);
+        let answer = temps::commit_temp(&self.disk, &mut self.writing, &mut self.look, name);
         settle(&mut self.faults, answer)
     }
 
@@ -144,13 +152,13 @@ impl<R: Files> FileStore for DirStore<R> {
     }
 
     fn rename(&mut self, from: &SafeName, to: &SafeName) -> Result<(), StoreRefusal> {
-        let answer = changes::rename(&self.disk, from.as_str(), to.as_str());
+        let answer = changes::rename(&self.disk, &mut self.look, from.as_str(), to.as_str());
         settle(&mut self.faults, answer)
     }
 
     fn remove(&mut self, name: &SafeName) -> Result<(), StoreRefusal> {
         self.reading = None;
-        let answer = changes::remove(&self.disk, name.as_str());
+        let answer = changes::remove(&self.disk, &mut self.look, name.as_str());
         settle(&mut self.faults, answer)
     }
 
@@ -160,7 +168,7 @@ impl<R: Files> FileStore for DirStore<R> {
     }
 
     fn remove_dir(&mut self, name: &SafeName) -> Result<(), StoreRefusal> {
-        let answer = changes::remove_dir(&self.disk, name.as_str());
+        let answer = changes::remove_dir(&self.disk, &mut self.look, name.as_str());
         settle(&mut self.faults, answer)
     }
 }

@@ -6,6 +6,7 @@ ghost use Rattle.file_store.specs.declared.refusal.StoreRefusal.TheVariants.{Not
 use crate::changes;
 use crate::disk::Disk;
 use crate::found::Found;
+use crate::look::{Look, is_as_seen};
 use crate::mode::{create, permissions_of};
 use crate::opened::{Access, Opened, reopen};
 use crate::parents::{find, make_parents, open_folder, sync_folder};
@@ -83,12 +84,13 @@ pub(crate) fn write_at<R: Files>(
 pub(crate) fn stat<R: Files>(
     disk: &Disk<R>,
     slot: &mut Option<Opened<R::File>>,
+    look: &mut Option<Look>,
     name: &SafeName,
 ) -> Result<Stat, StoreRefusal>
     ensures { IfErr result IsPlain }
 {
     sync_temp(disk, slot, name)?;
-    changes::stat(disk, name.as_str())
+    changes::stat(disk, look, name.as_str())
 }
 
 /// Has the temporary file of a name reach the disk, with the permissions of the file that it is to replace, if it is the open one. Does
@@ -115,29 +117,44 @@ fn sync_temp<R: Files>(
 }
 
 /// Puts the temporary file in its place, with the permissions of the file that it replaces. Its bytes reach the disk before,
-/// unless they have by [`stat`], and the new name before this returns.
+/// unless they have by [`stat`], and the new name before this returns. A fault if what is there is not what was there at the last look, if that
+/// was at this name.
 pub(crate) fn commit_temp<R: Files>(
     disk: &Disk<R>,
     slot: &mut Option<Opened<R::File>>,
+    look: &mut Option<Look>,
     name: &SafeName,
 ) -> Result<(), StoreRefusal>
     ensures { IfErr result IsPlain }
 {
+    let last = look.take();
     let path = disk.path_of(name.as_str())?;
     let temp = disk.temp_path_of(name)?;
     open_temp(disk, slot, temp.as_str())?;
-    let Some(mut opened) = slot.take() else {
+    sync_temp(disk, slot, name)?;
+    *slot = None;
+    let folder = open_folder(disk, path.as_str())?;
+    let found = disk.look(path.as_str())?;
+    if !is_as_seen(&last, path.as_str(), &found) {
         return Err(StoreRefusal::StoreFault);
-    };
-    match disk.look(path.as_str())? {
-        Found::Nothing => {}
-        Found::File(old) => opened.set_mode(permissions_of(old.mode))?,
+    }
+    match found {
+        Found::Nothing => put_new(disk, temp.as_str(), path.as_str())?,
+        Found::File(_) => or_fault(fs::rename(&disk.files, temp.as_str(), path.as_str()))?,
         Found::Directory | Found::Other => return Err(StoreRefusal::StoreFault),
     }
-    opened.sync()?;
-    let folder = open_folder(disk, path.as_str())?;
-    or_fault(fs::rename(&disk.files, temp.as_str(), path.as_str()))?;
     sync_folder::<R>(&folder)
+}
+
+/// Moves a file to where nothing is. A fault if something came there meanwhile, on a file system that has hard links; else that is replaced.
+fn put_new<R: Files>(disk: &Disk<R>, from: &str, to: &str) -> Result<(), StoreRefusal>
+    ensures { IfErr result IsPlain }
+{
+    match fs::hard_link(&disk.files, from, to) {
+        Ok(()) => or_fault(fs::remove_file(&disk.files, from)),
+        Err(error) if error.kind() == ErrorKind::AlreadyExists => Err(StoreRefusal::StoreFault),
+        Err(_) => or_fault(fs::rename(&disk.files, from, to)),
+    }
 }
 
 pub(crate) fn drop_temp<R: Files>(
