@@ -4,6 +4,9 @@ ghost use Rattle.sync_blocks.specs.declared.block.Block.{Block};
 ghost use Rattle.folder_filter.specs.Covered.{MayHave, found_blocks};
 ghost use Rattle.folder_filter.specs.Filters.{wanted_len, with_blocks};
 
+#[cfg(test)]
+mod tests;
+
 use crate::bloom_filter::BloomFilter;
 use crate::filled::filled;
 use bep_messages::Items;
