@@ -11,10 +11,12 @@ use crate::parents::{
     Parents, find, folder_of, make_directory, make_parents, open_folder, parents_of, sync_folder,
 };
 use crate::refuse::or_fault;
+use crate::replaced::remove_by_way_of;
 use file_store::{Stat, StoreRefusal};
 use std::fs;
 use std::io::ErrorKind;
 use std::rt::Files;
+use sync_names::SafeName;
 
 /// What is at a name, which then is the last look.
 pub(crate) fn stat<R: Files>(
@@ -98,24 +100,25 @@ pub(crate) fn rename<R: Files>(
     Ok(())
 }
 
-/// Removes a file, unless it changed since the last look, if that was at it.
+/// Removes a file. A fault if it changed since the last look, if that was at it, also while it was removed; then it is there again.
 pub(crate) fn remove<R: Files>(
     disk: &Disk<R>,
     look: &mut Option<Look>,
-    name: &str,
+    name: &SafeName,
 ) -> Result<(), StoreRefusal>
     ensures { IfErr result IsPlain }
 {
     let last = look.take();
-    let path = disk.path_of(name)?;
+    let path = disk.path_of(name.as_str())?;
     let found = find(disk, path.as_str())?;
-    let Found::File(_) = found else {
-        return Err(StoreRefusal::StoreFault);
-    };
     if !is_as_seen(&last, path.as_str(), &found) {
         return Err(StoreRefusal::StoreFault);
     }
-    or_fault(fs::remove_file(&disk.files, path.as_str()))?;
+    let Found::File(old) = found else {
+        return Err(StoreRefusal::StoreFault);
+    };
+    let temp = disk.temp_path_of(name)?;
+    remove_by_way_of(disk, temp.as_str(), path.as_str(), &old)?;
     *look = Some(Look::gone(path));
     Ok(())
 }

@@ -16,19 +16,21 @@ pub(crate) enum Found {
     Other,
 }
 
-/// What the system says of a file: its bytes, when it was modified, its mode, which file it is, and when it was changed last in whatever way.
+/// What the system says of a file: its bytes, when it was modified, its mode, and which file it is.
 #[derive(Clone, Copy)]
 pub(crate) struct FileFacts {
     pub(crate) len: u64,
     pub(crate) modified: Moment,
     pub(crate) mode: u32,
     pub(crate) id: FileId,
-    changed: Change,
+    // When its bytes were changed last, and when anything of it was.
+    written: Time,
+    changed: Time,
 }
 
-/// When a file was changed last: the seconds since 1970, and nanoseconds.
+/// The seconds since 1970, and nanoseconds.
 #[derive(Clone, Copy, PartialEq, Eq)]
-struct Change {
+struct Time {
     seconds: i64,
     nanoseconds: i64,
 }
@@ -50,7 +52,11 @@ impl Found {
                 modified: moment_of(metadata.mtime()),
                 mode: metadata.mode(),
                 id: FileId::new(metadata),
-                changed: Change {
+                written: Time {
+                    seconds: metadata.mtime(),
+                    nanoseconds: metadata.mtime_nsec(),
+                },
+                changed: Time {
                     seconds: metadata.ctime(),
                     nanoseconds: metadata.ctime_nsec(),
                 },
@@ -65,10 +71,17 @@ impl Found {
         match (self, before) {
             (Found::Nothing, Found::Nothing) => true,
             (Found::File(now), Found::File(before)) => {
-                now.id == before.id && now.len == before.len && now.changed == before.changed
+                now.has_bytes_of(before) && now.changed == before.changed
             }
             _ => false,
         }
+    }
+}
+
+impl FileFacts {
+    /// Whether it is that file, and its bytes were not changed since, whatever else was.
+    pub(crate) fn has_bytes_of(&self, before: &FileFacts) -> bool {
+        self.id == before.id && self.len == before.len && self.written == before.written
     }
 }
 

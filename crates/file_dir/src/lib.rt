@@ -14,6 +14,7 @@ mod mode;
 mod opened;
 mod parents;
 mod refuse;
+mod replaced;
 mod store;
 mod temps;
 mod walk;

@@ -20,10 +20,10 @@ use sync_names::SafeName;
 /// What `commit_temp`, `rename` and `make_dir` have done has reached the disk when they return. A temporary file reaches the disk when `stat` looks at its
 /// name.
 ///
-/// Others may change the folder at any time. Of the name that `stat` looked at last, or of which this store moved or removed the file since, `commit_temp` and `remove` return `StoreFault`, and change nothing, where
-/// something else is there now than then: another file, or the same one, written to or given other permissions. So what somebody writes after a look
-/// is not lost, but for what comes in the moment between that test and the call of the system; where nothing was at the name, `commit_temp` replaces nothing, however late something
-/// comes, on file systems that have hard links.
+/// Others may change the folder at any time. Of the name that `stat` looked at last, or of which this store moved or removed the file since, `commit_temp` and `remove` return `StoreFault`
+/// where something else is there now than then: another file, or the same one, written to or given other permissions. What is there then stays, or is put back where it was written to just while it
+/// was replaced or removed. So what somebody writes after a look is not lost, but for a file that is moved over the old one in the moment in which this is replaced, on a file system without
+/// hard links, and where a last component has more than 231 bytes.
 ///
 /// Each call takes a call of the system for the folder and for each parent of the name.
 #[derive(Drop)]
@@ -158,7 +158,7 @@ impl<R: Files> FileStore for DirStore<R> {
 
     fn remove(&mut self, name: &SafeName) -> Result<(), StoreRefusal> {
         self.reading = None;
-        let answer = changes::remove(&self.disk, &mut self.look, name.as_str());
+        let answer = changes::remove(&self.disk, &mut self.look, name);
         settle(&mut self.faults, answer)
     }
 

@@ -10,7 +10,7 @@ use crate::look::{Look, is_as_seen};
 use crate::mode::{create, permissions_of};
 use crate::opened::{Access, Opened, reopen};
 use crate::parents::{find, make_parents, open_folder, sync_folder};
-use crate::refuse::or_fault;
+use crate::replaced::{put_new, remove_if_there, replace};
 use crate::walk::walk_folder;
 use file_store::{Stat, StoreRefusal};
 use std::fs;
@@ -36,17 +36,6 @@ pub(crate) fn make_temp<R: Files>(
     let file = create(disk, temp.as_str(), path.as_str())?;
     *slot = Some(Opened::new(temp, file, None)?);
     Ok(())
-}
-
-/// Removes what is at a path, unless nothing is. A directory is a fault.
-fn remove_if_there<R: Files>(disk: &Disk<R>, path: &str) -> Result<(), StoreRefusal>
-    ensures { IfErr result IsPlain }
-{
-    match fs::remove_file(&disk.files, path) {
-        Ok(()) => Ok(()),
-        Err(error) if error.kind() == ErrorKind::NotFound => Ok(()),
-        Err(_) => Err(StoreRefusal::StoreFault),
-    }
 }
 
 /// Opens the temporary file at a path, unless it is open. A fault if none is there.
@@ -118,7 +107,7 @@ fn sync_temp<R: Files>(
 
 /// Puts the temporary file in its place, with the permissions of the file that it replaces. Its bytes reach the disk before,
 /// unless they have by [`stat`], and the new name before this returns. A fault if what is there is not what was there at the last look, if that
-/// was at this name.
+/// was at this name; then it stays there.
 pub(crate) fn commit_temp<R: Files>(
     disk: &Disk<R>,
     slot: &mut Option<Opened<R::File>>,
@@ -140,21 +129,10 @@ pub(crate) fn commit_temp<R: Files>(
     }
     match found {
         Found::Nothing => put_new(disk, temp.as_str(), path.as_str())?,
-        Found::File(_) => or_fault(fs::rename(&disk.files, temp.as_str(), path.as_str()))?,
+        Found::File(old) => replace(disk, temp.as_str(), path.as_str(), &old)?,
         Found::Directory | Found::Other => return Err(StoreRefusal::StoreFault),
     }
     sync_folder::<R>(&folder)
-}
-
-/// Moves a file to where nothing is. A fault if something came there meanwhile, on a file system that has hard links; else that is replaced.
-fn put_new<R: Files>(disk: &Disk<R>, from: &str, to: &str) -> Result<(), StoreRefusal>
-    ensures { IfErr result IsPlain }
-{
-    match fs::hard_link(&disk.files, from, to) {
-        Ok(()) => or_fault(fs::remove_file(&disk.files, from)),
-        Err(error) if error.kind() == ErrorKind::AlreadyExists => Err(StoreRefusal::StoreFault),
-        Err(_) => or_fault(fs::rename(&disk.files, from, to)),
-    }
 }
 
 pub(crate) fn drop_temp<R: Files>(
