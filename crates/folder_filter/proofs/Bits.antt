@@ -1,11 +1,13 @@
 -- What is put into a filter is held from then on.
-use Rattle.std.proofs.Common.{◌≡◌, ◌≢◌, ℕ, ◌<◌, ◌/◌, ◌%◌, ◌^◌, ◌+◌, ◌-◌, min, max, length, get_or, take, arith, true, false, List, [], ◌∷◌, refl, sym, ap, subst, ◌∙◌, inl, inr}
+use Rattle.std.proofs.Common.{zero, suc, ◌≡◌, ◌≢◌, ℕ, ◌<◌, ◌/◌, ◌%◌, ◌^◌, ◌+◌, ◌-◌, min, max, length, get_or, take, drop, arith, true, false, List, [], ◌∷◌, refl, sym, ap, subst, ◌∙◌, inl, inr}
 use Rattle.std.proofs.lemmas.Bool.{eq-eqb, eqb-true, true≢false}
 use Rattle.std.proofs.lemmas.List.{get_or-set_other, get_or-set_same, length-replicate, length-set}
 use Rattle.std.proofs.lemmas.Nat.{mod_below}
 use Rattle.std.proofs.lemmas.Nat.Bits.{bit_at-lt, bit_at-pow_same, bit_at-zero, bit_at_or}
 use Rattle.std.specs.Int.{bit_at, from_be_bytes, w64}
-use Rattle.std.specs.Prelude.{bit_or, fold, if◌then◌else◌, set, ◌==◌, Contains, IsTrue}
+use Rattle.std.specs.Simd.{first_chunks}
+use Rattle.std.specs.List.{list_all}
+use Rattle.std.specs.Prelude.{replicate, ◌&&◌, bit_or, fold, if◌then◌else◌, set, ◌==◌, Contains, IsTrue}
 use Rattle.sync_blocks.specs.declared.block.Block.{Block}
 use Rattle.sync_record.specs.Records.{FileRecord}
 use Rattle.folder_core.proofs.ListTests.{In, all_in, contains_in, in_all}
@@ -97,7 +99,7 @@ digest-stays : (f : Filter) (digest other : List ℕ) → 0 < length f.words →
 digest-stays f digest other some e = either (λ g. holds g other ≡ true) f digest (λ _. e)
     (in_all (is_set (put_in f digest).words) (parts other) (λ p i. parts-stay f.words (parts digest) p some (all_in (is_set f.words) (parts other) e p i)))
 
-digest-comes : (f : Filter) (digest : List ℕ) → 0 < length f.words → holds (with_digest f digest) digest ≡ true
+pub digest-comes : (f : Filter) (digest : List ℕ) → 0 < length f.words → holds (with_digest f digest) digest ≡ true
 digest-comes f digest some = either (λ g. holds g digest ≡ true) f digest (λ t. t)
     (in_all (is_set (put_in f digest).words) (parts digest) (λ p i. parts-come f.words (parts digest) p some i))
 
@@ -111,6 +113,21 @@ set-some (w ∷ ws) part e = omega arith
 
 pub holds-some : (f : Filter) (digest : List ℕ) → holds f digest ≡ true → 0 < length f.words
 holds-some f digest e = set-some f.words (take 8 digest) (all_in (is_set f.words) (parts digest) e (take 8 digest) (inl refl))
+
+pub digest-kept : (f : Filter) (digest other : List ℕ) → IsTrue (holds f other) → IsTrue (holds (with_digest f digest) other)
+digest-kept f digest other e = digest-stays f digest other (holds-some f other e) e
+
+-- a table with no bit set holds nothing
+zeros : (len i : ℕ) → ◌≡◌ {A = ℕ} (get_or (replicate len 0) i 0) 0
+zeros zero i = refl
+zeros (suc len) zero = refl
+zeros (suc len) (suc i) = zeros len i
+
+none-set : (len : ℕ) (part : List ℕ) → is_set (replicate len 0) part ≡ false
+none-set len part = ap (λ w. bit_at w (bit_of part) == 1) (zeros len (word_of (replicate len 0) part)) ∙ ap (λ b. b == 1) (bit_at-zero (bit_of part))
+
+pub none-held : (len : ℕ) (digest : List ℕ) → holds (no_digests len) digest ≡ false
+none-held len digest = ap (λ b. b && list_all (is_set (replicate len 0)) (first_chunks 8 3 (drop 8 digest))) (none-set len (take 8 digest))
 
 -- those of blocks
 blocks-length : (f : Filter) (bs : List Block) → length (with_blocks f bs).words ≡ length f.words

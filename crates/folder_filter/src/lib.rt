@@ -8,5 +8,6 @@
 mod bloom_filter;
 mod filled;
 mod filtered_folder;
+pub mod laws;
 
 pub use filtered_folder::FilteredFolder;
