@@ -6,13 +6,13 @@ ghost use Rattle.sync_record.specs.Validity.{is_valid};
 use super::FilteredFolder;
 use bep_messages::{BlockInfo, Counter, FileInfo, Items, Octets, ShortOctets, Text, Vector};
 use folder_core::{
-    BeginAnswer, Commit, Finding, FolderCore, FoundContent, PlainFolder, ScanAnswer,
+    BeginAnswer, Commit, Finding, FolderCore, FoundContent, PlainFolder, ScanAnswer, ScanFault,
 };
 use std::process::Abort;
 use sync_blocks::Block;
 use sync_names::SafeName;
 use sync_record::{Assembled, Assembly, DeviceId, Kind, Put, Record};
-use sync_version::{Moment, Version};
+use sync_version::Moment;
 
 /// The SHA-256 digest of "abc", of FIPS 180-4.
 const ABC: [u8; 32] = [
@@ -25,7 +25,7 @@ fn finds_what_was_found(rt: HostRuntime) {
     let mut folder = folder(&rt);
     is_for_threads(&folder);
     assert!(rt; found_in(&rt, &folder, &digest(0)).is_none());
-    scans(&rt, &mut folder, "a", &blocks(&rt, 2), None);
+    scans(&rt, &mut folder, "a", &blocks(&rt, 2));
     let name = found_in(&rt, &folder, &digest(1)).expect(&rt, "a place");
     assert_eq!(rt; name.as_str(), "a");
     assert!(rt; found_in(&rt, &folder, &digest(2)).is_none());
@@ -37,12 +37,14 @@ fn finds_what_was_found(rt: HostRuntime) {
 #[test]
 fn asks_for_what_is_gone(rt: HostRuntime) {
     let mut folder = folder(&rt);
-    scans(&rt, &mut folder, "a", &blocks(&rt, 1), None);
+    scans(&rt, &mut folder, "a", &blocks(&rt, 1));
     let name = name(&rt, "a");
     let local = folder.local(&name).expect(&rt, "a record");
     let local = local.expect(&rt, "a local record");
-    let gone = folder.scan_gone(&name, Some(local.version()), moment(&rt));
-    assert!(rt; matches!(gone, Ok(ScanAnswer::Recorded(2))));
+    recorded(
+        &rt,
+        folder.scan_gone(&name, Some(local.version()), moment(&rt)),
+    );
     assert!(rt; found_in(&rt, &folder, &digest(0)).is_none());
 }
 
@@ -65,14 +67,14 @@ fn finds_what_was_pulled(rt: HostRuntime) {
 #[test]
 fn grows_with_the_folder(rt: HostRuntime) {
     let mut folder = folder(&rt);
-    assert!(rt; wanted(&folder).is_none());
-    scans(&rt, &mut folder, "a", &blocks(&rt, 5000), None);
+    wants(&rt, &folder, None);
+    scans(&rt, &mut folder, "a", &blocks(&rt, 5000));
     // Too full: it is made anew of what the folder has, and grows since that is as much.
-    assert_eq!(rt; wanted(&folder), Some(1024));
-    scans(&rt, &mut folder, "b", &blocks(&rt, 1), None);
-    assert_eq!(rt; wanted(&folder), Some(4096));
-    scans(&rt, &mut folder, "c", &blocks(&rt, 1), None);
-    assert!(rt; wanted(&folder).is_none());
+    wants(&rt, &folder, Some(1024));
+    scans(&rt, &mut folder, "b", &blocks(&rt, 1));
+    wants(&rt, &folder, Some(4096));
+    scans(&rt, &mut folder, "c", &blocks(&rt, 1));
+    wants(&rt, &folder, None);
     for number in [0, 1, 4095, 4096, 4999] {
         assert!(rt; found_in(&rt, &folder, &digest(number)).is_some());
     }
@@ -88,9 +90,10 @@ fn folder(rt: &impl AllocGlobal) -> FilteredFolder<PlainFolder> {
 /// Takes what callers in several threads may have.
 fn is_for_threads<C: FolderCore + Drop + Send + Sync>(_folder: &C) {}
 
-/// How many words the filter that is made next needs, if one is.
-fn wanted(folder: &FilteredFolder<PlainFolder>) -> Option<usize> {
-    super::wanted_len(&folder.filter)
+/// Compares how many words the filter that is made next needs, if one is. Without memory there is none, or it is as it was.
+fn wants(rt: &impl Abort, folder: &FilteredFolder<PlainFolder>, words: Option<usize>) {
+    let wanted = super::wanted_len(&folder.filter);
+    assert!(rt; wanted == words, "{wanted:?}, or AllocError");
 }
 
 /// A digest for each number, as if it were random.
@@ -136,11 +139,23 @@ fn scans(
     folder: &mut FilteredFolder<PlainFolder>,
     text: &str,
     found: &Finding,
-    expected: Option<&Version>,
 ) {
     assert!(rt; found.content.is_recordable());
-    let answer = folder.scan_found(&name(rt, text), expected, found, moment(rt));
-    assert!(rt; matches!(answer, Ok(ScanAnswer::Recorded(_))));
+    recorded(
+        rt,
+        folder.scan_found(&name(rt, text), None, found, moment(rt)),
+    );
+}
+
+/// A scan was recorded.
+fn recorded(rt: &impl Abort, answer: Result<ScanAnswer, ScanFault>) {
+    match answer {
+        Ok(ScanAnswer::Recorded(_)) => (),
+        Ok(ScanAnswer::Unchanged | ScanAnswer::Moved(_) | ScanAnswer::Busy) => {
+            panic!(rt; "not recorded")
+        }
+        Err(fault) => panic!(rt; "{fault:?}"),
+    }
 }
 
 /// Enters the commit of a pull of "a".

@@ -1,4 +1,4 @@
-use Rattle.std.proofs.Common.{◌≡◌, ◌-◌, ◌<◌, ℕ, List, ◌∙◌, sym, ap, subst, arith}
+use Rattle.std.proofs.Common.{◌≡◌, ◌-◌, ◌<◌, ℕ, List, sym, subst, arith}
 use Rattle.std.specs.Prelude.{◌^◌, None, Some, length, slice_get}
 use Rattle.sync_record.specs.Records.{FileRecord}
 use Rattle.folder_filter.specs.Filters.{with_records}
@@ -37,4 +37,5 @@ loop-filter-preserved g c =
     subst (λ k. IsFilled s c.args.len k c.insert_records.new.self) (sym c.sequence-sequence.ensures.value)
     (filled-more laws.only laws.all s c.me.ensures.folder c.args.len c.loop-filter.sequence (2 ^ 64 - 1)
     c.loop-filter.filter c.loop-filter.invariant c.in_ok-page.page c.in_ok-page.ensures c.in-Some.last.now there
-    c.insert_records.new.self (c.insert_records.ensures ∙ ap (with_records c.loop-filter.filter) c.as_slice-in-loop-filter.ensures))
+    c.insert_records.new.self
+    (subst (λ (rs : List FileRecord). c.insert_records.new.self ≡ with_records c.loop-filter.filter rs) c.as_slice-in-loop-filter.ensures c.insert_records.ensures))
