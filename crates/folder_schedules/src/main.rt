@@ -1,0 +1,105 @@
+//! Plays random schedules of three to eight devices that share a folder, and tests what is left in the end.
+#![tactic(auto)]
+
+mod acts;
+mod counts;
+mod device;
+mod fault;
+mod links;
+mod names;
+mod pages;
+mod play;
+mod pulls;
+mod quiet;
+mod random;
+mod restarts;
+mod scans;
+mod show;
+mod source;
+mod step;
+mod texts;
+mod users;
+mod verdict;
+mod words;
+mod world;
+
+use counts::Counts;
+use fault::Fault;
+use play::{Failing, Schedule, play, shortened};
+use std::alloc::Global;
+use std::env::{self, Env};
+use std::io;
+use std::process::ExitCode;
+use std::thread::Threads;
+use words::Asked;
+
+fn main(rt: HostRuntime) -> ExitCode {
+    match run(&rt) {
+        Ok(true) => ExitCode::SUCCESS,
+        _ => ExitCode::FAILURE,
+    }
+}
+
+/// Plays the schedules of the command line. Returns whether none failed.
+fn run<R: Env + Print + Eprint + AllocGlobal + Threads + Sync>(rt: &R) -> io::Result<bool> {
+    let words = env::args(rt)?.collect::<Vec<String>>(rt.alloc())?;
+    let Some(asked) = Asked::by(&words) else {
+        eprintln!(rt; "folder_schedules SEED COUNT [apart|mixed] [FIRST]")?;
+        return Ok(false);
+    };
+    let mut counts = Counts::new();
+    for number in asked.numbers() {
+        play_one(rt, &asked, number, &mut counts)?;
+        if counts.played % 1000 == 0 {
+            eprintln!(rt; "{counts}")?;
+        }
+    }
+    println!(rt; "{counts}")?;
+    Ok(counts.is_clean())
+}
+
+/// Plays a schedule, and prints it if it fails, or if it was asked for.
+fn play_one<R: Print + AllocGlobal + Threads + Sync>(
+    rt: &R,
+    asked: &Asked,
+    number: u64,
+    counts: &mut Counts,
+) -> io::Result<()> {
+    let schedule = Schedule::new(rt.alloc(), asked.seed, number, asked.class)?;
+    let played = match play(rt, rt.alloc(), &schedule) {
+        Ok(played) => played,
+        Err(fault) => return println!(rt; "schedule {number}: {fault}"),
+    };
+    let failing = played.failing();
+    counts.count(&played);
+    if asked.shows_all {
+        show::print_played(rt, number, &played)?;
+    }
+    match failing {
+        Some(failing) if counts.is_shown(failing) => print_shortened(rt, number, schedule, failing),
+        _ => Ok(()),
+    }
+}
+
+/// Prints a schedule with fewer steps that fails in the same way.
+fn print_shortened<R: Print + AllocGlobal + Threads + Sync>(
+    rt: &R,
+    number: u64,
+    schedule: Schedule,
+    failing: Failing,
+) -> io::Result<()> {
+    match shortest(rt, rt.alloc(), schedule, failing) {
+        Ok(played) => show::print_played(rt, number, &played),
+        Err(fault) => println!(rt; "schedule {number}: {fault}"),
+    }
+}
+
+fn shortest<R: Threads + Sync>(
+    rt: &R,
+    alloc: Global,
+    schedule: Schedule,
+    failing: Failing,
+) -> Result<play::Played, Fault> {
+    let schedule = shortened(rt, alloc, schedule, failing)?;
+    play(rt, alloc, &schedule)
+}
