@@ -1,6 +1,6 @@
 //! A step of a schedule that is drawn.
 use crate::fault::Fault;
-use crate::names::{directory_name, file_name};
+use crate::names::Class;
 use crate::pages::send_page;
 use crate::pulls::{pull, round_of};
 use crate::random::Random;
@@ -21,7 +21,7 @@ pub(crate) fn act<R: Threads + Sync>(
     world: &mut World,
     drawn: &mut Random,
 ) -> Result<(), Fault> {
-    let place = drawn.below(world.devices.len());
+    let place = some_device(world, drawn);
     match drawn.below(100) {
         0..=24 => use_files(alloc, world, drawn, place),
         25..=44 => {
@@ -29,11 +29,20 @@ pub(crate) fn act<R: Threads + Sync>(
             Ok(())
         }
         45..=69 => send_some(alloc, world, drawn),
-        70..=88 => pull_some(rt, alloc, world, drawn, place),
-        89..=95 => cut_or_link(world, drawn),
-        96..=97 => save(alloc, world, place),
+        70..=83 => pull_some(rt, alloc, world, drawn, place),
+        84..=88 => pull_all(rt, alloc, world, drawn, place),
+        89..=93 => cut_or_link(world, drawn),
+        94..=96 => save(alloc, world, place),
         _ => restore(alloc, world, drawn, place),
     }
+}
+
+/// Some device: where clocks stand still at times, mostly the first one, so that it changes things more than once in a second.
+fn some_device(world: &World, drawn: &mut Random) -> usize {
+    if world.class == Class::Still && drawn.is_one_in(2) {
+        return 0;
+    }
+    drawn.below(world.devices.len())
 }
 
 /// Sends a page of a few records, or of all that there are.
@@ -69,6 +78,20 @@ fn pull_some<R: Threads + Sync>(
     Ok(())
 }
 
+/// Pulls each name that a device needs, in its order. Now and then nothing is given.
+fn pull_all<R: Threads + Sync>(
+    rt: &R,
+    alloc: Global,
+    world: &mut World,
+    drawn: &mut Random,
+    place: usize,
+) -> Result<(), Fault> {
+    for name in round_of(alloc, world, place)? {
+        pull(rt, alloc, world, place, name, !drawn.is_one_in(10))?;
+    }
+    Ok(())
+}
+
 /// Has the user of a device change its files.
 fn use_files(
     alloc: Global,
@@ -78,7 +101,7 @@ fn use_files(
 ) -> Result<(), Fault> {
     match drawn.below(10) {
         0..=4 => {
-            let name = file_name(alloc, drawn, world.class)?;
+            let name = world.names.file(alloc, drawn)?;
             write_at(world, place, name)
         }
         5 => {
@@ -94,7 +117,7 @@ fn use_files(
             remove_at(world, place, name)
         }
         _ => {
-            let name = directory_name(alloc, drawn, world.class)?;
+            let name = world.names.directory(alloc, drawn)?;
             make_dir_at(world, place, name)
         }
     }

@@ -54,7 +54,11 @@ impl Counts {
 
 impl Display for Counts {
     fn fmt<W: fmt::Write>(&self, f: &mut Formatter<W>) -> fmt::Result {
-        write!(f, "{} schedules, {} lost, {} apart", self.played, self.lost, self.apart)?;
+        write!(
+            f,
+            "{} schedules, {} lost, {} apart",
+            self.played, self.lost, self.apart
+        )?;
         if self.stuck > 0 {
             write!(f, ", stuck: {} of {}", self.stuck, self.played)?;
         }

@@ -1,3 +1,5 @@
+//! Why a schedule can't be played to its end.
+use file_store::StoreRefusal;
 use std::alloc::{AllocError, AllocFailed};
 use std::fmt::{self, Display, Formatter};
 
@@ -7,6 +9,12 @@ pub(crate) enum Fault {
     OutOfMemory,
     /// A worker left a pull open.
     PullLeftOpen,
+    /// A store refused what a user asked for.
+    StoreRefused,
+    /// A scan stopped before it had looked at all names.
+    ScanStopped,
+    /// A folder took no more changes.
+    HistoryFull,
 }
 
 impl Display for Fault {
@@ -14,6 +22,9 @@ impl Display for Fault {
         f.write_str(match self {
             Fault::OutOfMemory => "out of memory",
             Fault::PullLeftOpen => "a pull was left open",
+            Fault::StoreRefused => "a store refused what a user asked for",
+            Fault::ScanStopped => "a scan stopped",
+            Fault::HistoryFull => "a folder took no more changes",
         })
     }
 }
@@ -27,5 +38,14 @@ impl From<AllocError> for Fault {
 impl<T: Drop> From<AllocFailed<T>> for Fault {
     fn from(_failed: AllocFailed<T>) -> Fault {
         Fault::OutOfMemory
+    }
+}
+
+impl From<StoreRefusal> for Fault {
+    fn from(refusal: StoreRefusal) -> Fault {
+        match refusal {
+            StoreRefusal::OutOfMemory => Fault::OutOfMemory,
+            _ => Fault::StoreRefused,
+        }
     }
 }

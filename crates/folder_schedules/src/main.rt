@@ -1,4 +1,20 @@
-//! Plays random schedules of three to eight devices that share a folder, and tests what is left in the end.
+//! Plays random schedules of three to eight devices that share a folder, and tests that no text is lost, and that all devices become alike
+//! once nobody changes anything: `folder_schedules SEED COUNT [apart|mixed|still] [FIRST]`.
+//!
+//! A schedule is 10 to 129 steps, each drawn: a user writes a text, which is written only once, removes a file or a directory with
+//! what is in it, or makes a directory; a device scans its files, sends a page of its index, pulls a name or all that it needs; a link is
+//! lost, or made anew; a device saves its state, or begins again from what it saved, with its files as they are. In half of the
+//! schedules no device begins again. Then it is quiet: all links are up, and all devices scan, send and pull in rounds until a round changes
+//! nothing. `verdict` says what is then tested. The same SEED and number draw the same schedule.
+//!
+//! - `apart`, or no word: a name is that of files alone, or of directories alone, and each change has a second of its own.
+//! - `mixed`: each name may be that of a file, or of a directory. Where a directory has entries that a file is to replace, or a
+//!   parent is a file, pulls fail for ever; schedules in which devices differ at such names alone are counted as stuck.
+//! - `still`: as `apart`, but many changes are of the same second, mostly at one device.
+//!
+//! The first schedules that fail are printed, with steps left out that are not needed for it. With FIRST the schedules from
+//! this number on are played, and each is printed whole. The last line is `COUNT schedules, N lost, M apart`, and where some are stuck
+//! `, stuck: N of COUNT`. The status is 0 only if none is lost and none apart.
 #![tactic(auto)]
 
 mod acts;
@@ -44,7 +60,7 @@ fn main(rt: HostRuntime) -> ExitCode {
 fn run<R: Env + Print + Eprint + AllocGlobal + Threads + Sync>(rt: &R) -> io::Result<bool> {
     let words = env::args(rt)?.collect::<Vec<String>>(rt.alloc())?;
     let Some(asked) = Asked::by(&words) else {
-        eprintln!(rt; "folder_schedules SEED COUNT [apart|mixed] [FIRST]")?;
+        eprintln!(rt; "folder_schedules SEED COUNT [apart|mixed|still] [FIRST]")?;
         return Ok(false);
     };
     let mut counts = Counts::new();

@@ -11,49 +11,73 @@ pub(crate) enum Class {
     Apart,
     /// Any may have any.
     Mixed,
+    /// As `Apart`, and clocks stand still at times, so that several changes are of the same second.
+    Still,
 }
 
-impl Class {
-    pub(crate) fn word(self) -> &'static str {
-        match self {
-            Class::Apart => "apart",
-            Class::Mixed => "mixed",
+/// The names that users write to in a schedule.
+#[derive(Clone, Copy)]
+pub(crate) struct Names {
+    class: Class,
+    /// How many of the names of files, and of directories, are used.
+    files: usize,
+    directories: usize,
+}
+
+const FILES: [&str; 5] = ["a", "d/g.txt", "d/e/f", "d/e/h", "b"];
+
+const DIRECTORIES: [&str; 3] = ["d/e", "d", "k"];
+
+const ANY: [&str; 7] = ["d/e", "d/e/f", "d", "d/g.txt", "a", "a/k", "b"];
+
+impl Names {
+    /// Some of the names of a class: how many is drawn.
+    pub(crate) fn some(random: &mut Random, class: Class) -> Names {
+        Names {
+            class,
+            files: random.below(file_names(class).len()).saturating_add(1),
+            directories: random.below(directory_names(class).len()).saturating_add(1),
         }
     }
-}
 
-const FILES: [&str; 5] = ["a", "b", "d/g.txt", "d/e/f", "d/e/h"];
+    /// A name for a file.
+    pub(crate) fn file(
+        &self,
+        alloc: Global,
+        random: &mut Random,
+    ) -> Result<Option<SafeName>, Fault> {
+        one_of(alloc, file_names(self.class), random.below(self.files))
+    }
 
-const DIRECTORIES: [&str; 3] = ["d", "d/e", "k"];
-
-const ANY: [&str; 7] = ["a", "b", "d", "d/e", "d/e/f", "d/g.txt", "a/k"];
-
-/// A name for a file.
-pub(crate) fn file_name(
-    alloc: Global,
-    random: &mut Random,
-    class: Class,
-) -> Result<Option<SafeName>, Fault> {
-    match class {
-        Class::Apart => one_of(alloc, random, &FILES),
-        Class::Mixed => one_of(alloc, random, &ANY),
+    /// A name for a directory.
+    pub(crate) fn directory(
+        &self,
+        alloc: Global,
+        random: &mut Random,
+    ) -> Result<Option<SafeName>, Fault> {
+        one_of(
+            alloc,
+            directory_names(self.class),
+            random.below(self.directories),
+        )
     }
 }
 
-/// A name for a directory.
-pub(crate) fn directory_name(
-    alloc: Global,
-    random: &mut Random,
-    class: Class,
-) -> Result<Option<SafeName>, Fault> {
+fn file_names(class: Class) -> &'static [&'static str] {
     match class {
-        Class::Apart => one_of(alloc, random, &DIRECTORIES),
-        Class::Mixed => one_of(alloc, random, &ANY),
+        Class::Mixed => &ANY,
+        _ => &FILES,
     }
 }
 
-fn one_of(alloc: Global, random: &mut Random, names: &[&str]) -> Result<Option<SafeName>, Fault> {
-    let place = random.below(names.len());
+fn directory_names(class: Class) -> &'static [&'static str] {
+    match class {
+        Class::Mixed => &ANY,
+        _ => &DIRECTORIES,
+    }
+}
+
+fn one_of(alloc: Global, names: &[&str], place: usize) -> Result<Option<SafeName>, Fault> {
     let Some(name) = names.get(place) else {
         return Ok(None);
     };

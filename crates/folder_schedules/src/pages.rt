@@ -38,12 +38,7 @@ pub(crate) fn send_page(
 }
 
 /// Sends an Index without records, if none was sent.
-fn begin(
-    alloc: Global,
-    world: &mut World,
-    place: usize,
-    index_id: u64,
-) -> Result<bool, Fault> {
+fn begin(alloc: Global, world: &mut World, place: usize, index_id: u64) -> Result<bool, Fault> {
     let Some(way) = world.ways.get(place) else {
         return Ok(false);
     };
@@ -92,7 +87,7 @@ fn announce(
     };
     match answer.value {
         Ok(()) => Ok(()),
-        Err(_) => Err(Fault::OutOfMemory),
+        Err(_) => Err(Fault::HistoryFull),
     }
 }
 

@@ -127,7 +127,9 @@ fn shortened_by<R: Threads + Sync>(
     let mut shortest = schedule;
     for place in (0..shortest.steps.len()).rev() {
         let shorter = shortest.without(alloc, place, count)?;
-        if shorter.steps.len() < shortest.steps.len() && still_fails(rt, alloc, &shorter, failing)? {
+        if shorter.steps.len() < shortest.steps.len()
+            && still_fails(rt, alloc, &shorter, failing)?
+        {
             shortest = shorter;
         }
     }

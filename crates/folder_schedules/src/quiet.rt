@@ -8,44 +8,38 @@ use crate::step::Event;
 use crate::world::World;
 use std::alloc::Global;
 use std::thread::Threads;
+use sync_names::SafeName;
 use sync_pull::{PullAnswer, PullFailure};
 
 /// How many rounds there are at most until nothing changes any more.
 const MOST_ROUNDS: usize = 60;
 
 /// What the last round came to.
-#[derive(Clone, Copy, Debug, PartialEq, Eq)]
+#[derive(Drop)]
 pub(crate) struct Settled {
     /// Whether it changed something, so that more rounds might too.
     pub(crate) is_moving: bool,
-    /// How many pulls failed.
-    pub(crate) failed: u64,
-    /// How many of them because of a file and a directory of one name: a directory has entries, or a parent is a file.
-    pub(crate) clashes: u64,
+    /// The names of which a pull failed since a directory that was to be replaced or removed has entries, or a parent is a file.
+    pub(crate) clashes: Vec<SafeName>,
 }
 
 impl Settled {
-    fn new() -> Settled {
+    fn new(alloc: Global) -> Settled {
         Settled {
             is_moving: false,
-            failed: 0,
-            clashes: 0,
+            clashes: Vec::new(alloc),
         }
     }
 
-    fn count(&mut self, answer: PullAnswer) {
+    /// Notes what came of the pull of a name.
+    fn note(&mut self, name: SafeName, answer: PullAnswer) -> Result<(), Fault> {
         match answer {
             PullAnswer::Done(_) => self.is_moving = true,
-            PullAnswer::Failed(PullFailure::NotEmpty) => self.count_clash(),
-            PullAnswer::Failed(PullFailure::BadParent) => self.count_clash(),
-            PullAnswer::NotNeeded => {}
-            _ => self.failed = self.failed.saturating_add(1),
+            PullAnswer::Failed(PullFailure::NotEmpty) => self.clashes.push(name)?,
+            PullAnswer::Failed(PullFailure::BadParent) => self.clashes.push(name)?,
+            _ => {}
         }
-    }
-
-    fn count_clash(&mut self) {
-        self.failed = self.failed.saturating_add(1);
-        self.clashes = self.clashes.saturating_add(1);
+        Ok(())
     }
 }
 
@@ -57,7 +51,7 @@ pub(crate) fn settle<R: Threads + Sync>(
 ) -> Result<Settled, Fault> {
     world.note(0, Event::Quiet)?;
     link_all(world)?;
-    let mut settled = Settled::new();
+    let mut settled = Settled::new(alloc);
     for _ in 0..MOST_ROUNDS {
         settled = round(rt, alloc, world)?;
         if !settled.is_moving {
@@ -68,7 +62,7 @@ pub(crate) fn settle<R: Threads + Sync>(
 }
 
 fn round<R: Threads + Sync>(rt: &R, alloc: Global, world: &mut World) -> Result<Settled, Fault> {
-    let mut settled = Settled::new();
+    let mut settled = Settled::new(alloc);
     scan_all(rt, alloc, world, &mut settled)?;
     send_all(alloc, world, &mut settled)?;
     for place in 0..world.devices.len() {
@@ -108,8 +102,8 @@ fn pull_all<R: Threads + Sync>(
     settled: &mut Settled,
 ) -> Result<(), Fault> {
     for name in round_of(alloc, world, place)? {
-        let answer = pull(rt, alloc, world, place, name, true)?;
-        settled.count(answer);
+        let answer = pull(rt, alloc, world, place, name.copy()?, true)?;
+        settled.note(name, answer)?;
     }
     Ok(())
 }

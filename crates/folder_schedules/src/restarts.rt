@@ -64,10 +64,11 @@ fn begin(world: &mut World, place: usize, a: usize, b: usize) {
     let Some(way) = world.ways.get(place) else {
         return;
     };
+    let way = *way;
     if !way.is_between(a, b) {
         return;
     }
-    let start = start_of(world, *way);
+    let start = start_of(world, way);
     if let Some(way) = world.ways.get_mut(place) {
         way.is_up = true;
         way.is_begun = start.is_some();
@@ -94,7 +95,7 @@ pub(crate) fn save(alloc: Global, world: &mut World, place: usize) -> Result<(),
     Ok(())
 }
 
-/// Has a device begin again from what it saved, as after a bad end: its links are lost, and it is sent everything again.
+/// Has a device begin again from what it saved, as after a bad end: a second later, its links are lost, and it is sent everything again.
 pub(crate) fn restore(
     alloc: Global,
     world: &mut World,
@@ -105,6 +106,7 @@ pub(crate) fn restore(
         return Ok(());
     }
     let keeps_others = drawn.is_one_in(2);
+    world.pass_second();
     if let Some(device) = world.devices.get_mut(place) {
         device.restore(alloc, world.ids.as_slice(), keeps_others)?;
         world.note(place, Event::Restore(keeps_others))?;

@@ -37,7 +37,7 @@ pub(crate) fn scan<R: Threads + Sync>(
 /// After a scan each text that stands in a file is recorded.
 fn tell_texts(device: &mut Device, texts: &mut Texts, sum: &ScanSum) -> Result<(), Fault> {
     if sum.stopped.is_some() {
-        return Err(Fault::OutOfMemory);
+        return Err(Fault::ScanStopped);
     }
     let listing = device.store.list()?;
     for entry in &listing.entries {

@@ -7,7 +7,11 @@ use std::io;
 /// Prints what was played, a step a line, and what it came to.
 pub(crate) fn print_played(rt: &impl Print, number: u64, played: &Played) -> io::Result<()> {
     let world = &played.world;
-    println!(rt; "schedule {number}: {} devices, {:?}", world.devices.len(), world.shape)?;
+    println!(rt;
+        "schedule {number}: {} devices, {:?}",
+        world.devices.len(),
+        world.shape
+    )?;
     print_links(rt, &world.ways)?;
     for step in &world.script {
         println!(rt; "{step}")?;
@@ -22,7 +26,11 @@ fn print_links(rt: &impl Print, ways: &[Way]) -> io::Result<()> {
     print!(rt; "links")?;
     for way in ways {
         if way.from < way.to {
-            print!(rt; " {}-{}", way.from.saturating_add(1), way.to.saturating_add(1))?;
+            print!(rt;
+                " {}-{}",
+                way.from.saturating_add(1),
+                way.to.saturating_add(1)
+            )?;
         }
     }
     println!(rt; "")

@@ -8,12 +8,6 @@ use std::alloc::Global;
 use sync_names::SafeName;
 use sync_version::Moment;
 
-impl From<StoreRefusal> for Fault {
-    fn from(_refusal: StoreRefusal) -> Fault {
-        Fault::OutOfMemory
-    }
-}
-
 /// Writes a new text to a name, in place of what is there, of what is below it, and of files where it needs directories. Returns the
 /// text.
 pub(crate) fn write(
@@ -29,11 +23,7 @@ pub(crate) fn write(
 }
 
 /// Removes what is at a name, and what is below it.
-pub(crate) fn remove(
-    device: &mut Device,
-    texts: &mut Texts,
-    name: &SafeName,
-) -> Result<(), Fault> {
+pub(crate) fn remove(device: &mut Device, texts: &mut Texts, name: &SafeName) -> Result<(), Fault> {
     clear(device, texts, name)
 }
 

@@ -1,11 +1,24 @@
-//! What a schedule came to.
+//! What a schedule came to: whether a text is lost, and whether the devices are alike.
+//!
+//! A text is *lost* if in the end it stands in no file of any device, and no user replaced it. A user replaces the text that stands in
+//! a file of the user's device by writing to its name, by removing it or a directory that it is in, or by putting a file or a directory
+//! in its place, and so knowingly; where else the text stands then does not matter. Nothing else replaces a text:
+//!
+//! - A pull may put away the text of an edit over which a later one was made, since the user who made that replaced it. A text that
+//!   a pull puts aside for one that does not come after it must stand under the name of a conflict copy.
+//! - A text that no scan has recorded is not to be lost either: the line of a lost text says whether one had.
+//! - A device that begins again from an older state has forgotten records, and no file. So it may bring back texts that were
+//!   replaced, and files that were removed, and make conflict copies that nobody needs; it may lose no text, neither
+//!   of those in its files nor of those that others took from it.
+//!
+//! The devices are *alike* if all have the same files with the same texts, and the same directories, and none needs a name.
 use crate::device::Device;
 use crate::fault::Fault;
 use crate::names::Class;
 use crate::quiet::Settled;
 use crate::texts::{TextState, text_at};
 use crate::world::World;
-use file_store::{FileStore, Kind};
+use file_store::{FileStore, Kind, is_below};
 use folder_calls::FolderCalls;
 use std::alloc::Global;
 use std::fmt::{self, Display, Formatter};
@@ -73,39 +86,52 @@ impl Display for End {
 /// Judges the devices after the last round.
 pub(crate) fn judge(alloc: Global, world: &mut World, settled: Settled) -> Result<Verdict, Fault> {
     Ok(Verdict {
-        lost: lost(alloc, world)?,
-        end: end_of(alloc, world, settled)?,
+        lost: lost_texts(alloc, world)?,
+        end: end_of(alloc, world, &settled)?,
     })
 }
 
-fn end_of(alloc: Global, world: &mut World, settled: Settled) -> Result<End, Fault> {
-    let end = if settled.is_moving {
-        End::Moving
-    } else {
-        alike(alloc, world)?
-    };
-    if end != End::Alike && settled.clashes > 0 && world.class == Class::Mixed {
-        return Ok(End::Stuck);
+/// How alike the devices are. Only where names are mixed may they differ at names of which a pull was hindered.
+fn end_of(alloc: Global, world: &mut World, settled: &Settled) -> Result<End, Fault> {
+    if settled.is_moving {
+        return Ok(End::Moving);
     }
-    Ok(end)
+    let end = alike(alloc, world, &[])?;
+    if end == End::Alike || world.class != Class::Mixed || settled.clashes.is_empty() {
+        return Ok(end);
+    }
+    match alike(alloc, world, settled.clashes.as_slice())? {
+        End::Alike => Ok(End::Stuck),
+        end => Ok(end),
+    }
 }
 
-/// Whether all devices have the same files and directories as the first one, and need nothing.
-fn alike(alloc: Global, world: &mut World) -> Result<End, Fault> {
+/// Whether all devices have the same files and directories as the first one, and need nothing, apart from these names and those
+/// above and below them.
+fn alike(alloc: Global, world: &mut World, clashes: &[SafeName]) -> Result<End, Fault> {
     let Some(first) = world.devices.first_mut() else {
         return Ok(End::Alike);
     };
-    let wanted = files_of(alloc, first)?;
+    let wanted = files_of(alloc, first, clashes)?;
     for (place, device) in world.devices.iter_mut().enumerate() {
-        let found = files_of(alloc, device)?;
+        let found = files_of(alloc, device, clashes)?;
         if !are_same(&wanted, &found) {
             return Ok(End::Apart(place));
         }
-        if needs_more(device)? {
+        if needs_more(device, clashes)? {
             return Ok(End::Needs(place));
         }
     }
     Ok(End::Alike)
+}
+
+/// Whether a name is one of these, above one of them or below one of them.
+fn is_of_a_clash(name: &SafeName, clashes: &[SafeName]) -> bool {
+    let name = name.as_str();
+    clashes.iter().any(|clash| {
+        let clash = clash.as_str();
+        name == clash || is_below(name, clash) || is_below(clash, name)
+    })
 }
 
 /// A file or a directory.
@@ -116,16 +142,18 @@ struct Found {
     text: Option<u64>,
 }
 
-/// The files and directories of a device, in byte order of their names.
-fn files_of(alloc: Global, device: &mut Device) -> Result<Vec<Found>, Fault> {
+/// The files and directories of a device apart from those of clashes, in byte order of their names.
+fn files_of(alloc: Global, device: &mut Device, clashes: &[SafeName]) -> Result<Vec<Found>, Fault> {
     let listing = device.store.list()?;
     let mut found = Vec::new(alloc);
     for entry in &listing.entries {
-        found.push(Found {
-            name: entry.name.copy()?,
-            kind: entry.kind,
-            text: text_at(&mut device.store, &entry.name),
-        })?;
+        if !is_of_a_clash(&entry.name, clashes) {
+            found.push(Found {
+                name: entry.name.copy()?,
+                kind: entry.kind,
+                text: text_at(&mut device.store, &entry.name),
+            })?;
+        }
     }
     Ok(found)
 }
@@ -138,13 +166,14 @@ fn is_same(a: &Found, b: &Found) -> bool {
     a.name.as_str() == b.name.as_str() && a.kind == b.kind && a.text == b.text
 }
 
-fn needs_more(device: &mut Device) -> Result<bool, Fault> {
-    let names = device.calls.need(None, 1)?.value;
-    Ok(!names.as_slice().is_empty())
+fn needs_more(device: &mut Device, clashes: &[SafeName]) -> Result<bool, Fault> {
+    let names = device.calls.need(None, usize::MAX)?.value;
+    let mut names = names.as_slice().iter();
+    Ok(names.any(|name| !is_of_a_clash(name, clashes)))
 }
 
 /// The texts that stand in no file of any device, though no user replaced them.
-fn lost(alloc: Global, world: &mut World) -> Result<Vec<Lost>, Fault> {
+fn lost_texts(alloc: Global, world: &mut World) -> Result<Vec<Lost>, Fault> {
     let standing = standing(alloc, world)?;
     let mut lost = Vec::new(alloc);
     for (text, state) in world.texts.states().iter().enumerate() {

@@ -46,6 +46,7 @@ fn class_of(word: &str) -> Option<Class> {
     match word {
         "apart" => Some(Class::Apart),
         "mixed" => Some(Class::Mixed),
+        "still" => Some(Class::Still),
         _ => None,
     }
 }
