@@ -12,6 +12,7 @@ pub(crate) struct Counts {
     lost: u64,
     apart: u64,
     stuck: u64,
+    unplayed: u64,
 }
 
 impl Counts {
@@ -21,6 +22,7 @@ impl Counts {
             lost: 0,
             apart: 0,
             stuck: 0,
+            unplayed: 0,
         }
     }
 
@@ -37,6 +39,12 @@ impl Counts {
         }
     }
 
+    /// A schedule could not be played to its end.
+    pub(crate) fn count_unplayed(&mut self) {
+        self.played = self.played.saturating_add(1);
+        self.unplayed = self.unplayed.saturating_add(1);
+    }
+
     /// Whether a schedule that fails in this way is printed: the first few are, and of those that are stuck one.
     pub(crate) fn is_shown(&self, failing: Failing) -> bool {
         match failing {
@@ -46,9 +54,9 @@ impl Counts {
         }
     }
 
-    /// Whether no text is lost, and none are apart.
+    /// Whether all were played to their end, no text is lost, and none are apart.
     pub(crate) fn is_clean(&self) -> bool {
-        self.lost == 0 && self.apart == 0
+        self.lost == 0 && self.apart == 0 && self.unplayed == 0
     }
 }
 
@@ -61,6 +69,9 @@ impl Display for Counts {
         )?;
         if self.stuck > 0 {
             write!(f, ", stuck: {} of {}", self.stuck, self.played)?;
+        }
+        if self.unplayed > 0 {
+            write!(f, ", {} not played", self.unplayed)?;
         }
         Ok(())
     }

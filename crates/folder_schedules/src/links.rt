@@ -14,6 +14,8 @@ pub(crate) struct Way {
     pub(crate) sent: u64,
     /// The number of the index that the receiver has records of; 0 for none.
     pub(crate) known_id: u64,
+    /// What that number was when the receiver saved its state.
+    pub(crate) saved_id: u64,
 }
 
 impl Way {
@@ -25,6 +27,7 @@ impl Way {
             is_begun: false,
             sent: 0,
             known_id: 0,
+            saved_id: 0,
         }
     }
 

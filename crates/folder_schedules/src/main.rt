@@ -84,15 +84,20 @@ fn play_one<R: Print + AllocGlobal + Threads + Sync>(
     let schedule = Schedule::new(rt.alloc(), asked.seed, number, asked.class)?;
     let played = match play(rt, rt.alloc(), &schedule) {
         Ok(played) => played,
-        Err(fault) => return println!(rt; "schedule {number}: {fault}"),
+        Err(fault) => {
+            counts.count_unplayed();
+            return println!(rt; "schedule {number}: {fault}");
+        }
     };
     let failing = played.failing();
     counts.count(&played);
     if asked.shows_all {
-        show::print_played(rt, number, &played)?;
+        show::print_played(rt, asked.seed, number, &played)?;
     }
     match failing {
-        Some(failing) if counts.is_shown(failing) => print_shortened(rt, number, schedule, failing),
+        Some(failing) if counts.is_shown(failing) => {
+            print_shortened(rt, asked, number, schedule, failing)
+        }
         _ => Ok(()),
     }
 }
@@ -100,12 +105,13 @@ fn play_one<R: Print + AllocGlobal + Threads + Sync>(
 /// Prints a schedule with fewer steps that fails in the same way.
 fn print_shortened<R: Print + AllocGlobal + Threads + Sync>(
     rt: &R,
+    asked: &Asked,
     number: u64,
     schedule: Schedule,
     failing: Failing,
 ) -> io::Result<()> {
     match shortest(rt, rt.alloc(), schedule, failing) {
-        Ok(played) => show::print_played(rt, number, &played),
+        Ok(played) => show::print_played(rt, asked.seed, number, &played),
         Err(fault) => println!(rt; "schedule {number}: {fault}"),
     }
 }

@@ -92,10 +92,14 @@ pub(crate) fn save(alloc: Global, world: &mut World, place: usize) -> Result<(),
         device.save(alloc)?;
         world.note(place, Event::Save)?;
     }
+    for way in &mut world.ways {
+        keep(way, place);
+    }
     Ok(())
 }
 
-/// Has a device begin again from what it saved, as after a bad end: a second later, its links are lost, and it is sent everything again.
+/// Has a device begin again from what it saved, as after a bad end: a second later, and its links are lost.
+/// All that it sends it sends again; without the records of others it is sent everything again, and with them what came since.
 pub(crate) fn restore(
     alloc: Global,
     world: &mut World,
@@ -112,15 +116,22 @@ pub(crate) fn restore(
         world.note(place, Event::Restore(keeps_others))?;
     }
     for way in &mut world.ways {
-        lose(way, place);
+        lose(way, place, keeps_others);
     }
     Ok(())
 }
 
-/// The link of this way is lost, if it is one with the device, which knows nothing of the other's index any more.
-fn lose(way: &mut Way, device: usize) {
+/// If the way leads to the device, this saves of which index it has records.
+fn keep(way: &mut Way, device: usize) {
     if way.to == device {
-        way.known_id = 0;
+        way.saved_id = way.known_id;
+    }
+}
+
+/// The link of this way is lost, if it is one with the device, which knows only what it saved of the other's index, or nothing.
+fn lose(way: &mut Way, device: usize, keeps_others: bool) {
+    if way.to == device {
+        way.known_id = if keeps_others { way.saved_id } else { 0 };
     }
     if way.to == device || way.from == device {
         way.is_up = false;

@@ -5,13 +5,15 @@ use crate::verdict::Lost;
 use std::io;
 
 /// Prints what was played, a step a line, and what it came to.
-pub(crate) fn print_played(rt: &impl Print, number: u64, played: &Played) -> io::Result<()> {
+pub(crate) fn print_played(
+    rt: &impl Print,
+    seed: u64,
+    number: u64,
+    played: &Played,
+) -> io::Result<()> {
     let world = &played.world;
-    println!(rt;
-        "schedule {number}: {} devices, {:?}",
-        world.devices.len(),
-        world.shape
-    )?;
+    let (devices, shape) = (world.devices.len(), world.shape);
+    println!(rt; "schedule {number} of seed {seed}: {devices} devices, {shape:?}")?;
     print_links(rt, &world.ways)?;
     for step in &world.script {
         println!(rt; "{step}")?;
