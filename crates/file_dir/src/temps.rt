@@ -83,7 +83,8 @@ pub(crate) fn stat<R: Files>(
 }
 
 /// Has the temporary file of a name reach the disk, with the permissions of the file that it is to replace, if it is the open one. Does
-/// nothing if it is not, or if nothing was written since the last time.
+/// nothing if it is not, or if nothing was written since the last time. After a failure it is not the open one any more, so that no later success says more
+/// than is so.
 fn sync_temp<R: Files>(
     disk: &Disk<R>,
     slot: &mut Option<Opened<R::File>>,
@@ -99,7 +100,22 @@ fn sync_temp<R: Files>(
         return Ok(());
     }
     let path = disk.path_of(name.as_str())?;
-    if let Found::File(old) = disk.look(path.as_str())? {
+    let synced = sync_for(disk, opened, path.as_str());
+    if synced.is_err() {
+        *slot = None;
+    }
+    synced
+}
+
+/// Gives a temporary file the permissions of the file at a path, if there is one, and has it reach the disk.
+fn sync_for<R: Files>(
+    disk: &Disk<R>,
+    opened: &mut Opened<R::File>,
+    path: &str,
+) -> Result<(), StoreRefusal>
+    ensures { IfErr result IsPlain }
+{
+    if let Found::File(old) = disk.look(path)? {
         opened.set_mode(permissions_of(old.mode))?;
     }
     opened.sync()
