@@ -1,4 +1,4 @@
-//! How long the calls of a plain folder take with so many names: `bench_folder NAMES`. How many names or records each
+//! How long the calls of a folder take with so many names: `bench_folder plain|indexed NAMES`. How many names or records each
 //! piece of work came to goes to standard output, the times to standard error.
 #![tactic(auto)]
 
@@ -6,7 +6,8 @@ mod pages;
 mod pulls;
 mod scans;
 
-use folder_core::PlainFolder;
+use folder_core::{FolderCore, PlainFolder};
+use folder_db::IndexedFolder;
 use std::alloc::{AllocError, Global};
 use std::rt::{Clock, Env};
 use std::time::Instant;
@@ -14,14 +15,44 @@ use std::{env, io};
 use sync_names::SafeName;
 use sync_record::DeviceId;
 
-/// The number of names on the command line, or 1.
-fn count_of_names(rt: &(impl AllocGlobal + Env)) -> io::Result<u32> {
+/// A folder that is measured.
+pub(crate) trait Kept: FolderCore + Drop {
+    /// The folder of a device in which nothing is announced.
+    fn empty(alloc: Global) -> Self;
+}
+
+impl Kept for PlainFolder {
+    fn empty(alloc: Global) -> PlainFolder {
+        PlainFolder::new(alloc, DeviceId::new([1; 32]))
+    }
+}
+
+impl Kept for IndexedFolder {
+    fn empty(alloc: Global) -> IndexedFolder {
+        IndexedFolder::new(alloc, DeviceId::new([1; 32]))
+    }
+}
+
+/// What is to be measured.
+#[derive(Clone, Copy)]
+struct Asked {
+    is_indexed: bool,
+    names: u32,
+}
+
+/// By the words of the command line; a plain folder of one name where there are none.
+fn words(rt: &(impl AllocGlobal + Env)) -> io::Result<Asked> {
     let mut words = env::args(rt)?;
     let _program = words.next();
-    Ok(match words.next() {
+    let is_indexed = match words.next() {
+        None => false,
+        Some(text) => text.as_str() == "indexed",
+    };
+    let names = match words.next() {
         None => 1,
         Some(text) => text.as_str().parse::<u32>().unwrap_or(1),
-    })
+    };
+    Ok(Asked { is_indexed, names })
 }
 
 /// This many names, all of them if the step has no divisor in common with the count: in byte order each is this many places
@@ -41,11 +72,6 @@ fn name(alloc: Global, place: u64) -> Result<SafeName, AllocError> {
     SafeName::from_string(text).map_err(|_| AllocError)
 }
 
-/// The folder of a device in which nothing is announced.
-fn empty_folder(alloc: Global) -> PlainFolder {
-    PlainFolder::new(alloc, DeviceId::new([1; 32]))
-}
-
 /// Prints what a piece of work came to and how long it took.
 fn tell(
     rt: &(impl Print + Eprint + Clock),
@@ -59,10 +85,21 @@ fn tell(
 }
 
 fn main(rt: HostRuntime) -> io::Result<()> {
-    let count = count_of_names(&rt)?;
+    let asked = words(&rt)?;
+    if asked.is_indexed {
+        measure::<IndexedFolder>(&rt, asked.names)
+    } else {
+        measure::<PlainFolder>(&rt, asked.names)
+    }
+}
+
+fn measure<F: Kept>(
+    rt: &(impl AllocGlobal + Print + Eprint + Clock),
+    count: u32,
+) -> io::Result<()> {
     let in_order = names(rt.alloc(), count, 1)?;
     let out_of_order = names(rt.alloc(), count, 61_803_399)?;
-    scans::measure(&rt, "scan-in-order", &in_order)?;
-    scans::measure(&rt, "scan-out-of-order", &out_of_order)?;
-    pulls::measure(&rt, &in_order)
+    scans::measure::<F>(rt, "scan-in-order", &in_order)?;
+    scans::measure::<F>(rt, "scan-out-of-order", &out_of_order)?;
+    pulls::measure::<F>(rt, &in_order)
 }

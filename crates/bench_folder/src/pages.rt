@@ -1,6 +1,6 @@
 //! What is read of a folder.
 use crate::tell;
-use folder_core::{FolderCore, PlainFolder};
+use folder_core::FolderCore;
 use std::alloc::AllocError;
 use std::io;
 use std::rt::Clock;
@@ -10,14 +10,20 @@ use std::time::Instant;
 const PAGE: usize = 1000;
 
 /// Lists all needed names.
-pub fn measure_need(rt: &(impl Print + Eprint + Clock), folder: &PlainFolder) -> io::Result<()> {
+pub fn measure_need(
+    rt: &(impl Print + Eprint + Clock),
+    folder: &impl FolderCore,
+) -> io::Result<()> {
     let start = Instant::now(rt)?;
     let needed = count_needed(folder)?;
     tell(rt, "need", start, needed)
 }
 
 /// Lists all local records, looks for a block that no file has, and counts.
-pub fn measure_local(rt: &(impl Print + Eprint + Clock), folder: &PlainFolder) -> io::Result<()> {
+pub fn measure_local(
+    rt: &(impl Print + Eprint + Clock),
+    folder: &impl FolderCore,
+) -> io::Result<()> {
     let start = Instant::now(rt)?;
     let local = count_local(folder)?;
     tell(rt, "local-since", start, local)?;
@@ -30,7 +36,7 @@ pub fn measure_local(rt: &(impl Print + Eprint + Clock), folder: &PlainFolder) -
 }
 
 /// How many needed names there are, page by page.
-fn count_needed(folder: &PlainFolder) -> Result<usize, AllocError> {
+fn count_needed(folder: &impl FolderCore) -> Result<usize, AllocError> {
     let mut count = 0usize;
     let mut after = None;
     for _ in 0..u64::MAX {
@@ -45,7 +51,7 @@ fn count_needed(folder: &PlainFolder) -> Result<usize, AllocError> {
 }
 
 /// How many local records there are, page by page.
-fn count_local(folder: &PlainFolder) -> Result<usize, AllocError> {
+fn count_local(folder: &impl FolderCore) -> Result<usize, AllocError> {
     let mut count = 0usize;
     let mut sequence = 0;
     for _ in 0..u64::MAX {

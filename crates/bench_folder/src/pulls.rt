@@ -4,9 +4,9 @@ ghost use Rattle.sync_record.specs.Records.{is_live_file};
 ghost use Rattle.sync_record.specs.Validity.{is_valid};
 
 use crate::pages::{measure_local, measure_need};
-use crate::{empty_folder, tell};
+use crate::{Kept, tell};
 use bep_messages::Items;
-use folder_core::{BeginAnswer, Commit, EnterFault, FolderCore, PlainFolder, Ticket};
+use folder_core::{BeginAnswer, Commit, EnterFault, FolderCore, Ticket};
 use std::alloc::{AllocError, Global};
 use std::io;
 use std::rt::Clock;
@@ -16,17 +16,17 @@ use sync_record::{Assembled, Assembly, DeviceId, Edit, Kind, Record};
 use sync_version::Version;
 
 /// Lists and pulls an empty file under each name, and lists what was pulled.
-pub fn measure(
+pub fn measure<F: Kept>(
     rt: &(impl AllocGlobal + Print + Eprint + Clock),
     names: &[SafeName],
 ) -> io::Result<()> {
-    let mut folder = announced(rt.alloc(), names)?;
+    let mut folder = announced::<F>(rt.alloc(), names)?;
     measure_pulls(rt, &mut folder, names)
 }
 
 fn measure_pulls(
     rt: &(impl AllocGlobal + Print + Eprint + Clock),
-    folder: &mut PlainFolder,
+    folder: &mut impl FolderCore,
     names: &[SafeName],
 ) -> io::Result<()> {
     measure_need(rt, folder)?;
@@ -43,12 +43,12 @@ fn measure_pulls(
 }
 
 /// A folder in which another device announces an empty file under each name.
-fn announced(alloc: Global, names: &[SafeName]) -> Result<PlainFolder, AllocError> {
+fn announced<F: Kept>(alloc: Global, names: &[SafeName]) -> Result<F, AllocError> {
     let mut records = Items::new(alloc);
     for name in names {
         records.push(empty_file(alloc, name)?)?;
     }
-    let mut folder = empty_folder(alloc);
+    let mut folder = F::empty(alloc);
     let other = DeviceId::new([2; 32]);
     if other != folder.me() {
         folder.index_full(other, records)?;
@@ -68,7 +68,7 @@ fn empty_file(alloc: Global, name: &SafeName) -> Result<Record, AllocError> {
 }
 
 /// Begins a pull of each name in turn and gives it up, and returns how many were begun.
-fn begin_all(folder: &mut PlainFolder, names: &[SafeName]) -> usize {
+fn begin_all(folder: &mut impl FolderCore, names: &[SafeName]) -> usize {
     let mut begun = 0usize;
     for name in names {
         if let Some(ticket) = begin(folder, name) {
@@ -80,7 +80,7 @@ fn begin_all(folder: &mut PlainFolder, names: &[SafeName]) -> usize {
 }
 
 /// Begins a pull of each name in turn, enters its commit and aborts it, and returns how many were entered.
-fn enter_all(folder: &mut PlainFolder, names: &[SafeName]) -> usize {
+fn enter_all(folder: &mut impl FolderCore, names: &[SafeName]) -> usize {
     let mut entered = 0usize;
     for name in names {
         if let Some(commit) = enter(folder, name) {
@@ -92,7 +92,7 @@ fn enter_all(folder: &mut PlainFolder, names: &[SafeName]) -> usize {
 }
 
 /// Pulls each name in turn, and returns how many were finished.
-fn pull_all(alloc: Global, folder: &mut PlainFolder, names: &[SafeName]) -> usize {
+fn pull_all(alloc: Global, folder: &mut impl FolderCore, names: &[SafeName]) -> usize {
     let mut finished = 0usize;
     for name in names {
         if pull(alloc, folder, name) {
@@ -102,14 +102,14 @@ fn pull_all(alloc: Global, folder: &mut PlainFolder, names: &[SafeName]) -> usiz
     finished
 }
 
-fn begin(folder: &mut PlainFolder, name: &SafeName) -> Option<Ticket> {
+fn begin(folder: &mut impl FolderCore, name: &SafeName) -> Option<Ticket> {
     match folder.begin_pull(name).ok()? {
         BeginAnswer::Begun(ticket) => Some(ticket),
         BeginAnswer::NotNeeded | BeginAnswer::Busy | BeginAnswer::Unsupported => None,
     }
 }
 
-fn enter(folder: &mut PlainFolder, name: &SafeName) -> Option<Commit> {
+fn enter(folder: &mut impl FolderCore, name: &SafeName) -> Option<Commit> {
     let ticket = begin(folder, name)?;
     match folder.enter_commit(ticket) {
         Ok(commit) => Some(commit),
@@ -126,7 +126,7 @@ fn enter(folder: &mut PlainFolder, name: &SafeName) -> Option<Commit> {
     }
 }
 
-fn pull(alloc: Global, folder: &mut PlainFolder, name: &SafeName) -> bool {
+fn pull(alloc: Global, folder: &mut impl FolderCore, name: &SafeName) -> bool {
     let Some(commit) = enter(folder, name) else {
         return false;
     };

@@ -2,9 +2,9 @@
 ghost use Rattle.std.specs.Prelude.{IfOk, IsTrue};
 ghost use Rattle.folder_core.specs.Steps.{is_recordable};
 
-use crate::{empty_folder, tell};
+use crate::{Kept, tell};
 use bep_messages::Items;
-use folder_core::{Finding, FolderCore, FoundContent, PlainFolder, ScanAnswer};
+use folder_core::{Finding, FolderCore, FoundContent, ScanAnswer};
 use std::alloc::{AllocError, Global};
 use std::io;
 use std::rt::Clock;
@@ -14,13 +14,13 @@ use sync_record::Block;
 use sync_version::Moment;
 
 /// Finds a new file under each name in turn.
-pub fn measure(
+pub fn measure<F: Kept>(
     rt: &(impl AllocGlobal + Print + Eprint + Clock),
     work: &str,
     names: &[SafeName],
 ) -> io::Result<()> {
     let found = found_file(rt.alloc())?;
-    let mut folder = empty_folder(rt.alloc());
+    let mut folder = F::empty(rt.alloc());
     let start = Instant::now(rt)?;
     let recorded = scan_all(&mut folder, names, &found);
     tell(rt, work, start, recorded)
@@ -48,7 +48,7 @@ fn found_file(alloc: Global) -> Result<Finding, AllocError>
 }
 
 /// Records the same under each name, and returns how many were recorded.
-fn scan_all(folder: &mut PlainFolder, names: &[SafeName], found: &Finding) -> usize
+fn scan_all(folder: &mut impl FolderCore, names: &[SafeName], found: &Finding) -> usize
     requires { IsTrue (is_recordable found.now.content) }
 {
     let Some(moment) = Moment::new(1_700_000_000) else {

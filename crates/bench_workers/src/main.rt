@@ -17,8 +17,8 @@ mod serves;
 use file_dir::DirStore;
 use file_store::StoreRefusal;
 use folder_calls::Lone;
-use folder_core::{FolderCore, PlainFolder};
-use folder_filter::FilteredFolder;
+use folder_core::FolderCore;
+use folder_db::IndexedFolder;
 use std::alloc::{AllocError, Global};
 use std::env::{self, Args};
 use std::io;
@@ -32,11 +32,11 @@ use sync_version::Moment;
 type Disk<'a, R> = DirStore<&'a R>;
 
 /// What a folder is kept in, as a node does.
-type Core = FilteredFolder<PlainFolder>;
+type Core = IndexedFolder;
 
 /// The folder of a device, of which nothing is known yet.
 fn empty_folder(alloc: Global, device: u8) -> io::Result<Lone<Core>> {
-    let folder = FilteredFolder::new(alloc, PlainFolder::new(alloc, DeviceId::new([device; 32])));
+    let folder = IndexedFolder::new(alloc, DeviceId::new([device; 32]));
     if folder.counts().pulls != 0 {
         return Err(AllocError.into());
     }

@@ -5,7 +5,8 @@ ghost use Rattle.bepd_pair.specs.Devices.{identity_of};
 use crate::command::Side;
 use file_store::MemStore;
 use folder_calls::Lone;
-use folder_core::{FolderCore, PlainFolder};
+use folder_core::FolderCore;
+use folder_db::IndexedFolder;
 use index_sender::IndexSender;
 use std::alloc::{AllocError, Global};
 use sync_pull::MaxConflicts;
@@ -19,7 +20,7 @@ const HISTORY_LIMIT: u64 = 1_000_000;
 pub(crate) struct Peer {
     pub(crate) side: Side,
     pub(crate) store: MemStore,
-    pub(crate) calls: Lone<PlainFolder>,
+    pub(crate) calls: Lone<IndexedFolder>,
     pub(crate) sender: IndexSender,
     pub(crate) most: MaxConflicts,
 }
@@ -31,7 +32,7 @@ impl Peer {
     pub(crate) fn new(alloc: Global, side: Side) -> Result<Peer, AllocError>
         ensures { IfOk result (IsNewPeer side) }
     {
-        let folder = PlainFolder::new(alloc, device_of(side));
+        let folder = IndexedFolder::new(alloc, device_of(side));
         if folder.counts().pulls != 0 {
             return Err(AllocError);
         }

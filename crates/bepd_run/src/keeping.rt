@@ -1,8 +1,8 @@
 //! From the state of the last run to the folders of this one, and back.
 use crate::failure::RunFailure;
 use bep_messages::{Items, Text};
-use folder_core::{FolderCore, PlainFolder};
-use folder_filter::FilteredFolder;
+use folder_core::{Announcement, FolderCore, PlainFolder};
+use folder_db::IndexedFolder;
 use node_config::{Config, FolderConfig, PeerConfig};
 use node_state::{KeptIndexes, State, StoredFolder};
 use peer_node::{NodeFolder, Share};
@@ -10,8 +10,8 @@ use std::alloc::{AllocError, Global};
 use sync_pull::MaxConflicts;
 use sync_record::DeviceId;
 
-/// What a node keeps a folder in. The filter spares it a look through all records for each block that is pulled.
-pub(crate) type Core = FilteredFolder<PlainFolder>;
+/// What a node keeps a folder in.
+pub(crate) type Core = IndexedFolder;
 
 /// A folder as a run begins with it.
 #[derive(Drop)]
@@ -78,8 +78,25 @@ fn node_folder(
         history_limit: folder.history_limit,
         most,
         rescan: folder.rescan,
-        core: FilteredFolder::new(alloc, core),
+        core: indexed(alloc, &core)?,
     })
+}
+
+// The same folder in an index. The records are not copied but shared.
+fn indexed(alloc: Global, core: &PlainFolder) -> Result<Core, RunFailure> {
+    let mut announcements = Vec::with_capacity(alloc, core.records().len())?;
+    for announcement in core.records() {
+        announcements.push(Announcement {
+            device: announcement.device,
+            record: announcement.record.copy()?,
+        })?;
+    }
+    let me = core.me();
+    let last = i64::try_from(core.known(me)).unwrap_or(-1);
+    match IndexedFolder::restore(alloc, me, Items::from_vec(announcements), last) {
+        Ok(core) => Ok(core),
+        Err(_) => Err(RunFailure::OutOfMemory),
+    }
 }
 
 // Forgets the records of each device that the folder isn't shared with.
@@ -169,7 +186,7 @@ pub(crate) fn end_all(
         folders.push(StoredFolder {
             id: Text::from_str(alloc, folder.id.as_str())?,
             index_id: *index_id,
-            folder: core.into_inner(),
+            folder: core.plain_copy()?,
             peers: kept_indexes(alloc, config, place, shares, kept)?,
         })?;
         place = place.saturating_add(1);

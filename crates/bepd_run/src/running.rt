@@ -21,6 +21,10 @@ use std::sync::Wait;
 use std::thread::{self, Threads, join};
 use std::time::{Clock, Duration};
 
+/// How many seconds a run waits first where the last one did not end well. What that one recorded in its last seconds may be forgotten, and must not get
+/// the same version again: a version is the second of its scan, or one or two more where scans of a name met.
+const AFTER_BAD_END: u64 = 3;
+
 /// Keeps the folders of the configuration at the path alike with its peers, and answers the commands of the input, a line each, until
 /// `quit` or its end: then the connections end, and the state file is written.
 ///
@@ -166,8 +170,7 @@ impl Ready {
     {
         let mut lock = Locked::take(rt, alloc, config.state.as_str())?;
         if lock.is_left {
-            // (what that run recorded in this second may be forgotten, and must not get the same version again)
-            thread::sleep(rt, Duration::from_secs(1));
+            thread::sleep(rt, Duration::from_secs(AFTER_BAD_END));
         }
         let state = read_state_file(rt, alloc, config.device, config.state.as_str())?;
         let run = Run::begin(rt, alloc, config, state, lock.is_left)?;

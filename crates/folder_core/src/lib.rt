@@ -14,7 +14,7 @@ mod finding;
 mod folder;
 pub mod laws;
 mod place;
-mod plain;
+pub mod plain;
 mod pull;
 mod pull_info;
 mod pull_stage;

@@ -1,33 +1,34 @@
-//! A folder as one list in order.
-ghost use Rattle.std.specs.Prelude.{◌≡◌, ◌≢◌, ◌↔◌, ◌+◌, ◌<◌, ◌≤◌, ℕ, [], false, pos, IfErr, IfOk, IsOk, IsSome, IsTrue, None, Some, filter, map, option_copied, option_map, vec_len, vec_capacity};
+//! A folder as one list in order, and, for folders that are kept in another way, what of it does not depend on the list: the open
+//! pulls, the tests and records of a scan, and what counts of a message.
+ghost use Rattle.std.specs.Prelude.{◌≡◌, ◌≢◌, ◌↔◌, ◌+◌, ◌<◌, ◌≤◌, ℕ, [], All, false, pos, IfErr, IfOk, IsOk, IsSome, IsTrue, None, Some, filter, map, option_copied, option_map, vec_len, vec_capacity};
 ghost use Rattle.std.specs.FinMap.{empty, entries};
 ghost use Rattle.std.specs.List.{list_all};
 ghost use Rattle.folder_core.specs.Calls.{Changes, GivesBack, index_answer, may_allocate, scan_answer, begin_answer, enter_answer, finish_answer, close_answer};
 ghost use Rattle.folder_core.specs.Reads.{IsSomePlace, best_with_devices, bests_page, counts, known, local_since, need_page, places};
-ghost use Rattle.folder_core.specs.Plain.{Rises, commits, filed};
+ghost use Rattle.folder_core.specs.Plain.{IsReady, PullsRise, Rises, commits, filed, folder_of, pulls_of};
 ghost use Rattle.folder_core.specs.PlainReads.{is_from};
 ghost use Rattle.sync_record.specs.Infos.{is_natural};
 ghost use Rattle.folder_core.specs.PlainRestores.{given, is_numbered};
 ghost use Rattle.folder_core.specs.Restores.{MayRestore, restored_folder};
 ghost use Rattle.folder_core.specs.declared.restore_fault.RestoreFault.TheVariants.{BadRecords};
-ghost use Rattle.folder_core.specs.States.{empty_folder, local};
+ghost use Rattle.folder_core.specs.States.{IsFolder, empty_folder, local};
 ghost use Rattle.folder_core.specs.declared.change.Change.TheVariants.{Forget, IndexFull, IndexMore, ScanFound, ScanGone, BeginPull, EnterCommit, Finish, GiveUp, Abort};
 ghost use Rattle.folder_core.specs.Steps.{is_accepted, is_recordable, step};
 
 mod accept;
 mod compare;
-mod copy;
+pub mod copy;
 mod count;
 mod find;
 mod group;
 mod merge;
-mod message;
+pub mod message;
 mod need;
-mod own;
-mod pull;
-mod pulls;
+pub mod own;
+pub mod pull;
+pub mod pulls;
 mod restore;
-mod scan;
+pub mod scan;
 mod since;
 
 use crate::{
@@ -477,6 +478,33 @@ impl PlainFolder {
         })
     }
 
+    /// The folder of this device that has these announcements, by name and then by device, this last sequence and these open
+    /// pulls. Returns `Err` only if out of memory, and never where no commit is open. O(k) for k open pulls, where the list has
+    /// room for what the open commits will add, and else O(n + k) for n announcements.
+    pub fn from_parts(
+        me: DeviceId,
+        announcements: Items<Announcement>,
+        last: u64,
+        pulls: Vec<OpenPull>,
+    ) -> Result<PlainFolder, AllocError>
+        requires rises { Rises announcements }
+        requires pulls_rise { PullsRise pulls.items }
+        requires folder { IsFolder (folder_of me announcements last (pulls_of pulls.items)) }
+        requires ready { All IsReady pulls.items }
+        ensures made { IfOk result
+            (λ folder. folder ≡ folder_of me announcements last (pulls_of pulls.items)) }
+        ensures none { commits pulls.items ≡ 0 → IsOk result }
+    {
+        let mut entries = announcements.into_vec();
+        entries.reserve(open_commits(&pulls))?;
+        Ok(PlainFolder {
+            me,
+            entries,
+            last,
+            pulls,
+        })
+    }
+
     /// Every record with the device that announces it, by name and then by device. Does not allocate. O(1).
     pub fn records(&self) -> &[Announcement]
         ensures { map filed result.now ≡ entries self.now.announced }
@@ -524,7 +552,7 @@ fn room_for(
 }
 
 /// How many commits are open. O(k) for k open pulls.
-fn open_commits(pulls: &[OpenPull]) -> usize
+pub fn open_commits(pulls: &[OpenPull]) -> usize
     ensures { result ≡ commits pulls.now }
 {
     pulls.iter().filter(|pull| pull.ready.is_some()).count()

@@ -9,7 +9,7 @@ use sync_names::SafeName;
 use sync_record::Record;
 use thiserror::Error;
 
-/// An open pull. Only a folder makes one, when the pull begins, and it must be handed back to end the pull: it is neither
+/// An open pull. Its folder makes it when the pull begins, and it must be handed back to end the pull: it is neither
 /// copied nor dropped.
 #[derive(Debug)]
 pub struct Ticket {
@@ -25,6 +25,28 @@ impl Model for Ticket {
 }
 
 impl Ticket {
+    /// That of an open pull, for a folder that begins it. O(1).
+    pub fn new(info: PullInfo) -> Ticket
+        ensures { result ≡ info }
+    {
+        Ticket { info }
+    }
+
+    /// What it says of its pull. O(1).
+    pub fn info(&self) -> &PullInfo
+        ensures { result.now ≡ self.now }
+    {
+        &self.info
+    }
+
+    /// What it says of its pull, for a folder to which it was handed back. O(1).
+    pub fn into_info(self) -> PullInfo
+        ensures { result ≡ self }
+    {
+        let Ticket { info } = self;
+        info
+    }
+
     /// Its number; no two open pulls of a folder have the same one. O(1).
     pub fn number(&self) -> u64
         ensures { result ≡ self.now.number }
@@ -55,7 +77,7 @@ impl Ticket {
 }
 
 /// An open pull whose commit was entered: until it is finished or aborted nothing else changes the local record of the name.
-/// Only a folder makes one, and it must be handed back: it is neither copied nor dropped.
+/// Its folder makes it, and it must be handed back: it is neither copied nor dropped.
 #[derive(Debug)]
 pub struct Commit {
     pub(crate) info: PullInfo,
@@ -70,6 +92,28 @@ impl Model for Commit {
 }
 
 impl Commit {
+    /// That of a pull whose commit was entered, for a folder that enters it. O(1).
+    pub fn new(info: PullInfo) -> Commit
+        ensures { result ≡ info }
+    {
+        Commit { info }
+    }
+
+    /// What it says of its pull. O(1).
+    pub fn info(&self) -> &PullInfo
+        ensures { result.now ≡ self.now }
+    {
+        &self.info
+    }
+
+    /// What it says of its pull, for a folder to which it was handed back. O(1).
+    pub fn into_info(self) -> PullInfo
+        ensures { result ≡ self }
+    {
+        let Commit { info } = self;
+        info
+    }
+
     /// The number of its pull. O(1).
     pub fn number(&self) -> u64
         ensures { result ≡ self.now.number }

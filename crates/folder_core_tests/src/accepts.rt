@@ -1,120 +1,151 @@
 //! What `accepts` says of a change, and what the change then comes to.
 
-use crate::calls::{assembled, copied, folder, restored};
+use crate::calls::{Kept, assembled, copied, folder, restored, same_state};
 use crate::rows::{ME, Row, device, directory, file, moment, name, records, version};
 use bep_messages::Items;
-use folder_core::{Answer, Change, FolderCore, PlainFolder, PullInfo, make};
+use folder_core::{Answer, Change, PlainFolder, PullInfo, make};
+use folder_db::IndexedFolder;
 use std::process::Abort;
 use sync_version::Version;
 
 #[test]
 fn accepts_a_pull_step_by_step(rt: HostRuntime) {
-    let mut folder = folder(&rt);
-    begins(&rt, &mut folder, "x", "NotNeeded", false);
-    announces(&rt, &mut folder, 1, &file("x", &[(1, 2)], 1));
-    let token = begun(&rt, &mut folder, "x");
-    begins(&rt, &mut folder, "x", "Busy", false);
+    accepts_a_pull_step_by_step_on::<PlainFolder>(&rt);
+    accepts_a_pull_step_by_step_on::<IndexedFolder>(&rt);
+}
+
+fn accepts_a_pull_step_by_step_on<F: Kept>(rt: &(impl AllocGlobal + Abort)) {
+    let mut folder = folder::<F>(rt);
+    begins(rt, &mut folder, "x", "NotNeeded", false);
+    announces(rt, &mut folder, 1, &file("x", &[(1, 2)], 1));
+    let token = begun(rt, &mut folder, "x");
+    begins(rt, &mut folder, "x", "Busy", false);
     // It is a ticket, and no commit yet.
-    finishes(&rt, &mut folder, &token, "Stray", false);
-    aborts(&rt, &mut folder, &token, "Stray", false);
-    enters(&rt, &mut folder, &token, "Entered", true);
+    finishes(rt, &mut folder, &token, "Stray", false);
+    aborts(rt, &mut folder, &token, "Stray", false);
+    enters(rt, &mut folder, &token, "Entered", true);
     // It is a commit, and no ticket any more.
-    enters(&rt, &mut folder, &token, "Stray", false);
-    gives_up(&rt, &mut folder, &token, "Stray", false);
-    loses(&rt, &mut folder, "x", None, "Busy", false);
-    finds(&rt, &mut folder, "x", None, "Busy", false);
-    finishes(&rt, &mut folder, &token, "Done", true);
-    finishes(&rt, &mut folder, &token, "Stray", false);
-    begins(&rt, &mut folder, "x", "NotNeeded", false);
+    enters(rt, &mut folder, &token, "Stray", false);
+    gives_up(rt, &mut folder, &token, "Stray", false);
+    loses(rt, &mut folder, "x", None, "Busy", false);
+    finds(rt, &mut folder, "x", None, "Busy", false);
+    finishes(rt, &mut folder, &token, "Done", true);
+    finishes(rt, &mut folder, &token, "Stray", false);
+    begins(rt, &mut folder, "x", "NotNeeded", false);
 }
 
 #[test]
 fn accepts_what_scans_find(rt: HostRuntime) {
-    let mut folder = folder(&rt);
-    loses(&rt, &mut folder, "x", None, "Unchanged", false);
-    loses(&rt, &mut folder, "x", Some(&[(ME, 1)]), "Moved", false);
-    finds(&rt, &mut folder, "x", Some(&[]), "Moved", false);
-    finds(&rt, &mut folder, "x", None, "Recorded", true);
-    finds(&rt, &mut folder, "x", None, "Moved", false);
-    finds(&rt, &mut folder, "x", Some(&[(ME, 1)]), "Unchanged", false);
-    loses(&rt, &mut folder, "x", Some(&[(ME, 1)]), "Recorded", true);
-    loses(&rt, &mut folder, "x", Some(&[(ME, 2)]), "Unchanged", false);
-    finds(&rt, &mut folder, "x", Some(&[(ME, 2)]), "Recorded", true);
+    accepts_what_scans_find_on::<PlainFolder>(&rt);
+    accepts_what_scans_find_on::<IndexedFolder>(&rt);
+}
+
+fn accepts_what_scans_find_on<F: Kept>(rt: &(impl AllocGlobal + Abort)) {
+    let mut folder = folder::<F>(rt);
+    loses(rt, &mut folder, "x", None, "Unchanged", false);
+    loses(rt, &mut folder, "x", Some(&[(ME, 1)]), "Moved", false);
+    finds(rt, &mut folder, "x", Some(&[]), "Moved", false);
+    finds(rt, &mut folder, "x", None, "Recorded", true);
+    finds(rt, &mut folder, "x", None, "Moved", false);
+    finds(rt, &mut folder, "x", Some(&[(ME, 1)]), "Unchanged", false);
+    loses(rt, &mut folder, "x", Some(&[(ME, 1)]), "Recorded", true);
+    loses(rt, &mut folder, "x", Some(&[(ME, 2)]), "Unchanged", false);
+    finds(rt, &mut folder, "x", Some(&[(ME, 2)]), "Recorded", true);
 }
 
 #[test]
 fn accepts_no_counter_past_the_greatest(rt: HostRuntime) {
-    let mut folder = folder(&rt);
+    accepts_no_counter_past_the_greatest_on::<PlainFolder>(&rt);
+    accepts_no_counter_past_the_greatest_on::<IndexedFolder>(&rt);
+}
+
+fn accepts_no_counter_past_the_greatest_on<F: Kept>(rt: &(impl AllocGlobal + Abort)) {
+    let mut folder = folder::<F>(rt);
     let greatest: &[(u64, u64)] = &[(ME, u64::MAX)];
-    announces(&rt, &mut folder, 1, &file("x", greatest, 2));
-    let token = begun(&rt, &mut folder, "x");
-    enters(&rt, &mut folder, &token, "Entered", true);
-    finishes(&rt, &mut folder, &token, "Done", true);
-    finds(&rt, &mut folder, "x", Some(greatest), "CounterFull", false);
-    loses(&rt, &mut folder, "x", Some(greatest), "CounterFull", false);
+    announces(rt, &mut folder, 1, &file("x", greatest, 2));
+    let token = begun(rt, &mut folder, "x");
+    enters(rt, &mut folder, &token, "Entered", true);
+    finishes(rt, &mut folder, &token, "Done", true);
+    finds(rt, &mut folder, "x", Some(greatest), "CounterFull", false);
+    loses(rt, &mut folder, "x", Some(greatest), "CounterFull", false);
 }
 
 #[test]
 fn accepts_no_sequence_past_the_greatest(rt: HostRuntime) {
-    let mut folder = restored(&rt, &[], 9_223_372_036_854_775_806);
-    announces(&rt, &mut folder, 1, &file("x", &[(1, 1)], 1));
-    announces(&rt, &mut folder, 1, &file("y", &[(1, 1)], 1));
-    let first = begun(&rt, &mut folder, "x");
-    let second = begun(&rt, &mut folder, "y");
-    enters(&rt, &mut folder, &first, "Entered", true);
+    accepts_no_sequence_past_the_greatest_on::<PlainFolder>(&rt);
+    accepts_no_sequence_past_the_greatest_on::<IndexedFolder>(&rt);
+}
+
+fn accepts_no_sequence_past_the_greatest_on<F: Kept>(rt: &(impl AllocGlobal + Abort)) {
+    let mut folder = restored::<F>(rt, &[], 9_223_372_036_854_775_806);
+    announces(rt, &mut folder, 1, &file("x", &[(1, 1)], 1));
+    announces(rt, &mut folder, 1, &file("y", &[(1, 1)], 1));
+    let first = begun(rt, &mut folder, "x");
+    let second = begun(rt, &mut folder, "y");
+    enters(rt, &mut folder, &first, "Entered", true);
     // The last sequence is the commit's.
-    finds(&rt, &mut folder, "z", None, "SequenceFull", false);
-    enters(&rt, &mut folder, &second, "SequenceFull", false);
-    aborts(&rt, &mut folder, &first, "Closed", true);
-    finds(&rt, &mut folder, "z", None, "Recorded", true);
+    finds(rt, &mut folder, "z", None, "SequenceFull", false);
+    enters(rt, &mut folder, &second, "SequenceFull", false);
+    aborts(rt, &mut folder, &first, "Closed", true);
+    finds(rt, &mut folder, "z", None, "Recorded", true);
     loses(
-        &rt,
+        rt,
         &mut folder,
         "z",
         Some(&[(ME, 1)]),
         "SequenceFull",
         false,
     );
-    enters(&rt, &mut folder, &second, "SequenceFull", false);
+    enters(rt, &mut folder, &second, "SequenceFull", false);
 }
 
 #[test]
 fn accepts_no_commit_over_another_version(rt: HostRuntime) {
-    let mut folder = folder(&rt);
-    announces(&rt, &mut folder, 1, &file("x", &[(1, 1)], 1));
-    let token = begun(&rt, &mut folder, "x");
-    announces(&rt, &mut folder, 2, &file("x", &[(1, 2)], 2));
-    enters(&rt, &mut folder, &token, "Superseded", false);
-    finds(&rt, &mut folder, "x", None, "Recorded", true);
-    enters(&rt, &mut folder, &token, "LocalMoved", false);
-    gives_up(&rt, &mut folder, &token, "Closed", true);
-    gives_up(&rt, &mut folder, &token, "Stray", false);
+    accepts_no_commit_over_another_version_on::<PlainFolder>(&rt);
+    accepts_no_commit_over_another_version_on::<IndexedFolder>(&rt);
+}
+
+fn accepts_no_commit_over_another_version_on<F: Kept>(rt: &(impl AllocGlobal + Abort)) {
+    let mut folder = folder::<F>(rt);
+    announces(rt, &mut folder, 1, &file("x", &[(1, 1)], 1));
+    let token = begun(rt, &mut folder, "x");
+    announces(rt, &mut folder, 2, &file("x", &[(1, 2)], 2));
+    enters(rt, &mut folder, &token, "Superseded", false);
+    finds(rt, &mut folder, "x", None, "Recorded", true);
+    enters(rt, &mut folder, &token, "LocalMoved", false);
+    gives_up(rt, &mut folder, &token, "Closed", true);
+    gives_up(rt, &mut folder, &token, "Stray", false);
 }
 
 #[test]
 fn accepts_no_unsupported_best(rt: HostRuntime) {
-    let mut folder = folder(&rt);
+    accepts_no_unsupported_best_on::<PlainFolder>(&rt);
+    accepts_no_unsupported_best_on::<IndexedFolder>(&rt);
+}
+
+fn accepts_no_unsupported_best_on<F: Kept>(rt: &(impl AllocGlobal + Abort)) {
+    let mut folder = folder::<F>(rt);
     let link = Row {
         kind: 4,
         ..file("x", &[], 1)
     };
-    announces(&rt, &mut folder, 1, &link);
-    begins(&rt, &mut folder, "x", "Unsupported", false);
-    forgets(&rt, &mut folder, 1);
-    clears(&rt, &mut folder, 1);
-    begins(&rt, &mut folder, "x", "NotNeeded", false);
+    announces(rt, &mut folder, 1, &link);
+    begins(rt, &mut folder, "x", "Unsupported", false);
+    forgets(rt, &mut folder, 1);
+    clears(rt, &mut folder, 1);
+    begins(rt, &mut folder, "x", "NotNeeded", false);
     let deleted = Row {
         deleted: true,
         ..file("x", &[(1, 1)], 1)
     };
-    announces(&rt, &mut folder, 1, &deleted);
-    begins(&rt, &mut folder, "x", "NotNeeded", false);
+    announces(rt, &mut folder, 1, &deleted);
+    begins(rt, &mut folder, "x", "NotNeeded", false);
 }
 
 /// Asks whether the change is accepted, makes it, and compares both answers.
 fn makes(
     rt: &(impl AllocGlobal + Abort),
-    folder: &mut PlainFolder,
+    folder: &mut impl Kept,
     change: Change,
     wanted: &str,
     is_accepted: bool,
@@ -123,7 +154,7 @@ fn makes(
     let before = copied(rt, folder);
     assert!(rt; change.is_allowed(me));
     assert!(rt; folder.accepts(&change) == is_accepted, "{wanted}");
-    assert!(rt; folder.same_state(&before));
+    assert!(rt; same_state(rt, folder, &before));
     let answer = make(folder, change).expect(rt, "an answer");
     assert!(rt; name_of(&answer) == wanted, "{answer:?} for {wanted}");
     answer
@@ -154,7 +185,7 @@ fn name_of(answer: &Answer) -> &'static str {
 /// A directory is found at the name.
 fn finds(
     rt: &(impl AllocGlobal + Abort),
-    folder: &mut PlainFolder,
+    folder: &mut impl Kept,
     text: &str,
     expected: Option<&[(u64, u64)]>,
     wanted: &str,
@@ -172,7 +203,7 @@ fn finds(
 /// Nothing is found at the name.
 fn loses(
     rt: &(impl AllocGlobal + Abort),
-    folder: &mut PlainFolder,
+    folder: &mut impl Kept,
     text: &str,
     expected: Option<&[(u64, u64)]>,
     wanted: &str,
@@ -197,7 +228,7 @@ fn expected_version(
 }
 
 /// The device announces this record too.
-fn announces(rt: &(impl AllocGlobal + Abort), folder: &mut PlainFolder, number: u8, row: &Row) {
+fn announces(rt: &(impl AllocGlobal + Abort), folder: &mut impl Kept, number: u8, row: &Row) {
     let change = Change::IndexMore {
         device: device(number),
         records: records(rt, &[*row]),
@@ -206,13 +237,13 @@ fn announces(rt: &(impl AllocGlobal + Abort), folder: &mut PlainFolder, number: 
 }
 
 /// The device announces nothing any more.
-fn forgets(rt: &(impl AllocGlobal + Abort), folder: &mut PlainFolder, number: u8) {
+fn forgets(rt: &(impl AllocGlobal + Abort), folder: &mut impl Kept, number: u8) {
     let device = device(number);
     makes(rt, folder, Change::Forget { device }, "Applied", true);
 }
 
 /// The device announces nothing, by an index without records.
-fn clears(rt: &(impl AllocGlobal + Abort), folder: &mut PlainFolder, number: u8) {
+fn clears(rt: &(impl AllocGlobal + Abort), folder: &mut impl Kept, number: u8) {
     let change = Change::IndexFull {
         device: device(number),
         records: Items::new(rt.alloc()),
@@ -222,7 +253,7 @@ fn clears(rt: &(impl AllocGlobal + Abort), folder: &mut PlainFolder, number: u8)
 
 fn begins(
     rt: &(impl AllocGlobal + Abort),
-    folder: &mut PlainFolder,
+    folder: &mut impl Kept,
     text: &str,
     wanted: &str,
     is_accepted: bool,
@@ -232,7 +263,7 @@ fn begins(
 }
 
 /// A pull of the name begins.
-fn begun(rt: &(impl AllocGlobal + Abort), folder: &mut PlainFolder, text: &str) -> PullInfo {
+fn begun(rt: &(impl AllocGlobal + Abort), folder: &mut impl Kept, text: &str) -> PullInfo {
     let name = name(rt, text);
     match makes(rt, folder, Change::BeginPull { name }, "Begun", true) {
         Answer::Begun(token) => token,
@@ -242,7 +273,7 @@ fn begun(rt: &(impl AllocGlobal + Abort), folder: &mut PlainFolder, text: &str) 
 
 fn enters(
     rt: &(impl AllocGlobal + Abort),
-    folder: &mut PlainFolder,
+    folder: &mut impl Kept,
     token: &PullInfo,
     wanted: &str,
     is_accepted: bool,
@@ -259,7 +290,7 @@ fn enters(
 
 fn finishes(
     rt: &(impl AllocGlobal + Abort),
-    folder: &mut PlainFolder,
+    folder: &mut impl Kept,
     token: &PullInfo,
     wanted: &str,
     is_accepted: bool,
@@ -277,7 +308,7 @@ fn finishes(
 
 fn gives_up(
     rt: &(impl AllocGlobal + Abort),
-    folder: &mut PlainFolder,
+    folder: &mut impl Kept,
     token: &PullInfo,
     wanted: &str,
     is_accepted: bool,
@@ -288,7 +319,7 @@ fn gives_up(
 
 fn aborts(
     rt: &(impl AllocGlobal + Abort),
-    folder: &mut PlainFolder,
+    folder: &mut impl Kept,
     token: &PullInfo,
     wanted: &str,
     is_accepted: bool,

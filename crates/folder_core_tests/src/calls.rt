@@ -1,48 +1,140 @@
-//! The calls of a folder, each made once: out of memory ends the test.
-ghost use Rattle.std.specs.Prelude.{◌≡◌, ◌&&◌};
+//! The folders that are tested, and their calls, each made once: out of memory ends the test.
+ghost use Rattle.std.specs.Prelude.{◌≡◌, ◌&&◌, ◌↔◌, IfErr, IfOk, IsOk, IsTrue, map};
+ghost use Rattle.folder_core.specs.PlainRestores.{given};
+ghost use Rattle.folder_core.specs.Restores.{MayRestore, restored_folder};
+ghost use Rattle.folder_core.specs.States.{empty_folder};
+ghost use Rattle.folder_core.specs.declared.restore_fault.RestoreFault.TheVariants.{BadRecords};
 ghost use Rattle.sync_record.specs.Records.{is_live_file};
 ghost use Rattle.sync_record.specs.Validity.{is_valid};
 
 use crate::rows::{Announced, Row, announcements, device, moment, name, records, version};
 use bep_messages::Items;
 use folder_core::{
-    Answer, BeginAnswer, Best, Commit, EnterFault, Finding, FolderCore, Place, PlainFolder,
-    RestoreFault, ScanAnswer, ScanFault, Ticket,
+    Announcement, Answer, BeginAnswer, Best, Commit, EnterFault, Finding, FolderCore, Place,
+    PlainFolder, RestoreFault, ScanAnswer, ScanFault, Ticket,
 };
+use folder_db::IndexedFolder;
+use std::alloc::{AllocError, Global};
 use std::process::Abort;
 use sync_names::SafeName;
-use sync_record::{Assembled, Assembly, Kind, Record};
+use sync_record::{Assembled, Assembly, DeviceId, Kind, Record};
+
+/// What the tests take of a folder beside its calls, whoever keeps it.
+pub(crate) trait Kept: FolderCore + Drop + Sized {
+    /// The folder of this device in which no device announces anything.
+    fn empty(alloc: Global, me: DeviceId) -> Self
+        ensures { Self.state result ≡ empty_folder me };
+
+    /// The folder of this device that has these records and this last sequence, and no open pull.
+    fn of_records(
+        alloc: Global,
+        me: DeviceId,
+        records: Items<Announcement>,
+        last: i64,
+    ) -> Result<Self, RestoreFault>
+        ensures allowed { IsOk result → MayRestore me (map given records) last }
+        ensures restored { IfOk result
+            (λ folder. Self.state folder ≡ restored_folder me (map given records) last) }
+        ensures refused { IfErr result
+            (λ fault. fault ≡ BadRecords → ¬ (MayRestore me (map given records) last)) };
+
+    /// Whether the plain folder is in the same state. Returns `Err` only if out of memory.
+    fn is_same_state(&self, plain: &PlainFolder) -> Result<bool, AllocError>
+        ensures { IfOk result (λ same. IsTrue same ↔ (Self.state self.now ≡ plain.now)) };
+
+    /// How many records it has. Returns `Err` only if out of memory.
+    fn count_records(&self) -> Result<usize, AllocError>;
+}
+
+impl Kept for PlainFolder {
+    fn empty(alloc: Global, me: DeviceId) -> PlainFolder {
+        PlainFolder::new(alloc, me)
+    }
+
+    fn of_records(
+        alloc: Global,
+        me: DeviceId,
+        records: Items<Announcement>,
+        last: i64,
+    ) -> Result<PlainFolder, RestoreFault> {
+        PlainFolder::restore(alloc, me, records, last)
+    }
+
+    /// Does not allocate.
+    fn is_same_state(&self, plain: &PlainFolder) -> Result<bool, AllocError> {
+        Ok(self.same_state(plain))
+    }
+
+    /// Does not allocate.
+    fn count_records(&self) -> Result<usize, AllocError> {
+        Ok(self.records().len())
+    }
+}
+
+impl Kept for IndexedFolder {
+    fn empty(alloc: Global, me: DeviceId) -> IndexedFolder {
+        IndexedFolder::new(alloc, me)
+    }
+
+    fn of_records(
+        alloc: Global,
+        me: DeviceId,
+        records: Items<Announcement>,
+        last: i64,
+    ) -> Result<IndexedFolder, RestoreFault> {
+        IndexedFolder::restore(alloc, me, records, last)
+    }
+
+    fn is_same_state(&self, plain: &PlainFolder) -> Result<bool, AllocError> {
+        let copy = self.plain_copy()?;
+        Ok(copy.same_state(plain))
+    }
+
+    fn count_records(&self) -> Result<usize, AllocError> {
+        let copy = self.plain_copy()?;
+        Ok(copy.records().len())
+    }
+}
 
 /// The empty folder of device 9.
-pub(crate) fn folder(rt: &impl AllocGlobal) -> PlainFolder {
-    PlainFolder::new(rt.alloc(), device(9))
+pub(crate) fn folder<F: Kept>(rt: &impl AllocGlobal) -> F {
+    F::empty(rt.alloc(), device(9))
 }
 
 /// The folder of device 9 that is restored from these records.
-pub(crate) fn restored(
+pub(crate) fn restored<F: Kept>(
     rt: &(impl AllocGlobal + Abort),
     rows: &[Announced],
     last: i64,
-) -> PlainFolder {
+) -> F {
     try_restore(rt, rows, last).expect(rt, "a folder")
 }
 
-pub(crate) fn try_restore(
+pub(crate) fn try_restore<F: Kept>(
     rt: &(impl AllocGlobal + Abort),
     rows: &[Announced],
     last: i64,
-) -> Result<PlainFolder, RestoreFault> {
-    PlainFolder::restore(rt.alloc(), device(9), announcements(rt, rows), last)
+) -> Result<F, RestoreFault> {
+    F::of_records(rt.alloc(), device(9), announcements(rt, rows), last)
 }
 
-pub(crate) fn copied(rt: &impl Abort, folder: &PlainFolder) -> PlainFolder {
+pub(crate) fn copied(rt: &impl Abort, folder: &impl FolderCore) -> PlainFolder {
     folder.plain_copy().expect(rt, "a copy")
+}
+
+/// Whether the plain folder is in the same state.
+pub(crate) fn same_state(rt: &impl Abort, folder: &impl Kept, plain: &PlainFolder) -> bool {
+    folder.is_same_state(plain).expect(rt, "a copy")
+}
+
+pub(crate) fn count_records(rt: &impl Abort, folder: &impl Kept) -> usize {
+    folder.count_records().expect(rt, "a copy")
 }
 
 /// The device announces these records too.
 pub(crate) fn more(
     rt: &(impl AllocGlobal + Abort),
-    folder: &mut PlainFolder,
+    folder: &mut impl FolderCore,
     number: u8,
     rows: &[Row],
 ) {
@@ -56,7 +148,7 @@ pub(crate) fn more(
 /// The device announces these records and no others.
 pub(crate) fn full(
     rt: &(impl AllocGlobal + Abort),
-    folder: &mut PlainFolder,
+    folder: &mut impl FolderCore,
     number: u8,
     rows: &[Row],
 ) {
@@ -68,7 +160,7 @@ pub(crate) fn full(
 }
 
 /// The device announces nothing.
-pub(crate) fn forgets(rt: &(impl AllocGlobal + Abort), folder: &mut PlainFolder, number: u8) {
+pub(crate) fn forgets(rt: &(impl AllocGlobal + Abort), folder: &mut impl FolderCore, number: u8) {
     let peer = device(number);
     assert!(rt; peer != folder.me());
     folder.forget(peer).expect(rt, "a forgotten device");
@@ -77,7 +169,7 @@ pub(crate) fn forgets(rt: &(impl AllocGlobal + Abort), folder: &mut PlainFolder,
 /// Records what was found at moment 0, and compares the answer.
 pub(crate) fn finds(
     rt: &(impl AllocGlobal + Abort),
-    folder: &mut PlainFolder,
+    folder: &mut impl FolderCore,
     text: &str,
     expected: Option<&[(u64, u64)]>,
     found: &Finding,
@@ -93,7 +185,7 @@ pub(crate) fn finds(
 /// Records at moment 0 that nothing was found, and compares the answer.
 pub(crate) fn loses(
     rt: &(impl AllocGlobal + Abort),
-    folder: &mut PlainFolder,
+    folder: &mut impl FolderCore,
     text: &str,
     expected: Option<&[(u64, u64)]>,
     wanted: &Answer,
@@ -120,7 +212,7 @@ fn answers(rt: &impl Abort, answer: Result<ScanAnswer, ScanFault>, wanted: &Answ
 /// What the begin of a pull comes to: the ticket, or the name of another answer.
 fn try_begin(
     rt: &(impl AllocGlobal + Abort),
-    folder: &mut PlainFolder,
+    folder: &mut impl FolderCore,
     text: &str,
 ) -> Result<Ticket, &'static str> {
     let name = name(rt, text);
@@ -135,7 +227,7 @@ fn try_begin(
 /// Begins a pull, which must have this number.
 pub(crate) fn begins(
     rt: &(impl AllocGlobal + Abort),
-    folder: &mut PlainFolder,
+    folder: &mut impl FolderCore,
     text: &str,
     number: u64,
 ) -> Ticket {
@@ -152,7 +244,7 @@ pub(crate) fn begins(
 /// Begins no pull, for this reason.
 pub(crate) fn begins_none(
     rt: &(impl AllocGlobal + Abort),
-    folder: &mut PlainFolder,
+    folder: &mut impl FolderCore,
     text: &str,
     wanted: &str,
 ) {
@@ -162,7 +254,7 @@ pub(crate) fn begins_none(
     }
 }
 
-pub(crate) fn enters(rt: &impl Abort, folder: &mut PlainFolder, ticket: Ticket) -> Commit {
+pub(crate) fn enters(rt: &impl Abort, folder: &mut impl FolderCore, ticket: Ticket) -> Commit {
     match folder.enter_commit(ticket) {
         Ok(commit) => commit,
         Err(fault) => panic!(rt; "{fault:?}"),
@@ -172,7 +264,7 @@ pub(crate) fn enters(rt: &impl Abort, folder: &mut PlainFolder, ticket: Ticket) 
 /// Finishes the commit of an empty file, under this sequence.
 pub(crate) fn finishes(
     rt: &(impl AllocGlobal + Abort),
-    folder: &mut PlainFolder,
+    folder: &mut impl FolderCore,
     commit: Commit,
     sequence: u64,
 ) {
@@ -203,7 +295,7 @@ fn is_live_file(record: &Record) -> bool
 
 pub(crate) fn best(
     rt: &(impl AllocGlobal + Abort),
-    folder: &PlainFolder,
+    folder: &impl FolderCore,
     text: &str,
 ) -> Option<Best> {
     let name = name(rt, text);
@@ -212,7 +304,7 @@ pub(crate) fn best(
 
 pub(crate) fn bests(
     rt: &(impl AllocGlobal + Abort),
-    folder: &PlainFolder,
+    folder: &impl FolderCore,
     after: Option<&str>,
     limit: usize,
 ) -> Items<Best> {
@@ -222,7 +314,7 @@ pub(crate) fn bests(
 
 pub(crate) fn local(
     rt: &(impl AllocGlobal + Abort),
-    folder: &PlainFolder,
+    folder: &impl FolderCore,
     text: &str,
 ) -> Option<Record> {
     let name = name(rt, text);
@@ -231,7 +323,7 @@ pub(crate) fn local(
 
 pub(crate) fn need(
     rt: &(impl AllocGlobal + Abort),
-    folder: &PlainFolder,
+    folder: &impl FolderCore,
     after: Option<&str>,
     limit: usize,
 ) -> Items<SafeName> {
@@ -241,7 +333,7 @@ pub(crate) fn need(
 
 pub(crate) fn local_since(
     rt: &impl Abort,
-    folder: &PlainFolder,
+    folder: &impl FolderCore,
     sequence: u64,
     limit: usize,
 ) -> Items<Record> {
@@ -249,14 +341,14 @@ pub(crate) fn local_since(
 }
 
 /// A place of a block whose digest is this byte 32 times.
-pub(crate) fn find_block(rt: &impl Abort, folder: &PlainFolder, byte: u8) -> Option<Place> {
+pub(crate) fn find_block(rt: &impl Abort, folder: &impl FolderCore, byte: u8) -> Option<Place> {
     folder.find_block(&[byte; 32]).expect(rt, "a place")
 }
 
 /// The device itself has this record of the name.
 pub(crate) fn has_local(
     rt: &(impl AllocGlobal + Abort),
-    folder: &PlainFolder,
+    folder: &impl FolderCore,
     text: &str,
     version: &[(u64, u64)],
     sequence: u64,

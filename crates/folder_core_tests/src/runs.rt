@@ -3,11 +3,13 @@ ghost use Rattle.std.specs.Prelude.{All, IsTrue};
 ghost use Rattle.folder_core.specs.Steps.{MayChange};
 
 use crate::calls::{
-    assembled, begins, enters, finds, finishes, folder, forgets, full, loses, more,
+    Kept, assembled, begins, copied, enters, finds, finishes, folder, forgets, full, loses, more,
+    same_state,
 };
 use crate::rows::{Row, device, directory, moment, name, record, records, version};
 use bep_messages::Items;
 use folder_core::{Answer, Change, FolderCore, Partway, PlainFolder, PullInfo, make, make_all};
+use folder_db::IndexedFolder;
 use std::process::Abort;
 use sync_record::DeviceId;
 
@@ -29,27 +31,35 @@ const Y: Row<'static> = Row { name: "y", ..X };
 
 #[test]
 fn makes_changes_one_after_the_other(rt: HostRuntime) {
-    let mut folder = folder(&rt);
-    for (change, wanted) in steps(&rt).as_slice() {
-        makes(&rt, &mut folder, change, wanted);
+    makes_changes_one_after_the_other_on::<PlainFolder>(&rt);
+    makes_changes_one_after_the_other_on::<IndexedFolder>(&rt);
+}
+
+fn makes_changes_one_after_the_other_on<F: Kept>(rt: &(impl AllocGlobal + Abort)) {
+    let mut folder = folder::<F>(rt);
+    for (change, wanted) in steps(rt).as_slice() {
+        makes(rt, &mut folder, change, wanted);
     }
-    assert!(rt; folder.same_state(&changed(&rt)));
+    assert!(rt; same_state(rt, &folder, &changed::<PlainFolder>(rt)));
+    // The calls of this folder leave the same.
+    assert!(rt; same_state(rt, &changed::<F>(rt), &copied(rt, &folder)));
 }
 
 #[test]
 fn makes_all_changes_in_a_row(rt: HostRuntime) {
-    let mut folder = folder(&rt);
-    makes_all(&rt, &mut folder, steps(&rt).as_slice());
-    assert!(rt; folder.same_state(&changed(&rt)));
+    makes_all_changes_in_a_row_on::<PlainFolder>(&rt);
+    makes_all_changes_in_a_row_on::<IndexedFolder>(&rt);
+}
+
+fn makes_all_changes_in_a_row_on<F: Kept>(rt: &(impl AllocGlobal + Abort)) {
+    let mut folder = folder::<F>(rt);
+    makes_all(rt, &mut folder, steps(rt).as_slice());
+    assert!(rt; same_state(rt, &folder, &changed::<PlainFolder>(rt)));
 }
 
 /// Makes all changes in a row, and compares their answers. Out of memory it compares those of the changes that were made, and what these
 /// leave, and ends the test.
-fn makes_all(
-    rt: &(impl AllocGlobal + Abort),
-    folder: &mut PlainFolder,
-    steps: &[(Change, Answer)],
-) {
+fn makes_all(rt: &(impl AllocGlobal + Abort), folder: &mut impl Kept, steps: &[(Change, Answer)]) {
     let mut changes = Items::new(rt.alloc());
     for (change, _) in steps {
         let copy = change.copy().expect(rt, "a copy");
@@ -79,20 +89,20 @@ fn answers_these(rt: &impl Abort, answers: &[Answer], steps: &[(Change, Answer)]
 /// The folder is as the first so many changes leave an empty one.
 fn leaves_these(
     rt: &(impl AllocGlobal + Abort),
-    left: &PlainFolder,
+    left: &impl Kept,
     made: usize,
     steps: &[(Change, Answer)],
 ) {
-    let mut folder = folder(rt);
+    let mut folder = folder::<PlainFolder>(rt);
     for (change, wanted) in steps.iter().take(made) {
         makes(rt, &mut folder, change, wanted);
     }
-    assert!(rt; folder.same_state(left));
+    assert!(rt; same_state(rt, left, &folder));
 }
 
 /// The folder after the calls of the same changes.
-fn changed(rt: &(impl AllocGlobal + Abort)) -> PlainFolder {
-    let mut folder = folder(rt);
+fn changed<F: Kept>(rt: &(impl AllocGlobal + Abort)) -> F {
+    let mut folder = folder::<F>(rt);
     more(rt, &mut folder, 1, &[X, Y]);
     let ticket = begins(rt, &mut folder, "x", 1);
     let commit = enters(rt, &mut folder, ticket);
@@ -218,7 +228,7 @@ fn token(rt: &(impl AllocGlobal + Abort), target: Row) -> PullInfo {
 /// Makes the change, and compares the answer.
 fn makes(
     rt: &(impl AllocGlobal + Abort),
-    folder: &mut PlainFolder,
+    folder: &mut impl FolderCore,
     change: &Change,
     wanted: &Answer,
 ) {

@@ -5,7 +5,7 @@ use crate::fault::NodeFault;
 use crate::folder_store::Marked;
 use crate::host::Host;
 use crate::input::Heard;
-use crate::moments::moment;
+use crate::moments::ScanTimes;
 use crate::shared::Histories;
 use crossbeam_channel::{Receiver, RecvTimeoutError};
 use file_store::{FileStore, Gate};
@@ -26,6 +26,7 @@ pub(crate) struct CommandFolder<'a, S, W> {
     // Among the folders.
     pub(crate) place: usize,
     pub(crate) id: &'a str,
+    pub(crate) times: &'a ScanTimes,
     pub(crate) store: S,
     pub(crate) calls: W,
 }
@@ -155,7 +156,16 @@ where
     O: Write,
 {
     match command {
-        Command::Scan(id) => scan(rt, alloc, gate, folder_in(folders, id)?, writer),
+        Command::Scan(id) => {
+            scan(
+                rt,
+                alloc,
+                connections,
+                gate,
+                folder_in(folders, id)?,
+                writer,
+            )
+        }
         Command::Need(id) => need(alloc, folder_in(folders, id)?, writer),
         Command::Best(id) => list(alloc, folder_in(folders, id)?, Listed::Bests, writer),
         Command::Local(id) => list(alloc, folder_in(folders, id)?, Listed::Locals, writer),
@@ -179,12 +189,14 @@ fn folder_in<'a, 'b, S, W>(
 fn scan<R: Host, S: FileStore + Marked, W: FolderCalls, G: Gate, O: Write>(
     rt: &R,
     alloc: Global,
+    connections: &Connections,
     gate: &G,
     folder: &mut CommandFolder<S, W>,
     writer: &mut O,
 ) -> Result<(), Refused> {
     let CommandFolder {
         id,
+        times,
         store,
         calls,
         ..
@@ -192,7 +204,8 @@ fn scan<R: Host, S: FileStore + Marked, W: FolderCalls, G: Gate, O: Write>(
     if !store.is_there() {
         return Err(Refused::FolderMissing);
     }
-    let sum = scan_all(rt, alloc, store, calls, gate, moment(rt), &mut NoProgress);
+    let moment = times.next(rt, connections);
+    let sum = scan_all(rt, alloc, store, calls, gate, moment, &mut NoProgress);
     if let Some(stop) = sum.stopped {
         return Err(Refused::Scan(stop));
     }

@@ -5,6 +5,7 @@ use crate::fault::NodeFault;
 use crate::folder_store::{FolderStore, GivesUp, Marked};
 use crate::lent::Lent;
 use crate::log::Log;
+use crate::moments::ScanTimes;
 use crate::node::NodePeer;
 use crate::pauses::Pauses;
 use crate::peer::{PeerJob, Reach};
@@ -34,6 +35,7 @@ pub(crate) struct FolderPlace {
     pub(crate) history_limit: u64,
     pub(crate) most: MaxConflicts,
     pub(crate) rescan: u64,
+    pub(crate) times: ScanTimes,
 }
 
 /// What a node is told.
@@ -165,7 +167,14 @@ pub(crate) fn scanned_of<'a, 'b, F: FolderFiles, W: FolderCalls>(
     for (at, place) in node.places.iter().enumerate() {
         let store = files.of(at, GivesUp::AtQuit)?;
         let calls = take_caller(callers, at)?;
-        scanned.push(ScannedFolder::new(place.id.as_str(), node.log, store, calls, place.rescan))?;
+        scanned.push(ScannedFolder::new(
+            place.id.as_str(),
+            node.log,
+            &place.times,
+            store,
+            calls,
+            place.rescan,
+        ))?;
     }
     Ok(scanned)
 }
@@ -193,6 +202,7 @@ pub(crate) fn pulled_of<'a, 'b, F: FolderFiles, W: FolderCalls>(
         pulled.push(PulledFolder {
             id: place.id.as_str(),
             log: node.log,
+            times: &place.times,
             hands,
             peers,
             places,
@@ -240,6 +250,7 @@ pub(crate) fn asked_of<'a, 'b, F: FolderFiles, W: FolderCalls>(
         asked.push(CommandFolder {
             place: at,
             id: place.id.as_str(),
+            times: &place.times,
             store: files.of(at, GivesUp::Never)?,
             calls: take_caller(callers, at)?,
         })?;

@@ -15,6 +15,7 @@ use crate::jobs::{
 use crate::keeping::{Keeper, run_keeper};
 use crate::lent::Lent;
 use crate::log::Log;
+use crate::moments::ScanTimes;
 use crate::peer::{PeerJob, Reach, run_peer};
 use crate::rounds::{HANDS, PulledFolder, run_rounds};
 use crate::scans::{ScannedFolder, run_scans};
@@ -264,6 +265,7 @@ fn open_all<R: Wait, C: FolderCore + Drop>(
             history_limit,
             most,
             rescan,
+            times: ScanTimes::new(),
         })?;
         shared.push(open_folder(rt, alloc, core, history_limit)?)?;
     }

@@ -3,7 +3,7 @@ use crate::connections::{Connections, Why};
 use crate::folder_store::Marked;
 use crate::host::Host;
 use crate::log::{Event, Log};
-use crate::moments::moment;
+use crate::moments::{ScanTimes, moment};
 use crate::pauses::{Pauses, Wanted};
 use crate::ways::make_way;
 use file_store::{FileStore, Gate};
@@ -17,6 +17,7 @@ use std::time::{Clock, Duration};
 use sync_names::SafeName;
 use sync_pull::{MaxConflicts, PullAnswer, PullFailure, pull_name};
 use sync_record::Kind;
+use sync_scan::scan_name;
 
 /// How many milliseconds lie between two rounds of which the first pulled something, so that what peers announced meanwhile is pulled soon.
 const LEAST_PAUSE: u64 = 25;
@@ -32,6 +33,7 @@ pub(crate) const HANDS: usize = 8;
 pub(crate) struct PulledFolder<'a, S, W> {
     pub(crate) id: &'a str,
     pub(crate) log: &'a Log,
+    pub(crate) times: &'a ScanTimes,
     pub(crate) hands: Vec<Hand<S, W>>,
     // Those that it is shared with, with their places among all peers.
     pub(crate) peers: Vec<PeerBook<'a>>,
@@ -278,12 +280,13 @@ where
     let PulledFolder {
         id,
         log,
+        times,
         hands,
         peers,
         most,
         ..
     } = folder;
-    let (id, log, peers, most) = (*id, *log, peers.as_slice(), *most);
+    let (id, log, times, peers, most) = (*id, *log, *times, peers.as_slice(), *most);
     let next = Mutex::new(0usize);
     let threads = wanted.len().min(HANDS).max(1);
     for_each_mut(
@@ -298,6 +301,7 @@ where
                 gate,
                 id,
                 log,
+                times,
                 peers,
                 most,
                 wanted,
@@ -326,6 +330,7 @@ where
     let PulledFolder {
         id,
         log,
+        times,
         hands,
         peers,
         most,
@@ -341,6 +346,7 @@ where
         gate,
         id,
         log,
+        times,
         peers.as_slice(),
         *most,
         wanted,
@@ -357,6 +363,7 @@ fn pull_some<R, S, W, G>(
     gate: &G,
     id: &str,
     log: &Log,
+    times: &ScanTimes,
     peers: &[PeerBook],
     most: MaxConflicts,
     wanted: &[Wanted],
@@ -399,16 +406,24 @@ where
         source.let_go();
         let (at, of) = (place as u64 + 1, wanted_count);
         log.tell(rt, &Event::Pulling(id, at, of));
-        tell_answer(rt, id, log, &wanted.name, answer, store.take_moved());
-        match answer {
-            PullAnswer::Done(_) => *has_pulled = true,
-            PullAnswer::Failed(PullFailure::BadParent)
-                if make_way(alloc, store, calls, gate, &wanted.name, moment(rt)) => {
-                if let Some(copy) = store.take_moved() {
-                    log.tell(rt, &Event::Kept(id, &copy));
-                }
-                *has_pulled = true;
+        let mut kept = store.take_moved();
+        let is_in_place = match answer {
+            PullAnswer::Done(_) => true,
+            PullAnswer::Failed(PullFailure::BadParent) => {
+                let name = &wanted.name;
+                let is_made = make_way(rt, alloc, connections, times, store, calls, gate, name);
+                kept = store.take_moved();
+                is_made
             }
+            _ => false,
+        };
+        if let (true, Some(copy)) = (is_in_place, &kept) {
+            log.tell(rt, &Event::Kept(id, copy));
+            record_copy(rt, alloc, gate, times, copy, store, calls);
+        }
+        tell_answer(rt, id, log, &wanted.name, answer);
+        match answer {
+            _ if is_in_place => *has_pulled = true,
             PullAnswer::Failed(_) | PullAnswer::Unsupported => failed.push(place)?,
             _ => {}
         }
@@ -416,22 +431,30 @@ where
     Ok(())
 }
 
-// Tells what a pull of a name came to, and the name under which what was there is kept, if it is.
-fn tell_answer<R: Host>(
+// Records what was kept under another name, so that the peers hear of it before the next scan of all. (What can't be recorded is left to that.)
+fn record_copy<R, S, W, G>(
     rt: &R,
-    id: &str,
-    log: &Log,
-    name: &SafeName,
-    answer: PullAnswer,
-    kept: Option<SafeName>,
-) {
+    alloc: Global,
+    gate: &G,
+    times: &ScanTimes,
+    copy: &SafeName,
+    store: &mut S,
+    calls: &mut W,
+)
+where
+    R: Host,
+    S: FileStore,
+    W: FolderCalls,
+    G: Gate,
+{
+    let moment = times.of_new(rt);
+    let _ = scan_name(rt, alloc, store, calls, gate, copy, moment);
+}
+
+// Tells what a pull of a name came to.
+fn tell_answer<R: Host>(rt: &R, id: &str, log: &Log, name: &SafeName, answer: PullAnswer) {
     match answer {
-        PullAnswer::Done(_) => {
-            if let Some(copy) = &kept {
-                log.tell(rt, &Event::Kept(id, copy));
-            }
-            log.tell(rt, &Event::Pulled(id, name));
-        }
+        PullAnswer::Done(_) => log.tell(rt, &Event::Pulled(id, name)),
         PullAnswer::Failed(why) => log.tell(rt, &Event::Failed(id, name, why)),
         PullAnswer::Refused(why) => log.tell(rt, &Event::Refused(id, name, why)),
         PullAnswer::Unsupported => log.tell(rt, &Event::Unsupported(id, name)),

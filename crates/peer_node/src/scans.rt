@@ -3,7 +3,7 @@ use crate::connections::Connections;
 use crate::folder_store::Marked;
 use crate::host::Host;
 use crate::log::{Event, Log};
-use crate::moments::moment;
+use crate::moments::ScanTimes;
 use file_store::{FileStore, Gate};
 use folder_calls::FolderCalls;
 use std::alloc::Global;
@@ -40,6 +40,7 @@ enum Came {
 pub(crate) struct ScannedFolder<'a, S, W> {
     id: &'a str,
     log: &'a Log,
+    times: &'a ScanTimes,
     store: S,
     calls: W,
     is_away: bool,
@@ -56,6 +57,7 @@ impl<'a, S, W> ScannedFolder<'a, S, W> {
     pub(crate) fn new(
         id: &'a str,
         log: &'a Log,
+        times: &'a ScanTimes,
         store: S,
         calls: W,
         every: u64,
@@ -63,6 +65,7 @@ impl<'a, S, W> ScannedFolder<'a, S, W> {
         ScannedFolder {
             id,
             log,
+            times,
             store,
             calls,
             is_away: false,
@@ -120,7 +123,7 @@ where
     for _ in rt.forever() {
         for folder in folders.iter_mut() {
             if folder.left == Some(0) {
-                let came = scan(rt, alloc, gate, folder);
+                let came = scan(rt, alloc, connections, gate, folder);
                 folder.settle(came);
             }
         }
@@ -171,7 +174,13 @@ where
 }
 
 // Scans a folder, if it is there.
-fn scan<R, S, W, G>(rt: &R, alloc: Global, gate: &G, folder: &mut ScannedFolder<S, W>) -> Came
+fn scan<R, S, W, G>(
+    rt: &R,
+    alloc: Global,
+    connections: &Connections,
+    gate: &G,
+    folder: &mut ScannedFolder<S, W>,
+) -> Came
 where
     R: Host,
     S: FileStore + Marked,
@@ -186,6 +195,7 @@ where
     let ScannedFolder {
         id,
         log,
+        times,
         store,
         calls,
         ..
@@ -195,7 +205,8 @@ where
         id: *id,
         log: *log,
     };
-    let sum = scan_all(rt, alloc, store, calls, gate, moment(rt), &mut far);
+    let moment = times.next(rt, connections);
+    let sum = scan_all(rt, alloc, store, calls, gate, moment, &mut far);
     if sum.recorded > 0 || sum.other > 0 || sum.stopped.is_some() {
         log.tell(rt, &Event::Scanned(*id, sum));
     }

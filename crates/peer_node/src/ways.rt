@@ -1,7 +1,11 @@
 //! Files where directories are needed.
+use crate::connections::Connections;
+use crate::moments::ScanTimes;
 use file_store::{FileStore, Gate, GatePlace, Stat, StoreRefusal};
 use folder_calls::FolderCalls;
 use std::alloc::{AllocError, Global};
+use std::sync::Wait;
+use std::time::Clock;
 use sync_names::{SafeName, conflict_name};
 use sync_pull::make_copy;
 use sync_record::{Kind, Record};
@@ -10,18 +14,29 @@ use sync_version::Moment;
 /// Makes way for a name that could not be put in place, since a file is where one of its directories should be. Returns whether it did.
 ///
 /// It does where this device has recorded that file and needs nothing else at its name: no pull would ever take the file away, nor could those that
-/// have the directory pull the file. So it is moved to the name of a conflict copy, and it is recorded that it is gone; the next scan finds the
-/// copy. What does not succeed is left to a later round, or to the next scan.
-pub(crate) fn make_way<S: FileStore, W: FolderCalls, G: Gate>(
+/// have the directory pull the file. So it is moved to the name of a conflict copy, and it is recorded that it is gone, but not
+/// yet that the copy is there. What does not succeed is left to a later round, or to the next scan.
+pub(crate) fn make_way<R, S, W, G>(
+    rt: &R,
     alloc: Global,
+    connections: &Connections,
+    times: &ScanTimes,
     store: &mut S,
     calls: &mut W,
     gate: &G,
     name: &SafeName,
-    moment: Moment,
-) -> bool {
+) -> bool
+where
+    R: Clock + Wait,
+    S: FileStore,
+    W: FolderCalls,
+    G: Gate,
+{
     match file_in_the_way(alloc, calls, gate, name) {
-        Ok(Some(file)) => move_away(store, calls, gate, &file, moment).unwrap_or(false),
+        Ok(Some(file)) => {
+            let moment = times.next(rt, connections);
+            move_away(store, calls, gate, &file, moment).unwrap_or(false)
+        }
         Ok(None) | Err(AllocError) => false,
     }
 }

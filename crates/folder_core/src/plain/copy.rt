@@ -30,7 +30,7 @@ pub(super) fn copied_entries(
 
 /// The same pulls once more. Their records are not copied but shared. O(k) for k pulls. It does not allocate where there is
 /// none.
-pub(super) fn copied_pulls(alloc: Global, pulls: &[OpenPull]) -> Result<Vec<OpenPull>, AllocError>
+pub fn copied_pulls(alloc: Global, pulls: &[OpenPull]) -> Result<Vec<OpenPull>, AllocError>
     ensures same { IfOk result (λ copy. copy.items ≡ pulls.now) }
     ensures nothing { length pulls.now ≡ 0 → IsOk result }
 {

@@ -15,7 +15,7 @@ pub(super) fn entry_from(entries: &[Announcement], device: DeviceId) -> Option<&
 }
 
 /// The device's record of the entries of one name. O(k) for k entries.
-pub(super) fn record_from(entries: &[Announcement], device: DeviceId) -> Option<&Record>
+pub fn record_from(entries: &[Announcement], device: DeviceId) -> Option<&Record>
     ensures { option_copied result ≡ record_from device entries.now }
 {
     match entry_from(entries, device) {
@@ -25,7 +25,7 @@ pub(super) fn record_from(entries: &[Announcement], device: DeviceId) -> Option<
 }
 
 /// The version of the record, if there is one.
-pub(super) fn version_of(own: Option<&Record>) -> Option<&Version>
+pub fn version_of(own: Option<&Record>) -> Option<&Version>
     ensures { option_copied result ≡ version_of (option_copied own.entry) }
 {
     match own {

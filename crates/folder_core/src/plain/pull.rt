@@ -3,7 +3,7 @@ use sync_record::Record;
 
 /// An open pull, under its target's name.
 #[derive(Debug, Drop)]
-pub(super) struct OpenPull {
+pub struct OpenPull {
     /// No two open pulls have the same one.
     pub number: u64,
     /// The local record when it began, if there was one.

@@ -22,7 +22,7 @@ use sync_record::{Kind, Record, same_content};
 use sync_version::Version;
 
 /// Whether a pull of the name is open. O(k) for k open pulls.
-pub(super) fn has_pull(pulls: &[OpenPull], name: &SafeName) -> bool
+pub fn has_pull(pulls: &[OpenPull], name: &SafeName) -> bool
     ensures { result ≡ list_any (λ p. bytes_eq name.now p.target.name) pulls.now }
 {
     pulls.iter().any(|pull| name == pull.target.name())
@@ -39,7 +39,7 @@ fn position_of(pulls: &[OpenPull], name: &SafeName) -> usize
 }
 
 /// The place of the pull that is meant, if it is at this stage. O(k) for k open pulls.
-pub(super) fn place_for(pulls: &[OpenPull], info: &PullInfo, stage: PullStage) -> Option<usize>
+pub fn place_for(pulls: &[OpenPull], info: &PullInfo, stage: PullStage) -> Option<usize>
     ensures place { IfSome result (λ i. i ≡ position_of info.now.name pulls.now) }
     ensures within { IfSome result (λ i. i < length pulls.now) }
     ensures found { option_and_then (slice_get pulls.now) result
@@ -70,7 +70,7 @@ fn is_at(pull: &OpenPull, stage: PullStage) -> bool
 }
 
 /// Takes out the pull that is meant, if it is at this stage. Does not allocate. O(k) for k open pulls.
-pub(super) fn take(pulls: &mut Vec<OpenPull>, info: &PullInfo, stage: PullStage) -> Option<OpenPull>
+pub fn take(pulls: &mut Vec<OpenPull>, info: &PullInfo, stage: PullStage) -> Option<OpenPull>
     ensures { MatchOption result ((pull_for info.now stage pulls.old.items ≡ None)
         × (pulls.new.items ≡ pulls.old.items))
         (λ p. (pull_for info.now stage pulls.old.items ≡ Some p)
@@ -81,7 +81,7 @@ pub(super) fn take(pulls: &mut Vec<OpenPull>, info: &PullInfo, stage: PullStage)
 }
 
 /// Takes out the pull that the commit is for, and returns what it announces. Does not allocate. O(k) for k open pulls.
-pub(super) fn take_ready(pulls: &mut Vec<OpenPull>, info: &PullInfo) -> Option<Record>
+pub fn take_ready(pulls: &mut Vec<OpenPull>, info: &PullInfo) -> Option<Record>
     ensures { MatchOption result ((pull_for info.now Committing pulls.old.items ≡ None)
         × (pulls.new.items ≡ pulls.old.items))
         (λ r. (option_and_then (λ p. p.ready) (pull_for info.now Committing pulls.old.items)
@@ -93,7 +93,7 @@ pub(super) fn take_ready(pulls: &mut Vec<OpenPull>, info: &PullInfo) -> Option<R
 }
 
 /// Opens a pull of the target over the local record, and returns what its ticket says. O(k^2) for k open pulls.
-pub(super) fn open(
+pub fn open(
     pulls: &mut Vec<OpenPull>,
     name: &SafeName,
     base: Option<&Record>,
@@ -164,7 +164,7 @@ fn has_number(pulls: &[OpenPull], number: u64) -> bool
 
 /// Why no pull of a name begins.
 #[derive(Clone, Copy, Debug, PartialEq, Eq)]
-pub(super) enum BeginObstacle {
+pub enum BeginObstacle {
     Busy,
     NotNeeded,
     Unsupported,
@@ -172,7 +172,7 @@ pub(super) enum BeginObstacle {
 
 /// The best of the entries of one name, which a pull of it would fetch over this local record; or the first test of a begin
 /// that holds, in the order of the rules. Does not allocate. O(d^2 + v) for d entries and v counters.
-pub(super) fn best_to_pull<'a>(
+pub fn best_to_pull<'a>(
     is_open: bool,
     announced: &'a [Announcement],
     local: Option<&Record>,
@@ -197,7 +197,7 @@ pub(super) fn best_to_pull<'a>(
 }
 
 /// What a begin answers for this reason.
-pub(super) fn begin_refused(obstacle: BeginObstacle) -> BeginAnswer
+pub fn begin_refused(obstacle: BeginObstacle) -> BeginAnswer
     ensures { begin_answer (Ok result) ≡ Some (begin_refusal obstacle) }
 {
     match obstacle {
@@ -233,7 +233,7 @@ fn is_best(group: &[Announcement], record: &Record) -> bool
 
 /// Why the commit of an open pull is not entered.
 #[derive(Clone, Copy, Debug, PartialEq, Eq)]
-pub(super) enum EntryObstacle {
+pub enum EntryObstacle {
     LocalMoved,
     Superseded,
     SequenceFull,
@@ -241,7 +241,7 @@ pub(super) enum EntryObstacle {
 
 /// The first test by which the pull's commit is not entered, in the order of the rules, where these are the entries of
 /// its name and this is the local record among them. Does not allocate. O(d^2 + b) for d entries, and b blocks and counters.
-pub(super) fn entry_obstacle(
+pub fn entry_obstacle(
     pull: &OpenPull,
     group: &[Announcement],
     local: Option<&Record>,
@@ -264,7 +264,7 @@ pub(super) fn entry_obstacle(
 }
 
 /// What `enter_commit` answers for this reason. The ticket is given back.
-pub(super) fn not_entered(obstacle: EntryObstacle, ticket: Ticket) -> EnterFault
+pub fn not_entered(obstacle: EntryObstacle, ticket: Ticket) -> EnterFault
     ensures told { enter_answer (Err result) ≡ Some (entry_refusal obstacle) }
     ensures given_back { GivesBack ticket result }
 {
@@ -303,7 +303,7 @@ pub(super) fn make_ready(
 
 /// What is announced once the target is in the place of the base; its sequence is the target's. O(n) for n bytes of the
 /// names, the symlink target, the counters and the blocks.
-fn announcement(alloc: Global, pull: &OpenPull) -> Result<Record, AllocError>
+pub fn announcement(alloc: Global, pull: &OpenPull) -> Result<Record, AllocError>
     ensures { IfOk result (λ r. r ≡ committed_record (version_of pull.now.base) pull.now.target) }
 {
     let version = match &pull.base {

@@ -35,7 +35,7 @@ const MAX_SEQUENCE: u64 = i64::MAX as u64;
 
 /// Why a scan is not recorded.
 #[derive(Clone, Copy, Debug, PartialEq, Eq)]
-pub(super) enum Obstacle {
+pub enum Obstacle {
     Busy,
     Moved,
     Unchanged,
@@ -44,7 +44,7 @@ pub(super) enum Obstacle {
 }
 
 /// The first test of a scan that holds, in the order of the rules. Does not allocate. O(v) for v counters.
-pub(super) fn first_obstacle(
+pub fn first_obstacle(
     is_committing: bool,
     version: Option<&Version>,
     expected: Option<&Version>,
@@ -82,10 +82,7 @@ fn is_counter_full(version: Option<&Version>, id: u64) -> bool
 }
 
 /// What a scan answers for this reason, where this is the local version. Only the version of a `Moved` is copied.
-pub(super) fn scan_answer(
-    obstacle: Obstacle,
-    version: Option<&Version>,
-) -> Result<ScanAnswer, ScanFault>
+pub fn scan_answer(obstacle: Obstacle, version: Option<&Version>) -> Result<ScanAnswer, ScanFault>
     ensures told { IfSome (scan_answer result)
         (λ answer. answer ≡ obstacle_answer (option_copied version.entry) obstacle) }
     ensures memory { scan_answer result ≡ None →
@@ -101,7 +98,7 @@ pub(super) fn scan_answer(
 }
 
 /// Whether there is a record, and it is of the content that was found. Does not allocate. O(n) for n blocks.
-pub(super) fn is_same(local: Option<&Record>, content: &FoundContent) -> bool
+pub fn is_same(local: Option<&Record>, content: &FoundContent) -> bool
     ensures { (name : Name) (edit : Edit) →
         result ≡ option_map_or (same_content (content_record name edit content.now))
         (option_copied local.entry) false }
@@ -145,7 +142,7 @@ fn has_file(record: &Record, size: u64, block_size: u32, blocks: &[Block]) -> bo
 
 /// The record of what was found, of this version by the device of this short id, of sequence 0. The blocks are copied.
 /// O(n) for n blocks and bytes of the name.
-pub(super) fn found_record(
+pub fn found_record(
     alloc: Global,
     name: &SafeName,
     found: &Finding,
@@ -177,7 +174,7 @@ pub(super) fn found_record(
 }
 
 /// The record of what is gone, of this version by the device of this short id, deleted at the moment.
-pub(super) fn gone_record(
+pub fn gone_record(
     record: &Record,
     version: Version,
     id: u64,
@@ -215,7 +212,7 @@ fn copied_block(block: &Block) -> Block
 }
 
 /// The version after a change by this device, whose counter can rise.
-pub(super) fn next_version(
+pub fn next_version(
     alloc: Global,
     version: Option<&Version>,
     id: u64,
@@ -266,7 +263,7 @@ pub(super) fn put_next(
 
 /// The first test of a scan of the name that holds, of a folder with these open pulls, this last sequence and this local
 /// record of the name. Does not allocate. O(k + v) for k open pulls and v counters.
-pub(super) fn scan_obstacle(
+pub fn scan_obstacle(
     me: DeviceId,
     pulls: &[OpenPull],
     last: u64,
@@ -292,7 +289,7 @@ pub(super) fn scan_obstacle(
 }
 
 /// Whether there is no live record.
-pub(super) fn is_gone(local: Option<&Record>) -> bool
+pub fn is_gone(local: Option<&Record>) -> bool
     ensures { result ≡ is_gone (option_copied local.entry) }
 {
     match local {
@@ -311,7 +308,7 @@ fn has_commit(pulls: &[OpenPull], name: &SafeName) -> bool
 }
 
 /// Whether no sequence is left, except those that the open commits will take.
-pub(super) fn is_full(last: u64, commits: usize) -> bool
+pub fn is_full(last: u64, commits: usize) -> bool
     ensures { result ≡ nat_le (max_sequence - last) commits }
 {
     MAX_SEQUENCE.saturating_sub(last) <= commits as u64

@@ -1,0 +1,9 @@
+pub mod Listing
+pub mod Lists
+pub mod Reserved
+pub mod Scans
+pub mod Messages
+pub mod Choices
+pub mod Pulls
+pub mod Filling
+pub mod Searching

@@ -1,0 +1,9 @@
+use Rattle.std.specs.Prelude.{option_copied}
+use Rattle.folder_db.proofs.Scans.{gone-accepted}
+use Rattle.folder_db.proofs.folder.IndexedFolder.accepts_gone.Goals as goal
+
+pub returns : goal.returns
+returns c =
+    let f = c.self.inside in
+    rw (← c.self.view_is) (λ moment. gone-accepted f.index f.last f.pulls.items f.copies.items c.self.invariant c.args.name.now c.me-me.result c.me-me.ensures (option_copied c.get-local.result) c.get-local.ensures
+    c.deref.result.now c.deref.ensures.value (option_copied c.args.expected) c.is_gone-is_unchanged.result c.scan_obstacle.result c.scan_obstacle.ensures moment c.is_gone-is_unchanged.ensures c.is_none.result c.is_none.ensures)

@@ -1,0 +1,10 @@
+use Rattle.std.proofs.Common.{◌≡◌, ◌++◌, length, map}
+use Rattle.sync_record.specs.Infos.{record_of}
+use Rattle.sync_layers.proofs.pages.records_of.Given as goal
+
+-- the records so far, and those of the files that are left, are those of all
+abbrev pub invariant-loop-info : goal.invariant-loop-info
+invariant-loop-info l = l.records.items ++ map record_of l.files.items ≡ map record_of l.fn.files
+
+abbrev pub decreases-loop-info : goal.decreases-loop-info
+decreases-loop-info l = length l.files.items
