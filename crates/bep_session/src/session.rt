@@ -1,6 +1,7 @@
-ghost use Rattle.std.specs.Prelude.{◌≡◌, ◌≢◌, ℕ, pos, ◌≤◌, ◌<◌, ◌+◌, ◌++◌, ◌↔◌, [], None, true, length, vec_len, vec_capacity, if◌then◌else◌, IsErrOf, IsOk, IfOk, OnOk, OnErr};
-ghost use Rattle.bep_frames.specs.Grammar.{max_message_bytes};
+ghost use Rattle.std.specs.Prelude.{◌≡◌, ◌≢◌, ℕ, pos, ◌≤◌, ◌<◌, ◌+◌, ◌++◌, ◌↔◌, [], None, false, true, length, vec_len, vec_capacity, if◌then◌else◌, IsErrOf, IsOk, IfOk, OnOk, OnErr};
+ghost use Rattle.bep_frames.specs.Grammar.{IsFrame, max_message_bytes};
 ghost use Rattle.bep_frames.specs.Written.{body_of, message_frame};
+ghost use Rattle.bep_frames.specs.declared.frame.Frame.TheVariants.{Message as MessageFrame};
 ghost use Rattle.bep_session.specs.declared.conversation.Stage.TheVariants.{Over};
 ghost use Rattle.bep_session.specs.Ids.{IsLeastFree, can_book, max_asks};
 ghost use Rattle.bep_session.specs.Sessions.{RunsOutOfMemory, begun, fed, said_at, with_open};
@@ -100,6 +101,8 @@ impl Session {
         ensures ok { OnOk result (out.new.items ≡ out.old.items ++ message_frame message.now) }
         ensures said { OnOk result (self.new ≡ said_at self.old moment) }
         ensures short { OnOk result (length (body_of message.now) ≤ max_message_bytes) }
+        // What is written is read as what was handed in.
+        ensures again { OnOk result (IsFrame false (message_frame message.now) (MessageFrame message.now)) }
         ensures long { IsErrOf result WriteFault.TooLong → max_message_bytes < length (body_of message.now) }
         ensures err { OnErr result (out.new.items ≡ out.old.items) }
         ensures unchanged { OnErr result (self.new ≡ self.old) }

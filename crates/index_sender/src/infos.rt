@@ -1,4 +1,5 @@
-ghost use Rattle.std.specs.Prelude.{◌≡◌, [], IfOk, IsOk, map};
+ghost use Rattle.std.specs.Prelude.{◌≡◌, [], All, IfOk, IsOk, None, map};
+ghost use Rattle.sync_names.specs.Refusal.{refusal};
 ghost use Rattle.sync_record.specs.Infos.{info_of, record_of};
 
 use bep_messages::{FileInfo, Items};
@@ -11,6 +12,8 @@ use sync_record::Record;
 pub fn file_infos(alloc: Global, records: &[Record]) -> Result<Items<FileInfo>, AllocError>
     ensures value { IfOk result (λ infos. infos ≡ map info_of records.now) }
     ensures again { IfOk result (λ infos. map record_of infos ≡ records.now) }
+    // No name is refused where it is read.
+    ensures safe { IfOk result (λ infos. All (λ info. refusal info.name ≡ None) infos) }
     ensures none { records.now ≡ [] → IsOk result }
 {
     let mut infos = Vec::with_capacity(alloc, records.len())?;

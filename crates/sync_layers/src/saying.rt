@@ -13,7 +13,7 @@ ghost use Rattle.sync_layers.specs.Heard.{HasHeardNothing, HearsAlone, IsLive, I
 
 use crate::CarryFault;
 use bep_frames::laws::one_reading;
-use bep_frames::{Message, write_frame, write_hello};
+use bep_frames::{Message, write_hello};
 use bep_messages::{ClusterConfig, Folder, Hello, Items, Text};
 use bep_session::{Event, Session};
 use std::alloc::{AllocError, Global};
@@ -48,8 +48,6 @@ fn said(
     ensures again { OnOk result (IsFrame false (message_frame message.now) (MessageFrame message.now)) }
     ensures says { OnOk result (session.new ≡ said_at session.old moment) }
 {
-    // That the frame reads as the message is promised by `write_frame`, and not by `say`, which writes the same bytes.
-    write_frame(message, &mut Vec::new(alloc))?;
     let mut frame = Vec::new(alloc);
     session.say(message, &mut frame, moment)?;
     Ok(frame)
