@@ -1,8 +1,11 @@
 //! What each worker of a connection is given, and what it leaves.
 ghost use Rattle.std.specs.Prelude.{All, IfOk};
+ghost use Rattle.std.specs.List.{AllZip};
+ghost use Rattle.peer_conn.specs.Turns.{OnlySees};
 ghost use Rattle.peer_conn.specs.Words.{IsSameEnded, IsSameQueue};
 ghost use Rattle.peer_link.specs.Links.{HasReadAll};
 ghost use Rattle.peer_reader.specs.Hears.{IsApart};
+ghost use Rattle.peer_server.specs.Answered.{Stays};
 
 use crate::inbox::LinkInbox;
 use crate::line::Line;
@@ -102,7 +105,8 @@ pub(crate) fn index<R: Clock + Wait, W: FolderCalls + Drop, L: Line>(
     job: IndexJob<W>,
     line: &L,
 ) -> HasIndexed<W>
-    ensures { IsSameEnded job.seat result.seat }
+    ensures same { IsSameEnded job.seat result.seat }
+    ensures stays { AllZip (OnlySees W.folder W.view) job.folders.items result.folders.items }
 {
     let IndexJob {
         config,
@@ -151,7 +155,8 @@ where
     W: FolderCalls + Drop,
     G: Gate,
     L: Line,
-    ensures { IsSameEnded job.seat result.seat }
+    ensures same { IsSameEnded job.seat result.seat }
+    ensures stays { AllZip (Stays S.keeps S.tree W.folder W.view) job.folders.items result.folders.items }
 {
     let ServeJob {
         requests,

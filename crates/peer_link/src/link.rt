@@ -1,8 +1,11 @@
 //! The workers of a connection.
 ghost use Rattle.std.specs.Prelude.{◌≡◌, All, IfErr, IfOk};
+ghost use Rattle.std.specs.List.{AllZip};
+ghost use Rattle.peer_conn.specs.Turns.{OnlySees};
 ghost use Rattle.peer_conn.specs.Words.{IsSameEnded, IsSameQueue};
 ghost use Rattle.peer_link.specs.Links.{AreEnded, HasReadAll};
 ghost use Rattle.peer_reader.specs.Hears.{IsApart};
+ghost use Rattle.peer_server.specs.Answered.{Stays};
 
 use crate::channels::Channels;
 use crate::end::LinkEnd;
@@ -60,6 +63,10 @@ where
     requires { All (IsApart W.view peer) folders.read.items }
     ensures read { IfOk result (λ end. HasReadAll W.view W.folder peer (I.remaining reader) folders.read.items
         end.reader end.folders.read.items) }
+    ensures indexed { IfOk result (λ end. AllZip (OnlySees W.folder W.view) folders.indexed.items
+        end.folders.indexed.items) }
+    ensures served { IfOk result (λ end. AllZip (Stays S.keeps S.tree W.folder W.view) folders.served.items
+        end.folders.served.items) }
     ensures given_back { IfErr result (λ left. left ≡ folders) }
 {
     let Ok((indexer, server, requester, taker)) = OutQueue::open::<Message>(alloc, QUEUE_MESSAGES)
@@ -113,6 +120,8 @@ where
             ensures indexer { IsSameEnded indexing.seat result.1.0.seat }
             ensures server { IsSameEnded serving.seat result.1.1.0.seat }
             ensures requester { IsSameEnded requesting.seat result.1.1.1.seat }
+            ensures indexed { AllZip (OnlySees W.folder W.view) indexing.folders.items result.1.0.folders.items }
+            ensures served { AllZip (Stays S.keeps S.tree W.folder W.view) serving.folders.items result.1.1.0.folders.items }
         {
             work(
                 rt, alloc, &start, reading, indexing, serving, requesting, gate, line,
@@ -170,6 +179,8 @@ where
     ensures indexer { IsSameEnded indexing.seat result.1.0.seat }
     ensures server { IsSameEnded serving.seat result.1.1.0.seat }
     ensures requester { IsSameEnded requesting.seat result.1.1.1.seat }
+    ensures indexed { AllZip (OnlySees W.folder W.view) indexing.folders.items result.1.0.folders.items }
+    ensures served { AllZip (Stays S.keeps S.tree W.folder W.view) serving.folders.items result.1.1.0.folders.items }
 {
     join(
         rt,
@@ -182,6 +193,8 @@ where
             ensures indexer { IsSameEnded indexing.seat result.0.seat }
             ensures server { IsSameEnded serving.seat result.1.0.seat }
             ensures requester { IsSameEnded requesting.seat result.1.1.seat }
+            ensures indexed { AllZip (OnlySees W.folder W.view) indexing.folders.items result.0.folders.items }
+            ensures served { AllZip (Stays S.keeps S.tree W.folder W.view) serving.folders.items result.1.0.folders.items }
         { put(rt, alloc, start, indexing, serving, requesting, gate, line) },
     )
 }
@@ -206,20 +219,25 @@ where
     ensures indexer { IsSameEnded indexing.seat result.0.seat }
     ensures server { IsSameEnded serving.seat result.1.0.seat }
     ensures requester { IsSameEnded requesting.seat result.1.1.seat }
+    ensures indexed { AllZip (OnlySees W.folder W.view) indexing.folders.items result.0.folders.items }
+    ensures served { AllZip (Stays S.keeps S.tree W.folder W.view) serving.folders.items result.1.0.folders.items }
 {
     join(
         rt,
         || -> HasIndexed<W>
-            ensures { IsSameEnded indexing.seat result.seat }
+            ensures same { IsSameEnded indexing.seat result.seat }
+            ensures stays { AllZip (OnlySees W.folder W.view) indexing.folders.items result.folders.items }
         { index(rt, alloc, start, indexing, line) },
         || -> (HasServed<S, W>, HasRequested)
             ensures server { IsSameEnded serving.seat result.0.seat }
             ensures requester { IsSameEnded requesting.seat result.1.seat }
+            ensures served { AllZip (Stays S.keeps S.tree W.folder W.view) serving.folders.items result.0.folders.items }
         {
             join(
                 rt,
                 || -> HasServed<S, W>
-                    ensures { IsSameEnded serving.seat result.seat }
+                    ensures same { IsSameEnded serving.seat result.seat }
+                    ensures stays { AllZip (Stays S.keeps S.tree W.folder W.view) serving.folders.items result.folders.items }
                 { serve(rt, alloc, start, serving, gate, line) },
                 || -> HasRequested
                     ensures { IsSameEnded requesting.seat result.seat }

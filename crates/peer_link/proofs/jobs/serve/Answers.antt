@@ -1,0 +1,13 @@
+use Rattle.std.proofs.Common.{sym}
+use Rattle.peer_server.specs.Answered.{Stays}
+use Rattle.peer_link.proofs.Staying.{served_itself, through_slice}
+use Rattle.peer_link.proofs.jobs.serve.Goals as goal
+
+pub returns-then-not-is_on-clause-stays : goal.returns-then-not-is_on-clause-stays
+returns-then-not-is_on-clause-stays g c =
+    served_itself g.S.FileStore.keeps g.S.FileStore.tree g.W.FolderCalls.folder g.W.FolderCalls.view c.args.job.folders.items
+
+pub returns-clause-stays : goal.returns-clause-stays
+returns-clause-stays g c =
+    through_slice (Stays g.S.FileStore.keeps g.S.FileStore.tree g.W.FolderCalls.folder g.W.FolderCalls.view) c.args.job.folders.items c.as_mut_slice.result.now
+    c.run_server-seat.new.folders c.args.job.folders.len c.as_mut_slice.ensures.value (sym c.as_mut_slice.ensures.len) c.run_server-seat.ensures.stays
