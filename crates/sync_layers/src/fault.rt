@@ -15,9 +15,6 @@ pub enum CarryFault {
     /// A session did not hear what was said to it.
     #[error("Unheard")]
     Unheard,
-    /// The name of a record that came is not safe.
-    #[error("UnsafeName")]
-    UnsafeName,
     /// The history of a folder has no room.
     #[error("HistoryFull")]
     HistoryFull,

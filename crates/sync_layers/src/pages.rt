@@ -1,8 +1,9 @@
 //! The records of a page, as the other end of a connection hears them.
-ghost use Rattle.std.specs.Prelude.{◌≡◌, IfOk, OnOk, map};
+ghost use Rattle.std.specs.Prelude.{◌≡◌, All, IfOk, None, OnOk, map};
 ghost use Rattle.bep_frames.specs.declared.frame.Message.TheVariants.{Index as IndexMessage, IndexUpdate as UpdateMessage};
 ghost use Rattle.bep_messages.specs.declared.index.Index.{Index as AnyIndex};
 ghost use Rattle.bep_messages.specs.declared.index_update.IndexUpdate.{IndexUpdate as AnyUpdate};
+ghost use Rattle.sync_names.specs.Refusal.{refusal};
 ghost use Rattle.sync_record.specs.Infos.{record_of};
 ghost use Rattle.sync_layers.specs.Heard.{IsOpen};
 
@@ -62,7 +63,7 @@ pub(crate) fn pass_more(
 
 fn index_of(alloc: Global, folder: &str, records: &[Record]) -> Result<Message, AllocError>
     ensures { IfOk result (λ message. (index : AnyIndex) × (message ≡ IndexMessage index)
-        × (map record_of index.files ≡ records.now)) }
+        × (map record_of index.files ≡ records.now) × All (λ info. refusal info.name ≡ None) index.files) }
 {
     Ok(Message::Index(Index {
         folder: Text::from_str(alloc, folder)?,
@@ -72,7 +73,7 @@ fn index_of(alloc: Global, folder: &str, records: &[Record]) -> Result<Message, 
 
 fn update_of(alloc: Global, folder: &str, records: &[Record]) -> Result<Message, AllocError>
     ensures { IfOk result (λ message. (update : AnyUpdate) × (message ≡ UpdateMessage update)
-        × (map record_of update.files ≡ records.now)) }
+        × (map record_of update.files ≡ records.now) × All (λ info. refusal info.name ≡ None) update.files) }
 {
     Ok(Message::IndexUpdate(IndexUpdate {
         folder: Text::from_str(alloc, folder)?,
@@ -82,6 +83,7 @@ fn update_of(alloc: Global, folder: &str, records: &[Record]) -> Result<Message,
 
 // The records of the files that came, all of them.
 fn records_of(alloc: Global, files: Items<FileInfo>) -> Result<Items<Record>, CarryFault>
+    requires { All (λ info. refusal info.name ≡ None) files }
     ensures { IfOk result (λ records. records ≡ map record_of files) }
 {
     let mut files = VecDeque::from_vec(files.into_vec());
@@ -92,7 +94,7 @@ fn records_of(alloc: Global, files: Items<FileInfo>) -> Result<Items<Record>, Ca
                 records.push(record)?;
             }
             Err(NameFault::OutOfMemory) => return Err(CarryFault::OutOfMemory),
-            Err(_) => return Err(CarryFault::UnsafeName),
+            Err(_) => unreachable!(),
         }
     }
     Ok(Items::from_vec(records))

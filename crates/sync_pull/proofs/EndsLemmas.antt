@@ -5,7 +5,7 @@ use Rattle.folder_core.specs.Steps.{is_accepted}
 use Rattle.folder_core.specs.declared.answer.Answer.{Answer}
 use Rattle.folder_core.specs.declared.answer.Answer.TheVariants as answer
 use Rattle.folder_core.specs.declared.change.Change.{Change}
-use Rattle.folder_core.specs.declared.change.Change.TheVariants.{Abort, EnterCommit, GiveUp}
+use Rattle.folder_core.specs.declared.change.Change.TheVariants.{Abort, EnterCommit, Finish, GiveUp}
 use Rattle.folder_core.specs.declared.pull_info.PullInfo.{PullInfo}
 use Rattle.folder_calls.specs.Adds.{Asked}
 use Rattle.folder_calls.specs.Calls.{GivesBack, enter_value}
@@ -91,6 +91,28 @@ entered-ends old mid new t c entered is p e = by p (subst (λ x. EndsCommit mid 
     by (Refused Stray) (inl h) = (enters t ∷ finishes t answer.Stray ∷ [], inr (inr (inr (inr refl))), two old mid new (enters t) (finishes t answer.Stray) first h)
     by (Refused Stray) (inr h) = (enters t ∷ (Abort t, answer.Stray) ∷ [], inr (inr (inr (inl refl))), two old mid new (enters t) (Abort t, answer.Stray) first h)
     by (Failed f) h = (enters t ∷ (Abort t, answer.Closed) ∷ [], inr refl, aborted h)
+
+-- and this is the first that was asked
+pub entered-first : (old mid new : CallerView) (t c : PullInfo) → Gets old (EnterCommit t) (answer.Entered c) mid → c ≡ t → (p : PullAnswer) → EndsCommit mid c p new
+    → (rest : List Asked) × AsksAndSees old (enters t ∷ rest) new
+entered-first old mid new t c entered is p e = by p (subst (λ x. EndsCommit mid x p new) is e)
+  where
+    then-asks : (c : Change) (a : Answer) → Gets mid c a new → (rest : List Asked) × AsksAndSees old (enters t ∷ rest) new
+    then-asks c a h = ((c, a) ∷ [], two old mid new (enters t) (c, a) (subst (λ x. Gets old (EnterCommit t) (answer.Entered x) mid) is entered) h)
+
+    by : (p : PullAnswer) → EndsCommit mid t p new → (rest : List Asked) × AsksAndSees old (enters t ∷ rest) new
+    by (Done k) h = then-asks (Finish t t.target) (answer.Done k) h
+    by NotNeeded h = absurd h
+    by Busy h = absurd h
+    by Unsupported h = absurd h
+    by LocalMoved h = absurd h
+    by Superseded h = absurd h
+    by (Refused SequenceFull) h = absurd h
+    by (Refused HistoryFull) h = absurd h
+    by (Refused OutOfMemory) h = then-asks (Abort t) answer.Closed h
+    by (Refused Stray) (inl h) = then-asks (Finish t t.target) answer.Stray h
+    by (Refused Stray) (inr h) = then-asks (Abort t) answer.Stray h
+    by (Failed f) h = then-asks (Abort t) answer.Closed h
 
 pub stop-gives : (t : PullInfo) (s : Stop) → EndsBy t (stopped s) ((GiveUp t, answer.Closed) ∷ [])
 stop-gives t stop.OutOfMemory = inl refl

@@ -1,5 +1,5 @@
 -- What a pull does to the store, by its answer.
-use Rattle.std.proofs.Common.{◌≡◌, ℕ, Bool, true, [], Option, Some, None, inl, inr, sym, ap, subst, ◌∙◌}
+use Rattle.std.proofs.Common.{◌≡◌, ℕ, Bool, true, List, [], ◌∷◌, Option, Some, None, inl, inr, sym, ap, subst, ◌∙◌}
 use Rattle.std.specs.Prelude.{false, if◌then◌else◌, unwrap_or, ℤ}
 use Rattle.file_store.specs.declared.node.Node.TheVariants.{File}
 use Rattle.folder_core.specs.Steps.{is_copy_due}
@@ -16,13 +16,15 @@ use Rattle.file_store.specs.Trees.{Tree}
 use Rattle.folder_core.specs.declared.change.Change.{Change}
 use Rattle.folder_core.specs.declared.change.Change.TheVariants.{Abort}
 use Rattle.folder_core.specs.declared.pull_info.PullInfo.{PullInfo}
+use Rattle.folder_calls.specs.Adds.{Asked}
 use Rattle.folder_calls.specs.Shared.{CallerView}
+use Rattle.sync_pull.specs.Chains.{AsksAndSees}
 use Rattle.folder_calls.specs.declared.pull.EnterRefusal.{EnterRefusal}
 use Rattle.folder_calls.specs.declared.pull.EnterRefusal.TheVariants as enter
-use Rattle.sync_pull.specs.Ends.{Closes, EndsCommit, Finishes, IsRefused, stopped}
-use Rattle.sync_pull.specs.Pulled.{IfDone, IsNameKept, IsPulled, IsThereOrCopied}
+use Rattle.sync_pull.specs.Ends.{Closes, EndsCommit, Finishes, IsRefused, enters, stopped}
+use Rattle.sync_pull.specs.Pulled.{IfDone, IsEnteredFirst, IsNameKept, IsPulled, IsThereOrCopied}
 use Rattle.sync_pull.specs.Putting.{IsInPlace, IsKeptOrMade, standing_by, standing_of}
-use Rattle.sync_pull.specs.Replacing.{ChangesAlone, IsCopyKept, IsReplaced, IsSaved, IsUntouched}
+use Rattle.sync_pull.specs.Replacing.{ChangesAlone, IsCopyAlone, IsCopyKept, IsOverBase, IsReplaced, IsSaved, IsUntouched}
 use Rattle.sync_pull.specs.declared.answer.PullAnswer.{PullAnswer}
 use Rattle.sync_pull.specs.declared.answer.PullAnswer.TheVariants.{Done, NotNeeded, Busy, Unsupported, LocalMoved, Superseded, Refused, Failed}
 use Rattle.sync_pull.specs.declared.answer.PullFailure.TheVariants.{StoreFault, NoSource, LocalChanged, ConflictNameTaken, NotEmpty, BadParent}
@@ -135,6 +137,31 @@ alone-temp n plan a b c x y = record {
 
 pub temp-alone : (n : Name) (plan : CopyPlan) (a b : Tree) → ChangesTemp a n b → ChangesAlone n plan a b
 temp-alone n plan a b x = record { names = λ q e o. inl (ap (λ f. f q) x.names); temps = x.temps }
+
+-- ---- the copy's name, and what was there when the commit was entered
+
+pub copy-alone-temp : (n : Name) (plan : CopyPlan) (a b c : Tree) → IsCopyAlone plan n a b → ChangesTemp b n c → IsCopyAlone plan n a c
+copy-alone-temp n NotDue a b c x y = tt
+copy-alone-temp n (Due None) a b c x y = tt
+copy-alone-temp n (Due (Some copy)) a b c x y = λ apart. elim (x apart) [
+  | inl kept ↦ inl (subst (IsKeptOrMade n copy (a.names copy)) (sym (ap (λ f. f copy) y.names)) kept)
+  | inr moved ↦ inr (moved.0, ap (λ f. f copy) y.names ∙ moved.1)
+]
+
+pub temp-copy-alone : (n : Name) (plan : CopyPlan) (a b : Tree) → ChangesTemp a n b → IsCopyAlone plan n a b
+temp-copy-alone n NotDue a b x = tt
+temp-copy-alone n (Due None) a b x = tt
+temp-copy-alone n (Due (Some copy)) a b x = λ apart. inl (inl (ap (λ f. f copy) x.names))
+
+pub over-base-temp : (base : Option FileRecord) (n : Name) (a b c : Tree) → IsOverBase base n a b → ChangesTemp b n c → IsOverBase base n a c
+over-base-temp base n a b c (inl same) x = inl (ap (λ f. f n) x.names ∙ same)
+over-base-temp base n a b c (inr stood) x = inr stood
+
+-- the commit was entered, and what the base says was there
+pub entered-over : (n : Name) (t : PullInfo) (old : CallerView) (before : Tree) (new : CallerView) (after : Tree)
+    → (rest : List Asked) × AsksAndSees old (enters t ∷ rest) new → IsOverBase t.base n before after → IsEnteredFirst n t old before new after
+entered-over n t old before new after asked (inl same) = inl same
+entered-over n t old before new after asked (inr stood) = inr (stood, asked)
 
 -- ---- a pull that is done
 

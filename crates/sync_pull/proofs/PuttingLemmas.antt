@@ -22,7 +22,7 @@ elsewhere n x f q e = ap (λ b. cond b x (f q)) e
 pub alone-itself : (n : Name) (t : Tree) → ChangesNameAlone n t t
 alone-itself n t = record { names = λ q e. inl refl; temps = λ q e. refl }
 
-some-none : (x : Node) → Some x ≡ None → ⊥
+pub some-none : (x : Node) → Some x ≡ None → ⊥
 some-none x e = cc
 
 pub kept-then : (n q : Name) (a b c : Option Node) → IsKeptOrMade n q a b → IsKeptOrMade n q b c → IsKeptOrMade n q a c

@@ -1,5 +1,5 @@
 -- What the removal of older conflict copies leaves as it was.
-use Rattle.std.proofs.Common.{◌≡◌, ◌≢◌, ℕ, Bool, true, false, List, take, drop, Option, Some, None, inl, inr, refl, sym, ap, subst, ◌∙◌}
+use Rattle.std.proofs.Common.{◌≡◌, ◌≢◌, ◌⊎◌, ◌∷◌, ℕ, Bool, true, false, List, take, drop, Option, Some, None, inl, inr, refl, sym, ap, subst, ◌∙◌}
 use Rattle.std.specs.Prelude.{bytes_eq, ⊤, Contains, ℤ, pos, negsuc}
 use Rattle.std.proofs.lemmas.List.{take-append-drop}
 use Rattle.std.proofs.lemmas.List.Elements.{Contains-append_left}
@@ -9,13 +9,16 @@ use Rattle.file_store.specs.Names.{Name}
 use Rattle.file_store.specs.Trees.{Tree}
 use Rattle.folder_core.specs.Steps.{is_copy_due}
 use Rattle.folder_core.specs.declared.pull_info.PullInfo.{PullInfo}
+use Rattle.file_store.specs.declared.node.Node.TheVariants.{Directory}
+use Rattle.folder_calls.specs.Shared.{CallerView, Sees}
 use Rattle.sync_names.specs.Copies.{IsConflictCopy}
 use Rattle.sync_record.specs.Records.{FileRecord}
 use Rattle.sync_pull.specs.Copies.{RemovesFiles, TrimsCopies, surplus}
+use Rattle.sync_pull.specs.Ends.{enters}
 use Rattle.sync_pull.specs.Plans.{IsPlanned, copy_name}
-use Rattle.sync_pull.specs.Pulled.{ChangesAndTrims, ChangesNameAndCopy, IfDone, IfDoneElse, IfFile, IsNameKept, IsOldOrTarget, IsPulled, IsThereOrCopied, TrimsAfter, TrimsIfDue}
+use Rattle.sync_pull.specs.Pulled.{ChangesAndTrims, ChangesNameAndCopy, IfDone, IfDoneElse, IfFile, IsCopyFree, IsEnteredFirst, IsNameKept, IsOldOrTarget, IsPulled, IsThereOrCopied, TrimsAfter, TrimsIfDue}
 use Rattle.sync_pull.specs.Putting.{IsKeptOrMade, WritesTempAlone}
-use Rattle.sync_pull.specs.Replacing.{ChangesAlone, IsCopyKept, IsOther}
+use Rattle.sync_pull.specs.Replacing.{ChangesAlone, IsCopyAlone, IsCopyKept, IsOther}
 use Rattle.sync_pull.specs.Standing.{StandsAs}
 use Rattle.sync_pull.specs.declared.answer.PullAnswer.{PullAnswer}
 use Rattle.sync_pull.specs.declared.answer.PullAnswer.TheVariants.{Done, NotNeeded, Busy, Unsupported, LocalMoved, Superseded, Refused, Failed}
@@ -25,7 +28,8 @@ use Rattle.sync_pull.specs.declared.commit.Standing.{Standing}
 use Rattle.sync_pull.specs.declared.commit.Standing.TheVariants as standing
 use Rattle.sync_pull.specs.declared.replace.CopyPlan.{CopyPlan}
 use Rattle.sync_pull.specs.declared.replace.CopyPlan.TheVariants.{Due, NotDue}
-use Rattle.sync_pull.proofs.PuttingLemmas.{kept-then}
+use Rattle.sync_pull.proofs.EndsLemmas.{sees-first}
+use Rattle.sync_pull.proofs.PuttingLemmas.{kept-then, some-none}
 
 contains-take : (k : ℕ) (xs : List Name) (q : Name) → Contains (take k xs) q → Contains xs q
 contains-take k xs q h = subst (λ l. Contains l q) (take-append-drop k xs) (Contains-append_left (take k xs) (drop k xs) q h)
@@ -215,3 +219,52 @@ dropped-alone n copy old mid new w x = record {
   names = λ q e f. subst (IsKeptOrMade n q (old.names q)) (sym (ap (λ g. g q) x.names)) (w.alone.names q e);
   temps = λ q e. x.temps q e ∙ w.alone.temps q e;
 }
+
+-- ---- the copy's name, and what was there when the commit was entered
+
+pub free-as : (most : ℤ) (moment : ℕ) (n : Name) (base : Option FileRecord) (target : FileRecord) (plan : CopyPlan) (old mid new : Tree) → IsPlanned most moment n base target plan
+    → WritesTempAlone n old mid → ChangesAlone n plan mid new → IsCopyAlone plan n mid new → IsCopyFree (is_copy_due most base target) n (copy_name n moment base) old new
+free-as most moment n base target plan old mid new planned w a x = λ apart. by plan planned a x apart (w.alone.names (copy_name n moment base) apart)
+  where
+    copy : Name
+    copy = copy_name n moment base
+
+    Free : Type 0
+    Free = IsKeptOrMade n copy (old.names copy) (new.names copy) ⊎ ((is_copy_due most base target ≡ true) × (old.names copy ≡ None) × (new.names copy ≡ old.names n))
+
+    kept : IsKeptOrMade n copy (old.names copy) (mid.names copy) → IsKeptOrMade n copy (mid.names copy) (new.names copy) → Free
+    kept first then = inl (kept-then n copy (old.names copy) (mid.names copy) (new.names copy) first then)
+
+    moved : is_copy_due most base target ≡ true → IsKeptOrMade n copy (old.names copy) (mid.names copy) → mid.names copy ≡ None → new.names copy ≡ mid.names n → Free
+    moved due (inl same) none is = inr (due, sym same ∙ none, is ∙ w.name)
+    moved due (inr made) none is = absurd (some-none Directory (sym made.2 ∙ none))
+
+    by : (plan : CopyPlan) → IsPlanned most moment n base target plan → ChangesAlone n plan mid new → IsCopyAlone plan n mid new → bytes_eq n copy ≡ false
+        → IsKeptOrMade n copy (old.names copy) (mid.names copy) → Free
+    by NotDue planned a x apart first = kept first (a.names copy apart tt)
+    by (Due None) planned a x apart first = kept first (a.names copy apart tt)
+    by (Due (Some c)) planned a x apart first =
+        elim (subst (λ q. IsCopyAlone (Due (Some q)) n mid new) planned.1 x apart) [
+          | inl then ↦ kept first then
+          | inr m ↦ moved planned.0 first m.0 m.1
+        ]
+
+pub free-on : (due : Bool) (n copy : Name) (old placed new : Tree) → StaysSo n copy placed new → IsCopyFree due n copy old placed → IsCopyFree due n copy old new
+free-on due n copy old placed new s x = λ apart. elim (x apart) [
+  | inl kept ↦ inl (subst (IsKeptOrMade n copy (old.names copy)) (sym s.copy_name) kept)
+  | inr moved ↦ inr (moved.0, moved.1, s.copy_name ∙ moved.2)
+]
+
+-- the temporary file was written and dropped, and nothing else done
+pub dropped-free : (due : Bool) (n copy : Name) (old mid new : Tree) → WritesTempAlone n old mid → ChangesTemp mid n new → IsCopyFree due n copy old new
+dropped-free due n copy old mid new w x = λ apart. inl ((dropped-alone n copy old mid new w x).names copy apart apart)
+
+pub entered-from : (n : Name) (t : PullInfo) (first old new : CallerView) (before mid after : Tree) → Sees first old → mid.names n ≡ before.names n
+    → IsEnteredFirst n t old mid new after → IsEnteredFirst n t first before new after
+entered-from n t first old new before mid after sees same (inl e) = inl (e ∙ same)
+entered-from n t first old new before mid after sees same (inr h) = inr (subst (StandsAs t.base) same h.0, h.1, sees-first first old new (enters t ∷ h.1) sees h.2)
+
+pub entered-on : (n : Name) (t : PullInfo) (old new : CallerView) (before placed after : Tree) → after.names n ≡ placed.names n
+    → IsEnteredFirst n t old before new placed → IsEnteredFirst n t old before new after
+entered-on n t old new before placed after s (inl e) = inl (s ∙ e)
+entered-on n t old new before placed after s (inr h) = inr h

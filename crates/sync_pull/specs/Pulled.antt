@@ -1,5 +1,5 @@
 -- What a pull does to the store, by the answer that it comes to (own rule).
-use Rattle.std.specs.Prelude.{bytes_eq, ◌≡◌, ◌≢◌, ◌⊎◌, ⊤, ℕ, Bool, true, false, List, ℤ, Option, Some, None, IsSome, Result, IfOk}
+use Rattle.std.specs.Prelude.{bytes_eq, ◌≡◌, ◌≢◌, ◌⊎◌, ◌∷◌, ⊤, ℕ, Bool, true, false, List, ℤ, Option, Some, None, IsSome, Result, IfOk}
 use Rattle.file_store.specs.Asked.{Call, Value, DropTemp}
 use Rattle.file_store.specs.Calls.{HasBadParent, HasEntries}
 use Rattle.file_store.specs.Names.{Name}
@@ -9,9 +9,11 @@ use Rattle.folder_core.specs.Steps.{is_copy_due}
 use Rattle.folder_core.specs.declared.pull_info.PullInfo.{PullInfo}
 use Rattle.folder_core.specs.declared.answer.Answer.TheVariants.{Begun}
 use Rattle.folder_core.specs.declared.change.Change.TheVariants.{BeginPull}
+use Rattle.folder_calls.specs.Adds.{Asked}
 use Rattle.folder_calls.specs.Shared.{CallerView, Gets}
+use Rattle.sync_pull.specs.Chains.{AsksAndSees}
 use Rattle.sync_pull.specs.Copies.{IsMoveRefused, TrimsCopies}
-use Rattle.sync_pull.specs.Ends.{Ends, IsNotBegun}
+use Rattle.sync_pull.specs.Ends.{Ends, IsNotBegun, enters}
 use Rattle.sync_pull.specs.Plans.{copy_name}
 use Rattle.sync_names.specs.Refusal.{refusal}
 use Rattle.sync_pull.specs.Faults.{FailsFor}
@@ -72,6 +74,19 @@ pub record IsPulled (most : ℤ) (moment : ℕ) (n : Name) (t : PullInfo) (old n
 -- what was at the name is there still, or at the name of its copy
 abbrev pub IsThereOrCopied : Name → Name → Tree → Tree → Type 0
 IsThereOrCopied n copy old new = (new.names n ≡ old.names n) ⊎ (new.names copy ≡ old.names n)
+
+-- what is at the copy's name is as before, or is what was at the name: then a copy was due, and nothing was there
+abbrev pub IsCopyFree : Bool → Name → Name → Tree → Tree → Type 0
+IsCopyFree due n copy old new =
+    bytes_eq n copy ≡ false
+    → IsKeptOrMade n copy (old.names copy) (new.names copy)
+    ⊎ ((due ≡ true) × (old.names copy ≡ None) × (new.names copy ≡ old.names n))
+
+-- What is at the name is as before; or the commit was entered first, and what the base says was there.
+abbrev pub IsEnteredFirst : Name → PullInfo → CallerView → Tree → CallerView → Tree → Type 0
+IsEnteredFirst n t old before new after =
+    (after.names n ≡ before.names n)
+    ⊎ (StandsAs t.base (before.names n) × (rest : List Asked) × AsksAndSees old (enters t ∷ rest) new)
 
 -- nothing changes but what is at the name and at that of its copy, the temporary file, and missing parents, which are made
 pub record ChangesNameAndCopy (n copy : Name) (old new : Tree) : Type 0 where
@@ -140,7 +155,9 @@ pub record Pulls (most : ℤ) (moment : ℕ) (n : Name) (keeps counted dropped :
   pub reasons : FailsFor (PullFails most moment n keeps counted t before after) result
   pub kept : keeps → IsNameKept result n before after
   pub left : keeps → IsOldOrTarget most moment n refused t before after
+  pub entered : keeps → IsEnteredFirst n t old before new after
   pub saved : keeps → is_copy_due most t.base t.target ≡ true → IsThereOrCopied n (copy_name n moment t.base) before after
+  pub free : keeps → IsCopyFree (is_copy_due most t.base t.target) n (copy_name n moment t.base) before after
   pub temporary : IfFile (standing_of (Some t.target)) (IsTakenOrDropped result (keeps → after.temps n ≡ None) dropped) (keeps → after.temps ≡ before.temps)
   pub alone : keeps → ChangesAndTrims most moment n refused t result before after
 

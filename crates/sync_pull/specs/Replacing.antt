@@ -51,6 +51,18 @@ IsSaved NotDue old n new = ⊤
 IsSaved (Due None) old n new = new.names n ≡ old.names n
 IsSaved (Due (Some copy)) old n new = (new.names n ≡ old.names n) ⊎ (new.names copy ≡ old.names n)
 
+-- what is at the name of a due copy is as before, or is what was at the name, and then nothing was there
+abbrev pub IsCopyAlone : CopyPlan → Name → Tree → Tree → Type 0
+IsCopyAlone NotDue n old new = ⊤
+IsCopyAlone (Due None) n old new = ⊤
+IsCopyAlone (Due (Some copy)) n old new =
+    bytes_eq n copy ≡ false
+    → IsKeptOrMade n copy (old.names copy) (new.names copy) ⊎ ((old.names copy ≡ None) × (new.names copy ≡ old.names n))
+
+-- what is at the name is as before, or what the base says was there
+abbrev pub IsOverBase : Option FileRecord → Name → Tree → Tree → Type 0
+IsOverBase base n old new = (new.names n ≡ old.names n) ⊎ StandsAs base (old.names n)
+
 -- another name than that of the copy
 abbrev pub IsOther : CopyPlan → Name → Type 0
 IsOther NotDue q = ⊤

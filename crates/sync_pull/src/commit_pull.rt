@@ -4,9 +4,9 @@ ghost use Rattle.file_store.specs.Calls.{ChangesTemp};
 ghost use Rattle.sync_pull.specs.Copies.{IsRefused};
 ghost use Rattle.sync_pull.specs.Ends.{Ends, EndsCommit};
 ghost use Rattle.sync_pull.specs.Faults.{CountsFaults, FailsFor};
-ghost use Rattle.sync_pull.specs.Pulled.{IfDone, IfFile, IsDropped, IsNameKept, IsTakenOrDropped};
+ghost use Rattle.sync_pull.specs.Pulled.{IfDone, IfFile, IsDropped, IsEnteredFirst, IsNameKept, IsTakenOrDropped};
 ghost use Rattle.sync_pull.specs.Putting.{IsLeft, standing_of};
-ghost use Rattle.sync_pull.specs.Replacing.{ChangesAlone, IsOfFile, IsReplaced, IsSaved, MayEmpty, ReplaceFails};
+ghost use Rattle.sync_pull.specs.Replacing.{ChangesAlone, IsCopyAlone, IsOfFile, IsOverBase, IsReplaced, IsSaved, MayEmpty, ReplaceFails};
 ghost use Rattle.sync_pull.specs.Standing.{HasRoom};
 
 use crate::ends::{abort, answer_of, finish, give_up, refused};
@@ -74,6 +74,10 @@ pub(crate) fn commit_pull<S: FileStore, W: FolderCalls, G: Gate>(
         (S.keeps ≡ true → (S.tree store.new).temps ≡ (S.tree store.old).temps) }
     ensures alone { S.keeps ≡ true →
         ChangesAlone name.now plan.now (S.tree store.old) (S.tree store.new) }
+    ensures copy_alone { S.keeps ≡ true →
+        IsCopyAlone plan.now name.now (S.tree store.old) (S.tree store.new) }
+    ensures entered { S.keeps ≡ true → IsEnteredFirst name.now ticket (W.view calls.old)
+        (S.tree store.old) (W.view calls.new) (S.tree store.new) }
 {
     tickets_are_those_that_were_asked_for();
     gate.at(GatePlace::FolderCall);
@@ -128,6 +132,10 @@ fn replace_and_finish<S: FileStore, W: FolderCalls, G: Gate>(
         (S.keeps ≡ true → (S.tree store.new).temps ≡ (S.tree store.old).temps) }
     ensures alone { S.keeps ≡ true →
         ChangesAlone name.now plan.now (S.tree store.old) (S.tree store.new) }
+    ensures copy_alone { S.keeps ≡ true →
+        IsCopyAlone plan.now name.now (S.tree store.old) (S.tree store.new) }
+    ensures over_base { S.keeps ≡ true →
+        IsOverBase commit.base name.now (S.tree store.old) (S.tree store.new) }
 {
     let Ready {
         assembled,

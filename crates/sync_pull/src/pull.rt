@@ -8,7 +8,7 @@ ghost use Rattle.sync_pull.specs.Copies.{IsRefused, TrimsCopies};
 ghost use Rattle.sync_pull.specs.Ends.{Ends};
 ghost use Rattle.sync_pull.specs.Faults.{CountsStop, FailsFor, IsFaultCounted};
 ghost use Rattle.sync_pull.specs.Plans.{IsPlanned, copy_name};
-ghost use Rattle.sync_pull.specs.Pulled.{ChangesAndTrims, Comes, IfDone, IfFile, IsDropped, IsNameKept, IsOldOrTarget, IsPulled, IsTakenOrDropped, IsThereOrCopied, PullFails, TrimsAfter};
+ghost use Rattle.sync_pull.specs.Pulled.{ChangesAndTrims, Comes, IfDone, IfFile, IsCopyFree, IsDropped, IsEnteredFirst, IsNameKept, IsOldOrTarget, IsPulled, IsTakenOrDropped, IsThereOrCopied, PullFails, TrimsAfter};
 ghost use Rattle.sync_pull.specs.Putting.{WritesTempAlone, standing_of};
 ghost use Rattle.sync_pull.specs.Replacing.{IsOfFile};
 ghost use Rattle.sync_pull.specs.Standing.{HasRoom, IsReadyAs};
@@ -163,6 +163,10 @@ fn pull_begun<S: FileStore, W: FolderCalls, B: BlockSource, G: Gate>(
         (S.keeps ≡ true → (S.tree store.new).temps ≡ (S.tree store.old).temps) }
     ensures alone { S.keeps ≡ true → ChangesAndTrims max_conflicts moment name.now
         (IsRefused S.gives) ticket result (S.tree store.old) (S.tree store.new) }
+    ensures entered { S.keeps ≡ true → IsEnteredFirst name.now ticket (W.view calls.old)
+        (S.tree store.old) (W.view calls.new) (S.tree store.new) }
+    ensures free { S.keeps ≡ true → IsCopyFree (is_copy_due max_conflicts ticket.base ticket.target)
+        name.now (copy_name name.now moment ticket.base) (S.tree store.old) (S.tree store.new) }
 {
     conflict_names_are_of_copies();
     match prepare(

@@ -4,7 +4,7 @@ ghost use Rattle.file_store.specs.Trees.{IsTree};
 ghost use Rattle.sync_pull.specs.Copies.{IsRefused};
 ghost use Rattle.sync_pull.specs.Faults.{StopsFor};
 ghost use Rattle.sync_pull.specs.Putting.{AreTempsKept, IsInPlace, IsLeft, IsStanding, IsTempTaken, standing_of};
-ghost use Rattle.sync_pull.specs.Replacing.{ChangesAlone, CopiedFails, IsCopyKept, IsOfFile, IsReplaced, IsSaved, IsUntouched, MayEmpty, ReplaceFails};
+ghost use Rattle.sync_pull.specs.Replacing.{ChangesAlone, CopiedFails, IsCopyAlone, IsCopyKept, IsOfFile, IsOverBase, IsReplaced, IsSaved, IsUntouched, MayEmpty, ReplaceFails};
 ghost use Rattle.sync_pull.specs.Standing.{HasRoom};
 ghost use Rattle.sync_pull.specs.declared.commit.Standing.TheVariants.{File};
 ghost use Rattle.sync_pull.specs.declared.replace.CopyPlan.TheVariants.{Due};
@@ -56,6 +56,10 @@ pub(crate) fn replace<S: FileStore, G: Gate>(
         AreTempsKept (standing_of (Some target.now)) (S.tree store.old) (S.tree store.new) }
     ensures alone { S.keeps ≡ true →
         ChangesAlone name.now plan.now (S.tree store.old) (S.tree store.new) }
+    ensures copy_alone { S.keeps ≡ true →
+        IsCopyAlone plan.now name.now (S.tree store.old) (S.tree store.new) }
+    ensures over_base { S.keeps ≡ true → IsOverBase (option_copied base.entry) name.now
+        (S.tree store.old) (S.tree store.new) }
 {
     if !stands_as(store, gate, name, base, buffer)? {
         return Err(Stop::Failed(PullFailure::LocalChanged));
@@ -99,6 +103,8 @@ fn replace_copied<S: FileStore, G: Gate>(
     ensures temps { S.keeps ≡ true → AreTempsKept wanted (S.tree store.old) (S.tree store.new) }
     ensures alone { S.keeps ≡ true →
         ChangesAlone name.now (Due copy.now) (S.tree store.old) (S.tree store.new) }
+    ensures copy_alone { S.keeps ≡ true → IsStanding File ((S.tree store.old).names name.now)
+        → IsCopyAlone (Due copy.now) name.now (S.tree store.old) (S.tree store.new) }
 {
     let Some(copy) = copy else {
         return Err(Stop::Failed(PullFailure::ConflictNameTaken));

@@ -12,7 +12,7 @@ returns-in-Some-More-clause-heard c =
     let heard = update-heard c.args.to.now c.pass.new.to c.args.moment c.in_ok-events.events.items c.requires c.in_ok-message.message made.0 made.1 c.in_ok-events.ensures.heard in
     let last = last-one c.pop.new.self.items c.in-Some-More.field-0 (More made.0) (sym heard.0 ∙ c.in-Some-More.ensures.items) in
     let same = more-inside c.in-Some-More.update made.0 (sym c.in-Some-More.field-0-is ∙ last) in
-    IfOk-weaker c.records_of.result _ _ (λ records e. e ∙ (ap (λ (x : IndexUpdate). map record_of x.files) same ∙ made.2)) c.records_of.ensures
+    IfOk-weaker c.records_of.result _ _ (λ records e. e ∙ (ap (λ (x : IndexUpdate). map record_of x.files) same ∙ made.2.0)) c.records_of.ensures
 
 pub returns-in-Some-More-clause-between : goal.returns-in-Some-More-clause-between
 returns-in-Some-More-clause-between c =

@@ -1,16 +1,17 @@
-use Rattle.std.proofs.Common.{◌≡◌, true, Err, None, Some, ap, subst, ◌∙◌}
+use Rattle.std.proofs.Common.{◌≡◌, true, Err, None, Some, ap, inl, subst, ◌∙◌}
 use Rattle.std.specs.Prelude.{IfErr}
 use Rattle.folder_core.specs.declared.answer.Answer.TheVariants.{Entered}
 use Rattle.folder_core.specs.declared.change.Change.TheVariants.{EnterCommit}
 use Rattle.folder_calls.specs.Calls.{GivesBack, enter_value}
 use Rattle.sync_pull.proofs.ChainLemmas.{gets}
-use Rattle.sync_pull.proofs.EndsLemmas.{entered-ends, memory-ends, refused-ends}
+use Rattle.sync_pull.proofs.EndsLemmas.{entered-ends, entered-first, memory-ends, refused-ends}
 use Rattle.folder_core.specs.declared.pull_info.PullInfo.{PullInfo}
 use Rattle.sync_record.specs.Records.{FileRecord}
 use Rattle.sync_pull.specs.Pulled.{IfFile, IsDropped, IsTakenOrDropped}
 use Rattle.sync_pull.specs.Putting.{standing_of}
+use Rattle.sync_pull.specs.Replacing.{IsOverBase}
 use Rattle.sync_pull.proofs.FailLemmas.{temp-ended, temps-itself}
-use Rattle.sync_pull.proofs.PulledLemmas.{refused-undone, temp-alone, temp-saved}
+use Rattle.sync_pull.proofs.PulledLemmas.{entered-over, refused-undone, temp-alone, temp-copy-alone, temp-saved}
 use Rattle.sync_pull.proofs.commit_pull.commit_pull.Goals as goal
 
 pub returns-in-Ok-entered-clause-ends : goal.returns-in-Ok-entered-clause-ends
@@ -64,3 +65,24 @@ returns-in-Err-entered-clause-temporary g c =
     (subst (λ (t : FileRecord). IfFile (standing_of (Some t)) (IsDropped g.S.FileStore.gives (g.S.FileStore.keeps ≡ true) c.args.name.now (g.S.FileStore.tree new).temps new) still)
     (c.target-in-Err-entered.ensures.value ∙ c.requires.assembled) c.drop_temp-in-Err-entered.ensures.dropped)
     (refused-undone ⊥ _ _ c.in-Err-entered.refusal c.refused.result c.refused.ensures.refused)
+
+pub returns-in-Err-entered-clause-copy_alone : goal.returns-in-Err-entered-clause-copy_alone
+returns-in-Err-entered-clause-copy_alone g c = λ keeps. temp-copy-alone c.args.name.now c.args.plan.now _ _ (c.drop_temp-in-Err-entered.ensures.temp keeps)
+
+pub returns-in-Err-clause-copy_alone : goal.returns-in-Err-clause-copy_alone
+returns-in-Err-clause-copy_alone g c = λ keeps. temp-copy-alone c.args.name.now c.args.plan.now _ _ (c.drop_temp.ensures.temp keeps)
+
+pub returns-in-Err-entered-clause-entered : goal.returns-in-Err-entered-clause-entered
+returns-in-Err-entered-clause-entered g c = λ keeps. inl (ap (λ f. f c.args.name.now) (c.drop_temp-in-Err-entered.ensures.temp keeps).names)
+
+pub returns-in-Err-clause-entered : goal.returns-in-Err-clause-entered
+returns-in-Err-clause-entered g c = λ keeps. inl (ap (λ f. f c.args.name.now) (c.drop_temp.ensures.temp keeps).names)
+
+pub returns-in-Ok-entered-clause-entered : goal.returns-in-Ok-entered-clause-entered
+returns-in-Ok-entered-clause-entered g c = λ keeps.
+    let t = c.args.ticket in
+    let commit = c.in-Ok-entered.commit in
+    let entered = gets _ _ (EnterCommit t) _ (Entered commit) c.in-Ok.ensures.changes (ap enter_value c.in-Ok-entered.is) in
+    let is = c.tickets_are_those_that_were_asked_for.ensures.entered _ _ t commit entered in
+    entered-over c.args.name.now t _ _ _ _ (entered-first _ _ _ t commit entered is c.replace_and_finish.result c.replace_and_finish.ensures.ends)
+    (subst (λ (x : PullInfo). IsOverBase x.base c.args.name.now (g.S.FileStore.tree c.args.store.now) (g.S.FileStore.tree c.replace_and_finish.new.store)) is (c.replace_and_finish.ensures.over_base keeps))

@@ -6,9 +6,9 @@ use Rattle.sync_pull.specs.Ends.{Closes}
 use Rattle.sync_pull.specs.Faults.{StopsFor}
 use Rattle.sync_pull.specs.Pulled.{IfFile, IsDropped}
 use Rattle.sync_pull.specs.Putting.{AreTempsKept, IsLeft, standing_of}
-use Rattle.sync_pull.specs.Replacing.{MayEmpty, ReplaceFails}
+use Rattle.sync_pull.specs.Replacing.{IsOverBase, MayEmpty, ReplaceFails}
 use Rattle.sync_pull.proofs.FailLemmas.{closed-fails, left-on, of-both, replace-dropped, stop-weaker, temp-ended}
-use Rattle.sync_pull.proofs.PulledLemmas.{aborted-ends, finished-ends, kept-saved, saved-temp, stop-undone}
+use Rattle.sync_pull.proofs.PulledLemmas.{aborted-ends, copy-alone-temp, finished-ends, kept-saved, over-base-temp, saved-temp, stop-undone}
 use Rattle.sync_pull.proofs.commit_pull.replace_and_finish.Goals as goal
 
 pub returns-in-Ok-clause-ends : goal.returns-in-Ok-clause-ends
@@ -54,3 +54,11 @@ returns-in-Err-clause-temporary g c =
     (c.drop_temp.new.store ≡ c.replace.new.store)) c.target-in-Err.ensures c.drop_temp.ensures.dropped)
     (stop-undone ⊥ _ _ (Abort c.args.commit) c.in-Err.stop c.abort.result
     (subst (λ a. Closes (g.W.FolderCalls.view c.args.calls.now) (Abort c.args.commit) a c.abort.result (g.W.FolderCalls.view c.abort.new.calls)) c.answer_of.ensures c.abort.ensures.closes))
+
+pub returns-in-Err-clause-copy_alone : goal.returns-in-Err-clause-copy_alone
+returns-in-Err-clause-copy_alone g c = λ keeps. copy-alone-temp c.args.name.now c.args.plan.now _ _ _ (c.replace.ensures.copy_alone keeps) (c.drop_temp.ensures.temp keeps)
+
+pub returns-in-Err-clause-over_base : goal.returns-in-Err-clause-over_base
+returns-in-Err-clause-over_base g c = λ keeps.
+    over-base-temp c.args.commit.base c.args.name.now _ _ _
+    (subst (λ b. IsOverBase b c.args.name.now (g.S.FileStore.tree c.args.store.now) (g.S.FileStore.tree c.replace.new.store)) c.base-base.ensures (c.replace.ensures.over_base keeps)) (c.drop_temp.ensures.temp keeps)

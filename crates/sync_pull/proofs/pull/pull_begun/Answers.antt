@@ -9,7 +9,7 @@ use Rattle.sync_pull.specs.Pulled.{IfFile, IsDropped, IsNameKept, IsPulled, IsTa
 use Rattle.sync_pull.specs.Putting.{standing_of}
 use Rattle.sync_pull.proofs.FailLemmas.{closed-fails, fails-weaker, temp-ended}
 use Rattle.sync_pull.specs.declared.answer.PullAnswer.{PullAnswer}
-use Rattle.sync_pull.proofs.TrimLemmas.{after-stay, after-undone, both-alone, changes-and-trims, dropped-alone, if-file-map, kept-from, old-or-target-on, pulled-on, there-or-copied-on, undone-same, undone-trims}
+use Rattle.sync_pull.proofs.TrimLemmas.{after-stay, after-undone, both-alone, changes-and-trims, dropped-alone, dropped-free, entered-from, entered-on, free-as, free-on, if-file-map, kept-from, old-or-target-on, pulled-on, there-or-copied-on, undone-same, undone-trims}
 use Rattle.folder_core.specs.Steps.{is_copy_due}
 use Rattle.sync_pull.specs.Copies.{IsRefused}
 use Rattle.sync_pull.specs.Plans.{copy_name}
@@ -182,3 +182,38 @@ returns-in-Err-clause-alone g c = λ keeps.
       alone = dropped-alone n (copy_name n c.args.moment t.base) (g.S.FileStore.tree c.args.store.now) (g.S.FileStore.tree c.prepare.new.store) new (c.prepare.ensures.temp keeps) (c.drop_temp.ensures.temp keeps);
       trimmed = undone-trims (is_copy_due c.args.max_conflicts t.base t.target) c.give_up.result _ (new ≡ new) refl undone;
     }
+
+pub returns-in-Ok-clause-entered : goal.returns-in-Ok-clause-entered
+returns-in-Ok-clause-entered g c = λ keeps.
+    let n = c.args.name.now in
+    let t = c.args.ticket in
+    let old = g.S.FileStore.tree c.args.store.now in
+    let placed = g.S.FileStore.tree c.commit_pull-answer.new.store in
+    let new = g.S.FileStore.tree c.trim_copies.new.store in
+    let stays = after-stay (IsRefused g.S.FileStore.gives) c.args.max_conflicts c.args.moment n t.base t.target c.in-Ok.plan placed new c.conflict_names_are_of_copies.ensures.other
+    c.in-Ok.ensures.planned c.commit_pull-answer.result (g.S.FileStore.keeps ≡ true) (c.trim_copies.new.store ≡ c.commit_pull-answer.new.store) keeps (ap g.S.FileStore.tree) c.trim_copies.ensures in
+    entered-on n t _ _ old placed new stays.name
+    (entered-from n t _ _ _ old (g.S.FileStore.tree c.prepare.new.store) placed c.prepare.ensures.sees (c.prepare.ensures.temp keeps).name (c.commit_pull-answer.ensures.entered keeps))
+
+pub returns-in-Err-clause-entered : goal.returns-in-Err-clause-entered
+returns-in-Err-clause-entered g c = λ keeps.
+    inl (ap (λ f. f c.args.name.now) (c.drop_temp.ensures.temp keeps).names ∙ (c.prepare.ensures.temp keeps).name)
+
+pub returns-in-Ok-clause-free : goal.returns-in-Ok-clause-free
+returns-in-Ok-clause-free g c = λ keeps.
+    let n = c.args.name.now in
+    let t = c.args.ticket in
+    let old = g.S.FileStore.tree c.args.store.now in
+    let mid = g.S.FileStore.tree c.prepare.new.store in
+    let placed = g.S.FileStore.tree c.commit_pull-answer.new.store in
+    let new = g.S.FileStore.tree c.trim_copies.new.store in
+    let stays = after-stay (IsRefused g.S.FileStore.gives) c.args.max_conflicts c.args.moment n t.base t.target c.in-Ok.plan placed new c.conflict_names_are_of_copies.ensures.other
+    c.in-Ok.ensures.planned c.commit_pull-answer.result (g.S.FileStore.keeps ≡ true) (c.trim_copies.new.store ≡ c.commit_pull-answer.new.store) keeps (ap g.S.FileStore.tree) c.trim_copies.ensures in
+    free-on (is_copy_due c.args.max_conflicts t.base t.target) n (copy_name n c.args.moment t.base) old placed new stays
+    (free-as c.args.max_conflicts c.args.moment n t.base t.target c.in-Ok.plan old mid placed c.in-Ok.ensures.planned (c.prepare.ensures.temp keeps) (c.commit_pull-answer.ensures.alone keeps) (c.commit_pull-answer.ensures.copy_alone keeps))
+
+pub returns-in-Err-clause-free : goal.returns-in-Err-clause-free
+returns-in-Err-clause-free g c = λ keeps.
+    let t = c.args.ticket in
+    dropped-free (is_copy_due c.args.max_conflicts t.base t.target) c.args.name.now (copy_name c.args.name.now c.args.moment t.base) (g.S.FileStore.tree c.args.store.now) (g.S.FileStore.tree c.prepare.new.store) (g.S.FileStore.tree c.drop_temp.new.store)
+    (c.prepare.ensures.temp keeps) (c.drop_temp.ensures.temp keeps)

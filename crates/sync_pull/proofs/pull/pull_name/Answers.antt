@@ -20,5 +20,7 @@ returns-in-Ok-Begun-clause-comes g c = inr (
     saved = c.pull_begun.ensures.saved;
     temporary = c.pull_begun.ensures.temporary;
     alone = c.pull_begun.ensures.alone;
+    entered = c.pull_begun.ensures.entered;
+    free = c.pull_begun.ensures.free;
   },
 )
