@@ -161,7 +161,7 @@ over-base-temp base n a b c (inr stood) x = inr stood
 pub entered-over : (n : Name) (t : PullInfo) (old : CallerView) (before : Tree) (new : CallerView) (after : Tree)
     → (rest : List Asked) × AsksAndSees old (enters t ∷ rest) new → IsOverBase t.base n before after → IsEnteredFirst n t old before new after
 entered-over n t old before new after asked (inl same) = inl same
-entered-over n t old before new after asked (inr stood) = inr (stood, asked)
+entered-over n t old before new after asked (inr stood) = inr (stood, asked.0, asked.1)
 
 -- ---- a pull that is done
 

@@ -257,7 +257,7 @@ free-on due n copy old placed new s x = λ apart. elim (x apart) [
 
 -- the temporary file was written and dropped, and nothing else done
 pub dropped-free : (due : Bool) (n copy : Name) (old mid new : Tree) → WritesTempAlone n old mid → ChangesTemp mid n new → IsCopyFree due n copy old new
-dropped-free due n copy old mid new w x = λ apart. inl ((dropped-alone n copy old mid new w x).names copy apart apart)
+dropped-free due n copy old mid new w x = λ apart. inl (subst (IsKeptOrMade n copy (old.names copy)) (sym (ap (λ g. g copy) x.names)) (w.alone.names copy apart))
 
 pub entered-from : (n : Name) (t : PullInfo) (first old new : CallerView) (before mid after : Tree) → Sees first old → mid.names n ≡ before.names n
     → IsEnteredFirst n t old mid new after → IsEnteredFirst n t first before new after

@@ -34,7 +34,7 @@ pub record Laws : Type 0 where
 pub record Collected (old v : CallerView) (listed names : List Name) (cursor : ℕ) : Type 0 where
   pub sees : Sees old v
   pub apart : (n : Name) → Contains names n → Contains listed n → ⊥
-  pub had : (n : Name) → Contains names n → (before : CallerView) × (r : FileRecord) × Sees old before × (local (now before) n ≡ Some r) × IsTrue (is_live r)
+  pub had : (n : Name) → Contains names n → (before : CallerView) × (r : FileRecord) × Sees old before × Sees before v × (local (now before) n ≡ Some r) × IsTrue (is_live r)
   pub all : (n : Name) (r : FileRecord) → local (now v) n ≡ Some r → IsTrue (is_live r) → 1 ≤ r.sequence → r.sequence ≤ cursor → Contains listed n ⊎ Contains names n
   pub bound : (cursor ≤ (now v).last) ⊎ (cursor ≡ 0)
 
@@ -106,12 +106,16 @@ module _ (laws : Laws) (old a b : CallerView) (listed names : List Name) (cursor
           past (inl e) after same = omega arith
           past (inr e) after same = omega arith
 
+  -- what a name had before, it had before what is seen now
+  had-on : (n : Name) → Contains names n → (before : CallerView) × (r : FileRecord) × Sees old before × Sees before b × (local (now before) n ≡ Some r) × IsTrue (is_live r)
+  had-on n i = let h = c.had n i in (h.0, h.1, h.2, sees-on h.0 a b h.3 reads.sees, h.4, h.5)
+
   -- the page is empty: all were collected
   pub collected-all : 1 ≤ limit → (rs : List FileRecord) → rs ≡ reply.value → None ≡ slice_get rs (length rs - 1) → AreAscending names → AreMissing old b listed names
   collected-all more rs is none order = record {
     order = order;
     apart = c.apart;
-    had = c.had;
+    had = had-on;
     all = λ n r here live. by n r here live (nat_le r.sequence cursor) refl;
   }
     where
@@ -158,12 +162,12 @@ module _ (laws : Laws) (old a b : CallerView) (listed names : List Name) (cursor
         apart n (inl i) = c.apart n i
         apart n (inr x) = x.4
 
-        had : (n : Name) → Added listed names rs n → (before : CallerView) × (r : FileRecord) × Sees old before × (local (now before) n ≡ Some r) × IsTrue (is_live r)
-        had n (inl i) = c.had n i
+        had : (n : Name) → Added listed names rs n → (before : CallerView) × (r : FileRecord) × Sees old before × Sees before b × (local (now before) n ≡ Some r) × IsTrue (is_live r)
+        had n (inl i) = had-on n i
         had n (inr x) =
             let found = laws.only (now b) cursor limit reply.value x.0 folder page (subst (λ l. Contains l x.0) is x.1) in
             let name : found.0 ≡ n = sym (named found.0 x.0 found.1) ∙ x.2 in
-            (b, x.0, sees-on old a b c.sees reads.sees, subst (λ m. local (now b) m ≡ Some x.0) name found.1, x.3)
+            (b, x.0, sees-on old a b c.sees reads.sees, sees-itself b, subst (λ m. local (now b) m ≡ Some x.0) name found.1, x.3)
 
         by : (n : Name) (r : FileRecord) → local (now b) n ≡ Some r → IsTrue (is_live r) → 1 ≤ r.sequence → r.sequence ≤ end.sequence → (t : Bool)
             → nat_le r.sequence cursor ≡ t → Contains listed n ⊎ Contains all n

@@ -56,11 +56,11 @@ pub record AddsMissing (listed : List Name) (records : List FileRecord) (old new
       Contains old n ⊎ ((r : FileRecord) × Contains records r × (r.name ≡ n) × IsTrue (is_live r) × (Contains listed n → ⊥))
 
 -- The names that are not listed and of which the folder has a live local record: in byte order, each once. Each had one at a
--- point that the caller had seen.
+-- point that the caller had seen by then.
 pub record AreMissing (old point : CallerView) (listed names : List Name) : Type 0 where
   pub order : AreAscending names
   pub apart : (n : Name) → Contains names n → Contains listed n → ⊥
-  pub had : (n : Name) → Contains names n → (before : CallerView) × (r : FileRecord) × Sees old before × (local (now before) n ≡ Some r) × IsTrue (is_live r)
+  pub had : (n : Name) → Contains names n → (before : CallerView) × (r : FileRecord) × Sees old before × Sees before point × (local (now before) n ≡ Some r) × IsTrue (is_live r)
   pub all : (n : Name) (r : FileRecord) → local (now point) n ≡ Some r → IsTrue (is_live r) → Contains listed n ⊎ Contains names n
 
 -- the name is below one of the directories

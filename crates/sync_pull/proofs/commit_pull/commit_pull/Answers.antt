@@ -84,5 +84,5 @@ returns-in-Ok-entered-clause-entered g c = λ keeps.
     let commit = c.in-Ok-entered.commit in
     let entered = gets _ _ (EnterCommit t) _ (Entered commit) c.in-Ok.ensures.changes (ap enter_value c.in-Ok-entered.is) in
     let is = c.tickets_are_those_that_were_asked_for.ensures.entered _ _ t commit entered in
-    entered-over c.args.name.now t _ _ _ _ (entered-first _ _ _ t commit entered is c.replace_and_finish.result c.replace_and_finish.ensures.ends)
+    entered-over c.args.name.now t (g.W.FolderCalls.view c.args.calls.now) (g.S.FileStore.tree c.args.store.now) (g.W.FolderCalls.view c.replace_and_finish.new.calls) (g.S.FileStore.tree c.replace_and_finish.new.store) (entered-first _ _ _ t commit entered is c.replace_and_finish.result c.replace_and_finish.ensures.ends)
     (subst (λ (x : PullInfo). IsOverBase x.base c.args.name.now (g.S.FileStore.tree c.args.store.now) (g.S.FileStore.tree c.replace_and_finish.new.store)) is (c.replace_and_finish.ensures.over_base keeps))

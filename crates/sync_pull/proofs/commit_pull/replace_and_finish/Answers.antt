@@ -56,9 +56,12 @@ returns-in-Err-clause-temporary g c =
     (subst (λ a. Closes (g.W.FolderCalls.view c.args.calls.now) (Abort c.args.commit) a c.abort.result (g.W.FolderCalls.view c.abort.new.calls)) c.answer_of.ensures c.abort.ensures.closes))
 
 pub returns-in-Err-clause-copy_alone : goal.returns-in-Err-clause-copy_alone
-returns-in-Err-clause-copy_alone g c = λ keeps. copy-alone-temp c.args.name.now c.args.plan.now _ _ _ (c.replace.ensures.copy_alone keeps) (c.drop_temp.ensures.temp keeps)
+returns-in-Err-clause-copy_alone g c = λ keeps.
+    copy-alone-temp c.args.name.now c.args.plan.now (g.S.FileStore.tree c.args.store.now) (g.S.FileStore.tree c.replace.new.store) (g.S.FileStore.tree c.drop_temp.new.store) (c.replace.ensures.copy_alone keeps) (c.drop_temp.ensures.temp keeps)
 
 pub returns-in-Err-clause-over_base : goal.returns-in-Err-clause-over_base
 returns-in-Err-clause-over_base g c = λ keeps.
-    over-base-temp c.args.commit.base c.args.name.now _ _ _
-    (subst (λ b. IsOverBase b c.args.name.now (g.S.FileStore.tree c.args.store.now) (g.S.FileStore.tree c.replace.new.store)) c.base-base.ensures (c.replace.ensures.over_base keeps)) (c.drop_temp.ensures.temp keeps)
+    let old = g.S.FileStore.tree c.args.store.now in
+    let mid = g.S.FileStore.tree c.replace.new.store in
+    over-base-temp c.args.commit.base c.args.name.now old mid (g.S.FileStore.tree c.drop_temp.new.store)
+    (subst (λ (b : Option FileRecord). IsOverBase b c.args.name.now old mid) c.base-base.ensures (c.replace.ensures.over_base keeps)) (c.drop_temp.ensures.temp keeps)

@@ -192,8 +192,10 @@ returns-in-Ok-clause-entered g c = λ keeps.
     let new = g.S.FileStore.tree c.trim_copies.new.store in
     let stays = after-stay (IsRefused g.S.FileStore.gives) c.args.max_conflicts c.args.moment n t.base t.target c.in-Ok.plan placed new c.conflict_names_are_of_copies.ensures.other
     c.in-Ok.ensures.planned c.commit_pull-answer.result (g.S.FileStore.keeps ≡ true) (c.trim_copies.new.store ≡ c.commit_pull-answer.new.store) keeps (ap g.S.FileStore.tree) c.trim_copies.ensures in
-    entered-on n t _ _ old placed new stays.name
-    (entered-from n t _ _ _ old (g.S.FileStore.tree c.prepare.new.store) placed c.prepare.ensures.sees (c.prepare.ensures.temp keeps).name (c.commit_pull-answer.ensures.entered keeps))
+    let first = g.W.FolderCalls.view c.args.calls.now in
+    let last = g.W.FolderCalls.view c.commit_pull-answer.new.calls in
+    entered-on n t first last old placed new stays.name
+    (entered-from n t first (g.W.FolderCalls.view c.prepare.new.calls) last old (g.S.FileStore.tree c.prepare.new.store) placed c.prepare.ensures.sees (c.prepare.ensures.temp keeps).name (c.commit_pull-answer.ensures.entered keeps))
 
 pub returns-in-Err-clause-entered : goal.returns-in-Err-clause-entered
 returns-in-Err-clause-entered g c = λ keeps.
