@@ -10,7 +10,8 @@ use bep_messages::Items;
 use crossbeam_channel::{Receiver, Sender, bounded};
 use file_store::FileStore;
 use folder_calls::FolderCalls;
-use folder_core::{FolderCore, PlainFolder};
+use folder_core::FolderCore;
+use folder_db::IndexedFolder;
 use folder_shared::SharedFolder;
 use peer_asks::AskBook;
 use peer_link::LinkFolders;
@@ -34,8 +35,8 @@ pub(crate) fn open<R: Wait>(
     alloc: Global,
     me: DeviceId,
     last: i64,
-) -> Option<SharedFolder<PlainFolder>> {
-    let core = PlainFolder::restore(alloc, me, Items::new(alloc), last).ok()?;
+) -> Option<SharedFolder<IndexedFolder>> {
+    let core = IndexedFolder::restore(alloc, me, Items::new(alloc), last).ok()?;
     if core.counts().pulls != 0 {
         return None;
     }

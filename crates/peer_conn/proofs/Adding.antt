@@ -14,5 +14,5 @@ adds_then a b c f s = (f.0 ++ s.0, s.1 ∙ ap (λ l. l ++ s.0) f.1 ∙ append_as
 pub adds_turn : (folder : List ℕ) (v : CallerView) (old new : Progress) (before after : List Message) (t : Turn) → Turns folder v old new before after t → Adds before after
 adds_turn folder v old new before after Put h = (h.0 ∷ [], h.2)
 adds_turn folder v old new before after Nothing h = ([], h.1 ∙ sym (append-nil before))
-adds_turn folder v old new before after (Ended OutOfMemory) h = ([], h ∙ sym (append-nil before))
+adds_turn folder v old new before after (Ended OutOfMemory) h = ([], h.1 ∙ sym (append-nil before))
 adds_turn folder v old new before after (Ended Gone) h = ([], h.2 ∙ sym (append-nil before))

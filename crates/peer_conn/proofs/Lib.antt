@@ -4,3 +4,4 @@ pub mod Moves
 pub mod Told
 pub mod Sending
 pub mod Adding
+pub mod Seeing

@@ -1,6 +1,7 @@
 //! The indexer of a connection.
 ghost use Rattle.std.specs.Prelude.{◌≡◌};
-ghost use Rattle.peer_conn.specs.Turns.{Adds, BeginsWith};
+ghost use Rattle.std.specs.List.{AllZip};
+ghost use Rattle.peer_conn.specs.Turns.{Adds, BeginsWith, OnlySees};
 ghost use Rattle.peer_conn.specs.Words.{IsSameEnded, IsSameSeat, all_of, put_of};
 
 use crate::config::{folder_of, start_of};
@@ -73,6 +74,7 @@ pub fn run_indexer<R: Wait + Clock, W: FolderCalls>(
 ) -> (Ended<Message>, IndexerEnd)
     ensures same { IsSameEnded seat result.0 }
     ensures put { BeginsWith config (put_of seat) (all_of result.0) }
+    ensures stays { AllZip (OnlySees W.folder W.view) folders.old folders.new }
 {
     let mut seat = seat;
     let end = match seat.put_wait(rt, Message::ClusterConfig(config)) {
@@ -92,6 +94,7 @@ fn index_all<R: Wait + Clock, W: FolderCalls>(
 ) -> IndexerEnd
     ensures same { IsSameSeat seat.old seat.new }
     ensures put { Adds (put_of seat.old) (put_of seat.new) }
+    ensures stays { AllZip (OnlySees W.folder W.view) folders.old folders.new }
 {
     let Ok(config) = configs.recv(rt) else {
         return IndexerEnd::Closed;
@@ -131,6 +134,7 @@ fn index_once<R: Wait + Clock, W: FolderCalls>(
 ) -> Result<Moment, IndexerEnd>
     ensures same { IsSameSeat seat.old seat.new }
     ensures put { Adds (put_of seat.old) (put_of seat.new) }
+    ensures stays { AllZip (OnlySees W.folder W.view) folders.old folders.new }
 {
     let moment = moment_of(rt, last_put);
     let is_put = index_round(rt, alloc, folders, senders, seat)?;
@@ -172,7 +176,9 @@ fn senders_of<W: FolderCalls>(
     alloc: Global,
     config: &ClusterConfig,
     folders: &mut [IndexedFolder<W>],
-) -> Result<Vec<Option<IndexSender>>, AllocError> {
+) -> Result<Vec<Option<IndexSender>>, AllocError>
+    ensures { AllZip (OnlySees W.folder W.view) folders.old folders.new }
+{
     let mut senders = Vec::with_capacity(alloc, folders.len())?;
     for folder in folders {
         senders.push(sender_of(config, folder))?;
@@ -183,7 +189,9 @@ fn senders_of<W: FolderCalls>(
 fn sender_of<W: FolderCalls>(
     config: &ClusterConfig,
     folder: &mut IndexedFolder<W>,
-) -> Option<IndexSender> {
+) -> Option<IndexSender>
+    ensures { OnlySees W.folder W.view folder.old folder.new }
+{
     let _ = folder_of(config, folder.id.as_str())?;
     let me = folder.calls.me();
     let last = folder.calls.known(me).value;
@@ -201,6 +209,7 @@ fn index_round<R: Wait, W: FolderCalls>(
 ) -> Result<bool, IndexerEnd>
     ensures same { IsSameSeat seat.old seat.new }
     ensures put { Adds (put_of seat.old) (put_of seat.new) }
+    ensures stays { AllZip (OnlySees W.folder W.view) folders.old folders.new }
 {
     let mut is_put = false;
     for i in 0..folders.len().min(senders.len()) {

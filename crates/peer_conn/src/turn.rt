@@ -1,7 +1,7 @@
 //! A turn of the indexer.
 ghost use Rattle.std.specs.Prelude.{◌≡◌, IfErr, IfOk};
 ghost use Rattle.folder_calls.specs.Shared.{Sees};
-ghost use Rattle.peer_conn.specs.Turns.{GivesMessage, Turns, message_of};
+ghost use Rattle.peer_conn.specs.Turns.{GivesMessage, MayGiveMessage, Turns, message_of};
 ghost use Rattle.peer_conn.specs.Words.{IsSameSeat, put_of};
 
 use crate::ends::Seat;
@@ -67,6 +67,7 @@ fn next_message<W: FolderCalls>(
     ensures folder { W.folder calls.new ≡ W.folder calls.old }
     ensures sees { Sees (W.view calls.old) (W.view calls.new) }
     ensures gives { IfOk result (λ told. GivesMessage folder.now (W.view calls.new) sender.old sender.new told) }
+    ensures out_of_memory { IfErr result (λ _. MayGiveMessage folder.now (W.view calls.new) sender.old sender.new) }
 {
     let page = sender.next_page(calls)?;
     message_of(alloc, folder, &page)

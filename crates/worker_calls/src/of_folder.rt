@@ -11,7 +11,8 @@ use crate::show::{
 };
 use bep_messages::Items;
 use folder_calls::{FolderCalls, Lone, Outside};
-use folder_core::{Finding, FoundContent, PlainFolder, ScanAnswer};
+use folder_core::{Finding, FoundContent, ScanAnswer};
+use folder_db::IndexedFolder;
 use std::alloc::{AllocError, Global};
 use std::io;
 use sync_names::SafeName;
@@ -143,7 +144,7 @@ fn announce<W: FolderCalls>(
 /// Plans a change of another caller, before a call of which 1 is the next.
 pub(crate) fn plan(
     rt: &impl Print,
-    calls: &mut Noted<Lone<PlainFolder>>,
+    calls: &mut Noted<Lone<IndexedFolder>>,
     call: u64,
     change: Outside,
 ) -> io::Result<()> {
