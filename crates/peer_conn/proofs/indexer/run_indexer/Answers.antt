@@ -10,6 +10,6 @@ returns-clause-stays g c =
     let folder = g.W.FolderCalls.folder in
     let view = g.W.FolderCalls.view in
     elim c.match-put_wait.branch [
-      in-Ok w ↦ subst (λ l. AllZip (OnlySees folder view) c.args.folders.now l) (sym w.folders-is) w.index_all-end.ensures.stays
+      | in-Ok w ↦ subst (λ l. AllZip (OnlySees folder view) c.args.folders.now l) (sym w.folders-is) w.index_all-end.ensures.stays
       | in-Err w ↦ subst (λ l. AllZip (OnlySees folder view) c.args.folders.now l) (sym w.folders-is) (all_itself folder view c.args.folders.now)
     ]
