@@ -62,8 +62,7 @@ use fault::LineFault;
 use file_dir::DirStore;
 use file_store::{FileStore, MemStore};
 use folder_calls::{FolderCalls, Lone};
-use folder_core::FolderCore;
-use folder_db::IndexedFolder;
+use folder_core::{FolderCore, PlainFolder};
 use folder_shared::{Member, SharedFolder};
 use noted::Noted;
 use of_folder::{answer_folder, plan};
@@ -134,8 +133,8 @@ fn serve<S: FileStore + Drop, R: Input + Print + AllocGlobal + Threads + Wait + 
 }
 
 /// The folder of this device in which nothing is announced.
-fn empty_folder(alloc: Global) -> IndexedFolder {
-    IndexedFolder::new(alloc, words::device_of(ME))
+fn empty_folder(alloc: Global) -> PlainFolder {
+    PlainFolder::new(alloc, words::device_of(ME))
 }
 
 /// Answers the commands over a folder with one caller, which takes plans.

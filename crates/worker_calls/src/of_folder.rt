@@ -11,8 +11,7 @@ use crate::show::{
 };
 use bep_messages::Items;
 use folder_calls::{FolderCalls, Lone, Outside};
-use folder_core::{Finding, FoundContent, ScanAnswer};
-use folder_db::IndexedFolder;
+use folder_core::{Finding, FoundContent, PlainFolder, ScanAnswer};
 use std::alloc::{AllocError, Global};
 use std::io;
 use sync_names::SafeName;
@@ -144,7 +143,7 @@ fn announce<W: FolderCalls>(
 /// Plans a change of another caller, before a call of which 1 is the next.
 pub(crate) fn plan(
     rt: &impl Print,
-    calls: &mut Noted<Lone<IndexedFolder>>,
+    calls: &mut Noted<Lone<PlainFolder>>,
     call: u64,
     change: Outside,
 ) -> io::Result<()> {
