@@ -1,5 +1,7 @@
 -- How a node that runs by a configuration ends badly (own rule).
 use Rattle.std.specs.Prelude.{ℕ, List, ◌++◌, codes, decimal}
+use Rattle.std.specs.declared.io.ErrorKind.{ErrorKind}
+use Rattle.std.specs.declared.io.ErrorKind.TheVariants as io
 use Rattle.node_config.specs.declared.fault.ConfigFault.{ConfigFault}
 use Rattle.node_config.specs.declared.fault.ConfigFault.TheVariants as config
 use Rattle.node_config.specs.Faults.{fault_name, number_of}
@@ -37,6 +39,11 @@ run_failure_status StateInUse = 6
 run_failure_status OutOfMemory = 4
 run_failure_status ConfigExists = 5
 run_failure_status ReadOrWrite = 5
+
+-- an error of a file, of the commands or of the answers
+abbrev pub io_failure : ErrorKind → RunFailure
+io_failure io.OutOfMemory = OutOfMemory
+io_failure _ = ReadOrWrite
 
 -- `fault NUMBER NAME`
 abbrev pub numbered : ℕ → List ℕ → List ℕ

@@ -1,5 +1,6 @@
 ghost use Rattle.std.specs.Prelude.{◌≡◌, Some};
-ghost use Rattle.bepd_run.specs.Failures.{run_failure_status, run_failure_text};
+ghost use Rattle.std.specs.IoError.{error_kind};
+ghost use Rattle.bepd_run.specs.Failures.{io_failure, run_failure_status, run_failure_text};
 ghost use Rattle.bepd_run.specs.declared.failure.RunFailure.TheVariants as failure;
 
 use node_config::ConfigFault;
@@ -111,6 +112,8 @@ impl<T: Drop> From<AllocFailed<T>> for RunFailure {
 }
 
 impl From<io::Error> for RunFailure {
+    ghost from_gives = { λ error failed. failed ≡ io_failure (error_kind error) };
+
     fn from(error: io::Error) -> RunFailure {
         match error.kind() {
             io::ErrorKind::OutOfMemory => RunFailure::OutOfMemory,

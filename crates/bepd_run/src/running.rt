@@ -1,4 +1,6 @@
 //! A node, from its configuration to its end.
+ghost use Rattle.std.specs.Prelude.{◌≡◌, Err, IfErr, IfOk, IsErr, OnErr};
+
 use crate::addresses::address_of;
 use crate::failure::RunFailure;
 use crate::files::{StateFiles, read_config_file, read_state_file};
@@ -219,7 +221,10 @@ where
 }
 
 // The run ended well where all was answered or could not be, and its state is written.
-fn end(lock: &Locked, ended: Result<io::Result<()>, RunFailure>) -> Result<(), RunFailure> {
+fn end(lock: &Locked, ended: Result<io::Result<()>, RunFailure>) -> Result<(), RunFailure>
+    ensures failed { IfErr ended (λ failure. result ≡ Err failure) }
+    ensures not_answered { IfOk ended (λ answered. OnErr answered (IsErr result)) }
+{
     let answered = ended?;
     lock.end()?;
     Ok(answered?)

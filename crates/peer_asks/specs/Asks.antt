@@ -59,3 +59,18 @@ HasTaken old id new NotYet = (k : ℕ) × IsAt id k × (size : ℕ) × (state_at
 HasTaken old id new (Bytes bytes) = (k : ℕ) × IsAt id k × (state_at old k ≡ Came bytes) × (new ≡ slice_set old k Free)
 HasTaken old id new Nothing = ((k : ℕ) × IsAt id k × (state_at old k ≡ NoneCame) × (new ≡ slice_set old k Free))
     ⊎ ((new ≡ old) × ((k : ℕ) → IsAt id k → (state_at old k ≡ Free) ⊎ (state_at old k ≡ LetGo)))
+
+-- the state of the Request with an id changed so, where there is a place for the id, and nothing else
+abbrev pub IsSetAt : List AskState → ℤ → (AskState → AskState) → List AskState → Type 0
+IsSetAt old id change new = ((k : ℕ) × IsAt id k × (k < length old) × (new ≡ slice_set old k (change (state_at old k))))
+    ⊎ ((new ≡ old) × ((k : ℕ) → k < length old → IsAt id k → ⊥))
+
+-- what is known of a Request of which nobody wants the bytes any more
+abbrev pub after_let_go : AskState → AskState
+after_let_go (Waits size) = LetGo
+after_let_go LetGo = LetGo
+after_let_go _ = Free
+
+-- without the id that came last, if there is one
+abbrev pub IsWithoutLast : List ℤ → List ℤ → Type 0
+IsWithoutLast old new = ((id : ℤ) × (old ≡ new ++ id ∷ [])) ⊎ ((old ≡ []) × (new ≡ []))

@@ -1,2 +1,3 @@
 pub mod Asks
+pub mod Counts
 pub mod Requests

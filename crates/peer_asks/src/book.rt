@@ -1,4 +1,12 @@
 //! The Requests under way over the connection with a peer.
+ghost use Rattle.std.specs.Prelude.{◌≡◌, ◌≢◌, ◌⊎◌, IfErr, IfOk, OnOk};
+ghost use Rattle.peer_asks.specs.Asks.{HasOpened, HasTaken, IsSetAt, after_let_go};
+ghost use Rattle.peer_asks.specs.Counts.{HasCounted};
+ghost use Rattle.peer_asks.specs.Requests.{IsNamed, IsTooLarge, request_of};
+ghost use Rattle.peer_asks.specs.declared.fault.AskFault.TheVariants.{OutOfMemory, TooLarge};
+ghost use Rattle.peer_asks.specs.declared.table.AskState.TheVariants.{Waits};
+ghost use Rattle.peer_asks.specs.declared.table.Taken.TheVariants.{Nothing};
+
 use crate::counts::AskCounts;
 use crate::fault::AskFault;
 use crate::table::{Arrival, AskTable, Taken};
@@ -161,7 +169,11 @@ impl AskBook {
 
 impl Shared {
     // Gives the Request an id, and sends it.
-    fn send<R: Wait>(&mut self, rt: &R, request: Request, size: u32) -> Result<AskId, AskFault> {
+    fn send<R: Wait>(&mut self, rt: &R, request: Request, size: u32) -> Result<AskId, AskFault>
+        ensures opened { IfOk result (λ ask.
+            HasOpened self.old.table.states.items ask.id (Waits size) self.new.table.states.items) }
+        ensures connection { IfOk result (λ ask. ask.connection ≡ self.old.connection) }
+    {
         let Some(requests) = &self.requests else {
             return Err(AskFault::NotConnected);
         };
@@ -179,20 +191,32 @@ impl Shared {
         })
     }
 
-    fn take(&mut self, ask: AskId) -> Taken {
+    fn take(&mut self, ask: AskId) -> Taken
+        ensures same { ask.connection ≡ self.old.connection →
+            HasTaken self.old.table.states.items ask.id self.new.table.states.items result }
+        ensures other { ask.connection ≢ self.old.connection →
+            (self.new.table.states.items ≡ self.old.table.states.items) × (result ≡ Nothing) }
+    {
         if ask.connection != self.connection {
             return Taken::Nothing;
         }
         self.table.take(ask.id)
     }
 
-    fn let_go(&mut self, ask: AskId) {
+    fn let_go(&mut self, ask: AskId)
+        ensures same { ask.connection ≡ self.old.connection →
+            IsSetAt self.old.table.states.items ask.id after_let_go self.new.table.states.items }
+        ensures other { ask.connection ≢ self.old.connection →
+            self.new.table.states.items ≡ self.old.table.states.items }
+    {
         if ask.connection == self.connection {
             self.table.let_go(ask.id);
         }
     }
 
-    fn answer(&mut self, response: Response) {
+    fn answer(&mut self, response: Response)
+        ensures { HasCounted self.old.table.states.items response self.new.table.states.items self.old.counts self.new.counts }
+    {
         let arrival = self.table.answer(response);
         self.counts.count(arrival);
         self.arrivals = self.arrivals.wrapping_add(1);
@@ -206,7 +230,11 @@ fn request_for(
     folder: &str,
     name: &SafeName,
     block: &Block,
-) -> Result<Request, AskFault> {
+) -> Result<Request, AskFault>
+    ensures made { IfOk result (λ request. request ≡ request_of folder.now name.now block.now) }
+    ensures named { OnOk result (IsNamed block.now) }
+    ensures faults { IfErr result (λ fault. ((fault ≡ TooLarge) × IsTooLarge block.now) ⊎ ((fault ≡ OutOfMemory) × IsNamed block.now)) }
+{
     let (Ok(offset), Ok(size)) = (i64::try_from(block.offset), i32::try_from(block.size)) else {
         return Err(AskFault::TooLarge);
     };

@@ -1,3 +1,6 @@
+ghost use Rattle.std.specs.Prelude.{◌≡◌};
+ghost use Rattle.peer_asks.specs.Counts.{counted, no_counts};
+
 use crate::table::Arrival;
 
 /// What a book counted of Responses that bring no bytes, each up to `u64::MAX`. None of them harms the connection.
@@ -14,7 +17,9 @@ pub struct AskCounts {
 }
 
 impl AskCounts {
-    pub(crate) fn new() -> AskCounts {
+    pub(crate) fn new() -> AskCounts
+        ensures { result ≡ no_counts }
+    {
         AskCounts {
             unknown: 0,
             late: 0,
@@ -24,7 +29,9 @@ impl AskCounts {
     }
 
     /// Counts what a Response brought.
-    pub(crate) fn count(&mut self, arrival: Arrival) {
+    pub(crate) fn count(&mut self, arrival: Arrival)
+        ensures { self.new ≡ counted arrival self.old }
+    {
         match arrival {
             Arrival::Data => {}
             Arrival::Refused => self.refused = self.refused.saturating_add(1),

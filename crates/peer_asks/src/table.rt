@@ -1,9 +1,9 @@
 //! The Requests of one connection that wait for their Response, or whose answer waits for who asked.
-ghost use Rattle.std.specs.Prelude.{◌≡◌, ◌<◌, ℕ, IfErr, IfNone, IfOk, IfSome, None, OnErr, length};
+ghost use Rattle.std.specs.Prelude.{◌≡◌, ◌<◌, ◌∷◌, ◌++◌, [], ℕ, IfErr, IfNone, IfOk, IfSome, None, OnErr, length, option_to_list};
 ghost use Rattle.std.specs.List.{position};
-ghost use Rattle.peer_asks.specs.Asks.{AreAllTaken, HasAnswered, HasOpened, HasTaken, IsAt, is_free};
+ghost use Rattle.peer_asks.specs.Asks.{AreAllTaken, HasAnswered, HasOpened, HasTaken, IsAt, IsSetAt, IsWithoutLast, after_let_go, is_free};
 ghost use Rattle.peer_asks.specs.declared.fault.AskFault.TheVariants.{TooManyAsks};
-ghost use Rattle.peer_asks.specs.declared.table.AskState.TheVariants.{Waits};
+ghost use Rattle.peer_asks.specs.declared.table.AskState.TheVariants.{Free, Waits};
 
 use crate::fault::AskFault;
 use bep_messages::Response;
@@ -61,7 +61,11 @@ pub(crate) struct AskTable {
 }
 
 impl AskTable {
-    pub(crate) fn new(alloc: Global) -> AskTable {
+    /// Without a Request.
+    pub(crate) fn new(alloc: Global) -> AskTable
+        ensures states { result.states.items ≡ [] }
+        ensures untold { result.untold.items ≡ [] }
+    {
         AskTable {
             states: Vec::new(alloc),
             untold: Vec::new(alloc),
@@ -69,7 +73,10 @@ impl AskTable {
     }
 
     /// Forgets all Requests.
-    pub(crate) fn clear(&mut self) {
+    pub(crate) fn clear(&mut self)
+        ensures states { self.new.states.items ≡ [] }
+        ensures untold { self.new.untold.items ≡ [] }
+    {
         self.states.clear();
         self.untold.clear();
     }
@@ -79,6 +86,8 @@ impl AskTable {
     pub(crate) fn open(&mut self, size: u32) -> Result<i32, AskFault>
         ensures opened { IfOk result (λ id. HasOpened self.old.states.items id (Waits size) self.new.states.items) }
         ensures err { OnErr result (self.new.states.items ≡ self.old.states.items) }
+        ensures untold { IfOk result (λ id. self.new.untold.items ≡ self.old.untold.items ++ id ∷ []) }
+        ensures told { OnErr result (self.new.untold.items ≡ self.old.untold.items) }
         ensures full { IfErr result (λ fault. fault ≡ TooManyAsks → AreAllTaken self.old.states.items) }
     {
         let place = match self.free_place() {
@@ -99,6 +108,8 @@ impl AskTable {
         requires { position is_free self.old.states.items ≡ None }
         ensures opened { IfOk result (λ id. HasOpened self.old.states.items id (Waits size) self.new.states.items) }
         ensures err { OnErr result (self.new.states.items ≡ self.old.states.items) }
+        ensures untold { IfOk result (λ id. self.new.untold.items ≡ self.old.untold.items ++ id ∷ []) }
+        ensures told { OnErr result (self.new.untold.items ≡ self.old.untold.items) }
         ensures full { IfErr result (λ fault. fault ≡ TooManyAsks → AreAllTaken self.old.states.items) }
     {
         let place = self.states.len();
@@ -115,7 +126,10 @@ impl AskTable {
     }
 
     /// Takes back the id that was opened last, whose Request does not go out.
-    pub(crate) fn take_back(&mut self, id: i32) {
+    pub(crate) fn take_back(&mut self, id: i32)
+        ensures freed { IsSetAt self.old.states.items id (λ _. Free) self.new.states.items }
+        ensures untold { IsWithoutLast self.old.untold.items self.new.untold.items }
+    {
         let _ = self.untold.pop();
         if let Some(place) = self.place_of(id) {
             self.states[place] = AskState::Free;
@@ -123,13 +137,18 @@ impl AskTable {
     }
 
     /// An id of which the reader was not told yet; it now is.
-    pub(crate) fn next_untold(&mut self) -> Option<i32> {
+    pub(crate) fn next_untold(&mut self) -> Option<i32>
+        ensures same { self.new.states.items ≡ self.old.states.items }
+        ensures told { self.old.untold.items ≡ self.new.untold.items ++ option_to_list result }
+        ensures none { IfNone result (self.old.untold.items ≡ []) }
+    {
         self.untold.pop()
     }
 
     /// Takes a Response to the Request with its id. Does not allocate. O(1).
     pub(crate) fn answer(&mut self, response: Response) -> Arrival
-        ensures { HasAnswered self.old.states.items response self.new.states.items result }
+        ensures answered { HasAnswered self.old.states.items response self.new.states.items result }
+        ensures untold { self.new.untold.items ≡ self.old.untold.items }
     {
         let Response { id, payload, code } = response;
         let Some(place) = self.place_of(id) else {
@@ -154,7 +173,8 @@ impl AskTable {
 
     /// What is there for who asked by this id; the id is then free, unless nothing is there yet. Does not allocate. O(1).
     pub(crate) fn take(&mut self, id: i32) -> Taken
-        ensures { HasTaken self.old.states.items id self.new.states.items result }
+        ensures taken { HasTaken self.old.states.items id self.new.states.items result }
+        ensures untold { self.new.untold.items ≡ self.old.untold.items }
     {
         let Some(place) = self.place_of(id) else {
             return Taken::Nothing;
@@ -171,7 +191,10 @@ impl AskTable {
     }
 
     /// Nobody wants the bytes of this id any more. It is free at once if they are there, else once its Response came.
-    pub(crate) fn let_go(&mut self, id: i32) {
+    pub(crate) fn let_go(&mut self, id: i32)
+        ensures let_go { IsSetAt self.old.states.items id after_let_go self.new.states.items }
+        ensures untold { self.new.untold.items ≡ self.old.untold.items }
+    {
         let Some(place) = self.place_of(id) else {
             return;
         };

@@ -1,4 +1,7 @@
 //! Where what a reader passes on goes.
+ghost use Rattle.std.specs.Prelude.{◌≡◌};
+ghost use Rattle.peer_link.specs.Requests.{shortened};
+
 use crate::limits::MAX_REQUEST_NAME_BYTES;
 use bep_messages::{ClusterConfig, DIGEST_LEN, Request, ShortOctets, Text};
 use crossbeam_channel::Sender;
@@ -77,7 +80,9 @@ impl<'a, R: Wait> LinkInbox<'a, R> {
 
 // A Request with the same answer that takes little memory: without the folder's id, of which the place is known; without a name that is too long
 // for a file, which is as one that no file may have; and with a digest that no bytes have in place of one that is too long. Does not allocate.
-fn shorten(alloc: Global, request: Request) -> Request {
+fn shorten(alloc: Global, request: Request) -> Request
+    ensures { result ≡ shortened request }
+{
     let mut request = request;
     request.folder = Text::new(alloc);
     if request.name.as_str().len() > MAX_REQUEST_NAME_BYTES {

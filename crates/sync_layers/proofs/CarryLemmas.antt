@@ -31,7 +31,7 @@ use Rattle.sync_pull.specs.declared.answer.PullAnswer.TheVariants.{Done, NotNeed
 use Rattle.sync_pull.specs.declared.answer.PullRefusal.TheVariants.{OutOfMemory}
 use Rattle.sync_layers.specs.Alike.{AreAlike}
 use Rattle.sync_layers.specs.Alone.{IsAlone}
-use Rattle.sync_layers.specs.Carried.{Carries, PullsTarget}
+use Rattle.sync_layers.specs.Carried.{AsksToPull, Carries, PullsTarget}
 use Rattle.sync_layers.specs.Told.{IsNewest, told_by}
 use Rattle.sync_layers.proofs.AloneLemmas.{AnswerLaws, alone-back, alone-front, goes-adds, goes-gets, goes-on, goes-sees, made-alone, still-now}
 
@@ -75,6 +75,13 @@ pulled laws most moment n keeps counted dropped refused LocalMoved old before ne
 pulled laws most moment n keeps counted dropped refused Superseded old before new after x kept = tt
 pulled laws most moment n keeps counted dropped refused (Refused r) old before new after x kept = tt
 pulled laws most moment n keeps counted dropped refused (Failed f) old before new after x kept = tt
+
+-- whatever it came to, the folder was asked for it
+pub asks-to-pull : (most : ℤ) (moment : ℕ) (n : Name) (keeps counted dropped : Type 0) (refused : Call → Type 0) (result : PullAnswer)
+    (old : CallerView) (before : Tree) (new : CallerView) (after : Tree)
+    → Comes most moment n keeps counted dropped refused result old before new after → AsksToPull old n result new
+asks-to-pull most moment n keeps counted dropped refused result old before new after (inl x) = inl x.0
+asks-to-pull most moment n keeps counted dropped refused result old before new after (inr x) = inr (x.0, x.1, x.2, x.3.ends)
 
 -- ---- the target of the pull
 

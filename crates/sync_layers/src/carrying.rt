@@ -5,7 +5,7 @@ ghost use Rattle.folder_core.specs.States.{local};
 ghost use Rattle.sync_pull.specs.Pulled.{IfDone};
 ghost use Rattle.sync_pull.specs.Standing.{StandsAs};
 ghost use Rattle.sync_scan.specs.Scans.{GoesOn};
-ghost use Rattle.sync_layers.specs.Carried.{Carries, PullsTarget};
+ghost use Rattle.sync_layers.specs.Carried.{AsksToPull, Carries, ComesTo, PullsTarget};
 
 use crate::CarryFault;
 use crate::laws::what_is_pulled_is_what_was_scanned;
@@ -35,7 +35,8 @@ use sync_version::Moment;
 ///
 /// Where the pull is done, both stores hold alike under the name, as [`what_is_pulled_is_what_was_scanned`] says it: if both keep what
 /// is written, if nobody else changed the two folders meanwhile, and if the other folder had no valid record of the name by a third
-/// device, or by itself, that the one folder's does not dominate. It does not matter for this what serves the blocks.
+/// device, or by itself, that the one folder's does not dominate. It does not matter for this what serves the blocks. Whatever the answer
+/// is, the other folder had heard the index by then, and gave it where the pull was begun or ended.
 ///
 /// Fails with `NotScanned` if the scan records nothing and finds nothing recorded, and as [`connect`] and [`send_index`] do.
 pub fn carry<
@@ -65,6 +66,8 @@ pub fn carry<
         (Carries (A.view one.old).opening.me name.now (A.view one.old) (A.view one.new) (B.view other.old)
         (B.view other.new) ((S.tree one_store.new).names name.now)
         ((T.tree other_store.new).names name.now))) }
+    ensures comes { IfOk result (λ answer. ComesTo (A.view one.old).opening.me name.now (A.view one.new) (B.view other.old)
+        answer (B.view other.new)) }
 {
     answers_are_those_of_the_folder();
     changes_are_asked_in_order();
@@ -130,8 +133,9 @@ fn pull<U: FileStore, V: FolderCalls, T: FileStore, B: FolderCalls>(
     moment: Moment,
     max_conflicts: MaxConflicts,
 ) -> PullAnswer
-    ensures { T.keeps ≡ true → IfDone result (PullsTarget (B.view other.old) name.now
+    ensures target { T.keeps ≡ true → IfDone result (PullsTarget (B.view other.old) name.now
         ((T.tree other_store.new).names name.now) (B.view other.new)) }
+    ensures asks { AsksToPull (B.view other.old) name.now result (B.view other.new) }
 {
     answers_are_those_of_the_folder();
     changes_are_asked_in_order();

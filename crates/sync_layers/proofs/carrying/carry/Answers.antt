@@ -1,7 +1,7 @@
 use Rattle.std.proofs.Common.{ap, subst, sym, ◌∙◌}
 use Rattle.folder_calls.specs.Shared.{CallerView}
 use Rattle.sync_pull.specs.Pulled.{IfDone}
-use Rattle.sync_layers.specs.Carried.{Carries}
+use Rattle.sync_layers.specs.Carried.{Carries, ComesTo}
 use Rattle.sync_layers.proofs.AloneLemmas.{AnswerLaws, goes-asks}
 use Rattle.sync_layers.proofs.CarryLemmas.{BestLaws, carries, if_done_then}
 use Rattle.sync_layers.specs.Told.{changes_of}
@@ -43,5 +43,11 @@ returns g c =
           (carries answers laws c.what_is_pulled_is_what_was_scanned.ensures.alike c.same_content_is_an_equivalence.ensures.reflexive me name one scanned sent other mid done here there
           (c.views_are_of_folders.ensures.folder sent c.in_ok-send_index.ensures.legal) goes (c.in_ok-scan.ensures.stands here_kept) c.send_index.ensures.sees
           (goes-asks answers other mid (changes_of me sends.pages) sends.asks) (λ alone. told alone name) (λ alone e apart. others alone e name apart))
-          (c.pull.ensures there_kept));
+          (c.pull.ensures.target there_kept));
+      comes = subst (λ d. ComesTo d name sent other c.pull.result done) same (record {
+        mid = mid;
+        heard = goes-asks answers other mid (changes_of me sends.pages) sends.asks;
+        told = λ alone. told alone name;
+        asks = c.pull.ensures.asks;
+      });
     }

@@ -1,8 +1,11 @@
 use Rattle.sync_layers.proofs.AloneLemmas.{AnswerLaws}
-use Rattle.sync_layers.proofs.CarryLemmas.{pulled}
+use Rattle.sync_layers.proofs.CarryLemmas.{asks-to-pull, pulled}
 use Rattle.sync_layers.proofs.carrying.pull.Goals as goal
 
 pub returns : goal.returns
-returns g c kept =
+returns g c =
     let answers : AnswerLaws = record { accepted = c.answers_are_those_of_the_folder.ensures.accepted; adds = c.changes_are_asked_in_order.ensures.adds } in
-    pulled answers _ _ _ _ _ _ _ c.pull_name.result (g.B.FolderCalls.view c.args.other.now) _ (g.B.FolderCalls.view c.pull_name.new.calls) _ c.pull_name.ensures.comes kept
+    record {
+      target = pulled answers _ _ _ _ _ _ _ c.pull_name.result (g.B.FolderCalls.view c.args.other.now) _ (g.B.FolderCalls.view c.pull_name.new.calls) _ c.pull_name.ensures.comes;
+      asks = asks-to-pull _ _ _ _ _ _ _ c.pull_name.result (g.B.FolderCalls.view c.args.other.now) _ (g.B.FolderCalls.view c.pull_name.new.calls) _ c.pull_name.ensures.comes;
+    }
