@@ -1,7 +1,9 @@
-//! How long the calls of a folder take with so many names: `bench_folder plain|indexed NAMES`. How many names or records each
+//! How long the calls of a folder take with so many names: `bench_folder plain|indexed NAMES`; and with so many files of 1,000 blocks,
+//! which are only found: `bench_folder plain|indexed NAMES blocks`. How many names or records each
 //! piece of work came to goes to standard output, the times to standard error.
 #![tactic(auto)]
 
+mod blocks;
 mod pages;
 mod pulls;
 mod scans;
@@ -38,6 +40,7 @@ impl Kept for IndexedFolder {
 struct Asked {
     is_indexed: bool,
     names: u32,
+    has_blocks: bool,
 }
 
 /// By the words of the command line; a plain folder of one name where there are none.
@@ -52,7 +55,12 @@ fn words(rt: &(impl AllocGlobal + Env)) -> io::Result<Asked> {
         None => 1,
         Some(text) => text.as_str().parse::<u32>().unwrap_or(1),
     };
-    Ok(Asked { is_indexed, names })
+    let has_blocks = words.next().is_some();
+    Ok(Asked {
+        is_indexed,
+        names,
+        has_blocks,
+    })
 }
 
 /// This many names, all of them if the step has no divisor in common with the count: in byte order each is this many places
@@ -87,18 +95,21 @@ fn tell(
 fn main(rt: HostRuntime) -> io::Result<()> {
     let asked = words(&rt)?;
     if asked.is_indexed {
-        measure::<IndexedFolder>(&rt, asked.names)
+        measure::<IndexedFolder>(&rt, asked)
     } else {
-        measure::<PlainFolder>(&rt, asked.names)
+        measure::<PlainFolder>(&rt, asked)
     }
 }
 
 fn measure<F: Kept>(
     rt: &(impl AllocGlobal + Print + Eprint + Clock),
-    count: u32,
+    asked: Asked,
 ) -> io::Result<()> {
-    let in_order = names(rt.alloc(), count, 1)?;
-    let out_of_order = names(rt.alloc(), count, 61_803_399)?;
+    let in_order = names(rt.alloc(), asked.names, 1)?;
+    if asked.has_blocks {
+        return blocks::measure::<F>(rt, &in_order);
+    }
+    let out_of_order = names(rt.alloc(), asked.names, 61_803_399)?;
     scans::measure::<F>(rt, "scan-in-order", &in_order)?;
     scans::measure::<F>(rt, "scan-out-of-order", &out_of_order)?;
     pulls::measure::<F>(rt, &in_order)

@@ -5,6 +5,7 @@ use std::alloc::AllocError;
 use std::io;
 use std::rt::Clock;
 use std::time::Instant;
+use sync_record::DeviceId;
 
 /// How many names or records a page has.
 const PAGE: usize = 1000;
@@ -19,7 +20,7 @@ pub fn measure_need(
     tell(rt, "need", start, needed)
 }
 
-/// Lists all local records, looks for a block that no file has, and counts.
+/// Lists all local records, looks for a block that no file has, counts, and asks for the greatest sequence of the other device.
 pub fn measure_local(
     rt: &(impl Print + Eprint + Clock),
     folder: &impl FolderCore,
@@ -32,7 +33,10 @@ pub fn measure_local(
     tell(rt, "find-block", start, usize::from(is_recordable))?;
     let start = Instant::now(rt)?;
     let counts = folder.counts();
-    tell(rt, "counts", start, counts.files as usize)
+    tell(rt, "counts", start, counts.files as usize)?;
+    let start = Instant::now(rt)?;
+    let known = folder.known(DeviceId::new([2; 32]));
+    tell(rt, "known", start, known as usize)
 }
 
 /// How many needed names there are, page by page.

@@ -15,7 +15,7 @@ use bepd_pair::pair;
 use bepd_run::{
     Progress, RunFailure, StateFiles, Stores, check_config, new_config, run_and_tell, run_config,
 };
-use folder_core::PlainFolder;
+use folder_db::IndexedFolder;
 use std::alloc::Global;
 use std::fs::{File, Files};
 use std::io::{self, BufRead, Write};
@@ -91,7 +91,7 @@ where
 {
     match request_of(alloc, words) {
         Request::Best(folder) => {
-            let empty = PlainFolder::new(alloc, own_device());
+            let empty = IndexedFolder::new(alloc, own_device());
             let ending = best(alloc, folder, empty, input, output);
             end(ending, errors)
         }

@@ -9,7 +9,7 @@ mod runs;
 use crate::best::best;
 use crate::ending::Ending;
 use crate::received::own_device;
-use folder_core::PlainFolder;
+use folder_db::IndexedFolder;
 use std::alloc::{AllocError, Global};
 use std::io::{self, ErrorKind, Read, Write};
 use std::process::Abort;
@@ -124,9 +124,9 @@ impl Write for Sink {
     }
 }
 
-/// Lists over the plain folder.
+/// Lists over an indexed folder.
 fn list<R: Read, W: Write>(alloc: Global, folder: &str, reader: &mut R, writer: &mut W) -> Ending {
-    let empty = PlainFolder::new(alloc, own_device());
+    let empty = IndexedFolder::new(alloc, own_device());
     best(alloc, folder, empty, reader, writer)
 }
 

@@ -1,5 +1,5 @@
 -- What one device announces, and all of it, group by group.
-use Rattle.std.proofs.Common.{◌≡◌, ◌≢◌, ℕ, ◌+◌, ◌≤◌, Bool, true, false, List, [], ◌∷◌, ◌++◌, length, refl, sym, ap, subst, ◌∙◌, inl, inr, arith}
+use Rattle.std.proofs.Common.{append-nil, get_or, take, ◌<◌, ◌≡◌, ◌≢◌, ℕ, ◌+◌, ◌≤◌, Bool, true, false, List, [], ◌∷◌, ◌++◌, length, refl, sym, ap, subst, ◌∙◌, inl, inr, arith}
 use Rattle.std.specs.Prelude.{bytes_eq, cond, filter, flat_map, fold, map, max, not, Option, Some, None, is_some}
 use Rattle.std.specs.Bool.{passes}
 use Rattle.std.specs.FinMap.{contains_key, empty, entries, entries-from_sorted, get, get-remove, get-retain_keys, remove, same_map}
@@ -8,7 +8,8 @@ use Rattle.std.specs.Map.{values_of}
 use Rattle.std.specs.Ordering.{eq_by_cmp}
 use Rattle.std.specs.declared.cmp.Ordering.TheVariants.{Equal}
 use Rattle.std.proofs.lemmas.Bool.{true≢false}
-use Rattle.std.proofs.lemmas.List.{map-append}
+use Rattle.std.proofs.lemmas.Grind.{flat_map-append}
+use Rattle.std.proofs.lemmas.List.{map-append, take_all, take_more}
 use Rattle.std.proofs.lemmas.List.Elements.{filter-append}
 use Rattle.std.proofs.lemmas.List.Sums.{fold-append}
 use Rattle.sync_record.specs.Devices.{Identity}
@@ -21,10 +22,12 @@ use Rattle.folder_core.proofs.AnnouncedMaps.{remove_here, remove_other}
 use Rattle.folder_core.proofs.ListFilters.{filter_map}
 use Rattle.folder_core.proofs.ListTests.{In, alike_bytes, get_in, in_filter, in_map, same_bytes}
 use Rattle.folder_core.proofs.Orders.{exact_keys, keys_total}
+use Rattle.folder_index.specs.declared.chunks.Chunks.{Chunks}
 use Rattle.folder_index.specs.declared.group.Group.{Group}
+use Rattle.folder_index.specs.Chunks.{Chunk, groups_in, in_chunk, keyed}
 use Rattle.folder_index.specs.declared.totals.Totals.{Totals}
 use Rattle.folder_index.specs.Devices.{names_by, names_from, sequences_by, sequences_from, without_device, without_names}
-use Rattle.folder_index.specs.Groups.{AreGroups, index_of, listed}
+use Rattle.folder_index.specs.Groups.{AreGroups, entries_in, index_of, listed}
 use Rattle.folder_index.specs.Indexes.{IndexState, counted, without_record}
 use Rattle.folder_index.specs.declared.local.Local.{Local}
 use Rattle.folder_index.specs.Locals.{IsIndex}
@@ -39,11 +42,37 @@ map_map f g (x ∷ xs) = ap (λ ys. g (f x) ∷ ys) (map_map f g xs)
 
 -- the entries of groups
 abbrev pub entries_of : List Group → List Entry
-entries_of gs = flat_map (λ (g : Group). g.entries.items) gs
+entries_of gs = flat_map (λ (g : Group). entries_in g) gs
+
+-- those of chunks
+abbrev pub entries_chunked : List Chunk → List Entry
+entries_chunked vs = flat_map (λ (v : Chunk). entries_of v.items) vs
+
+pub one_chunked : (vs : List Chunk) (i : ℕ) (v : Chunk) → i < length vs → v ≡ get_or vs i v → entries_chunked (take (i + 1) vs) ≡ entries_chunked (take i vs) ++ entries_of v.items
+one_chunked vs i v short is =
+    ap (λ (l : List Chunk). entries_chunked l) (take_more vs i v short ∙ ap (λ x. take i vs ++ x ∷ []) (sym is))
+    ∙ flat_map-append (λ (v : Chunk). entries_of v.items) (take i vs) (v ∷ [])
+    ∙ ap (λ l. entries_chunked (take i vs) ++ l) (append-nil (entries_of v.items))
+
+pub one_grouped : (gs : List Group) (i : ℕ) (g : Group) → i < length gs → g ≡ get_or gs i g → entries_of (take (i + 1) gs) ≡ entries_of (take i gs) ++ entries_in g
+one_grouped gs i g short is =
+    ap (λ (l : List Group). entries_of l) (take_more gs i g short ∙ ap (λ x. take i gs ++ x ∷ []) (sym is))
+    ∙ flat_map-append (λ (g : Group). entries_in g) (take i gs) (g ∷ [])
+    ∙ ap (λ l. entries_of (take i gs) ++ l) (append-nil (entries_in g))
+
+pub chunked_listed : (vs : List Chunk) → entries_chunked vs ≡ listed (flat_map in_chunk vs)
+chunked_listed [] = refl
+chunked_listed (v ∷ vs) =
+    (λ i. keyed_listed v.items i ++ chunked_listed vs i)
+    ∙ sym (flat_map-append (λ (h : Name × Group). entries_in h.1) (in_chunk v) (flat_map in_chunk vs))
+  where
+    keyed_listed : (gs : List Group) → entries_of gs ≡ listed (map keyed gs)
+    keyed_listed [] = refl
+    keyed_listed (g ∷ gs) = ap (λ l. entries_in g ++ l) (keyed_listed gs)
 
 pub listed_values : (gs : Groups) → entries_of (values_of gs) ≡ listed gs
 listed_values [] = refl
-listed_values (h ∷ gs) = ap (λ es. h.1.entries.items ++ es) (listed_values gs)
+listed_values (h ∷ gs) = ap (λ es. (entries_in h.1) ++ es) (listed_values gs)
 
 pub names_listed : (d : Identity) (es : List Entry) → names_by d (map filed es) ≡ names_from d es
 names_listed d es = ap (map (λ (e : KeyedRecord). e.0.name)) (filter_map filed (is_by d) es) ∙ map_map filed (λ (e : KeyedRecord). e.0.name) (filter (is_from d) es)
@@ -158,6 +187,11 @@ module _ (d : Identity) where
   kept_alike : (k q : Key) → key_cmp k q ≡ Equal → not (bytes_eq q.device d) ≡ not (bytes_eq k.device d)
   kept_alike k q e = ap (λ (x : Key). not (bytes_eq x.device d)) (sym (exact_keys k q e))
 
+  pub forgotten_none : (a : Announced) (n : Name) → get (without d a) (key n d) ≡ None
+  forgotten_none a n =
+      get-retain_keys a (λ (q : Key). not (bytes_eq q.device d)) (key n d) (λ q e. kept_alike (key n d) q e)
+      ∙ ap (λ b. cond (not b) (get a (key n d)) None) (alike_bytes d d refl)
+
   pub forgotten : (s : IndexState) → (without_device d s).announced ≡ without d s.announced
   forgotten s =
       all_removed (names_by d (entries s.announced)) s
@@ -205,3 +239,19 @@ module _ (d : Identity) where
 pub forgotten_index : (d : Identity) (ns : List Name) (s : IndexState) (l : Local) → IsIndex s l → d ≢ s.me → IsIndex (without_names d ns s) l
 forgotten_index d [] s l is other = is
 forgotten_index d (n ∷ ns) s l is other = forgotten_index d ns (without_record d n s) l (other_index_cleared s l is d other n) (λ e. other (e ∙ one_me d n s))
+
+-- ---- what a group has is a part of what all have
+
+pub part_names : (d : Identity) (gs : Groups) (h : Name × Group) → In h gs → names_from d (listed gs) ≡ [] → names_from d (entries_in h.1) ≡ []
+part_names d [] h i none = absurd i
+part_names d (k ∷ gs) h (inl e) none = ap (λ (x : Name × Group). names_from d (entries_in x.1)) e ∙ left_part (names_from d (entries_in k.1)) (names_from d (listed gs)) (sym (names_append d (entries_in k.1) (listed gs)) ∙ none)
+part_names d (k ∷ gs) h (inr i) none = part_names d gs h i (right_part (names_from d (entries_in k.1)) (names_from d (listed gs)) (sym (names_append d (entries_in k.1) (listed gs)) ∙ none))
+
+pub part_entries : (gs : Groups) (h : Name × Group) → In h gs → listed gs ≡ [] → entries_in h.1 ≡ []
+part_entries [] h i none = absurd i
+part_entries (k ∷ gs) h (inl e) none = ap (λ (x : Name × Group). entries_in x.1) e ∙ left_part (entries_in k.1) (listed gs) none
+part_entries (k ∷ gs) h (inr i) none = part_entries gs h i (right_part (entries_in k.1) (listed gs) none)
+
+-- all chunks
+pub all_chunked : (cs : Chunks) (vs : List Chunk) (i : ℕ) → vs ≡ cs.chunks.items → length vs ≤ i → entries_chunked (take i vs) ≡ listed (groups_in cs)
+all_chunked cs vs i is past = ap entries_chunked (take_all i vs past ∙ is) ∙ chunked_listed cs.chunks.items

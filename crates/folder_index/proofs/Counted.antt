@@ -23,19 +23,18 @@ use Rattle.folder_core.proofs.ListTests.{alike_bytes, In, all_in, below_in, in_m
 use Rattle.folder_core.proofs.ListFilters.{filter_map}
 use Rattle.folder_core.proofs.Orders.{bytes_total, keys_total, exact_keys}
 use Rattle.folder_index.specs.declared.group.Group.{Group}
-use Rattle.folder_index.specs.Groups.{listed, needed_in}
+use Rattle.folder_index.specs.Groups.{entries_in, listed, needed_in, needed_listed}
 use Rattle.folder_index.proofs.Lists.{keeps_none}
 use Rattle.folder_index.proofs.Listed.{Groups}
-use Rattle.folder_index.proofs.Pages.{needed_listed}
 
 -- the entries that pass, group by group
-pub passing : (p : Entry → Bool) (gs : Groups) → length (filter p (listed gs)) ≡ sum_by (λ g. length (filter p g.entries.items)) (values_of gs)
+pub passing : (p : Entry → Bool) (gs : Groups) → length (filter p (listed gs)) ≡ sum_by (λ g. length (filter p (entries_in g))) (values_of gs)
 passing p [] = refl
 passing p (h ∷ gs) =
-    ap length (filter-append p h.1.entries.items (listed gs))
-    ∙ length-append (filter p h.1.entries.items) (filter p (listed gs))
-    ∙ ap (λ k. length (filter p h.1.entries.items) + k) (passing p gs)
-    ∙ sym (sum_by-cons (λ (g : Group). length (filter p g.entries.items)) h.1 (values_of gs))
+    ap length (filter-append p (entries_in h.1) (listed gs))
+    ∙ length-append (filter p (entries_in h.1)) (filter p (listed gs))
+    ∙ ap (λ k. length (filter p (entries_in h.1)) + k) (passing p gs)
+    ∙ sym (sum_by-cons (λ (g : Group). length (filter p (entries_in g))) h.1 (values_of gs))
 
 pub needed_count : (gs : Groups) → length (needed_listed gs) ≡ sum_by needed_in (values_of gs)
 needed_count [] = refl
@@ -51,10 +50,10 @@ needed_count (h ∷ gs) =
 -- ---- of a name a device has one entry at most
 
 module _ (me : Identity) (n : Name) where
-  abbrev AreNamed : List Entry → Type 0
-  AreNamed es = list_all (λ e. bytes_eq e.record.name n) es ≡ true
+  abbrev pub AllNamed : List Entry → Type 0
+  AllNamed es = list_all (λ e. bytes_eq e.record.name n) es ≡ true
 
-  none_after : (e : Entry) (es : List Entry) → Rises (e ∷ es) → AreNamed (e ∷ es) → is_from me e ≡ true → (f : Entry) → In f es → is_from me f ≡ false
+  pub none_after : (e : Entry) (es : List Entry) → Rises (e ∷ es) → AllNamed (e ∷ es) → is_from me e ≡ true → (f : Entry) → In f es → is_from me f ≡ false
   none_after e es up named own f i =
       let less : key_cmp (filed e).0 (filed f).0 ≡ Less = below_in keys_total exact_keys (filed e).0 (map filed es) (parts _ _ (passes _ up)).0 (filed f) (in_map filed es f i) in
       let first : e.record.name ≡ n = same_bytes e.record.name n (and_parts _ _ named).0 in
@@ -63,7 +62,7 @@ module _ (me : Identity) (n : Name) where
       let apart : bytes_cmp e.device f.device ≡ Less = sym (ap (λ o. ordering_then o (bytes_cmp e.device f.device)) tie) ∙ less in
       false_from_ne_true _ (λ t. true≢false (ap is_lt (sym apart ∙ (λ j. bytes_cmp (same_bytes e.device me own j) (same_bytes f.device me t j)) ∙ tied_itself bytes_total me)))
 
-  pub own_once : (p : Entry → Bool) (es : List Entry) → Rises es → AreNamed es → length (filter (λ e. is_from me e && p e) es) ≤ 1
+  pub own_once : (p : Entry → Bool) (es : List Entry) → Rises es → AllNamed es → length (filter (λ e. is_from me e && p e) es) ≤ 1
   own_once p [] up named = omega arith
   own_once p (e ∷ es) up named =
       elim (is_from me e) as (λ b. is_from me e ≡ b → length (cond (b && p e) (e ∷ filter (λ e. is_from me e && p e) es) (filter (λ e. is_from me e && p e) es)) ≤ 1) [

@@ -1,18 +1,13 @@
 -- What is found of a name in its group is what the folder has of it.
 use Rattle.std.proofs.Common.{◌≡◌, ℕ, ◌==◌, Bool, true, false, List, [], ◌∷◌, length, take, refl, rules, sym, ap, subst, ◌∙◌}
-use Rattle.std.specs.Prelude.{◌&&◌, cond, count_by, filter, map, not, Option, Some, None, is_some, option_and_then, option_map, sum_by}
+use Rattle.std.specs.Prelude.{Contains, bytes_eq, slice_get, ◌&&◌, cond, count_by, filter, map, not, Option, Some, None, is_some, option_and_then, option_map, sum_by}
 use Rattle.std.specs.Bool.{passes}
 use Rattle.std.specs.BTreeMap.{is_at}
 use Rattle.std.specs.Map.{lookup, values_of}
 use Rattle.std.specs.Option.{option_map_or}
 use Rattle.std.specs.FinMap.{empty, empty_of_len, entries, entries-from_sorted, len-entries}
 use Rattle.std.specs.FinMap as map
-use Rattle.std.specs.List.{reduce}
-use Rattle.std.specs.Ordering.{is_gt, is_lt, ordering_reverse}
-use Rattle.std.specs.declared.cmp.Ordering.{Ordering}
-use Rattle.std.specs.declared.cmp.Ordering.TheVariants.{Less, Equal, Greater}
-use Rattle.std.specs.declared.ops.Bound.TheVariants.{Unbounded}
-use Rattle.std.specs.BTreeMap.Range.{entries_between}
+use Rattle.std.specs.List.{list_all, reduce}
 use Rattle.std.proofs.lemmas.Option.{none-some}
 use Rattle.std.proofs.lemmas.Bool.{and_parts, true≢false}
 use Rattle.sync_record.specs.Devices.{Identity, bytes_cmp}
@@ -24,8 +19,8 @@ use Rattle.folder_core.specs.PlainPulls.{best_in}
 use Rattle.folder_core.specs.PlainReads.{is_from, is_needed_over, needed_names, needed_of, record_from}
 use Rattle.folder_core.specs.Reads.{BestEntry, best_with_devices, bests_page, is_after, locals, need_page}
 use Rattle.folder_core.specs.States.{is_needed, need}
+use Rattle.folder_core.proofs.ListTests.{In, same_bytes}
 use Rattle.folder_core.proofs.ListFilters.{filter_filter}
-use Rattle.folder_core.proofs.Orders.{bytes_total}
 use Rattle.folder_core.proofs.PlainCounts.{own_counted, others_counted}
 use Rattle.folder_core.proofs.PlainFound.{best_is, best_is_found, listed_after, named_best}
 use Rattle.folder_core.proofs.PlainGroup.{is_named}
@@ -33,11 +28,13 @@ use Rattle.folder_core.proofs.PlainNeed.{needed_are, page_is}
 use Rattle.folder_core.proofs.PlainOwn.{find_key, local_is}
 use Rattle.folder_index.specs.declared.group.Group.{Group}
 use Rattle.folder_index.specs.declared.totals.Totals.{Totals}
-use Rattle.folder_index.specs.Groups.{AreGroups, announced_in, best_of_group, chosen, index_of, listed, start_of}
+use Rattle.folder_index.specs.declared.chunks.Chunks.{Chunks}
+use Rattle.folder_index.specs.Chunks.{AreChunked, groups_in, keyed}
+use Rattle.folder_index.specs.Groups.{name_in, AreNeeded, AreGroups, announced_in, best_of_group, bests_listed, chosen, entries_in, index_of, listed, needed_listed}
 use Rattle.folder_index.specs.Indexes.{folder, needs}
 use Rattle.folder_index.proofs.Counted.{needed_count, passing}
 use Rattle.folder_index.proofs.Listed.{Groups, Sorted, Each, at_is, entries_at, get_is, rises}
-use Rattle.folder_index.proofs.Pages.{bests_are_listed, bests_listed, needed_are_listed, needed_listed, part_each, part_listed, part_of, part_sorted}
+use Rattle.folder_index.proofs.Pages.{bests_are_listed, needed_are_listed, part_each, part_listed, part_of, part_sorted}
 use Rattle.folder_index.proofs.Written.{each_of, found_at, none_at}
 
 module _ (me : Identity) (gs : Groups) (t : Totals) (are : AreGroups me gs t) (choices : ℕ) where
@@ -75,7 +72,7 @@ module _ (me : Identity) (gs : Groups) (t : Totals) (are : AreGroups me gs t) (c
 
   pub group_best_is : (n : Name) (g : Group) → lookup (is_at (bytes_cmp n)) gs ≡ Some g → best_of_group g ≡ best_with_devices (folder (index_of me gs choices)) n
   group_best_is n g found =
-      ap (option_map {U = BestEntry} (λ b. (b.record, devices_with g.entries.items b.record))) (are.groups n g found).best
+      ap (option_map {U = BestEntry} (λ b. (b.record, devices_with (entries_in g) b.record))) (are.groups n g found).best
       ∙ ap group_best (found_at n gs g found)
       ∙ best_with_devices_at n
 
@@ -117,38 +114,20 @@ module _ (me : Identity) (gs : Groups) (t : Totals) (are : AreGroups me gs t) (c
 
   -- ---- counts
 
-  pub own_is : (p : FileRecord → Bool) → sum_by (λ (g : Group). length (filter (λ e. is_from me e && p e.record) g.entries.items)) (values_of gs) ≡ count_by p (locals (folder (index_of me gs choices)))
+  pub own_is : (p : FileRecord → Bool) → sum_by (λ (g : Group). length (filter (λ e. is_from me e && p e.record) (entries_in g))) (values_of gs) ≡ count_by p (locals (folder (index_of me gs choices)))
   own_is p = sym (passing (λ e. is_from me e && p e.record) gs) ∙ own_counted me (listed gs) 0 empty up p
 
-  pub others_are : sum_by (λ (g : Group). length (filter (λ e. not (is_from me e)) g.entries.items)) (values_of gs) ≡ count_by (λ e. not (is_by me e)) (entries (announced_in gs))
+  pub others_are : sum_by (λ (g : Group). length (filter (λ e. not (is_from me e)) (entries_in g))) (values_of gs) ≡ count_by (λ e. not (is_by me e)) (entries (announced_in gs))
   others_are = sym (passing (λ e. not (is_from me e)) gs) ∙ others_counted me (listed gs) 0 empty up
 
   pub needed_is : sum_by (λ (g : Group). cond g.is_needed 1 0) (values_of gs) ≡ length (need (folder (index_of me gs choices)))
   needed_is = sym (needed_count gs) ∙ ap length (sym (needed_are_listed me gs sorted each) ∙ needed_are me (listed gs) 0 empty up)
 
--- ---- where a page begins
-
-flipped : (a n : Name) → is_lt (bytes_cmp a n) ≡ is_gt (bytes_cmp n a)
-flipped a n = turned (bytes_cmp a n) (bytes_cmp n a) (bytes_total.antisymm n a)
-  where
-    turned : (p q : Ordering) → q ≡ ordering_reverse p → is_lt p ≡ is_gt q
-    turned Less q e = sym (ap is_gt e)
-    turned Equal q e = sym (ap is_gt e)
-    turned Greater q e = sym (ap is_gt e)
-
-plain_and : (b : Bool) → (b && true) ≡ b
-plain_and true = refl
-plain_and false = refl
-
-pub between_is : (after : Option Name) (gs : Groups) → entries_between bytes_cmp (start_of after) Unbounded gs ≡ part_of (is_after after) gs
-between_is None gs = refl
-between_is (Some a) gs = λ i. filter (λ h. (plain_and (is_lt (bytes_cmp a h.0)) ∙ flipped a h.0) i) gs
-
 -- no best is chosen where none is found
 pub none_chosen : (g : Group) → best_of_group g ≡ None → chosen g ≡ None
 none_chosen g none = by (chosen g) none
   where
-    by : (o : Option Entry) → option_map {U = BestEntry} (λ b. (b.record, devices_with g.entries.items b.record)) o ≡ None → o ≡ None
+    by : (o : Option Entry) → option_map {U = BestEntry} (λ b. (b.record, devices_with (entries_in g) b.record)) o ≡ None → o ≡ None
     by None e = refl
     by (Some b) e = absurd (none-some _ (sym e))
 
@@ -161,12 +140,22 @@ none_promised true e = absurd (true≢false (sym e))
 none_promised false e = refl
 
 -- a group that is found without entries and promises
-pub empty_group : (o : Option Group) {r : Option Group} → r ≡ o → (b : Bool) → b ≡ option_map_or (λ (g : Group). not g.is_promised && length g.entries.items == 0) r false → b ≡ true → (g : Group) × (o ≡ Some g) × (g.entries.items ≡ []) × (g.is_promised ≡ false)
-empty_group None {r} is b test t = absurd (true≢false (sym t ∙ test ∙ ap (λ o. option_map_or (λ (g : Group). not g.is_promised && length g.entries.items == 0) o false) is))
+pub empty_group : (o : Option Group) {r : Option Group} → r ≡ o → (b : Bool) → b ≡ option_map_or (λ (g : Group). not g.is_promised && length (entries_in g) == 0) r false → b ≡ true → (g : Group) × (o ≡ Some g) × ((entries_in g) ≡ []) × (g.is_promised ≡ false)
+empty_group None {r} is b test t = absurd (true≢false (sym t ∙ test ∙ ap (λ o. option_map_or (λ (g : Group). not g.is_promised && length (entries_in g) == 0) o false) is))
 empty_group (Some g) {r} is b test t =
-    let both = and_parts (not g.is_promised) (length g.entries.items == 0) (sym (test ∙ ap (λ o. option_map_or (λ (g : Group). not g.is_promised && length g.entries.items == 0) o false) is) ∙ t) in
-    (g, refl, no_entries g.entries.items both.1, none_promised g.is_promised both.0)
+    let both = and_parts (not g.is_promised) (length (entries_in g) == 0) (sym (test ∙ ap (λ o. option_map_or (λ (g : Group). not g.is_promised && length (entries_in g) == 0) o false) is) ∙ t) in
+    (g, refl, no_entries (entries_in g) both.1, none_promised g.is_promised both.0)
 
 -- nothing is announced where there are no groups
 pub none_announced : announced_in [] ≡ empty
 none_announced = empty_of_len (announced_in []) (len-entries (announced_in []) ∙ ap length (entries-from_sorted key_cmp [] tt))
+
+-- a group that is needed has a record, which is of its name
+pub are_needed : (me : Identity) (cs : Chunks) (t : Totals) → AreChunked me cs t → (gs : List Group) → ((g : Group) → Contains gs g → In (keyed g) (groups_in cs)) → AreNeeded gs
+are_needed me cs t are gs each g there needed =
+    let group = each_of me (groups_in cs) t are.are (name_in g) g (each g there) in
+    by (entries_in g) refl (sym group.needed ∙ needed) group.named
+  where
+    by : (es : List Entry) → entries_in g ≡ es → is_some (needed_of me (entries_in g)) ≡ true → list_all (λ e. bytes_eq e.record.name (name_in g)) (entries_in g) ≡ true → (e : Entry) × (slice_get (entries_in g) 0 ≡ Some e) × (e.record.name ≡ name_in g)
+    by [] e some named = absurd (true≢false (sym some ∙ ap (λ (es : List Entry). is_some (needed_of me es)) e))
+    by (x ∷ es) e some named = (x, ap (λ (es : List Entry). slice_get es 0) e, same_bytes x.record.name (name_in g) (and_parts _ _ (sym (ap (list_all (λ (e : Entry). bytes_eq e.record.name (name_in g))) e) ∙ named)).0)

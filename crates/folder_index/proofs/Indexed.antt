@@ -14,7 +14,7 @@ use Rattle.folder_core.specs.Announced.{key}
 use Rattle.folder_core.proofs.AnnouncedMaps.{insert_here, remove_inserted, remove_split}
 use Rattle.folder_core.proofs.ListTests.{In, all_in, alike_bytes, in_all, inside, same_bytes}
 use Rattle.folder_index.specs.declared.local.Local.{Local}
-use Rattle.folder_index.specs.Digests.{with_blocks, without_blocks}
+use Rattle.folder_index.specs.Digests.{HasNone, with_blocks, without_blocks}
 use Rattle.folder_index.specs.Indexes.{IndexState, counted, with_promise, with_record, without_promise, without_record}
 use Rattle.folder_index.specs.Latest.{AreLatest, Waiting, with_latest, without_sequence}
 use Rattle.folder_index.specs.Locals.{AreEarlier, AreFiled, AreKept, AreLocals, IsFree, IsIndex, IsSettled, all_local, blocks_at, live_blocks, no_local, with_exchanged, with_filed, with_first_filed, with_last, with_prepared, without_filed, without_local, without_prepared}
@@ -50,7 +50,7 @@ pub unlike_told : (x : Option FileRecord) (p : ℕ) (y : Option ℕ) → y ≡ s
 unlike_told x p y is each o there same = each o.sequence (is ∙ ap sequence_at there) same
 
 -- what is filed and taken out again leaves what was there
-pub filed_undone : (l : Local) (r : FileRecord) → get l.records r.sequence ≡ None → ((hash : List ℕ) → get l.places (hash, number_of l.numbers r.sequence) ≡ None) → without_filed r.sequence (with_filed r l) ≡ l
+pub filed_undone : (l : Local) (r : FileRecord) → get l.records r.sequence ≡ None → HasNone (number_of l.numbers r.sequence) l.places → without_filed r.sequence (with_filed r l) ≡ l
 filed_undone l r absent unused =
     let records = remove_inserted nat_cmp_total nat_cmp-IsAntisymmetric l.records r.sequence r absent in
     let number = number_of l.numbers r.sequence in
@@ -101,8 +101,8 @@ module _ (s : IndexState) (l : Local) (is : IsSettled s l) where
       pub absent : get l.records r.sequence ≡ None
       absent = free_sequence s.me s.announced l.records is.locals r low free unlike
 
-      pub unused : (hash : List ℕ) → get l.places (hash, number_of l.numbers r.sequence) ≡ None
-      unused hash = nothing_at (number_of l.numbers) (apart l.numbers) l.records l.places is.filed r.sequence absent hash
+      pub unused : HasNone (number_of l.numbers r.sequence) l.places
+      unused = nothing_at (number_of l.numbers) (apart l.numbers) l.records l.places is.filed r.sequence absent
 
       are_filed : AreFiled (number_of l.numbers) (with_filed r l).records (with_filed r l).places
       are_filed = filed (number_of l.numbers) (apart l.numbers) l.records l.places is.filed r.sequence r absent
@@ -122,8 +122,8 @@ module _ (s : IndexState) (l : Local) (is : IsSettled s l) where
           }
 
     -- under the sequence of the record that it takes the place of
-    pub unprepared : (hash : List ℕ) → get l.places (hash, other_number_of l.numbers r.sequence) ≡ None
-    unprepared hash = unused_at (number_of l.numbers) l.records l.places is.filed (other_number_of l.numbers r.sequence) (other_unlike l.numbers r.sequence) hash
+    pub unprepared : HasNone (other_number_of l.numbers r.sequence) l.places
+    unprepared = unused_at (number_of l.numbers) l.records l.places is.filed (other_number_of l.numbers r.sequence) (other_unlike l.numbers r.sequence)
 
     pub index_unprepared : IsSettled s (without_prepared r (with_prepared r l))
     index_unprepared =
@@ -371,8 +371,8 @@ module _ (l : Local) (kept : AreKept l) (r : FileRecord) (rs : List FileRecord) 
   absent_first : get l.records r.sequence ≡ None
   absent_first = first_absent l.records r rs latest_are
 
-  pub unused_first : (hash : List ℕ) → get l.places (hash, number_of l.numbers r.sequence) ≡ None
-  unused_first hash = nothing_at (number_of l.numbers) (apart l.numbers) l.records l.places kept.filed r.sequence absent_first hash
+  pub unused_first : HasNone (number_of l.numbers r.sequence) l.places
+  unused_first = nothing_at (number_of l.numbers) (apart l.numbers) l.records l.places kept.filed r.sequence absent_first
 
   pub first_kept : AreKept (with_first_filed r rs l)
   first_kept = record {

@@ -21,3 +21,7 @@ pub mod Promised
 pub mod Lately
 pub mod Announcing
 pub mod Spared
+pub mod Keeping
+pub mod Chunked
+pub mod Replaced
+pub mod Noting

@@ -1,7 +1,8 @@
 -- Where a block is found is one of the folder's places.
-use Rattle.std.proofs.Common.{◌≡◌, ◌≢◌, ◌∷◌, ◌++◌, List, ℕ, ◌/◌, ◌<◌, ◌^◌, Bool, true, false, [], refl, sym, ap, subst, ◌∙◌, ◌⊎◌, inl, inr}
+use Rattle.std.proofs.Common.{◌≡◌, ◌≢◌, ◌∷◌, ◌++◌, List, ℕ, suc, Bool, true, false, [], refl, sym, ap, subst, ◌∙◌, ◌⊎◌, inl, inr}
 use Rattle.std.specs.Prelude.{bytes_eq, cond, find, Option, Some, None, Contains, option_map, slice_get}
 use Rattle.std.specs.FinMap.{get}
+use Rattle.std.specs.Option.{option_map_or}
 use Rattle.std.proofs.lemmas.Bool.{true≢false}
 use Rattle.std.proofs.lemmas.Option.{none-some}
 use Rattle.sync_blocks.specs.declared.block.Block.{Block}
@@ -13,11 +14,10 @@ use Rattle.folder_core.proofs.ListTests.{In, alike_bytes, contains_in, found_in,
 use Rattle.folder_core.proofs.ReadAnswers.{IsPlaceOf, no_place-read, place-read}
 use Rattle.folder_index.specs.declared.local.Local.{Local}
 use Rattle.folder_index.specs.Indexes.{IndexState, folder}
-use Rattle.folder_index.specs.Locals.{HasNoBlock, IsBlockPlace, IsIndex, IsPlaceAmong, all_local, blocks_at, live_blocks, placed}
-use Rattle.folder_index.specs.Numbers.{number_of}
+use Rattle.folder_index.specs.Locals.{HasNoBlock, IsBlockPlace, IsIndex, IsPlaceAmong, all_local, blocks_at, has_digest, live_blocks, placed}
+use Rattle.folder_index.specs.Sequences.{Sequenced}
 use Rattle.folder_index.proofs.Lately.{get_below, get_latest, latest_of}
 use Rattle.folder_index.proofs.Filed.{item_in, none_at, some_at}
-use Rattle.folder_index.proofs.Numbered.{number_fits, sequence_told}
 
 -- a record with a block is a live file, and the block is one of its blocks
 live_block : (r : FileRecord) (i : ℕ) (b : Block) → slice_get (live_blocks r) i ≡ Some b → (is_live_file r ≡ true) × (slice_get r.blocks i ≡ Some b)
@@ -34,6 +34,24 @@ among_blocks r b i = by (is_live_file r) refl i
     by : (t : Bool) → is_live_file r ≡ t → In b (cond t r.blocks []) → (is_live_file r ≡ true) × In b r.blocks
     by true t j = (t, j)
     by false t j = absurd j
+
+-- a block is at one of the places
+place_of : (bs : List Block) (b : Block) → In b bs → (i : ℕ) × (slice_get bs i ≡ Some b)
+place_of [] b i = absurd i
+place_of (x ∷ bs) b (inl s) = (0, ap Some (sym s))
+place_of (x ∷ bs) b (inr i) = let k = place_of bs b i in (suc k.0, k.1)
+
+module _ (records : Sequenced) (hash : Bytes) (q i : ℕ) where
+  -- the block that has the digest
+  pub with_digest : has_digest records hash q i ≡ true → (b : Block) × (slice_get (blocks_at records q) i ≡ Some b) × (b.hash ≡ hash)
+  with_digest t = by (slice_get (blocks_at records q) i) t
+    where
+      by : (o : Option Block) → option_map_or (λ b. bytes_eq b.hash hash) o false ≡ true → (b : Block) × (o ≡ Some b) × (b.hash ≡ hash)
+      by None f = absurd (true≢false (sym f))
+      by (Some b) f = (b, refl, same_bytes b.hash hash f)
+
+  pub has_this : (b : Block) → slice_get (blocks_at records q) i ≡ Some b → b.hash ≡ hash → has_digest records hash q i ≡ true
+  has_this b at same = ap (λ o. option_map_or (λ b. bytes_eq b.hash hash) o false) at ∙ alike_bytes b.hash hash same
 
 -- a block that is found in a live file among records, and none that is found
 module _ (rs : List FileRecord) (hash : Bytes) (r : FileRecord) where
@@ -97,21 +115,21 @@ module _ (s : IndexState) (l : Local) (is : IsIndex s l) (hash : Bytes) where
             (r.name, r, b, (is.locals.only q r (filed_all q r e)).2, live.0, in_contains r.blocks b (item_in r.blocks i b live.1), same, refl);
       }
 
-  pub found_at : (o i : ℕ) → get l.places (hash, o) ≡ Some i → Found (o / 2) i
-  found_at o i e =
-      let f = is.kept.filed.only hash o i e in
-      subst (λ p. Found p i) (sym (ap (λ n. n / 2) f.2 ∙ sequence_told l.numbers f.0)) (found_by f.0 i f.1 f.3 f.4 (get l.records f.0) refl)
+  pub found_at : (q i : ℕ) → has_digest l.records hash q i ≡ true → Found q i
+  found_at q i t =
+      let b = with_digest l.records hash q i t in
+      found_by q i b.0 b.1 b.2 (get l.records q) refl
 
-  pub nowhere : ((o : ℕ) → o < 2 ^ 64 → get l.places (hash, o) ≡ None) → HasNoBlock l.latest.records hash → IsSomePlace (folder s) hash None
+  pub nowhere : ((q i : ℕ) → has_digest l.records hash q i ≡ false) → HasNoBlock l.latest.records hash → IsSomePlace (folder s) hash None
   nowhere none not_last = (no_place-read (folder s) hash).1 (λ p there. by p there (latest_of l.latest.records l.records there.1.sequence there.1 (is.locals.has there.0 there.1 there.3)))
     where
       by : (p : Place) (there : IsPlaceOf (folder s) hash p) → (get l.records there.1.sequence ≡ Some there.1) ⊎ In there.1 l.latest.records → ⊥
       by p there (inl filed) =
           let r = there.1 in
-          let low = (is.locals.only r.sequence r (filed_all r.sequence r filed)).1 in
           let blocks : live_blocks r ≡ r.blocks = ap (λ t. cond t r.blocks []) there.4 in
-          let block = is.kept.filed.has r.sequence there.2 (subst (λ bs. Contains bs there.2) (sym (some_at l.records r.sequence r filed ∙ blocks)) there.5) in
-          none-some block.0 (sym (ap (λ h. get l.places (h, number_of l.numbers r.sequence)) there.6 ∙ none (number_of l.numbers r.sequence) (number_fits l.numbers r.sequence low)) ∙ block.1)
+          let at = place_of r.blocks there.2 (contains_in r.blocks there.2 there.5) in
+          let here = ap (λ bs. slice_get bs at.0) (some_at l.records r.sequence r filed ∙ blocks) ∙ at.1 in
+          true≢false (sym (has_this l.records hash r.sequence at.0 there.2 here there.6) ∙ none r.sequence at.0)
       by p there (inr i) =
           let r = there.1 in
           let blocks : live_blocks r ≡ r.blocks = ap (λ t. cond t r.blocks []) there.4 in
@@ -131,7 +149,7 @@ module _ (s : IndexState) (l : Local) (is : IsIndex s l) (hash : Bytes) where
       let live = among_blocks b.it b.block (contains_in (live_blocks b.it) b.block b.has) in
       (place-read (folder s) hash p).1 (b.it.name, b.it, b.block, own.2, live.0, in_contains b.it.blocks b.block live.1, b.digest, b.place)
 
-  pub place_told : ((o : ℕ) → o < 2 ^ 64 → get l.places (hash, o) ≡ None) → (found : Option Place) → IsPlaceAmong l.latest.records hash found → IsSomePlace (folder s) hash found
+  pub place_told : ((q i : ℕ) → has_digest l.records hash q i ≡ false) → (found : Option Place) → IsPlaceAmong l.latest.records hash found → IsSomePlace (folder s) hash found
   place_told none None among = nowhere none among
   place_told none (Some p) among = last_place p among
 

@@ -27,28 +27,28 @@ use Rattle.folder_index.proofs.Written.{HasAt}
 at_itself : (n : Name) → is_at (bytes_cmp n) n ≡ true
 at_itself n = ap is_eq (tied_itself bytes_total n)
 
-module _ (n : Name) (o : Option Group) (gs new : Groups) (at : HasAt n o gs new) where
-  pub spare_kept : (m : Name) → m ≢ n → HasSpareAt m gs → HasSpareAt m new
+module _ (d : Identity) (n : Name) (o : Option Group) (gs new : Groups) (at : HasAt n o gs new) where
+  pub spare_kept : (m : Name) → m ≢ n → HasSpareAt d m gs → HasSpareAt d m new
   spare_kept m other spare = (spare.0, at m ∙ ap (λ b. cond b o (lookup (is_at (bytes_cmp m)) gs)) (at_other n m (λ s. other (sym s))) ∙ spare.1, spare.2)
 
-  pub spare_put : (g : Group) → o ≡ Some g → HasSpare g → HasSpareAt n new
+  pub spare_put : (g : Group) → o ≡ Some g → HasSpare d g → HasSpareAt d n new
   spare_put g put spare = (g, at n ∙ ap (λ b. cond b o (lookup (is_at (bytes_cmp n)) gs)) (at_itself n) ∙ put, spare)
 
   -- whichever name it is
-  pub spare_either : (g : Group) → o ≡ Some g → (HasSpareAt n gs → HasSpare g) → (m : Name) → HasSpareAt m gs → HasSpareAt m new
+  pub spare_either : (g : Group) → o ≡ Some g → (HasSpareAt d n gs → HasSpare d g) → (m : Name) → HasSpareAt d m gs → HasSpareAt d m new
   spare_either g put here m spare = by (bytes_eq m n) refl
     where
-      by : (b : Bool) → bytes_eq m n ≡ b → HasSpareAt m new
-      by true t = subst (λ k. HasSpareAt k new) (sym (same_bytes m n t)) (spare_put g put (here (subst (λ k. HasSpareAt k gs) (same_bytes m n t) spare)))
+      by : (b : Bool) → bytes_eq m n ≡ b → HasSpareAt d m new
+      by true t = subst (λ k. HasSpareAt d k new) (sym (same_bytes m n t)) (spare_put g put (here (subst (λ k. HasSpareAt d k gs) (same_bytes m n t) spare)))
       by false f = spare_kept m (λ s. true≢false (sym (alike_bytes m n s) ∙ f)) spare
 
 -- a name without a group has no room
-pub not_spare : (n : Name) (gs : Groups) → lookup (is_at (bytes_cmp n)) gs ≡ None → HasSpareAt n gs → ⊥
-not_spare n gs none spare = none-some spare.0 (sym none ∙ spare.1)
+pub not_spare : (d : Identity) (n : Name) (gs : Groups) → lookup (is_at (bytes_cmp n)) gs ≡ None → HasSpareAt d n gs → ⊥
+not_spare d n gs none spare = none-some spare.0 (sym none ∙ spare.1)
 
 -- of the group that is there
-pub spare_of : (n : Name) (gs : Groups) (g : Group) → lookup (is_at (bytes_cmp n)) gs ≡ Some g → HasSpareAt n gs → HasSpare g
-spare_of n gs g found spare = subst HasSpare (inside spare.0 g (sym spare.1 ∙ found)) spare.2
+pub spare_of : (d : Identity) (n : Name) (gs : Groups) (g : Group) → lookup (is_at (bytes_cmp n)) gs ≡ Some g → HasSpareAt d n gs → HasSpare d g
+spare_of d n gs g found spare = subst (HasSpare d) (inside spare.0 g (sym spare.1 ∙ found)) spare.2
 
 -- the first of records without two of one name
 pub apart_first : (rs : List FileRecord) (n : Name) → AreUnlike n rs → (r : FileRecord) → In r rs → r.name ≢ n
@@ -73,5 +73,5 @@ in_push [] r x (inr i) there last = absurd i
 in_push (y ∷ xs) r x (inl s) there last = there (inl s)
 in_push (y ∷ xs) r x (inr i) there last = in_push xs r x i (λ j. there (inr j)) last
 
-pub one_spared : (rs : List FileRecord) (i : ℕ) (r : FileRecord) (gs : Groups) → i < length rs → r ≡ get_or rs i r → ((x : FileRecord) → In x (take i rs) → HasSpareAt x.name gs) → HasSpareAt r.name gs → (x : FileRecord) → In x (take (i + 1) rs) → HasSpareAt x.name gs
-one_spared rs i r gs short here each last x j = in_push (take i rs) r x (subst (In x) (take_more rs i r short ∙ ap (λ y. take i rs ++ y ∷ []) (sym here)) j) (each x) (λ s. subst (λ (y : FileRecord). HasSpareAt y.name gs) (sym s) last)
+pub one_spared : (d : Identity) (rs : List FileRecord) (i : ℕ) (r : FileRecord) (gs : Groups) → i < length rs → r ≡ get_or rs i r → ((x : FileRecord) → In x (take i rs) → HasSpareAt d x.name gs) → HasSpareAt d r.name gs → (x : FileRecord) → In x (take (i + 1) rs) → HasSpareAt d x.name gs
+one_spared d rs i r gs short here each last x j = in_push (take i rs) r x (subst (In x) (take_more rs i r short ∙ ap (λ y. take i rs ++ y ∷ []) (sym here)) j) (each x) (λ s. subst (λ (y : FileRecord). HasSpareAt d y.name gs) (sym s) last)

@@ -18,7 +18,7 @@ use Rattle.folder_core.proofs.ListTests.{alike_bytes, inside, of_map, same_bytes
 use Rattle.folder_core.proofs.Orders.{bytes_total}
 use Rattle.folder_index.specs.declared.group.Group.{Group}
 use Rattle.folder_index.specs.declared.totals.Totals.{Totals}
-use Rattle.folder_index.specs.Groups.{AreGroups, HasRoom, IsChanged, IsGroup, IsSmall, announced_in, deletions_in, directories_in, files_in, needed_in, others_in, totals_in, totals_of}
+use Rattle.folder_index.specs.Groups.{AreGroups, HasRoom, IsChanged, IsGroup, IsSmall, announced_in, deletions_in, directories_in, entries_in, files_in, needed_in, others_in, totals_in, totals_of}
 use Rattle.folder_index.proofs.Counted.{at_most_each, no_more, no_more_own, one_more, own_once}
 use Rattle.folder_index.proofs.Listed.{Groups, Sorted, Each, at_same, entries_at, in_lookup}
 use Rattle.folder_index.proofs.Changes as changes
@@ -104,18 +104,18 @@ sums_removed n gs g found f =
 
 -- ---- the entries of a name after a change
 
-moved : (b : Bool) (x y : Option Group) → option_map_or (λ (g : Group). g.entries.items) (cond b x y) [] ≡ cond b (option_map_or (λ (g : Group). g.entries.items) x []) (option_map_or (λ (g : Group). g.entries.items) y [])
+moved : (b : Bool) (x y : Option Group) → option_map_or (λ (g : Group). entries_in g) (cond b x y) [] ≡ cond b (option_map_or (λ (g : Group). entries_in g) x []) (option_map_or (λ (g : Group). entries_in g) y [])
 moved true x y = refl
 moved false x y = refl
 
-pub entries_moved : (n : Name) (o : Option Group) (gs new : Groups) → HasAt n o gs new → (m : Name) → entries_at m new ≡ cond (is_at (bytes_cmp n) m) (option_map_or (λ (g : Group). g.entries.items) o []) (entries_at m gs)
-entries_moved n o gs new at m = ap (λ o. option_map_or (λ (g : Group). g.entries.items) o []) (at m) ∙ moved (is_at (bytes_cmp n) m) o (lookup (is_at (bytes_cmp m)) gs)
+pub entries_moved : (n : Name) (o : Option Group) (gs new : Groups) → HasAt n o gs new → (m : Name) → entries_at m new ≡ cond (is_at (bytes_cmp n) m) (option_map_or (λ (g : Group). entries_in g) o []) (entries_at m gs)
+entries_moved n o gs new at m = ap (λ o. option_map_or (λ (g : Group). entries_in g) o []) (at m) ∙ moved (is_at (bytes_cmp n) m) o (lookup (is_at (bytes_cmp m)) gs)
 
-pub found_at : (n : Name) (gs : Groups) (g : Group) → lookup (is_at (bytes_cmp n)) gs ≡ Some g → g.entries.items ≡ entries_at n gs
-found_at n gs g found = sym (ap (λ o. option_map_or (λ (g : Group). g.entries.items) o []) found)
+pub found_at : (n : Name) (gs : Groups) (g : Group) → lookup (is_at (bytes_cmp n)) gs ≡ Some g → (entries_in g) ≡ entries_at n gs
+found_at n gs g found = sym (ap (λ o. option_map_or (λ (g : Group). entries_in g) o []) found)
 
 pub none_at : (n : Name) (gs : Groups) → lookup (is_at (bytes_cmp n)) gs ≡ None → [] ≡ entries_at n gs
-none_at n gs none = sym (ap (λ o. option_map_or (λ (g : Group). g.entries.items) o []) none)
+none_at n gs none = sym (ap (λ o. option_map_or (λ (g : Group). entries_in g) o []) none)
 
 -- the groups after a change of one
 pub each_written : (me : Identity) (gs new : Groups) (t : Totals) → AreGroups me gs t → Sorted new → (n : Name) (g : Group) → IsGroup me n g → HasAt n (Some g) gs new → Each me new
@@ -129,14 +129,14 @@ each_without me gs new t are sorted n at m x i =
     ] (sym (at m) ∙ in_lookup new sorted m x i)
 
 module _ (me : Identity) (gs new : Groups) (t : Totals) (are : AreGroups me gs t) (sorted : Sorted new) (n : Name) (g : Group) (group : IsGroup me n g) (at : HasAt n (Some g) gs new) where
-  pub placed_is : (d : Identity) (r : FileRecord) → map filed g.entries.items ≡ put key_cmp (key n d) r (map filed (entries_at n gs)) → announced_in new ≡ insert (announced_in gs) (key n d) r
-  placed_is d r is = changes.placed me gs new are.ordered sorted (each_of me gs t are) (each_written me gs new t are sorted n g group at) n d g.entries.items (entries_moved n (Some g) gs new at) r is
+  pub placed_is : (d : Identity) (r : FileRecord) → map filed (entries_in g) ≡ put key_cmp (key n d) r (map filed (entries_at n gs)) → announced_in new ≡ insert (announced_in gs) (key n d) r
+  placed_is d r is = changes.placed me gs new are.ordered sorted (each_of me gs t are) (each_written me gs new t are sorted n g group at) n d (entries_in g) (entries_moved n (Some g) gs new at) r is
 
-  pub kept_is : g.entries.items ≡ entries_at n gs → announced_in new ≡ announced_in gs
-  kept_is is = changes.kept me gs new are.ordered sorted (each_of me gs t are) (each_written me gs new t are sorted n g group at) n me g.entries.items (entries_moved n (Some g) gs new at) is
+  pub kept_is : (entries_in g) ≡ entries_at n gs → announced_in new ≡ announced_in gs
+  kept_is is = changes.kept me gs new are.ordered sorted (each_of me gs t are) (each_written me gs new t are sorted n g group at) n me (entries_in g) (entries_moved n (Some g) gs new at) is
 
-  pub taken_is : (d : Identity) → g.entries.items ≡ filter (λ e. not (is_from d e)) (entries_at n gs) → announced_in new ≡ remove (announced_in gs) (key n d)
-  taken_is d is = changes.taken me gs new are.ordered sorted (each_of me gs t are) (each_written me gs new t are sorted n g group at) n d g.entries.items (entries_moved n (Some g) gs new at) is
+  pub taken_is : (d : Identity) → (entries_in g) ≡ filter (λ e. not (is_from d e)) (entries_at n gs) → announced_in new ≡ remove (announced_in gs) (key n d)
+  taken_is d is = changes.taken me gs new are.ordered sorted (each_of me gs t are) (each_written me gs new t are sorted n g group at) n d (entries_in g) (entries_moved n (Some g) gs new at) is
 
 module _ (me : Identity) (gs new : Groups) (t : Totals) (are : AreGroups me gs t) (sorted : Sorted new) (n : Name) (at : HasAt n None gs new) where
   pub dropped_is : [] ≡ entries_at n gs → announced_in new ≡ announced_in gs
@@ -154,7 +154,7 @@ nothing_at n gs none m =
     ] refl
 
 -- what a group has is told by its entries
-pub same_totals : (me : Identity) (n : Name) (was is : Group) → IsGroup me n was → IsGroup me n is → is.entries.items ≡ was.entries.items → totals_in me is ≡ totals_in me was
+pub same_totals : (me : Identity) (n : Name) (was is : Group) → IsGroup me n was → IsGroup me n is → (entries_in is) ≡ (entries_in was) → totals_in me is ≡ totals_in me was
 same_totals me n was is group_was group_is same =
     let needed : is.is_needed ≡ was.is_needed = group_is.needed ∙ ap (λ (es : List Entry). is_some (needed_of me es)) same ∙ sym group_was.needed in
     λ i. record {
@@ -169,7 +169,7 @@ pub unchanged : (t was is : Totals) → is ≡ was → IsChanged t was is t
 unchanged t was is same = subst (λ x. IsChanged t was x t) (sym same) (record { files = refl; directories = refl; deletions = refl; needed = refl; others = refl })
 
 -- of no entries there is nothing
-pub nothing_in : (me : Identity) (n : Name) (g : Group) → IsGroup me n g → g.entries.items ≡ [] → totals_in me g ≡ record { files = 0; directories = 0; deletions = 0; needed = 0; others = 0 }
+pub nothing_in : (me : Identity) (n : Name) (g : Group) → IsGroup me n g → (entries_in g) ≡ [] → totals_in me g ≡ record { files = 0; directories = 0; deletions = 0; needed = 0; others = 0 }
 nothing_in me n g group none =
     let needed : g.is_needed ≡ false = group.needed ∙ ap (λ (es : List Entry). is_some (needed_of me es)) none in
     λ i. record {
@@ -184,13 +184,13 @@ nothing_in me n g group none =
 
 module _ (me : Identity) (n : Name) (g : Group) (group : IsGroup me n g) where
   few_files : files_in me g ≤ 1
-  few_files = own_once me n (λ e. is_live_file e.record) g.entries.items group.rises group.named
+  few_files = own_once me n (λ e. is_live_file e.record) (entries_in g) group.rises group.named
 
   few_directories : directories_in me g ≤ 1
-  few_directories = own_once me n (λ e. is_live e.record && is_directory e.record) g.entries.items group.rises group.named
+  few_directories = own_once me n (λ e. is_live e.record && is_directory e.record) (entries_in g) group.rises group.named
 
   few_deletions : deletions_in me g ≤ 1
-  few_deletions = own_once me n (λ e. e.record.deleted) g.entries.items group.rises group.named
+  few_deletions = own_once me n (λ e. e.record.deleted) (entries_in g) group.rises group.named
 
   few_needed : needed_in g ≤ 1
   few_needed = elim g.is_needed as (λ b. cond b 1 0 ≤ 1) [ true ↦ omega arith | false ↦ omega arith ]
@@ -198,12 +198,12 @@ module _ (me : Identity) (n : Name) (g : Group) (group : IsGroup me n g) where
   pub small : (was : Group) → others_in me g ≤ others_in me was + 1 → IsSmall (totals_in me was) (totals_in me g)
   small was few = record { files = few_files; directories = few_directories; deletions = few_deletions; needed = few_needed; others = few }
 
-pub small_set : (me : Identity) (n : Name) (d : Identity) (r : FileRecord) (was is : Group) → IsGroup me n is → map filed is.entries.items ≡ put key_cmp (key n d) r (map filed was.entries.items) → IsSmall (totals_in me was) (totals_in me is)
-small_set me n d r was is group placed = small me n is group was (one_more me was.entries.items is.entries.items (key n d) r placed)
+pub small_set : (me : Identity) (n : Name) (d : Identity) (r : FileRecord) (was is : Group) → IsGroup me n is → map filed (entries_in is) ≡ put key_cmp (key n d) r (map filed (entries_in was)) → IsSmall (totals_in me was) (totals_in me is)
+small_set me n d r was is group placed = small me n is group was (one_more me (entries_in was) (entries_in is) (key n d) r placed)
 
-pub small_cleared : (me : Identity) (n : Name) (d : Identity) (was is : Group) → IsGroup me n is → is.entries.items ≡ filter (λ e. not (is_from d e)) was.entries.items → IsSmall (totals_in me was) (totals_in me is)
+pub small_cleared : (me : Identity) (n : Name) (d : Identity) (was is : Group) → IsGroup me n is → (entries_in is) ≡ filter (λ e. not (is_from d e)) (entries_in was) → IsSmall (totals_in me was) (totals_in me is)
 small_cleared me n d was is group taken =
-    small me n is group was (let a = no_more me d was.entries.items in let b = ap (λ (es : List Entry). length (filter (λ e. not (is_from me e)) es)) taken in omega arith)
+    small me n is group was (let a = no_more me d (entries_in was) in let b = ap (λ (es : List Entry). length (filter (λ e. not (is_from me e)) es)) taken in omega arith)
 
 module _ (me : Identity) (gs : Groups) (t : Totals) (are : AreGroups me gs t) (short : length gs < 2 ^ 63) where
   few : (f : Group → ℕ) → ((n : Name) (g : Group) → IsGroup me n g → f g ≤ 1) → sum_by f (values_of gs) + 1 < 2 ^ 64
@@ -233,13 +233,13 @@ module _ (me : Identity) (gs : Groups) (t : Totals) (are : AreGroups me gs t) (s
   }
 
 -- the others' records still fit 64 bits after a record is put
-pub room_left : (me d : Identity) (r : FileRecord) (was is : Group) (t u : Totals) → map filed is.entries.items ≡ put key_cmp (key r.name d) r (map filed was.entries.items) → u.others + others_in me was ≡ t.others + others_in me is
+pub room_left : (me d : Identity) (r : FileRecord) (was is : Group) (t u : Totals) → map filed (entries_in is) ≡ put key_cmp (key r.name d) r (map filed (entries_in was)) → u.others + others_in me was ≡ t.others + others_in me is
     → t.others + 1 < 2 ^ 64 → (d ≢ me → t.others + 2 < 2 ^ 64) → u.others + 1 < 2 ^ 64
 room_left me d r was is t u placed changed room more = by (bytes_eq d me) refl
   where
     by : (b : Bool) → bytes_eq d me ≡ b → u.others + 1 < 2 ^ 64
-    by true e = let few = no_more_own me was.entries.items is.entries.items (key r.name d) r (same_bytes d me e) placed in omega arith
+    by true e = let few = no_more_own me (entries_in was) (entries_in is) (key r.name d) r (same_bytes d me e) placed in omega arith
     by false e =
-        let few = one_more me was.entries.items is.entries.items (key r.name d) r placed in
+        let few = one_more me (entries_in was) (entries_in is) (key r.name d) r placed in
         let left = more (λ s. true≢false (sym (alike_bytes d me s) ∙ e)) in
         omega arith

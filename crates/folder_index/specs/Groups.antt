@@ -1,12 +1,11 @@
 -- How the records are kept: by name, and of each name by device, with what is chosen of them.
-use Rattle.std.specs.Prelude.{[], ◌∷◌, vec_len, vec_capacity, bytes_eq, ◌≡◌, ℕ, ◌+◌, ◌<◌, ◌≤◌, ◌^◌, ◌&&◌, IsTrue, List, length, filter, flat_map, not, option_and_then, option_map, if◌then◌else◌, is_some, Option, slice_get}
+use Rattle.std.specs.Prelude.{[], ◌∷◌, ◌||◌, Contains, bytes_eq, ◌≡◌, ℕ, ◌+◌, ◌<◌, ◌≤◌, ◌^◌, ◌&&◌, IsTrue, List, length, filter, flat_map, not, option_map, if◌then◌else◌, is_some, Option, slice_get}
 use Rattle.std.specs.List.{list_all}
+use Rattle.std.specs.Option.{option_to_list}
 use Rattle.std.specs.BTreeMap.{is_at}
 use Rattle.std.specs.Map.{keys_of, lookup, values_of}
 use Rattle.std.specs.List.Sorted.{IsStrictlySortedBy}
-use Rattle.std.specs.Prelude.{None, Some, map, sum_by}
-use Rattle.std.specs.declared.ops.Bound.{Bound}
-use Rattle.std.specs.declared.ops.Bound.TheVariants.{Excluded, Unbounded}
+use Rattle.std.specs.Prelude.{Some, map, sum_by}
 use Rattle.std.specs.FinMap.{from_sorted}
 use Rattle.std.specs.FinSet as set
 use Rattle.sync_record.specs.Devices.{Identity, bytes_cmp}
@@ -14,52 +13,64 @@ use Rattle.sync_record.specs.Records.{Name, is_directory, is_live, is_live_file}
 use Rattle.folder_core.specs.declared.announcement.Announcement.{Announcement as Entry}
 use Rattle.folder_core.specs.Announced.{Announced}
 use Rattle.folder_core.specs.Plain.{Rises, devices_with, filed}
+use Rattle.folder_core.specs.declared.best.Best.{Best}
 use Rattle.folder_core.specs.Reads.{BestEntry}
 use Rattle.folder_core.specs.PlainPulls.{best_in}
 use Rattle.folder_core.specs.PlainReads.{is_from, needed_of}
 use Rattle.folder_index.specs.declared.group.Group.{Group}
 use Rattle.folder_index.specs.Indexes.{IndexState, Names}
+use Rattle.folder_index.specs.Kept.{entries_kept, is_one_from, name_kept, room_kept}
 use Rattle.folder_index.specs.declared.totals.Totals.{Totals}
 
+-- the records of the name, by device
 abbrev pub entries_in : Group → List Entry
-entries_in g = g.entries.items
+entries_in g = entries_kept g.kept
+
+abbrev pub name_in : Group → Name
+name_in g = name_kept g.kept
+
+-- how many more fit without allocating
+abbrev pub room_in : Group → ℕ
+room_in g = room_kept g.kept
 
 -- the chosen entry
 abbrev pub chosen : Group → Option Entry
-chosen g = option_and_then (λ i. slice_get g.entries.items i) g.best_place
+chosen g = slice_get (entries_in g) g.best_place
 
 -- the best, with the devices that have it
 abbrev pub best_of_group : Group → Option BestEntry
-best_of_group g = option_map {U = BestEntry} (λ b. (b.record, devices_with g.entries.items b.record)) (chosen g)
+best_of_group g = option_map {U = BestEntry} (λ b. (b.record, devices_with (entries_in g) b.record)) (chosen g)
 
 -- What holds of the group of a name: its entries are of the name, by device, and the best and the need are those of the entries.
 -- Where room is promised, there is room for one entry more.
 pub record IsGroup (me : Identity) (n : Name) (g : Group) : Type 0 where
-  pub rises : Rises g.entries.items
-  pub named : IsTrue (list_all (λ e. bytes_eq e.record.name n) g.entries.items)
-  pub best : chosen g ≡ best_in g.entries.items
-  pub needed : g.is_needed ≡ is_some (needed_of me g.entries.items)
-  pub fits : IsTrue g.is_promised → vec_len g.entries < vec_capacity g.entries
+  pub rises : Rises (entries_in g)
+  pub named : IsTrue (list_all (λ e. bytes_eq e.record.name n) (entries_in g))
+  pub best : chosen g ≡ best_in (entries_in g)
+  pub needed : g.is_needed ≡ is_some (needed_of me (entries_in g))
+  pub fits : IsTrue g.is_promised → 1 ≤ room_in g
+  pub name : name_in g ≡ n
+  pub short : length (entries_in g) < 2 ^ 32
 
 -- all entries, by name and then by device
 abbrev pub listed : List (Name × Group) → List Entry
-listed gs = flat_map (λ g. g.1.entries.items) gs
+listed gs = flat_map (λ g. entries_in g.1) gs
 
 -- what a group has, counted
 abbrev pub files_in : Identity → Group → ℕ
-files_in me g = length (filter (λ e. is_from me e && is_live_file e.record) g.entries.items)
+files_in me g = length (filter (λ e. is_from me e && is_live_file e.record) (entries_in g))
 
 abbrev pub directories_in : Identity → Group → ℕ
-directories_in me g = length (filter (λ e. is_from me e && (is_live e.record && is_directory e.record)) g.entries.items)
+directories_in me g = length (filter (λ e. is_from me e && (is_live e.record && is_directory e.record)) (entries_in g))
 
 abbrev pub deletions_in : Identity → Group → ℕ
-deletions_in me g = length (filter (λ e. is_from me e && e.record.deleted) g.entries.items)
+deletions_in me g = length (filter (λ e. is_from me e && e.record.deleted) (entries_in g))
 
 abbrev pub needed_in : Group → ℕ
 needed_in g = if g.is_needed then 1 else 0
 
 abbrev pub others_in : Identity → Group → ℕ
-others_in me g = length (filter (λ e. not (is_from me e)) g.entries.items)
+others_in me g = length (filter (λ e. not (is_from me e)) (entries_in g))
 
 -- what one group has, counted
 abbrev pub totals_in : Identity → Group → Totals
@@ -100,11 +111,6 @@ promised_in (h ∷ gs) = if h.1.is_promised then set.insert (promised_in gs) h.0
 abbrev pub index_of : Identity → List (Name × Group) → ℕ → IndexState
 index_of me gs choices = record { me = me; announced = announced_in gs; choices = choices; promised = promised_in gs }
 
--- where the names after one begin, or all
-abbrev pub start_of : Option Name → Bound Name
-start_of None = Unbounded
-start_of (Some n) = Excluded n
-
 -- The part is in the totals, and one more of each still fits 64 bits.
 pub record HasRoom (t part : Totals) : Type 0 where
   pub files : (part.files ≤ t.files) × (t.files + 1 < 2 ^ 64)
@@ -129,10 +135,27 @@ pub record IsChanged (t was is u : Totals) : Type 0 where
   pub needed : u.needed + was.needed ≡ t.needed + is.needed
   pub others : u.others + was.others ≡ t.others + is.others
 
--- There is room for one entry more, beside the one that is promised.
-abbrev pub HasSpare : Group → Type 0
-HasSpare g = vec_len g.entries + (if g.is_promised then 2 else 1) ≤ vec_capacity g.entries
+-- There is room for a record of the device, beside the one that is promised: it takes the place of the only one, or more fit.
+abbrev pub HasSpare : Identity → Group → Type 0
+HasSpare d g = IsTrue (g.is_promised || not (is_one_from d g.kept)) → (if g.is_promised then 2 else 1) ≤ room_in g
 
 -- the name has a group, where there is
-abbrev pub HasSpareAt : Name → List (Name × Group) → Type 0
-HasSpareAt n gs = (g : Group) × (lookup (is_at (bytes_cmp n)) gs ≡ Some g) × HasSpare g
+abbrev pub HasSpareAt : Identity → Name → List (Name × Group) → Type 0
+HasSpareAt d n gs = (g : Group) × (lookup (is_at (bytes_cmp n)) gs ≡ Some g) × HasSpare d g
+
+-- ---- pages
+
+abbrev pub shown : Best → BestEntry
+shown b = (b.record, b.devices)
+
+-- the bests of groups
+abbrev pub bests_listed : List (Name × Group) → List BestEntry
+bests_listed gs = flat_map (λ h. option_to_list (best_of_group h.1)) gs
+
+-- the names of those that are needed
+abbrev pub needed_listed : List (Name × Group) → List Name
+needed_listed gs = flat_map (λ h. if h.1.is_needed then h.0 ∷ [] else []) gs
+
+-- where a group is needed, its first record has its name
+abbrev pub AreNeeded : List Group → Type 0
+AreNeeded gs = (g : Group) → Contains gs g → IsTrue g.is_needed → (e : Entry) × (slice_get (entries_in g) 0 ≡ Some e) × (e.record.name ≡ name_in g)

@@ -8,3 +8,6 @@ pub mod Numbers
 pub mod Latest
 pub mod Devices
 pub mod Locals
+pub mod Chunks
+pub mod Kept
+pub mod Noted

@@ -1,5 +1,5 @@
 -- The local records by their sequences, and where the blocks of the live files among them are.
-use Rattle.std.specs.Prelude.{◌≡◌, ◌≢◌, ℕ, ◌-◌, ◌<◌, ◌^◌, List, [], ◌∷◌, ◌++◌, Contains, MatchOption, Option, Some, if◌then◌else◌, not, slice_get}
+use Rattle.std.specs.Prelude.{bytes_eq, ◌≡◌, ◌≢◌, ℕ, ◌-◌, ◌<◌, ◌^◌, Bool, true, false, List, [], ◌∷◌, ◌++◌, Contains, MatchOption, Option, Some, if◌then◌else◌, not, slice_get}
 use Rattle.std.specs.FinMap.{empty, get, insert, remove}
 use Rattle.std.specs.FinSet as set
 use Rattle.std.specs.Option.{option_map_or}
@@ -10,7 +10,7 @@ use Rattle.folder_core.specs.Announced.{Announced, IsNamed, key}
 use Rattle.folder_core.specs.Codes.{Bytes}
 use Rattle.folder_core.specs.declared.place.Place.{Place}
 use Rattle.folder_index.specs.declared.local.Local.{Local}
-use Rattle.folder_index.specs.Digests.{Places, with_blocks, without_blocks}
+use Rattle.folder_index.specs.Digests.{Places, Spot, start_of, with_blocks, without_blocks}
 use Rattle.folder_index.specs.Indexes.{IndexState}
 use Rattle.folder_index.specs.Latest.{AreLatest, none_waiting, with_latest, without_sequence}
 use Rattle.folder_index.specs.Numbers.{is_second, number_of, other_number_of}
@@ -26,7 +26,7 @@ blocks_at records q = option_map_or live_blocks (get records q) []
 
 -- nothing is kept
 abbrev pub no_local : Local
-no_local = record { records = empty; places = empty; numbers = empty; latest = none_waiting }
+no_local = record { records = empty; places = set.empty; numbers = empty; latest = none_waiting }
 
 -- the record is filed under its sequence, with its blocks
 abbrev pub with_filed : FileRecord → Local → Local
@@ -106,11 +106,15 @@ pub record AreLocals (me : Identity) (announced : Announced) (records : Sequence
   pub has : (n : Name) (r : FileRecord) → get announced (key n me) ≡ Some r → get records r.sequence ≡ Some r
   pub only : (q : ℕ) (r : FileRecord) → get records q ≡ Some r → (r.sequence ≡ q) × (q < 2 ^ 63) × (get announced (key r.name me) ≡ Some r)
 
--- What holds of the places of blocks: each block of a live file has one, under the number of the record's sequence, and
--- there are no others.
+-- What holds of the places of blocks: each block of a live file has one, by the start of its digest, under the number of the
+-- record's sequence, and there are no others.
 pub record AreFiled (number : ℕ → ℕ) (records : Sequenced) (places : Places) : Type 0 where
-  pub has : (q : ℕ) (b : Block) → Contains (blocks_at records q) b → (i : ℕ) × (get places (b.hash, number q) ≡ Some i)
-  pub only : (hash : Bytes) (o i : ℕ) → get places (hash, o) ≡ Some i → (q : ℕ) × (b : Block) × (o ≡ number q) × (slice_get (blocks_at records q) i ≡ Some b) × (b.hash ≡ hash)
+  pub has : (q i : ℕ) (b : Block) → slice_get (blocks_at records q) i ≡ Some b → set.contains places (start_of b.hash, number q, i) ≡ true
+  pub only : (s : Spot) → set.contains places s ≡ true → (q : ℕ) × (b : Block) × (slice_get (blocks_at records q) s.2 ≡ Some b) × (s ≡ (start_of b.hash, number q, s.2))
+
+-- whether the block at this place of the live file of a sequence has the digest
+abbrev pub has_digest : Sequenced → Bytes → ℕ → ℕ → Bool
+has_digest records hash q i = option_map_or (λ b. bytes_eq b.hash hash) (slice_get (blocks_at records q) i) false
 
 -- the local records by sequence: those that are filed, and those that were put last
 abbrev pub all_local : Local → Sequenced

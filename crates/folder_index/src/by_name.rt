@@ -1,28 +1,28 @@
-ghost use Rattle.std.specs.Prelude.{◌&&◌, ◌≢◌, bytes_eq, if◌then◌else◌, IsTrue, not, ◌≡◌, ◌+◌, ◌<◌, ◌≤◌, ◌^◌, ◌==◌, [], false, Contains, filter, length, IfOk, IsOk, None, OnErr, OnOk, map, option_copied, option_map};
-ghost use Rattle.std.specs.BTreeMap.{get as at};
+ghost use Rattle.std.specs.Prelude.{◌&&◌, ◌≢◌, bytes_eq, if◌then◌else◌, IsTrue, not, ◌≡◌, ◌+◌, ◌<◌, ◌≤◌, ◌^◌, ◌==◌, [], false, Contains, filter, length, IfOk, IsOk, None, OnErr, OnOk, map, option_copied, option_map, ◌++◌, ◌-◌, slice_get, take, vec_len};
 ghost use Rattle.std.specs.FinMap.{empty, entries, get, insert, remove};
 ghost use Rattle.std.specs.FinSet as set;
 ghost use Rattle.std.specs.FinSet.{contains, empty as no_names};
 ghost use Rattle.std.specs.Option.{option_map_or};
-ghost use Rattle.std.specs.Range.Bound.{bound_map};
 ghost use Rattle.sync_record.specs.Devices.{bytes_cmp};
 ghost use Rattle.sync_record.specs.Records.{FileRecord, Name};
 ghost use Rattle.folder_core.specs.Announced.{announce, best, is_of, key};
 ghost use Rattle.folder_core.specs.Plain.{filed};
 ghost use Rattle.folder_core.specs.Reads.{best_with_devices, bests_page, counts, need_page};
-ghost use Rattle.folder_index.specs.Groups.{AreGroups, HasSpareAt, announced_in, promised_in, start_of};
+ghost use Rattle.folder_index.specs.Groups.{AreNeeded, HasSpareAt, announced_in, bests_listed, entries_in, needed_listed, promised_in, shown};
+ghost use Rattle.folder_index.specs.Chunks.{AreChunked, IsGap, groups_in, keyed};
 ghost use Rattle.folder_index.specs.Devices.{greatest_of, names_by, sequences_by, without_device};
 ghost use Rattle.folder_index.specs.Indexes.{AreApart, folder, needs, with_promise, with_record, with_records, without_promise, without_record};
 
+use crate::chunks::{Chunks, Spot};
 use crate::entries::{greatest_from, push_copies, push_names, record_from};
 use crate::group::Group;
+use crate::noted::{Noted, loosen, note, noted_of, raised, reset};
 use crate::{Best, Totals};
 use bep_messages::Items;
 use folder_core::Announcement;
 use std::alloc::{AllocError, Global};
-use std::collections::BTreeMap;
 use std::marker::Model;
-use std::ops::Bound;
+use std::slice;
 use sync_names::SafeName;
 use sync_record::{DeviceId, Record};
 
@@ -34,9 +34,10 @@ const MAX_OTHERS: u64 = u64::MAX - 1;
 pub struct ByName {
     alloc: Global,
     me: DeviceId,
-    names: BTreeMap<SafeName, Group>,
+    names: Chunks,
     totals: Totals,
     choices: u64,
+    noted: Vec<Noted>,
 }
 
 impl Model for ByName {
@@ -46,11 +47,13 @@ impl Model for ByName {
 
     ghost coded = { coded_index };
 
-    ghost use Rattle.folder_index.specs.Groups.{AreGroups, index_of};
+    ghost use Rattle.folder_index.specs.Chunks.{groups_in};
+    ghost use Rattle.folder_index.specs.Noted.{AreKeptByName};
+    ghost use Rattle.folder_index.specs.Groups.{index_of};
 
-    ghost view = { λ f. index_of f.me f.names.entries f.choices };
+    ghost view = { λ f. index_of f.me (groups_in f.names) f.choices };
 
-    ghost invariant = { λ f. AreGroups f.me f.names.entries f.totals };
+    ghost invariant = { λ f. AreKeptByName f.me f.names f.totals f.noted.items };
 }
 
 impl ByName {
@@ -61,9 +64,10 @@ impl ByName {
         ByName {
             alloc,
             me,
-            names: BTreeMap::new(alloc),
+            names: Chunks::new(alloc),
             totals: Totals::none(),
             choices: 0,
+            noted: Vec::new(alloc),
         }
     }
 
@@ -87,7 +91,7 @@ impl ByName {
         ensures { option_copied result ≡ get self.now.announced (key name.now device) }
     {
         match self.names.get(name) {
-            Some(group) => record_from(group.entries.as_slice(), device),
+            Some(group) => record_from(group.entries(), device),
             None => None,
         }
     }
@@ -101,9 +105,43 @@ impl ByName {
         ensures promised { device ≡ self.old.me → IsTrue (contains self.old.promised announced.name) →
             IsOk result }
     {
-        if device != self.me && self.totals.others >= MAX_OTHERS {
+        if device == self.me {
+            self.set_own(announced)
+        } else {
+            self.set_other(device, announced)
+        }
+    }
+
+    /// Puts a record of this device.
+    fn set_own(&mut self, announced: Record) -> Result<(), AllocError>
+        ensures ok { OnOk result (self.new ≡ with_record self.old.me announced self.old) }
+        ensures err { OnErr result (self.new ≡ self.old) }
+        ensures promised { IsTrue (contains self.old.promised announced.name) → IsOk result }
+    {
+        self.totals = set_in(
+            &mut self.names,
+            self.totals,
+            self.alloc,
+            self.me,
+            self.me,
+            announced,
+        )?;
+        self.choices = self.choices.saturating_add(1);
+        Ok(())
+    }
+
+    /// Puts a record of another device, and notes its sequence.
+    fn set_other(&mut self, device: DeviceId, announced: Record) -> Result<(), AllocError>
+        requires { device ≢ self.old.me }
+        ensures ok { OnOk result (self.new ≡ with_record device announced self.old) }
+        ensures err { OnErr result (self.new ≡ self.old) }
+    {
+        if self.totals.others >= MAX_OTHERS {
             return Err(AllocError);
         }
+        self.noted.reserve(1)?;
+        let old = noted_of(self.noted.as_slice(), device);
+        let new = raised(old, slice::from_ref(&announced));
         self.totals = set_in(
             &mut self.names,
             self.totals,
@@ -112,6 +150,7 @@ impl ByName {
             device,
             announced,
         )?;
+        note(&mut self.noted, new);
         self.choices = self.choices.saturating_add(1);
         Ok(())
     }
@@ -131,11 +170,15 @@ impl ByName {
         if count > MAX_OTHERS - self.totals.others {
             return Err(AllocError);
         }
+        self.noted.reserve(1)?;
+        let old = noted_of(self.noted.as_slice(), device);
+        let new = raised(old, records.as_slice());
         spare_all(
             &mut self.names,
             self.totals,
             self.alloc,
             self.me,
+            device,
             records.as_slice(),
         )?;
         self.totals = put_all(
@@ -146,6 +189,9 @@ impl ByName {
             device,
             records,
         );
+        if count > 0 {
+            note(&mut self.noted, new);
+        }
         self.choices = self.choices.saturating_add(count);
         Ok(())
     }
@@ -184,7 +230,15 @@ impl ByName {
         if self.get(device, name).is_none() {
             return;
         }
-        self.totals = clear_in(&mut self.names, self.totals, self.me, device, name);
+        self.totals = clear_in(
+            &mut self.names,
+            self.totals,
+            self.alloc,
+            self.me,
+            device,
+            name,
+        );
+        loosen(&mut self.noted, device);
         self.choices = self.choices.saturating_add(1);
     }
 
@@ -198,7 +252,16 @@ impl ByName {
         for name in names.as_slice() {
             self.clear(device, name);
         }
+        self.note_nothing(device);
         Ok(())
+    }
+
+    /// Notes that a device announces nothing.
+    fn note_nothing(&mut self, device: DeviceId)
+        requires { (n : Name) → get self.old.announced (key n device) ≡ None }
+        ensures { self.new ≡ self.old }
+    {
+        reset(&mut self.noted, device);
     }
 
     /// The records of a name, by device, with the devices that announce them. Does not allocate. O(log n) for n names.
@@ -206,7 +269,7 @@ impl ByName {
         ensures { map filed result.now ≡ filter (is_of name.now) (entries self.now.announced) }
     {
         match self.names.get(name) {
-            Some(group) => group.entries.as_slice(),
+            Some(group) => group.entries(),
             None => &[],
         }
     }
@@ -231,7 +294,7 @@ impl ByName {
         ensures none { best_with_devices (folder self.now) name.now ≡ None → IsOk result }
     {
         match self.names.get(name) {
-            Some(group) => group.best_with_devices(),
+            Some(group) => group.best_with_devices(self.alloc),
             None => Ok(None),
         }
     }
@@ -245,14 +308,11 @@ impl ByName {
             ≡ bests_page (folder self.now) (option_copied after.entry) limit) }
         ensures none { bests_page (folder self.now) (option_copied after.entry) limit ≡ [] → IsOk result }
     {
+        let start = self.names.start_after(after);
         let mut page = Vec::new(self.alloc);
-        for (_, group) in self.names.range((start_after(after), Bound::Unbounded)) {
-            if page.len() == limit {
-                break;
-            }
-            if let Some(best) = group.best_with_devices()? {
-                page.push(best)?;
-            }
+        push_bests(&mut page, self.alloc, self.names.rest(start), limit)?;
+        for chunk in self.names.later(start) {
+            push_bests(&mut page, self.alloc, chunk.as_slice(), limit)?;
         }
         Ok(Items::from_vec(page))
     }
@@ -280,25 +340,37 @@ impl ByName {
             ≡ need_page (folder self.now) (option_copied after.entry) limit) }
         ensures none { need_page (folder self.now) (option_copied after.entry) limit ≡ [] → IsOk result }
     {
+        let start = self.names.start_after(after);
         let mut page = Vec::new(self.alloc);
-        for (name, group) in self.names.range((start_after(after), Bound::Unbounded)) {
-            if page.len() == limit {
-                break;
-            }
-            if group.is_needed {
-                page.push(name.copy()?)?;
-            }
+        push_needed(&mut page, self.names.rest(start), limit)?;
+        for chunk in self.names.later(start) {
+            push_needed(&mut page, chunk.as_slice(), limit)?;
         }
         Ok(Items::from_vec(page))
     }
 
-    /// The greatest sequence of a device's records, 0 without any. O(n) for n records.
+    /// The greatest sequence of a device's records, 0 without any. O(d) for d devices; O(n) for n records for this device, and for
+    /// another one after a record of it was taken away, or one of a lesser sequence put, until it announces a greater sequence again.
     pub fn greatest_sequence(&self, device: DeviceId) -> u64
         ensures { result ≡ greatest_of (sequences_by device (entries self.now.announced)) }
     {
+        let noted = noted_of(self.noted.as_slice(), device);
+        if noted.is_exact && device != self.me {
+            noted.greatest
+        } else {
+            self.found_greatest(device)
+        }
+    }
+
+    /// The same, looked for among all records. O(n) for n records.
+    fn found_greatest(&self, device: DeviceId) -> u64
+        ensures { result ≡ greatest_of (sequences_by device (entries self.now.announced)) }
+    {
         let mut greatest = 0;
-        for group in self.names.values() {
-            greatest = greatest_from(greatest, group.entries.as_slice(), device);
+        for chunk in self.names.chunks.as_slice() {
+            for group in chunk.as_slice() {
+                greatest = greatest_from(greatest, group.entries(), device);
+            }
         }
         greatest
     }
@@ -310,8 +382,10 @@ impl ByName {
         ensures none { names_by device (entries self.now.announced) ≡ [] → IsOk result }
     {
         let mut names = Vec::new(self.alloc);
-        for group in self.names.values() {
-            push_names(&mut names, group.entries.as_slice(), device)?;
+        for chunk in self.names.chunks.as_slice() {
+            for group in chunk.as_slice() {
+                push_names(&mut names, group.entries(), device)?;
+            }
         }
         Ok(Items::from_vec(names))
     }
@@ -323,8 +397,10 @@ impl ByName {
         ensures none { self.now.announced ≡ empty → IsOk result }
     {
         let mut all = Vec::new(self.alloc);
-        for group in self.names.values() {
-            push_copies(&mut all, group.entries.as_slice())?;
+        for chunk in self.names.chunks.as_slice() {
+            for group in chunk.as_slice() {
+                push_copies(&mut all, group.entries())?;
+            }
         }
         Ok(Items::from_vec(all))
     }
@@ -344,85 +420,87 @@ impl ByName {
 /// Puts a device's record among the groups, and returns the new totals. Returns `Err` only if out of memory, and then what is
 /// announced stays. O(log n + k^2) for n names and k devices that announce the name.
 fn set_in(
-    names: &mut BTreeMap<SafeName, Group>,
+    names: &mut Chunks,
     totals: Totals,
     alloc: Global,
     me: DeviceId,
     device: DeviceId,
     announced: Record,
 ) -> Result<Totals, AllocError>
-    requires groups { AreGroups me names.old.entries totals }
+    requires groups { AreChunked me names.old totals }
     requires others { device ≢ me → totals.others + 2 < 2 ^ 64 }
-    ensures groups { IfOk result (λ totals. AreGroups me names.new.entries totals) }
-    ensures placed { OnOk result (announced_in names.new.entries
-        ≡ insert (announced_in names.old.entries) (key announced.name device) announced) }
-    ensures promised { OnOk result (promised_in names.new.entries
-        ≡ (if bytes_eq device me then set.remove (promised_in names.old.entries) announced.name else
-        promised_in names.old.entries)) }
-    ensures promises_stay { OnErr result (promised_in names.new.entries
-        ≡ promised_in names.old.entries) }
-    ensures fits { device ≡ me → IsTrue (contains (promised_in names.old.entries) announced.name) →
+    ensures groups { IfOk result (λ totals. AreChunked me names.new totals) }
+    ensures placed { OnOk result (announced_in (groups_in names.new)
+        ≡ insert (announced_in (groups_in names.old)) (key announced.name device) announced) }
+    ensures promised { OnOk result (promised_in (groups_in names.new)
+        ≡ (if bytes_eq device me then set.remove (promised_in (groups_in names.old)) announced.name else
+        promised_in (groups_in names.old))) }
+    ensures promises_stay { OnErr result (promised_in (groups_in names.new)
+        ≡ promised_in (groups_in names.old)) }
+    ensures fits { device ≡ me → IsTrue (contains (promised_in (groups_in names.old)) announced.name) →
         IsOk result }
-    ensures groups_stay { OnErr result (AreGroups me names.new.entries totals) }
-    ensures kept { OnErr result (announced_in names.new.entries ≡ announced_in names.old.entries) }
-    ensures roomy { HasSpareAt announced.name names.old.entries → IsOk result }
-    ensures spares { (n : Name) → n ≢ announced.name → HasSpareAt n names.old.entries →
-        HasSpareAt n names.new.entries }
+    ensures groups_stay { OnErr result (AreChunked me names.new totals) }
+    ensures kept { OnErr result (announced_in (groups_in names.new) ≡ announced_in (groups_in names.old)) }
+    ensures roomy { HasSpareAt device announced.name (groups_in names.old) → IsOk result }
+    ensures spares { (n : Name) → n ≢ announced.name → HasSpareAt device n (groups_in names.old) →
+        HasSpareAt device n (groups_in names.new) }
     ensures one_more { IfOk result (λ u. u.others ≤ totals.others + 1) }
 {
-    prove!(names.len() < 1 << 63);
-    match names.get_mut(announced.name()) {
-        Some(group) => group.set_counted(totals, me, device, announced),
-        None => add(names, totals, alloc, me, device, announced),
+    match names.find(announced.name().as_str()) {
+        Ok(spot) => names.chunks[spot.chunk][spot.place].set_counted(
+            totals, alloc, me, device, announced,
+        ),
+        Err(gap) => add(names, gap, totals, alloc, me, device, announced),
     }
 }
 
 /// Adds the group of a name of which nothing is announced.
 fn add(
-    names: &mut BTreeMap<SafeName, Group>,
+    names: &mut Chunks,
+    gap: Spot,
     totals: Totals,
     alloc: Global,
     me: DeviceId,
     device: DeviceId,
     announced: Record,
 ) -> Result<Totals, AllocError>
-    requires groups { AreGroups me names.old.entries totals }
+    requires groups { AreChunked me names.old totals }
     requires others { device ≢ me → totals.others + 2 < 2 ^ 64 }
-    requires absent { at bytes_cmp names.old announced.name ≡ None }
-    ensures groups { IfOk result (λ totals. AreGroups me names.new.entries totals) }
-    ensures placed { OnOk result (announced_in names.new.entries
-        ≡ insert (announced_in names.old.entries) (key announced.name device) announced) }
-    ensures promised { promised_in names.new.entries ≡ promised_in names.old.entries }
-    ensures err { OnErr result (names.new.entries ≡ names.old.entries) }
-    ensures spares { (n : Name) → HasSpareAt n names.old.entries → HasSpareAt n names.new.entries }
+    requires gap { IsGap announced.name gap names.old }
+    ensures groups { IfOk result (λ totals. AreChunked me names.new totals) }
+    ensures placed { OnOk result (announced_in (groups_in names.new)
+        ≡ insert (announced_in (groups_in names.old)) (key announced.name device) announced) }
+    ensures promised { promised_in (groups_in names.new) ≡ promised_in (groups_in names.old) }
+    ensures err { OnErr result (groups_in names.new ≡ groups_in names.old) }
+    ensures groups_stay { OnErr result (AreChunked me names.new totals) }
+    ensures spares { (n : Name) → HasSpareAt device n (groups_in names.old) → HasSpareAt device n (groups_in names.new) }
     ensures one_more { IfOk result (λ u. u.others ≤ totals.others + 1) }
 {
-    prove!(names.len() < 1 << 63);
-    let name = announced.name().copy()?;
-    let mut group = Group::new(alloc);
-    let totals = group.set_counted(totals, me, device, announced)?;
-    names.insert(name, group)?;
+    let mut group = Group::new(alloc, announced.name().copy()?);
+    let totals = group.set_counted(totals, alloc, me, device, announced)?;
+    names.insert(alloc, gap, group)?;
     Ok(totals)
 }
 
 /// Makes room for a record of each of these names. What is announced and what is promised stays. Returns `Err` only if out of
 /// memory. O(m log n) for m records given and n names.
 fn spare_all(
-    names: &mut BTreeMap<SafeName, Group>,
+    names: &mut Chunks,
     totals: Totals,
     alloc: Global,
     me: DeviceId,
+    device: DeviceId,
     records: &[Record],
 ) -> Result<(), AllocError>
-    requires { AreGroups me names.old.entries totals }
-    ensures groups { AreGroups me names.new.entries totals }
-    ensures kept { announced_in names.new.entries ≡ announced_in names.old.entries }
-    ensures promises_stay { promised_in names.new.entries ≡ promised_in names.old.entries }
+    requires { AreChunked me names.old totals }
+    ensures groups { AreChunked me names.new totals }
+    ensures kept { announced_in (groups_in names.new) ≡ announced_in (groups_in names.old) }
+    ensures promises_stay { promised_in (groups_in names.new) ≡ promised_in (groups_in names.old) }
     ensures spares { OnOk result ((r : FileRecord) → Contains records.now r →
-        HasSpareAt r.name names.new.entries) }
+        HasSpareAt device r.name (groups_in names.new)) }
 {
     for announced in records {
-        spare_in(names, totals, alloc, me, announced.name())?;
+        spare_in(names, totals, alloc, me, device, announced.name())?;
     }
     Ok(())
 }
@@ -430,23 +508,23 @@ fn spare_all(
 /// Puts records of another device, no two of one name, where there is room for each, and returns the new totals. Does not
 /// allocate. O(m log n + m k^2) for m records given, n names and k devices that announce a name.
 fn put_all(
-    names: &mut BTreeMap<SafeName, Group>,
+    names: &mut Chunks,
     totals: Totals,
     alloc: Global,
     me: DeviceId,
     device: DeviceId,
     records: Vec<Record>,
 ) -> Totals
-    requires groups { AreGroups me names.old.entries totals }
+    requires groups { AreChunked me names.old totals }
     requires other { device ≢ me }
     requires fits { totals.others + length records.items + 1 < 2 ^ 64 }
     requires apart { AreApart records.items }
     requires spares { (r : FileRecord) → Contains records.items r →
-        HasSpareAt r.name names.old.entries }
-    ensures groups { AreGroups me names.new.entries result }
-    ensures placed { announced_in names.new.entries
-        ≡ announce device records.items (announced_in names.old.entries) }
-    ensures promised { promised_in names.new.entries ≡ promised_in names.old.entries }
+        HasSpareAt device r.name (groups_in names.old) }
+    ensures groups { AreChunked me names.new result }
+    ensures placed { announced_in (groups_in names.new)
+        ≡ announce device records.items (announced_in (groups_in names.old)) }
+    ensures promised { promised_in (groups_in names.new) ≡ promised_in (groups_in names.old) }
 {
     let mut totals = totals;
     for announced in records {
@@ -457,23 +535,23 @@ fn put_all(
 
 /// Puts a record of another device, where there is room for it, and returns the new totals. Does not allocate.
 fn put_spared(
-    names: &mut BTreeMap<SafeName, Group>,
+    names: &mut Chunks,
     totals: Totals,
     alloc: Global,
     me: DeviceId,
     device: DeviceId,
     announced: Record,
 ) -> Totals
-    requires groups { AreGroups me names.old.entries totals }
+    requires groups { AreChunked me names.old totals }
     requires other { device ≢ me }
     requires fits { totals.others + 2 < 2 ^ 64 }
-    requires spare { HasSpareAt announced.name names.old.entries }
-    ensures groups { AreGroups me names.new.entries result }
-    ensures placed { announced_in names.new.entries
-        ≡ insert (announced_in names.old.entries) (key announced.name device) announced }
-    ensures promised { promised_in names.new.entries ≡ promised_in names.old.entries }
-    ensures spares { (n : Name) → n ≢ announced.name → HasSpareAt n names.old.entries →
-        HasSpareAt n names.new.entries }
+    requires spare { HasSpareAt device announced.name (groups_in names.old) }
+    ensures groups { AreChunked me names.new result }
+    ensures placed { announced_in (groups_in names.new)
+        ≡ insert (announced_in (groups_in names.old)) (key announced.name device) announced }
+    ensures promised { promised_in (groups_in names.new) ≡ promised_in (groups_in names.old) }
+    ensures spares { (n : Name) → n ≢ announced.name → HasSpareAt device n (groups_in names.old) →
+        HasSpareAt device n (groups_in names.new) }
     ensures one_more { result.others ≤ totals.others + 1 }
 {
     match set_in(names, totals, alloc, me, device, announced) {
@@ -485,195 +563,243 @@ fn put_spared(
 /// Makes room for a record of a name. What is announced and what is promised stays. Returns `Err` only if out of memory.
 /// O(log n) for n names.
 fn spare_in(
-    names: &mut BTreeMap<SafeName, Group>,
+    names: &mut Chunks,
     totals: Totals,
     alloc: Global,
     me: DeviceId,
+    device: DeviceId,
     name: &SafeName,
 ) -> Result<(), AllocError>
-    requires { AreGroups me names.old.entries totals }
-    ensures groups { AreGroups me names.new.entries totals }
-    ensures kept { announced_in names.new.entries ≡ announced_in names.old.entries }
-    ensures promises_stay { promised_in names.new.entries ≡ promised_in names.old.entries }
-    ensures spare { OnOk result (HasSpareAt name.now names.new.entries) }
-    ensures spares { (n : Name) → HasSpareAt n names.old.entries → HasSpareAt n names.new.entries }
+    requires { AreChunked me names.old totals }
+    ensures groups { AreChunked me names.new totals }
+    ensures kept { announced_in (groups_in names.new) ≡ announced_in (groups_in names.old) }
+    ensures promises_stay { promised_in (groups_in names.new) ≡ promised_in (groups_in names.old) }
+    ensures spare { OnOk result (HasSpareAt device name.now (groups_in names.new)) }
+    ensures spares { (n : Name) → HasSpareAt device n (groups_in names.old) → HasSpareAt device n (groups_in names.new) }
 {
-    match names.get_mut(name) {
-        Some(group) => group.spare(),
-        None => add_spare(names, totals, alloc, me, name),
+    match names.find(name.as_str()) {
+        Ok(spot) => names.chunks[spot.chunk][spot.place].spare(alloc, device),
+        Err(gap) => add_spare(names, gap, totals, alloc, me, device, name),
     }
 }
 
 /// Adds the group of a name of which nothing is announced, with room for a record.
 fn add_spare(
-    names: &mut BTreeMap<SafeName, Group>,
+    names: &mut Chunks,
+    gap: Spot,
     totals: Totals,
     alloc: Global,
     me: DeviceId,
+    device: DeviceId,
     name: &SafeName,
 ) -> Result<(), AllocError>
-    requires groups { AreGroups me names.old.entries totals }
-    requires absent { at bytes_cmp names.old name.now ≡ None }
-    ensures groups { AreGroups me names.new.entries totals }
-    ensures kept { announced_in names.new.entries ≡ announced_in names.old.entries }
-    ensures promises_stay { promised_in names.new.entries ≡ promised_in names.old.entries }
-    ensures spare { OnOk result (HasSpareAt name.now names.new.entries) }
-    ensures spares { (n : Name) → HasSpareAt n names.old.entries → HasSpareAt n names.new.entries }
+    requires groups { AreChunked me names.old totals }
+    requires gap { IsGap name.now gap names.old }
+    ensures groups { AreChunked me names.new totals }
+    ensures kept { announced_in (groups_in names.new) ≡ announced_in (groups_in names.old) }
+    ensures promises_stay { promised_in (groups_in names.new) ≡ promised_in (groups_in names.old) }
+    ensures spare { OnOk result (HasSpareAt device name.now (groups_in names.new)) }
+    ensures spares { (n : Name) → HasSpareAt device n (groups_in names.old) → HasSpareAt device n (groups_in names.new) }
 {
-    let name = name.copy()?;
-    let mut group = Group::new(alloc);
-    group.spare()?;
-    names.insert(name, group)?;
+    let mut group = Group::new(alloc, name.copy()?);
+    group.spare(alloc, device)?;
+    names.insert(alloc, gap, group)?;
     Ok(())
 }
 
 /// Promises room for a record of this device. What is announced stays. Returns `Err` only if out of memory, and then the
 /// promises stay too. O(log n) for n names.
 fn promise_in(
-    names: &mut BTreeMap<SafeName, Group>,
+    names: &mut Chunks,
     totals: Totals,
     alloc: Global,
     me: DeviceId,
     name: &SafeName,
 ) -> Result<(), AllocError>
-    requires { AreGroups me names.old.entries totals }
-    ensures groups { AreGroups me names.new.entries totals }
-    ensures kept { announced_in names.new.entries ≡ announced_in names.old.entries }
-    ensures promised { OnOk result (promised_in names.new.entries
-        ≡ set.insert (promised_in names.old.entries) name.now) }
-    ensures promises_stay { OnErr result (promised_in names.new.entries
-        ≡ promised_in names.old.entries) }
+    requires { AreChunked me names.old totals }
+    ensures groups { AreChunked me names.new totals }
+    ensures kept { announced_in (groups_in names.new) ≡ announced_in (groups_in names.old) }
+    ensures promised { OnOk result (promised_in (groups_in names.new)
+        ≡ set.insert (promised_in (groups_in names.old)) name.now) }
+    ensures promises_stay { OnErr result (promised_in (groups_in names.new)
+        ≡ promised_in (groups_in names.old)) }
 {
-    match names.get_mut(name) {
-        Some(group) => group.promise(),
-        None => add_promised(names, totals, alloc, me, name),
+    match names.find(name.as_str()) {
+        Ok(spot) => names.chunks[spot.chunk][spot.place].promise(alloc),
+        Err(gap) => add_promised(names, gap, totals, alloc, me, name),
     }
 }
 
 /// Adds the group of a name of which nothing is announced, with room for a record.
 fn add_promised(
-    names: &mut BTreeMap<SafeName, Group>,
+    names: &mut Chunks,
+    gap: Spot,
     totals: Totals,
     alloc: Global,
     me: DeviceId,
     name: &SafeName,
 ) -> Result<(), AllocError>
-    requires groups { AreGroups me names.old.entries totals }
-    requires absent { at bytes_cmp names.old name.now ≡ None }
-    ensures groups { AreGroups me names.new.entries totals }
-    ensures kept { announced_in names.new.entries ≡ announced_in names.old.entries }
-    ensures promised { OnOk result (promised_in names.new.entries
-        ≡ set.insert (promised_in names.old.entries) name.now) }
-    ensures promises_stay { OnErr result (promised_in names.new.entries
-        ≡ promised_in names.old.entries) }
+    requires groups { AreChunked me names.old totals }
+    requires gap { IsGap name.now gap names.old }
+    ensures groups { AreChunked me names.new totals }
+    ensures kept { announced_in (groups_in names.new) ≡ announced_in (groups_in names.old) }
+    ensures promised { OnOk result (promised_in (groups_in names.new)
+        ≡ set.insert (promised_in (groups_in names.old)) name.now) }
+    ensures promises_stay { OnErr result (promised_in (groups_in names.new)
+        ≡ promised_in (groups_in names.old)) }
 {
-    let name = name.copy()?;
-    let mut group = Group::new(alloc);
-    group.promise()?;
-    names.insert(name, group)?;
+    let mut group = Group::new(alloc, name.copy()?);
+    group.promise(alloc)?;
+    names.insert(alloc, gap, group)?;
     Ok(())
 }
 
 /// Takes the promise of a name back. What is announced stays. Does not allocate. O(log n) for n names.
-fn take_back_in(
-    names: &mut BTreeMap<SafeName, Group>,
-    totals: Totals,
-    me: DeviceId,
-    name: &SafeName,
-)
-    requires { AreGroups me names.old.entries totals }
-    ensures groups { AreGroups me names.new.entries totals }
-    ensures kept { announced_in names.new.entries ≡ announced_in names.old.entries }
-    ensures promised { promised_in names.new.entries
-        ≡ set.remove (promised_in names.old.entries) name.now }
+fn take_back_in(names: &mut Chunks, totals: Totals, me: DeviceId, name: &SafeName)
+    requires { AreChunked me names.old totals }
+    ensures groups { AreChunked me names.new totals }
+    ensures kept { announced_in (groups_in names.new) ≡ announced_in (groups_in names.old) }
+    ensures promised { promised_in (groups_in names.new)
+        ≡ set.remove (promised_in (groups_in names.old)) name.now }
 {
     take_back(names, totals, me, name);
     drop_empty(names, totals, me, name);
 }
 
 /// Takes the promise of a group back, if there is the group.
-fn take_back(names: &mut BTreeMap<SafeName, Group>, totals: Totals, me: DeviceId, name: &SafeName)
-    requires { AreGroups me names.old.entries totals }
-    ensures groups { AreGroups me names.new.entries totals }
-    ensures kept { announced_in names.new.entries ≡ announced_in names.old.entries }
-    ensures promised { promised_in names.new.entries
-        ≡ set.remove (promised_in names.old.entries) name.now }
+fn take_back(names: &mut Chunks, totals: Totals, me: DeviceId, name: &SafeName)
+    requires { AreChunked me names.old totals }
+    ensures groups { AreChunked me names.new totals }
+    ensures kept { announced_in (groups_in names.new) ≡ announced_in (groups_in names.old) }
+    ensures promised { promised_in (groups_in names.new)
+        ≡ set.remove (promised_in (groups_in names.old)) name.now }
 {
-    if let Some(group) = names.get_mut(name) {
-        group.take_back();
+    if let Ok(spot) = names.find(name.as_str()) {
+        names.chunks[spot.chunk][spot.place].take_back();
     }
 }
 
 /// Takes a device's record out of the groups, and returns the new totals. Does not allocate. O(log n + k^2) for n names and k
 /// devices that announce the name.
 fn clear_in(
-    names: &mut BTreeMap<SafeName, Group>,
+    names: &mut Chunks,
     totals: Totals,
+    alloc: Global,
     me: DeviceId,
     device: DeviceId,
     name: &SafeName,
 ) -> Totals
-    requires { AreGroups me names.old.entries totals }
-    ensures groups { AreGroups me names.new.entries result }
-    ensures taken { announced_in names.new.entries
-        ≡ remove (announced_in names.old.entries) (key name.now device) }
-    ensures promised { promised_in names.new.entries ≡ promised_in names.old.entries }
+    requires { AreChunked me names.old totals }
+    ensures groups { AreChunked me names.new result }
+    ensures taken { announced_in (groups_in names.new)
+        ≡ remove (announced_in (groups_in names.old)) (key name.now device) }
+    ensures promised { promised_in (groups_in names.new) ≡ promised_in (groups_in names.old) }
 {
-    let totals = clear_group(names, totals, me, device, name);
+    let totals = clear_group(names, totals, alloc, me, device, name);
     drop_empty(names, totals, me, name);
     totals
 }
 
 /// Takes a device's record out of the group of its name, and returns the new totals.
 fn clear_group(
-    names: &mut BTreeMap<SafeName, Group>,
+    names: &mut Chunks,
     totals: Totals,
+    alloc: Global,
     me: DeviceId,
     device: DeviceId,
     name: &SafeName,
 ) -> Totals
-    requires { AreGroups me names.old.entries totals }
-    ensures groups { AreGroups me names.new.entries result }
-    ensures taken { announced_in names.new.entries
-        ≡ remove (announced_in names.old.entries) (key name.now device) }
-    ensures promised { promised_in names.new.entries ≡ promised_in names.old.entries }
+    requires { AreChunked me names.old totals }
+    ensures groups { AreChunked me names.new result }
+    ensures taken { announced_in (groups_in names.new)
+        ≡ remove (announced_in (groups_in names.old)) (key name.now device) }
+    ensures promised { promised_in (groups_in names.new) ≡ promised_in (groups_in names.old) }
 {
-    prove!(names.len() < 1 << 63);
-    match names.get_mut(name) {
-        Some(group) => group.clear_counted(totals, me, device, name),
-        None => totals,
+    match names.find(name.as_str()) {
+        Ok(spot) => names.chunks[spot.chunk][spot.place].clear_counted(
+            totals, alloc, me, device, name,
+        ),
+        Err(_) => totals,
     }
 }
 
 /// Drops the group of a name if it has no entries, and no room is promised. What is announced stays. O(log n) for n names.
-fn drop_empty(names: &mut BTreeMap<SafeName, Group>, totals: Totals, me: DeviceId, name: &SafeName)
-    requires { AreGroups me names.old.entries totals }
-    ensures groups { AreGroups me names.new.entries totals }
-    ensures kept { announced_in names.new.entries ≡ announced_in names.old.entries }
-    ensures promised { promised_in names.new.entries ≡ promised_in names.old.entries }
+fn drop_empty(names: &mut Chunks, totals: Totals, me: DeviceId, name: &SafeName)
+    requires { AreChunked me names.old totals }
+    ensures groups { AreChunked me names.new totals }
+    ensures kept { announced_in (groups_in names.new) ≡ announced_in (groups_in names.old) }
+    ensures promised { promised_in (groups_in names.new) ≡ promised_in (groups_in names.old) }
 {
     if is_empty(names.get(name)) {
-        drop(names.remove(name));
+        names.remove(name);
     }
 }
 
 /// Whether there is a group, and it has no entries and no promise.
 fn is_empty(group: Option<&Group>) -> bool
-    ensures { result ≡ option_map_or (λ g. not g.is_promised && length g.entries.items == 0)
+    ensures { result ≡ option_map_or (λ g. not g.is_promised && length (entries_in g) == 0)
         (option_copied group.entry) false }
 {
     match group {
-        Some(group) => !group.is_promised && group.entries.is_empty(),
+        Some(group) => !group.is_promised && group.entries().is_empty(),
         None => false,
     }
 }
 
-/// The start of a range after a name, or of all names.
-fn start_after(after: Option<&SafeName>) -> Bound<&SafeName>
-    ensures { bound_map (λ n. n.now) result ≡ start_of (option_copied after.entry) }
+/// Puts the bests of groups at the end of a page of no more than `limit`, until that is full. Returns `Err` only if out of memory,
+/// and never where there are none. O(k) for each group, with k devices that announce its name, and the copies.
+fn push_bests(
+    page: &mut Vec<Best>,
+    alloc: Global,
+    groups: &[Group],
+    limit: usize,
+) -> Result<(), AllocError>
+    requires { vec_len page.old ≤ limit }
+    ensures fits { vec_len page.new ≤ limit }
+    ensures page { OnOk result (map shown page.new.items
+        ≡ map shown page.old.items ++ take (limit - vec_len page.old) (bests_listed (map keyed groups.now))) }
+    ensures none { take (limit - vec_len page.old) (bests_listed (map keyed groups.now)) ≡ [] → IsOk result }
 {
-    match after {
-        Some(after) => Bound::Excluded(after),
-        None => Bound::Unbounded,
+    for group in groups {
+        if page.len() == limit {
+            break;
+        }
+        if let Some(best) = group.best_with_devices(alloc)? {
+            page.push(best)?;
+        }
+    }
+    Ok(())
+}
+
+/// Puts the names of the groups that are needed at the end of a page of no more than `limit`, until that is full. Returns `Err`
+/// only if out of memory, and never where there are none. O(n) for n groups, and the copies.
+fn push_needed(page: &mut Vec<SafeName>, groups: &[Group], limit: usize) -> Result<(), AllocError>
+    requires fits { vec_len page.old ≤ limit }
+    requires named { AreNeeded groups.now }
+    ensures fits { vec_len page.new ≤ limit }
+    ensures page { OnOk result (page.new.items
+        ≡ page.old.items ++ take (limit - vec_len page.old) (needed_listed (map keyed groups.now))) }
+    ensures none { take (limit - vec_len page.old) (needed_listed (map keyed groups.now)) ≡ [] → IsOk result }
+{
+    for group in groups {
+        if page.len() == limit {
+            break;
+        }
+        if let Some(first) = first_needed(group) {
+            page.push(first.record.name().copy()?)?;
+        }
+    }
+    Ok(())
+}
+
+/// The first entry of a group that is needed.
+fn first_needed(group: &Group) -> Option<&Announcement>
+    ensures { option_copied result
+        ≡ (if group.now.is_needed then slice_get (entries_in group.now) 0 else None) }
+{
+    if group.is_needed {
+        group.entries().first()
+    } else {
+        None
     }
 }

@@ -1,15 +1,17 @@
 //! What is kept of one name.
-ghost use Rattle.std.specs.Prelude.{bytes_eq, IsTrue, true, ◌≡◌, ◌+◌, ◌≤◌, ◌&&◌, ℕ, [], All, IfOk, IsOk, List, OnErr, OnOk, filter, length, map, not, option_and_then, option_copied, option_map, if◌then◌else◌, is_some, false, Some, None};
+ghost use Rattle.std.specs.Prelude.{bytes_eq, IsTrue, true, ◌≡◌, ◌+◌, ◌<◌, ◌≤◌, ◌&&◌, ◌^◌, ℕ, [], All, IfOk, IsOk, List, OnErr, OnOk, filter, length, map, not, option_and_then, option_copied, option_map, if◌then◌else◌, is_some, false, slice_get, Some, None};
 ghost use Rattle.std.specs.FinMap.{put};
 ghost use Rattle.sync_record.specs.Records.{Name, is_directory, is_live, is_live_file};
+ghost use Rattle.folder_core.specs.declared.announcement.Announcement.{Announcement as Entry};
 ghost use Rattle.folder_core.specs.Announced.{key, key_cmp};
 ghost use Rattle.folder_core.specs.Plain.{filed};
 ghost use Rattle.folder_core.specs.PlainPulls.{best_in};
 ghost use Rattle.folder_core.specs.PlainReads.{is_from, is_needed_over, needed_of, record_from};
-ghost use Rattle.folder_index.specs.Groups.{HasRoom, HasSpare, IsChanged, IsGroup, best_of_group, chosen, totals_in};
+ghost use Rattle.folder_index.specs.Groups.{HasRoom, HasSpare, IsChanged, IsGroup, best_of_group, chosen, entries_in, name_in, totals_in};
 
 use crate::best::{devices_with, is_needed_over, place_of_best};
-use crate::entries::{put, record_from, remove_from};
+use crate::entries::record_from;
+use crate::kept::Kept;
 use crate::{Best, Totals};
 use bep_messages::Items;
 use folder_core::Announcement;
@@ -17,60 +19,79 @@ use std::alloc::{AllocError, Global};
 use sync_names::SafeName;
 use sync_record::{DeviceId, Kind, Record};
 
-/// The records of one name, by device, with the choice of the best of them. A group may have none: then it means nothing.
+/// Where no entry is.
+const NOWHERE: u32 = u32::MAX;
+
+/// The records of one name, by device, with the choice of the best of them. A group may have none: then it means nothing. It takes
+/// 64 bytes, beside the list of a name of which several devices announce something.
 #[derive(Debug, Drop)]
 pub(crate) struct Group {
-    pub(crate) entries: Vec<Announcement>,
+    pub(crate) kept: Kept,
     // Where among the entries the best is.
-    pub(crate) best_place: Option<usize>,
+    pub(crate) best_place: u32,
     pub(crate) is_needed: bool,
     // Whether there is to be room for one entry more.
     pub(crate) is_promised: bool,
 }
 
 impl Group {
-    /// A group with no entries. Does not allocate.
-    pub(crate) fn new(alloc: Global) -> Group
-        ensures group { (me : List ℕ) (n : Name) → IsGroup me n result }
-        ensures empty { result.entries.items ≡ [] }
+    /// The group of a name with no entries. Does not allocate.
+    pub(crate) fn new(alloc: Global, name: SafeName) -> Group
+        ensures group { (me : List ℕ) → IsGroup me name result }
+        ensures empty { entries_in result ≡ [] }
         ensures needed { result.is_needed ≡ false }
         ensures promised { result.is_promised ≡ false }
     {
         Group {
-            entries: Vec::new(alloc),
-            best_place: None,
+            kept: Kept::Vacant(name, Vec::new(alloc)),
+            best_place: NOWHERE,
             is_needed: false,
             is_promised: false,
         }
+    }
+
+    /// The name. O(1).
+    pub(crate) fn name(&self) -> &str
+        ensures { result.now ≡ name_in self.now }
+    {
+        self.kept.name()
+    }
+
+    /// The entries, by device. O(1).
+    pub(crate) fn entries(&self) -> &[Announcement]
+        ensures { result.now ≡ entries_in self.now }
+    {
+        self.kept.as_slice()
     }
 
     /// The best of the entries. O(1).
     pub(crate) fn best(&self) -> Option<&Announcement>
         ensures { option_copied result ≡ chosen self.now }
     {
-        self.entries.get(self.best_place?)
+        self.entries().get(self.best_place as usize)
     }
 
     /// Whether the device has no better local record than the chosen one.
     fn needs_best(&self, me: DeviceId) -> bool
         ensures { result ≡ is_some (option_and_then
-            (λ b. if is_needed_over (record_from me self.now.entries.items) b.record then Some b else None)
+            (λ b. if is_needed_over (record_from me (entries_in self.now)) b.record then Some b else None)
             (chosen self.now)) }
     {
         match self.best() {
-            Some(best) => is_needed_over(record_from(self.entries.as_slice(), me), &best.record),
+            Some(best) => is_needed_over(record_from(self.entries(), me), &best.record),
             None => false,
         }
     }
 
     /// Chooses the best, and whether it is needed, anew. Does not allocate. O(k^2) for k entries.
     fn choose(&mut self, me: DeviceId)
-        ensures entries { self.new.entries ≡ self.old.entries }
-        ensures best { chosen self.new ≡ best_in self.new.entries.items }
-        ensures needed { self.new.is_needed ≡ is_some (needed_of me self.new.entries.items) }
+        requires { length (entries_in self.old) < 2 ^ 32 }
+        ensures kept { self.new.kept ≡ self.old.kept }
+        ensures best { chosen self.new ≡ best_in (entries_in self.new) }
+        ensures needed { self.new.is_needed ≡ is_some (needed_of me (entries_in self.new)) }
         ensures promised { self.new.is_promised ≡ self.old.is_promised }
     {
-        self.best_place = place_of_best(self.entries.as_slice());
+        self.best_place = narrow(place_of_best(self.entries()));
         self.is_needed = self.needs_best(me);
     }
 
@@ -85,39 +106,40 @@ impl Group {
     /// out of memory, and never where that is; then nothing changes. O(k^2) for k entries.
     pub(crate) fn set(
         &mut self,
+        alloc: Global,
         me: DeviceId,
         device: DeviceId,
         announced: Record,
     ) -> Result<(), AllocError>
         requires { IsGroup me announced.name self.old }
         ensures group { OnOk result (IsGroup me announced.name self.new) }
-        ensures placed { OnOk result (map filed self.new.entries.items
-            ≡ put key_cmp (key announced.name device) announced (map filed self.old.entries.items)) }
+        ensures placed { OnOk result (map filed (entries_in self.new)
+            ≡ put key_cmp (key announced.name device) announced (map filed (entries_in self.old))) }
         ensures err { OnErr result (IsGroup me announced.name self.new) }
-        ensures kept { OnErr result (self.new.entries.items ≡ self.old.entries.items) }
+        ensures kept { OnErr result (entries_in self.new ≡ entries_in self.old) }
         ensures promised { OnOk result (self.new.is_promised
             ≡ (self.old.is_promised && not (bytes_eq device me))) }
         ensures promise_stays { OnErr result (self.new.is_promised ≡ self.old.is_promised) }
         ensures fits { IsTrue (self.old.is_promised && bytes_eq device me) → IsOk result }
-        ensures roomy { HasSpare self.old → IsOk result }
+        ensures roomy { HasSpare device self.old → IsOk result }
     {
         let keeps = self.keeps_promise(me, device);
-        let more = if keeps { 2 } else { 1 };
-        self.entries.reserve_exact(more)?;
-        put(&mut self.entries, device, announced);
+        let spare = if keeps { 1 } else { 0 };
+        self.kept.set(alloc, device, announced, spare)?;
         self.is_promised = keeps;
         self.choose(me);
         Ok(())
     }
 
     /// Takes a device's record away. Does not allocate. O(k^2) for k entries.
-    pub(crate) fn clear(&mut self, me: DeviceId, device: DeviceId)
-        ensures group { (n : Name) → IsGroup me n self.old → IsGroup me n self.new }
-        ensures taken { self.new.entries.items
-            ≡ filter (λ e. not (is_from device e)) self.old.entries.items }
+    pub(crate) fn clear(&mut self, alloc: Global, me: DeviceId, device: DeviceId)
+        requires { IsGroup me (name_in self.old) self.old }
+        ensures group { IsGroup me (name_in self.old) self.new }
+        ensures taken { entries_in self.new
+            ≡ filter (λ e. not (is_from device e)) (entries_in self.old) }
         ensures promised { self.new.is_promised ≡ self.old.is_promised }
     {
-        remove_from(&mut self.entries, device);
+        self.kept.remove(alloc, device);
         self.choose(me);
     }
 
@@ -126,6 +148,7 @@ impl Group {
     pub(crate) fn set_counted(
         &mut self,
         totals: Totals,
+        alloc: Global,
         me: DeviceId,
         device: DeviceId,
         announced: Record,
@@ -135,18 +158,18 @@ impl Group {
         ensures group { IsGroup me announced.name self.new }
         ensures totals { IfOk result
             (λ u. IsChanged totals (totals_in me self.old) (totals_in me self.new) u) }
-        ensures placed { OnOk result (map filed self.new.entries.items
-            ≡ put key_cmp (key announced.name device) announced (map filed self.old.entries.items)) }
-        ensures kept { OnErr result (self.new.entries.items ≡ self.old.entries.items) }
+        ensures placed { OnOk result (map filed (entries_in self.new)
+            ≡ put key_cmp (key announced.name device) announced (map filed (entries_in self.old))) }
+        ensures kept { OnErr result (entries_in self.new ≡ entries_in self.old) }
         ensures promised { OnOk result (self.new.is_promised
             ≡ (self.old.is_promised && not (bytes_eq device me))) }
         ensures promise_stays { OnErr result (self.new.is_promised ≡ self.old.is_promised) }
         ensures fits { IsTrue (self.old.is_promised && bytes_eq device me) → IsOk result }
-        ensures roomy { HasSpare self.old → IsOk result }
+        ensures roomy { HasSpare device self.old → IsOk result }
         ensures one_more { IfOk result (λ u. u.others ≤ totals.others + 1) }
     {
         let was = self.totals(me);
-        self.set(me, device, announced)?;
+        self.set(alloc, me, device, announced)?;
         Ok(totals.changed(was, self.totals(me)))
     }
 
@@ -154,6 +177,7 @@ impl Group {
     pub(crate) fn clear_counted(
         &mut self,
         totals: Totals,
+        alloc: Global,
         me: DeviceId,
         device: DeviceId,
         name: &SafeName,
@@ -162,46 +186,48 @@ impl Group {
         requires room { HasRoom totals (totals_in me self.old) }
         ensures group { IsGroup me name.now self.new }
         ensures totals { IsChanged totals (totals_in me self.old) (totals_in me self.new) result }
-        ensures taken { self.new.entries.items
-            ≡ filter (λ e. not (is_from device e)) self.old.entries.items }
+        ensures taken { entries_in self.new
+            ≡ filter (λ e. not (is_from device e)) (entries_in self.old) }
         ensures promised { self.new.is_promised ≡ self.old.is_promised }
     {
         let was = self.totals(me);
-        self.clear(me, device);
+        self.clear(alloc, me, device);
         totals.changed(was, self.totals(me))
     }
 
     /// Promises room for one entry more, which this device's record takes. Returns `Err` only if out of memory; then nothing
-    /// changes. O(1).
-    pub(crate) fn promise(&mut self) -> Result<(), AllocError>
+    /// changes. O(k) for k entries.
+    pub(crate) fn promise(&mut self, alloc: Global) -> Result<(), AllocError>
         ensures group { (me : List ℕ) (n : Name) → IsGroup me n self.old → IsGroup me n self.new }
-        ensures kept { self.new.entries.items ≡ self.old.entries.items }
+        ensures kept { entries_in self.new ≡ entries_in self.old }
         ensures promised { OnOk result (self.new.is_promised ≡ true) }
         ensures promise_stays { OnErr result (self.new.is_promised ≡ self.old.is_promised) }
     {
-        self.entries.reserve_exact(1)?;
+        self.kept.reserve(alloc, 1)?;
         self.is_promised = true;
         Ok(())
     }
 
-    /// Makes room for one entry more, beside the one that is promised. Returns `Err` only if out of memory; then nothing
-    /// changes. O(1).
-    pub(crate) fn spare(&mut self) -> Result<(), AllocError>
+    /// Makes room for a record of the device, beside the room that is promised. Returns `Err` only if out of memory; then nothing
+    /// changes. O(k) for k entries.
+    pub(crate) fn spare(&mut self, alloc: Global, device: DeviceId) -> Result<(), AllocError>
         ensures group { (me : List ℕ) (n : Name) → IsGroup me n self.old → IsGroup me n self.new }
-        ensures kept { self.new.entries.items ≡ self.old.entries.items }
+        ensures kept { entries_in self.new ≡ entries_in self.old }
         ensures promised { self.new.is_promised ≡ self.old.is_promised }
-        ensures spare { OnOk result (HasSpare self.new) }
-        ensures stays { HasSpare self.old → HasSpare self.new }
+        ensures spare { OnOk result (HasSpare device self.new) }
+        ensures stays { HasSpare device self.old → HasSpare device self.new }
     {
+        if !self.is_promised && self.kept.is_one_from(device) {
+            return Ok(());
+        }
         let more = if self.is_promised { 2 } else { 1 };
-        self.entries.reserve_exact(more)?;
-        Ok(())
+        self.kept.reserve(alloc, more)
     }
 
     /// Takes the promise back. Does not allocate. O(1).
     pub(crate) fn take_back(&mut self)
         ensures group { (me : List ℕ) (n : Name) → IsGroup me n self.old → IsGroup me n self.new }
-        ensures kept { self.new.entries.items ≡ self.old.entries.items }
+        ensures kept { entries_in self.new ≡ entries_in self.old }
         ensures promised { self.new.is_promised ≡ false }
     {
         self.is_promised = false;
@@ -211,7 +237,7 @@ impl Group {
     pub(crate) fn totals(&self, me: DeviceId) -> Totals
         ensures { result ≡ totals_in me self.now }
     {
-        let entries = self.entries.as_slice();
+        let entries = self.entries();
         Totals {
             files: live_files(entries, me) as u64,
             directories: live_directories(entries, me) as u64,
@@ -223,7 +249,7 @@ impl Group {
 
     /// A copy of the best, and the devices that have it. O(k) for k entries, and the copy. Does not allocate where there is no
     /// best.
-    pub(crate) fn best_with_devices(&self) -> Result<Option<Best>, AllocError>
+    pub(crate) fn best_with_devices(&self, alloc: Global) -> Result<Option<Best>, AllocError>
         ensures found { IfOk result (λ b. option_map (λ b. (b.record, b.devices)) b
             ≡ best_of_group self.now) }
         ensures none { chosen self.now ≡ None → IsOk result }
@@ -231,12 +257,22 @@ impl Group {
         let Some(best) = self.best() else {
             return Ok(None);
         };
-        let alloc = *self.entries.allocator();
-        let devices = devices_with(alloc, self.entries.as_slice(), &best.record)?;
+        let devices = devices_with(alloc, self.entries(), &best.record)?;
         Ok(Some(Best {
             record: best.record.copy()?,
             devices: Items::from_vec(devices),
         }))
+    }
+}
+
+/// A place in 32 bits, or `NOWHERE`. O(1).
+fn narrow(place: Option<usize>) -> u32
+    ensures { (es : List Entry) → length es < 2 ^ 32 →
+        slice_get es result ≡ option_and_then (λ i. slice_get es i) place }
+{
+    match place {
+        Some(place) => u32::try_from(place).unwrap_or(NOWHERE),
+        None => NOWHERE,
     }
 }
 

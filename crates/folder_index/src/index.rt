@@ -1,10 +1,11 @@
-ghost use Rattle.std.specs.Prelude.{bytes_eq, ◌≡◌, ◌≢◌, ◌↔◌, ℕ, [], List, IfOk, IsOk, IsTrue, None, OnErr, OnOk, Some, filter, map, option_copied, option_map, find, slice_get};
+ghost use Rattle.std.specs.Prelude.{bytes_eq, ◌≡◌, ◌≢◌, ◌↔◌, [], IfOk, IsOk, IsTrue, None, OnErr, OnOk, Some, filter, map, option_copied, option_map, find, slice_get};
 ghost use Rattle.std.specs.FinMap.{empty, entries, get};
 ghost use Rattle.std.specs.FinSet.{contains, empty as no_names};
 ghost use Rattle.folder_core.specs.Announced.{best, is_of, key};
 ghost use Rattle.folder_core.specs.Plain.{filed};
 ghost use Rattle.folder_core.specs.Reads.{IsSomePlace, best_with_devices, bests_page, counts, local_since, need_page, places};
 ghost use Rattle.folder_index.specs.Devices.{greatest_of, names_by, sequences_by, without_device};
+ghost use Rattle.folder_index.specs.Digests.{HasNone};
 ghost use Rattle.folder_index.specs.Indexes.{AreApart, folder, needs, with_promise, with_record, with_records, without_promise, without_record};
 ghost use Rattle.folder_index.specs.Locals.{AreEarlier, HasNoBlock, IsFree, IsIndex, IsPlaceAmong, IsSettled, with_filed};
 ghost use Rattle.folder_index.specs.Numbers.{number_of};
@@ -302,15 +303,16 @@ impl Index {
     }
 
     /// Where a live local file has a block with this digest; `None` where there is none. Returns `Err` only if out of memory,
-    /// and never where there is none. O(log n) for n blocks, and the copy of the name.
+    /// and never where there is none. O(log n) for n blocks, once more for each whose digest only begins with the same eight
+    /// bytes, and the copy of the name.
     pub fn place(&self, hash: &[u8; 32]) -> Result<Option<Place>, AllocError>
         ensures found { IfOk result (λ place. IsSomePlace (folder self.now) hash.now place) }
         ensures none { places (folder self.now) hash.now ≡ [] → IsOk result }
     {
-        let Some((number, i)) = self.local.places.find(hash) else {
+        let Some((sequence, i)) = self.local.find(hash) else {
             return place_among(self.local.latest.records(), hash);
         };
-        match self.local.records.get(number / 2) {
+        match self.local.records.get(sequence) {
             Some(announced) => place_in(announced, i),
             None => unreachable!(),
         }
@@ -462,8 +464,7 @@ fn put_own(names: &mut ByName, local: &mut Local, announced: Record) -> Result<(
 /// Puts a record of this device, under a sequence that none of its records has. Returns `Err` only if out of memory, and then
 /// nothing changes.
 fn add_own(names: &mut ByName, local: &mut Local, announced: Record) -> Result<(), AllocError>
-    requires unused { (hash : List ℕ) →
-        get local.old.places (hash, number_of local.old.numbers announced.sequence) ≡ None }
+    requires unused { HasNone (number_of local.old.numbers announced.sequence) local.old.places }
     requires absent { get local.old.records announced.sequence ≡ None }
     ensures ok { OnOk result (names.new ≡ with_record names.old.me announced names.old) }
     ensures local { OnOk result (local.new ≡ with_filed announced local.old) }

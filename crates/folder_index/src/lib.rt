@@ -10,12 +10,15 @@ mod best;
 mod by_digest;
 mod by_name;
 mod by_sequence;
+mod chunks;
 mod entries;
 mod group;
 mod index;
+mod kept;
 mod latest;
 pub mod laws;
 mod local;
+mod noted;
 mod numbers;
 mod totals;
 

@@ -1,8 +1,9 @@
 //! This device's records by their sequences, and the blocks of its live files by their digests.
-ghost use Rattle.std.specs.Prelude.{◌≡◌, ◌+◌, ◌<◌, ◌^◌, ℕ, [], IfSome, IsTrue, List, None, OnErr, OnOk, length, option_copied, option_map};
+ghost use Rattle.std.specs.Prelude.{◌≡◌, ◌+◌, ◌<◌, ◌^◌, ℕ, [], IfSome, IsTrue, MatchOption, OnErr, OnOk, false, length, option_copied, option_map, true};
 ghost use Rattle.std.specs.FinMap.{contains_key, get};
+ghost use Rattle.folder_index.specs.Digests.{HasNone};
 ghost use Rattle.folder_index.specs.Latest.{AreRising};
-ghost use Rattle.folder_index.specs.Locals.{AreKept, all_local, live_blocks, no_local, with_exchanged, with_filed, with_prepared, without_filed, without_local, without_prepared};
+ghost use Rattle.folder_index.specs.Locals.{AreFiled, AreKept, all_local, has_digest, live_blocks, no_local, with_exchanged, with_filed, with_prepared, without_filed, without_local, without_prepared};
 ghost use Rattle.folder_index.specs.Numbers.{number_of, other_number_of};
 
 use crate::latest::Latest;
@@ -38,8 +39,7 @@ impl Local {
     /// Files a record under its sequence, which no record has, and the blocks of a live file. Returns `Err` only if out of
     /// memory, and then nothing changes. O(log n + b log m) for n records, b blocks of the file and m in all.
     pub(crate) fn file(&mut self, announced: &Record) -> Result<(), AllocError>
-        requires unused { (hash : List ℕ) →
-            get self.old.places (hash, number_of self.old.numbers announced.now.sequence) ≡ None }
+        requires unused { HasNone (number_of self.old.numbers announced.now.sequence) self.old.places }
         ensures ok { OnOk result (self.new ≡ with_filed announced.now self.old) }
         ensures err { OnErr result (self.new ≡ self.old) }
     {
@@ -80,8 +80,7 @@ impl Local {
     /// `Err` only if out of memory, and then nothing changes. O(log n + b log m) for n records, b blocks of the file and m in
     /// all.
     pub(crate) fn prepare(&mut self, announced: &Record) -> Result<(), AllocError>
-        requires { (hash : List ℕ) →
-            get self.old.places (hash, other_number_of self.old.numbers announced.now.sequence) ≡ None }
+        requires { HasNone (other_number_of self.old.numbers announced.now.sequence) self.old.places }
         ensures ok { OnOk result (self.new ≡ with_prepared announced.now self.old) }
         ensures err { OnErr result (self.new ≡ self.old) }
     {
@@ -131,6 +130,37 @@ impl Local {
         match self.latest.get(sequence) {
             Some(announced) => Some(announced),
             None => self.records.get(sequence),
+        }
+    }
+
+    /// A block with this digest of a live file that is filed: the sequence of the file, and the place of the block among its
+    /// blocks; `None` where there is none. O(log n + log m) for n records and m blocks in all, and O(log n) more for each block
+    /// whose digest only begins with the same eight bytes.
+    pub(crate) fn find(&self, hash: &[u8; 32]) -> Option<(u64, usize)>
+        requires { AreFiled (number_of self.now.numbers) self.now.records self.now.places }
+        ensures { MatchOption result
+            ((q i : ℕ) → has_digest self.now.records hash.now q i ≡ false)
+            (λ p. has_digest self.now.records hash.now p.0 p.1 ≡ true) }
+    {
+        for (_, number, i) in self.places.candidates(hash) {
+            let sequence = number / 2;
+            if self.has_digest(sequence, *i, hash) {
+                return Some((sequence, *i));
+            }
+        }
+        None
+    }
+
+    /// Whether the block at this place of the live file that is filed under a sequence has this digest. O(log n) for n records.
+    fn has_digest(&self, sequence: u64, i: usize, hash: &[u8; 32]) -> bool
+        ensures { result ≡ has_digest self.now.records hash.now sequence i }
+    {
+        let Some(announced) = self.records.get(sequence) else {
+            return false;
+        };
+        match live_blocks(announced).get(i) {
+            Some(block) => block.hash == *hash,
+            None => false,
         }
     }
 

@@ -5,6 +5,7 @@ use Rattle.folder_core.specs.Announced.{announce}
 use Rattle.folder_core.proofs.ListTests.{In, in_contains}
 use Rattle.folder_index.specs.Groups.{announced_in}
 use Rattle.folder_index.specs.Indexes.{AreApart}
+use Rattle.folder_index.specs.Chunks.{groups_in}
 use Rattle.folder_index.proofs.Spared.{apart_first}
 use Rattle.folder_index.proofs.by_name.put_all.Goals as goal
 
@@ -13,7 +14,7 @@ loop-announced-init c =
     let items : c.into_iter-announced-iterator.result.rest.items ≡ c.args.records.items = c.into_iter-announced-iterator.ensures.into_iter_gives.0 in
     record {
       groups = c.requires.groups;
-      placed = ap (λ (rs : List FileRecord). announce c.args.device rs (announced_in c.args.names.now.entries)) items;
+      placed = ap (λ (rs : List FileRecord). announce c.args.device rs (announced_in (groups_in c.args.names.now))) items;
       promised = refl;
       fits = subst (λ (rs : List FileRecord). c.args.totals.others + length rs + 1 < 2 ^ 64) (sym items) c.requires.fits;
       apart = subst AreApart (sym items) c.requires.apart;
@@ -43,7 +44,7 @@ loop-announced-preserved c =
     let more = of.one_more in
     record {
       groups = of.groups;
-      placed = ap (announce d rest) of.placed ∙ ap (λ (rs : List FileRecord). announce d rs (announced_in c.loop-announced.names.entries)) (sym steps) ∙ inv.placed;
+      placed = ap (announce d rest) of.placed ∙ ap (λ (rs : List FileRecord). announce d rs (announced_in (groups_in c.loop-announced.names))) (sym steps) ∙ inv.placed;
       promised = of.promised ∙ inv.promised;
       fits = omega arith;
       apart = apart.1;
@@ -56,7 +57,7 @@ returns-clause-groups c = c.loop-announced.invariant.groups
 pub returns-clause-placed : goal.returns-clause-placed
 returns-clause-placed c =
     let none : c.loop-announced.announced-iterator.rest.items ≡ [] = nil_from_length c.loop-announced.announced-iterator.rest.items (let len = c.loop-announced.announced-iterator.rest.ok.0 in let none = c.in-None.ensures.steps.0 in omega arith) in
-    ap (λ (rs : List FileRecord). announce c.args.device rs (announced_in c.loop-announced.names.entries)) (sym none) ∙ c.loop-announced.invariant.placed
+    ap (λ (rs : List FileRecord). announce c.args.device rs (announced_in (groups_in c.loop-announced.names))) (sym none) ∙ c.loop-announced.invariant.placed
 
 pub returns-clause-promised : goal.returns-clause-promised
 returns-clause-promised c = c.loop-announced.invariant.promised

@@ -1,6 +1,7 @@
 use Rattle.std.proofs.Common.{◌≡◌, take, refl, subst, sym, ◌∙◌, arith}
 use Rattle.std.proofs.lemmas.List.{take_all}
 use Rattle.folder_core.proofs.ListTests.{In, contains_in}
+use Rattle.folder_index.specs.Chunks.{groups_in}
 use Rattle.folder_index.specs.Groups.{HasSpareAt}
 use Rattle.folder_index.proofs.Spared.{one_spared}
 use Rattle.folder_index.proofs.by_name.spare_all.Goals as goal
@@ -15,12 +16,12 @@ loop-announced-preserved c =
     let r = c.announced-item.result in
     let inv = c.loop-announced.invariant in
     let of = c.in_ok-spare_in.ensures in
-    let new = c.spare_in.new.names.entries in
+    let new = groups_in c.spare_in.new.names in
     record {
       groups = of.groups;
       kept = of.kept ∙ inv.kept;
       promised = of.promises_stay ∙ inv.promised;
-      spares = one_spared rs i r new c.loop-announced-test.true c.announced-item.is (λ x j. of.spares x.name (inv.spares x j)) (subst (λ n. HasSpareAt n new) c.name.ensures of.spare);
+      spares = one_spared c.args.device rs i r new c.loop-announced-test.true c.announced-item.is (λ x j. of.spares x.name (inv.spares x j)) (subst (λ n. HasSpareAt c.args.device n new) c.name.ensures of.spare);
     }
 
 pub returns-clause-spares : goal.returns-clause-spares

@@ -1,6 +1,7 @@
-use Rattle.std.proofs.Common.{sym, ap, ◌∙◌}
-use Rattle.std.specs.FinMap.{contains_key, get}
+use Rattle.std.proofs.Common.{subst, sym, ap, ◌∙◌}
+use Rattle.std.specs.FinMap.{contains_key}
 use Rattle.sync_record.specs.Records.{FileRecord}
+use Rattle.folder_index.specs.Digests.{HasNone}
 use Rattle.folder_index.specs.Indexes.{with_record}
 use Rattle.folder_index.specs.Locals.{with_exchanged, with_prepared, without_prepared}
 use Rattle.folder_index.specs.Numbers.{other_number_of}
@@ -9,13 +10,12 @@ use Rattle.folder_index.proofs.Results.{of_err, of_ok}
 use Rattle.folder_index.proofs.index.exchange_own.Goals as goal
 
 pub prepare-requires : goal.prepare-requires
-prepare-requires c = λ hash.
+prepare-requires c =
     let s = c.args.names.now in
     let l = c.args.local.now in
     let r = c.args.announced in
     let low = low_there s l.records c.requires.index.locals r.name r.sequence c.requires.replaced in
-    ap (λ (x : FileRecord). get l.places (hash, other_number_of l.numbers x.sequence)) c.in_ok-copied.ensures
-    ∙ unprepared s l c.requires.index r low c.requires.free hash
+    subst (λ (x : FileRecord). HasNone (other_number_of l.numbers x.sequence) l.places) (sym c.in_ok-copied.ensures) (unprepared s l c.requires.index r low c.requires.free)
 
 pub returns-then-is_err-clause-index : goal.returns-then-is_err-clause-index
 returns-then-is_err-clause-index c =

@@ -1,8 +1,7 @@
-use Rattle.std.proofs.Common.{ℕ, List, ap, ◌∙◌}
-use Rattle.std.specs.FinMap.{from_sorted}
-use Rattle.folder_index.specs.Digests.{place_cmp}
-use Rattle.folder_index.proofs.Digested.{Spot, no_places}
+use Rattle.std.proofs.Common.{List, ap}
+use Rattle.std.specs.FinSet.{from_list}
+use Rattle.folder_index.specs.Digests.{Spot, spot_cmp}
 use Rattle.folder_index.proofs.by_digest.ByDigest.new.Goals as goal
 
 pub returns : goal.returns
-returns c = ap (λ (es : List (Spot × ℕ)). from_sorted {R = place_cmp} es) c.new.ensures.empty ∙ no_places
+returns c = ap (λ (ks : List Spot). from_list {R = spot_cmp} ks) c.new.ensures.empty

@@ -1,12 +1,11 @@
 use Rattle.std.proofs.Common.{◌≡◌, take}
-use Rattle.std.specs.BTreeMap.{keys}
-use Rattle.std.specs.FinMap.{from_sorted}
-use Rattle.std.specs.List.Sorted.{IsStrictlySortedBy}
-use Rattle.folder_index.specs.Digests.{place_cmp, without_blocks}
+use Rattle.std.specs.FinSet.{from_list}
+use Rattle.std.specs.List.{All}
+use Rattle.folder_index.specs.Digests.{FitsIn64Bits, without_blocks}
 use Rattle.folder_index.proofs.by_digest.ByDigest.remove.Given as goal
 
-abbrev pub invariant-loop-block : goal.invariant-loop-block
-invariant-loop-block l = record {
-  sorted : IsStrictlySortedBy place_cmp (keys l.self-inside.places);
-  places : from_sorted l.self-inside.places.entries ≡ without_blocks l.owner (take l.block-index l.blocks) l.fn.self;
+abbrev pub invariant-loop-i : goal.invariant-loop-i
+invariant-loop-i l = record {
+  fit : All FitsIn64Bits l.self-inside.places.keys;
+  places : from_list l.self-inside.places.keys ≡ without_blocks l.owner (take l.i l.blocks) l.fn.self;
 }

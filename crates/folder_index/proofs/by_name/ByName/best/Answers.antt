@@ -3,6 +3,7 @@ use Rattle.std.specs.Prelude.{option_map}
 use Rattle.folder_core.specs.declared.announcement.Announcement.{Announcement as Entry}
 use Rattle.folder_core.specs.Plain.{filed}
 use Rattle.folder_core.specs.PlainPulls.{best_in}
+use Rattle.folder_index.specs.Chunks.{groups_in}
 use Rattle.folder_index.proofs.Found.{best_at}
 use Rattle.folder_index.proofs.Written.{found_at, none_at}
 use Rattle.folder_index.proofs.by_name.ByName.best.Goals as goal
@@ -13,14 +14,14 @@ returns-in-Some c =
     let n = c.args.name.now in
     let found = sym c.in-Some.ensures.value in
     rw (← c.self.view_is)
-    (ap (option_map filed) (c.best.ensures ∙ (c.self.invariant.groups n c.in-Some.group.now found).best)
-    ∙ ap (λ (es : List Entry). option_map filed (best_in es)) (found_at n i.names.entries c.in-Some.group.now found)
-    ∙ best_at i.me i.names.entries i.totals c.self.invariant i.choices n)
+    (ap (option_map filed) (c.best.ensures ∙ (c.self.invariant.chunked.are.groups n c.in-Some.group.now found).best)
+    ∙ ap (λ (es : List Entry). option_map filed (best_in es)) (found_at n (groups_in i.names) c.in-Some.group.now found)
+    ∙ best_at i.me (groups_in i.names) i.totals c.self.invariant.chunked.are i.choices n)
 
 pub returns-in-None : goal.returns-in-None
 returns-in-None c =
     let i = c.self.inside in
     let n = c.args.name.now in
     rw (← c.self.view_is)
-    (ap (λ (es : List Entry). option_map filed (best_in es)) (none_at n i.names.entries (sym c.in-None.ensures.value))
-    ∙ best_at i.me i.names.entries i.totals c.self.invariant i.choices n)
+    (ap (λ (es : List Entry). option_map filed (best_in es)) (none_at n (groups_in i.names) (sym c.in-None.ensures.value))
+    ∙ best_at i.me (groups_in i.names) i.totals c.self.invariant.chunked.are i.choices n)

@@ -1,80 +1,94 @@
-use Rattle.std.proofs.Common.{◌≡◌, ◌++◌, ◌∷◌, ◌-◌, ◌+◌, ◌<◌, [], Some, None, map, take, vec_len, sym, ap, ◌∙◌, arith}
-use Rattle.std.specs.Prelude.{option_copied, option_map}
-use Rattle.std.specs.Option.{option_to_list}
+use Rattle.std.proofs.Common.{◌≡◌, ◌++◌, ◌-◌, ◌+◌, [], List, drop, map, take, vec_len, refl, sym, ap, ◌∙◌, arith}
+use Rattle.std.specs.Prelude.{option_copied}
 use Rattle.std.proofs.lemmas.Bool.{true≢false}
-use Rattle.std.proofs.lemmas.List.{map-append}
-use Rattle.std.proofs.lemmas.Option.{none-some}
-use Rattle.std.specs.declared.ops.Bound.TheVariants.{Unbounded}
-use Rattle.std.specs.BTreeMap.Range.{entries_between}
-use Rattle.sync_record.specs.Devices.{bytes_cmp}
-use Rattle.folder_core.proofs.PlainFound.{page_more, page_not_empty, page_same}
-use Rattle.folder_core.specs.Reads.{bests_page, is_after}
-use Rattle.folder_index.specs.Groups.{best_of_group}
+use Rattle.std.proofs.lemmas.List.{length-map}
+use Rattle.folder_core.specs.Reads.{bests_page}
+use Rattle.folder_index.specs.declared.group.Group.{Group}
+use Rattle.folder_index.specs.Chunks.{Chunk, groups_in, in_chunk, keyed}
+use Rattle.folder_index.specs.Groups.{bests_listed, shown}
 use Rattle.folder_index.specs.Indexes.{folder}
-use Rattle.folder_index.proofs.Found.{between_is, bests_page_is, none_chosen}
+use Rattle.folder_index.proofs.Chunked.{flat}
+use Rattle.folder_index.proofs.Found.{bests_page_is}
 use Rattle.folder_index.proofs.Listed.{Groups}
-use Rattle.folder_index.proofs.Pages.{bests_listed, full_page, last_page, part_of, shown, whole_page}
+use Rattle.folder_index.proofs.Pages.{bests_listed_append, next_chunks, none_put, page_put}
 use Rattle.folder_index.proofs.by_name.ByName.bests.Goals as goal
-use Rattle.folder_index.proofs.by_name.ByName.bests.Goals.{in-None, in-Some+then-len-limit}
 
-pub loop-group-init : goal.loop-group-init
-loop-group-init c =
+pub returns-in_err-push_bests-clause-none : goal.returns-in_err-push_bests-clause-none
+returns-in_err-push_bests-clause-none c = λ none.
     let i = c.self.inside in
     let after = option_copied c.args.after in
-    let listed : c.into_iter-group-iterator.result ≡ part_of (is_after after) i.names.entries =
-    c.into_iter-group-iterator.ensures.into_iter_gives ∙ c.range-group-items.ensures.between tt
-    ∙ ap (λ b. entries_between bytes_cmp b Unbounded i.names.entries) c.start_after.ensures
-    ∙ between_is after i.names.entries in
+    let start = c.start_after-start.result in
+    let first = bests_listed (map keyed c.rest.result.now) in
+    let later = bests_listed (flat (drop (start.chunk + 1) i.names.chunks.items)) in
+    let whole : take (c.args.limit - 0) (first ++ later) ≡ bests_page (folder c.args.self.now) after c.args.limit =
+    (let all : c.args.limit - 0 ≡ c.args.limit = omega arith in λ j. take (all j) (first ++ later))
+    ∙ ap (take c.args.limit) (sym (bests_listed_append (map keyed c.rest.result.now) (flat (drop (start.chunk + 1) i.names.chunks.items)))
+    ∙ ap (λ (gs : Groups). bests_listed (gs ++ flat (drop (start.chunk + 1) i.names.chunks.items))) c.rest.ensures
+    ∙ ap bests_listed c.start_after-start.ensures.after)
+    ∙ bests_page_is i.me (groups_in i.names) i.totals c.self.invariant.chunked.are i.choices after c.args.limit
+    ∙ ap (λ s. bests_page (folder s) after c.args.limit) c.self.view_is in
+    let new : (map shown c.new-page.result.items) ≡ [] = (ap (map shown) c.new-page.ensures.items) in
+    let zero : vec_len c.new-page.result ≡ 0 = c.new-page.ensures.len in
+    let empty : take (c.args.limit - 0) first ≡ [] = none_put [] first later (bests_page (folder c.args.self.now) after c.args.limit) (c.args.limit - 0) whole none in
+    absurd (true≢false (sym (c.in_err-push_bests.ensures.none (ap (λ k. take (c.args.limit - k) first) zero ∙ empty))))
+
+pub loop-chunk-init : goal.loop-chunk-init
+loop-chunk-init c =
+    let i = c.self.inside in
+    let after = option_copied c.args.after in
+    let start = c.start_after-start.result in
+    let first = bests_listed (map keyed c.rest.result.now) in
+    let later = bests_listed (flat (drop (start.chunk + 1) i.names.chunks.items)) in
+    let whole : take (c.args.limit - 0) (first ++ later) ≡ bests_page (folder c.args.self.now) after c.args.limit =
+    (let all : c.args.limit - 0 ≡ c.args.limit = omega arith in λ j. take (all j) (first ++ later))
+    ∙ ap (take c.args.limit) (sym (bests_listed_append (map keyed c.rest.result.now) (flat (drop (start.chunk + 1) i.names.chunks.items)))
+    ∙ ap (λ (gs : Groups). bests_listed (gs ++ flat (drop (start.chunk + 1) i.names.chunks.items))) c.rest.ensures
+    ∙ ap bests_listed c.start_after-start.ensures.after)
+    ∙ bests_page_is i.me (groups_in i.names) i.totals c.self.invariant.chunked.are i.choices after c.args.limit
+    ∙ ap (λ s. bests_page (folder s) after c.args.limit) c.self.view_is in
+    let new : (map shown c.new-page.result.items) ≡ [] = (ap (map shown) c.new-page.ensures.items) in
+    let zero : vec_len c.new-page.result ≡ 0 = c.new-page.ensures.len in
+    let page = c.push_bests.new.page in
     record {
-      page = whole_page (map shown c.new-page.result.items) (bests_listed c.into_iter-group-iterator.result) (vec_len c.new-page.result) c.args.limit (ap (map shown) c.new-page.ensures.items) c.new-page.ensures.len
-          ∙ ap (λ (gs : Groups). take c.args.limit (bests_listed gs)) listed
-          ∙ bests_page_is i.me i.names.entries i.totals c.self.invariant i.choices after c.args.limit
-          ∙ ap (λ s. bests_page (folder s) after c.args.limit) c.self.view_is;
-      fits = (let e = c.new-page.ensures.len in omega arith);
+      page =
+          ap (λ (vs : List Chunk). (map shown page.items) ++ take (c.args.limit - vec_len page) (bests_listed (flat vs))) c.later-chunk-items.ensures
+          ∙ page_put [] (map shown page.items) first later 0 (vec_len page) c.args.limit (c.in_ok-push_bests.ensures.page ∙ (λ j. new j ++ take (c.args.limit - zero j) first)) refl (omega (arith, page.ok.0, length-map page.items shown))
+          ∙ whole;
+      fits = c.push_bests.ensures.fits;
     }
 
-pub returns-in_err-best-clause-none : goal.returns-in_err-best-clause-none
-returns-in_err-best-clause-none c = λ none.
-    let next : bests_listed c.loop-group.group-iterator ≡ option_to_list (best_of_group c.in-Some.group.now) ++ bests_listed c.next.new.self = ap bests_listed c.in-Some.ensures.steps in
-    let short : vec_len c.loop-group.page < c.args.limit = omega (arith, c.loop-group.invariant.fits) in
-    absurd (true≢false (sym (c.in_err-best.ensures.none (none_chosen c.in-Some.group.now (page_not_empty (map shown c.loop-group.page.items) (bests_listed c.loop-group.group-iterator) (bests_listed c.next.new.self) (vec_len c.loop-group.page) c.args.limit (best_of_group c.in-Some.group.now) next short (c.loop-group.invariant.page ∙ none))))))
+pub returns-in_err-push_bests-2-clause-none : goal.returns-in_err-push_bests-2-clause-none
+returns-in_err-push_bests-2-clause-none c = λ none.
+    let items = c.later-chunk-items.result.now in
+    let v = c.chunk-item.result in
+    let page = c.loop-chunk.page in
+    let here = bests_listed (in_chunk v) in
+    let more = bests_listed (flat (drop (c.loop-chunk.chunk-index + 1) items)) in
+    let next : bests_listed (flat (drop c.loop-chunk.chunk-index items)) ≡ here ++ more =
+    ap (λ (vs : List Chunk). bests_listed (flat vs)) (next_chunks items c.loop-chunk.chunk-index v c.loop-chunk-test.true c.chunk-item.is)
+    ∙ bests_listed_append (in_chunk v) (flat (drop (c.loop-chunk.chunk-index + 1) items)) in
+    let is : (map shown page.items) ++ take (c.args.limit - vec_len page) (here ++ more) ≡ bests_page (folder c.args.self.now) (option_copied c.args.after) c.args.limit =
+    ap (λ l. (map shown page.items) ++ take (c.args.limit - vec_len page) l) (sym next) ∙ c.loop-chunk.invariant.page in
+    let empty : take (c.args.limit - vec_len page) here ≡ [] = none_put (map shown page.items) here more (bests_page (folder c.args.self.now) (option_copied c.args.after) c.args.limit) (c.args.limit - vec_len page) is none in
+    absurd (true≢false (sym (c.in_err-push_bests-2.ensures.none (ap (λ (gs : List Group). take (c.args.limit - vec_len page) (bests_listed (map keyed gs))) c.as_slice.ensures.value ∙ empty))))
 
-pub loop-group-preserved-in-Continue-branch-3 : goal.loop-group-preserved-in-Continue-branch-3
-loop-group-preserved-in-Continue-branch-3 c =
-    let more = bests_listed c.next.new.self in
-    let next : bests_listed c.loop-group.group-iterator ≡ option_to_list (best_of_group c.in-Some.group.now) ++ more = ap bests_listed c.in-Some.ensures.steps in
-    let some : best_of_group c.in-Some.group.now ≡ Some (shown c.in-Some-2.best) = sym c.in_ok-best.ensures.found ∙ ap (option_map shown) c.in-Some-2.is in
-    let items : map shown c.push.new.self.items ≡ map shown c.loop-group.page.items ++ shown c.in-Some-2.best ∷ [] = ap (map shown) c.in_ok-push.ensures.items ∙ map-append shown c.loop-group.page.items (c.in-Some-2.best ∷ []) in
-    let len : vec_len c.push.new.self ≡ vec_len c.loop-group.page + 1 = c.in_ok-push.ensures.len in
-    let short : vec_len c.loop-group.page < c.args.limit = omega (arith, c.loop-group.invariant.fits) in
+pub loop-chunk-preserved : goal.loop-chunk-preserved
+loop-chunk-preserved c =
+    let items = c.later-chunk-items.result.now in
+    let v = c.chunk-item.result in
+    let page = c.loop-chunk.page in
+    let here = bests_listed (in_chunk v) in
+    let more = bests_listed (flat (drop (c.loop-chunk.chunk-index + 1) items)) in
+    let next : bests_listed (flat (drop c.loop-chunk.chunk-index items)) ≡ here ++ more =
+    ap (λ (vs : List Chunk). bests_listed (flat vs)) (next_chunks items c.loop-chunk.chunk-index v c.loop-chunk-test.true c.chunk-item.is)
+    ∙ bests_listed_append (in_chunk v) (flat (drop (c.loop-chunk.chunk-index + 1) items)) in
+    let is : (map shown page.items) ++ take (c.args.limit - vec_len page) (here ++ more) ≡ bests_page (folder c.args.self.now) (option_copied c.args.after) c.args.limit =
+    ap (λ l. (map shown page.items) ++ take (c.args.limit - vec_len page) l) (sym next) ∙ c.loop-chunk.invariant.page in
+    let new = c.push_bests-in-loop-chunk.new.page in
     record {
-      page = (λ i. items i ++ take (c.args.limit - len i) more)
-          ∙ sym (page_more (map shown c.loop-group.page.items) (bests_listed c.loop-group.group-iterator) more (vec_len c.loop-group.page) c.args.limit (shown c.in-Some-2.best) (next ∙ ap (λ o. option_to_list o ++ more) some) short)
-          ∙ c.loop-group.invariant.page;
-      fits = omega arith;
+      page =
+          page_put (map shown page.items) (map shown new.items) here more (vec_len page) (vec_len new) c.args.limit
+          (c.in_ok-push_bests-2.ensures.page ∙ ap (λ (gs : List Group). (map shown page.items) ++ take (c.args.limit - vec_len page) (bests_listed (map keyed gs))) c.as_slice.ensures.value) (omega (arith, page.ok.0, length-map page.items shown)) (omega (arith, new.ok.0, length-map new.items shown))
+          ∙ is;
+      fits = c.push_bests-in-loop-chunk.ensures.fits;
     }
-
-pub returns-in_err-push-clause-none : goal.returns-in_err-push-clause-none
-returns-in_err-push-clause-none c = λ none.
-    let next : bests_listed c.loop-group.group-iterator ≡ option_to_list (best_of_group c.in-Some.group.now) ++ bests_listed c.next.new.self = ap bests_listed c.in-Some.ensures.steps in
-    let some : best_of_group c.in-Some.group.now ≡ Some (shown c.in-Some-2.best) = sym c.in_ok-best.ensures.found ∙ ap (option_map shown) c.in-Some-2.is in
-    let short : vec_len c.loop-group.page < c.args.limit = omega (arith, c.loop-group.invariant.fits) in
-    absurd (none-some _ (sym (sym some ∙ page_not_empty (map shown c.loop-group.page.items) (bests_listed c.loop-group.group-iterator) (bests_listed c.next.new.self) (vec_len c.loop-group.page) c.args.limit (best_of_group c.in-Some.group.now) next short (c.loop-group.invariant.page ∙ none))))
-
-pub loop-group-preserved : goal.loop-group-preserved
-loop-group-preserved c =
-    let more = bests_listed c.next.new.self in
-    let next : bests_listed c.loop-group.group-iterator ≡ option_to_list (best_of_group c.in-Some.group.now) ++ more = ap bests_listed c.in-Some.ensures.steps in
-    let none : best_of_group c.in-Some.group.now ≡ None = sym c.in_ok-best.ensures.found ∙ ap (option_map shown) c.in_default.is in
-    record {
-      page = sym (page_same (map shown c.loop-group.page.items) (bests_listed c.loop-group.group-iterator) more (vec_len c.loop-group.page) c.args.limit (next ∙ ap (λ o. option_to_list o ++ more) none)) ∙ c.loop-group.invariant.page;
-      fits = c.loop-group.invariant.fits;
-    }
-
-pub returns-clause-page : goal.returns-clause-page
-returns-clause-page c =
-    let page = c.loop-group.page in
-    ap (map shown) c.from_vec.ensures ∙ elim c.match-next.branch [
-      | in-None w ↦ last_page (map shown page.items) (bests_listed c.loop-group.group-iterator) (c.args.limit - vec_len page) (ap bests_listed w.in-None.ensures.steps.0)
-      | in-Some+then-len-limit w ↦ full_page (map shown page.items) (bests_listed c.loop-group.group-iterator) (vec_len page) c.args.limit (omega (arith, w.len.ensures))
-    ] ∙ c.loop-group.invariant.page

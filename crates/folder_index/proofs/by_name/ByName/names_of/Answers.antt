@@ -1,19 +1,29 @@
-use Rattle.std.proofs.Common.{List, ◌++◌, ap, ◌∙◌}
+use Rattle.std.proofs.Common.{◌≡◌, [], List, sym, ap, ◌∙◌, arith}
 use Rattle.std.specs.FinMap.{entries}
-use Rattle.sync_record.specs.Records.{Name}
+use Rattle.std.proofs.lemmas.Bool.{true≢false}
 use Rattle.folder_core.specs.declared.announcement.Announcement.{Announcement as Entry}
-use Rattle.folder_index.specs.declared.group.Group.{Group}
+use Rattle.folder_index.specs.Chunks.{groups_in, keyed}
 use Rattle.folder_index.specs.Devices.{names_by, names_from}
+use Rattle.folder_index.specs.Groups.{listed}
 use Rattle.folder_index.specs.Indexes.{IndexState}
-use Rattle.folder_index.proofs.Announcing.{entries_of, listed_values, names_are}
+use Rattle.folder_index.proofs.Announcing.{all_chunked, names_are, part_names}
+use Rattle.folder_index.proofs.Chunked.{item_in}
 use Rattle.folder_index.proofs.by_name.ByName.names_of.Goals as goal
 
-pub loop-group-init : goal.loop-group-init
-loop-group-init c =
+pub returns-in_err-push_names-clause-none : goal.returns-in_err-push_names-clause-none
+returns-in_err-push_names-clause-none c = λ none.
     let i = c.self.inside in
-    let d = c.args.device in
-    ap (λ (ns : List Name). ns ++ names_from d (entries_of c.into_iter-group-iterator.result)) c.new-names.ensures.items
-    ∙ ap (λ (gs : List Group). names_from d (entries_of gs)) (c.into_iter-group-iterator.ensures.into_iter_gives ∙ c.values-group-items.ensures.rest)
-    ∙ ap (λ (es : List Entry). names_from d es) (listed_values i.names.entries)
-    ∙ names_are i.me i.names.entries i.totals c.self.invariant i.choices d
-    ∙ ap (λ (s : IndexState). names_by d (entries s.announced)) c.self.view_is
+    let g = c.group-item.result in
+    let there = item_in i.names c.as_slice-chunk-items.result.now c.as_slice-chunk-items.ensures.value c.loop-chunk.chunk-index c.chunk-item.result c.loop-chunk-test.true c.chunk-item.is c.as_slice-group-items.result.now c.as_slice-group-items.ensures.value c.loop-group.group-index g c.loop-group-test.true c.group-item.is in
+    let no_names : names_from c.args.device (listed (groups_in i.names)) ≡ [] =
+    names_are i.me (groups_in i.names) i.totals c.self.invariant.chunked.are i.choices c.args.device
+    ∙ ap (λ (s : IndexState). names_by c.args.device (entries s.announced)) c.self.view_is ∙ none in
+    absurd (true≢false (sym (c.in_err-push_names.ensures.none (ap (λ (es : List Entry). names_from c.args.device es) c.entries.ensures ∙ part_names c.args.device (groups_in i.names) (keyed g) there no_names))))
+
+pub returns-clause-names : goal.returns-clause-names
+returns-clause-names c =
+    let i = c.self.inside in
+    let all = all_chunked i.names c.as_slice-chunk-items.result.now c.loop-chunk.chunk-index c.as_slice-chunk-items.ensures.value (let past = c.loop-chunk-test.false in omega arith) in
+    c.from_vec.ensures ∙ c.loop-chunk.invariant ∙ ap (λ (es : List Entry). names_from c.args.device es) all
+    ∙ names_are i.me (groups_in i.names) i.totals c.self.invariant.chunked.are i.choices c.args.device
+    ∙ ap (λ (s : IndexState). names_by c.args.device (entries s.announced)) c.self.view_is

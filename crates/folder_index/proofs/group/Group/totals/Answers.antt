@@ -15,7 +15,7 @@ returns c =
       | then-self w ↦ w.result-is ∙ ap (λ b. cond b 1 0) (sym w.if-self.true)
       | else-self w ↦ w.result-is ∙ ap (λ b. cond b 1 0) (sym w.if-self.false)
     ] in
-    let value = c.as_slice-entries.ensures.value in
+    let value = c.entries-entries.ensures in
     let files = c.live_files.ensures ∙ ap (λ (es : List Entry). length (filter (λ e. is_from me e && is_live_file e.record) es)) value in
     let directories = c.live_directories.ensures ∙ ap (λ (es : List Entry). length (filter (λ e. is_from me e && (is_live e.record && is_directory e.record)) es)) value in
     let deletions = c.deletions.ensures ∙ ap (λ (es : List Entry). length (filter (λ e. is_from me e && e.record.deleted) es)) value in

@@ -1,10 +1,13 @@
-use Rattle.std.proofs.Common.{◌/◌, sym, subst, ◌∙◌}
+use Rattle.std.proofs.Common.{sym, subst, ◌∙◌}
 use Rattle.folder_core.specs.Reads.{IsSomePlace}
 use Rattle.folder_core.proofs.ListTests.{ok_then}
 use Rattle.folder_index.specs.Indexes.{folder}
 use Rattle.folder_index.specs.Locals.{HasNoBlock, IsPlaceAmong}
 use Rattle.folder_index.proofs.Placed.{found_at, is_found, none_last, not_nowhere, place_told}
 use Rattle.folder_index.proofs.index.Index.place.Goals as goal
+
+pub find-requires : goal.find-requires
+find-requires c = c.self.invariant.kept.filed
 
 pub returns-in_default-clause-found : goal.returns-in_default-clause-found
 returns-in_default-clause-found c =
@@ -21,11 +24,11 @@ returns-in_default-clause-none c =
 pub returns-clause-found : goal.returns-clause-found
 returns-clause-found c =
     let i = c.self.inside in
-    let found = found_at i.names i.local c.self.invariant c.args.hash.now c.in-Some.number c.in-Some.i c.in-Some.ensures in
-    rw (← c.self.view_is) (ok_then c.place_in.result (λ o is. subst (IsSomePlace (folder i.names) c.args.hash.now) (sym (is ∙ is_found i.names i.local c.self.invariant c.args.hash.now (c.in-Some.number / 2) c.in-Some.i found c.in-Some-get.announced.now c.in-Some-get.ensures)) found.place) c.place_in.ensures)
+    let found = found_at i.names i.local c.self.invariant c.args.hash.now c.in-Some.sequence c.in-Some.i c.in-Some.ensures in
+    rw (← c.self.view_is) (ok_then c.place_in.result (λ o is. subst (IsSomePlace (folder i.names) c.args.hash.now) (sym (is ∙ is_found i.names i.local c.self.invariant c.args.hash.now c.in-Some.sequence c.in-Some.i found c.in-Some-get.announced.now c.in-Some-get.ensures)) found.place) c.place_in.ensures)
 
 pub returns-clause-none : goal.returns-clause-none
 returns-clause-none c =
     let i = c.self.inside in
-    let found = found_at i.names i.local c.self.invariant c.args.hash.now c.in-Some.number c.in-Some.i c.in-Some.ensures in
-    rw (← c.self.view_is) (λ none. absurd (not_nowhere i.names i.local c.self.invariant c.args.hash.now (c.in-Some.number / 2) c.in-Some.i found none))
+    let found = found_at i.names i.local c.self.invariant c.args.hash.now c.in-Some.sequence c.in-Some.i c.in-Some.ensures in
+    rw (← c.self.view_is) (λ none. absurd (not_nowhere i.names i.local c.self.invariant c.args.hash.now c.in-Some.sequence c.in-Some.i found none))

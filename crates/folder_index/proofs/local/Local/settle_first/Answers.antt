@@ -3,9 +3,16 @@ use Rattle.std.specs.Prelude.{Some, slice_get}
 use Rattle.folder_index.specs.declared.local.Local.{Local}
 use Rattle.folder_index.specs.Latest.{Waiting}
 use Rattle.folder_index.specs.Locals.{AreKept, with_filed}
-use Rattle.folder_index.proofs.Indexed.{first_kept}
+use Rattle.folder_index.proofs.Indexed.{first_kept, unused_first}
 use Rattle.folder_index.proofs.Lately.{first_of}
 use Rattle.folder_index.proofs.local.Local.settle_first.Goals as goal
+
+pub file-requires : goal.file-requires
+file-requires c =
+    let l = c.args.self.now in
+    let r = c.in_ok-first.first in
+    let first = first_of l.latest.records r (ap Some c.in_ok-first.ensures ∙ c.in-Some.ensures.value ∙ ap (λ xs. slice_get xs 0) c.records.ensures) in
+    record { unused = unused_first l c.requires.kept r (drop 1 l.latest.records) first }
 
 pub returns-clause-kept : goal.returns-clause-kept
 returns-clause-kept c =
