@@ -85,8 +85,7 @@ impl ByName {
         self.choices
     }
 
-    /// The record that a device announces of a name, if there is one. O(log n + k) for n names and k devices that announce
-    /// the name.
+    /// The record that a device announces of a name, if there is one. O(log n + k) for n names and k devices that announce the name.
     pub fn get(&self, device: DeviceId, name: &SafeName) -> Option<&Record>
         ensures { option_copied result ≡ get self.now.announced (key name.now device) }
     {
@@ -98,7 +97,7 @@ impl ByName {
 
     /// Puts a device's record, in place of what it announced of its name, and chooses the best of the name anew. Returns `Err`
     /// only if out of memory, or if the other devices have 2^64 - 2 records already, and then nothing changes.
-    /// O(log n + k^2) for n names and k devices that announce the name.
+    /// O(log n + k^2 + d) for n names, k devices that announce the name and d devices in all.
     pub fn set(&mut self, device: DeviceId, announced: Record) -> Result<(), AllocError>
         ensures ok { OnOk result (self.new ≡ with_record device announced self.old) }
         ensures err { OnErr result (self.new ≡ self.old) }
@@ -155,10 +154,9 @@ impl ByName {
         Ok(())
     }
 
-    /// Puts records of another device, no two of one name, each in place of what the device announced of its name, and
-    /// chooses the bests of these names anew. Returns `Err` only if out of memory, or if the other devices would have more
-    /// than 2^64 - 2 records, and then nothing changes. O(m log n + m k^2) for m records given, n names and k devices that
-    /// announce a name.
+    /// Puts records of another device, no two of one name, each in place of what the device announced of its name, and chooses the bests
+    /// of these names anew. Returns `Err` only if out of memory, or if the other devices would have more than 2^64 - 2 records, and then
+    /// nothing changes. O(m log n + m k^2 + d) for m records given, n names, k devices that announce a name and d in all.
     pub fn set_all(&mut self, device: DeviceId, records: Items<Record>) -> Result<(), AllocError>
         requires other { device ≢ self.old.me }
         requires apart { AreApart records }
@@ -223,7 +221,7 @@ impl ByName {
     }
 
     /// Takes away what a device announces of a name, if there is anything, and then chooses the best of the name anew. Does
-    /// not allocate. O(log n + k^2) for n names and k devices that announce the name.
+    /// not allocate. O(log n + k^2 + d) for n names, k devices that announce the name and d devices in all.
     pub fn clear(&mut self, device: DeviceId, name: &SafeName)
         ensures { self.new ≡ without_record device name.now self.old }
     {
@@ -243,7 +241,7 @@ impl ByName {
     }
 
     /// Takes away all that a device announces, name by name. Returns `Err` only if out of memory, and then nothing changes.
-    /// O(n + m log n) for n records, of which m are the device's, and copies of the names of these.
+    /// O(n + m log n + m d) for n records, of which m are the device's, and d devices, and copies of the names of these.
     pub fn forget(&mut self, device: DeviceId) -> Result<(), AllocError>
         ensures ok { OnOk result (self.new ≡ without_device device self.old) }
         ensures err { OnErr result (self.new ≡ self.old) }
@@ -274,8 +272,7 @@ impl ByName {
         }
     }
 
-    /// The best of a name, and the device that announces it; `None` where no valid record of the name is announced. O(log n)
-    /// for n names.
+    /// The best of a name, and the device that announces it; `None` where no valid record of the name is announced. O(log n) for n names.
     pub fn best(&self, name: &SafeName) -> Option<&Announcement>
         ensures { option_map filed (option_copied result) ≡ best (entries self.now.announced) name.now }
     {
@@ -299,10 +296,9 @@ impl ByName {
         }
     }
 
-    /// The bests of the names greater than `after`, or of all names where it is `None`, in byte order of the names: the
-    /// first `limit` of them, or all where there are fewer. Returns `Err` only if out of memory. O(log n) for n names, and
-    /// O(k) for each name up to the last one of the page, with k devices that announce it, and the copies. An empty page does
-    /// not allocate.
+    /// The bests of the names greater than `after`, or of all names where it is `None`, in byte order of the names: the first `limit` of
+    /// them, or all where there are fewer. Returns `Err` only if out of memory. O(log n) for n names, and O(k) for each name up to the
+    /// last one of the page, with k devices that announce it, and the copies. An empty page does not allocate.
     pub fn bests(&self, after: Option<&SafeName>, limit: usize) -> Result<Items<Best>, AllocError>
         ensures page { IfOk result (λ page. map (λ b. (b.record, b.devices)) page
             ≡ bests_page (folder self.now) (option_copied after.entry) limit) }
@@ -560,8 +556,7 @@ fn put_spared(
     }
 }
 
-/// Makes room for a record of a name. What is announced and what is promised stays. Returns `Err` only if out of memory.
-/// O(log n) for n names.
+/// Makes room for a record of a name. What is announced and promised stays. Returns `Err` only if out of memory. O(log n) for n names.
 fn spare_in(
     names: &mut Chunks,
     totals: Totals,

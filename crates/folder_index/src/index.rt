@@ -254,7 +254,8 @@ impl Index {
         self.names.need(after, limit)
     }
 
-    /// The greatest sequence of a device's records, 0 without any. O(n) for n records.
+    /// The greatest sequence of a device's records, 0 without any. O(d) for d devices; O(n) for n records for this device, and for
+    /// another one after a record of it was taken away, or one of a lesser sequence put, until it announces a greater sequence again.
     pub fn greatest_sequence(&self, device: DeviceId) -> u64
         ensures { result ≡ greatest_of (sequences_by device (entries self.now.announced)) }
     {
