@@ -14,6 +14,7 @@ use crate::received::Received;
 use folder_core::FolderCore;
 use std::alloc::Global;
 use std::io::{Read, Write};
+use std::mem::forget;
 
 /// Reads a peer's stream without Hello up to its end or its first fault, and writes the listing of one folder: a line
 /// `best KIND SIZE VERSION NAME` for each name that has a best, in byte order, and then `skipped N`.
@@ -47,8 +48,11 @@ pub fn best<F: FolderCore + Drop, R: Read, W: Write>(
         Ok(ending) => ending,
         Err(failure) => return Ending::Failed(failure),
     };
-    match write_listing(alloc, &received, writer) {
+    let ending = match write_listing(alloc, &received, writer) {
         Ok(()) => ending,
         Err(failure) => Ending::Failed(failure),
-    }
+    };
+    // The program ends now. To take a folder apart record by record would take longer than to give its memory back as a whole.
+    forget(received);
+    ending
 }

@@ -1,12 +1,22 @@
 -- The best of a name, and whether it is needed, are told by the records of the name.
-use Rattle.std.proofs.Common.{◌≡◌, ◌≢◌, Bool, true, false, refl, sym, ap, ◌∙◌}
-use Rattle.std.specs.Prelude.{◌&&◌, ◌||◌, cond, not, is_some, option_map, Option, Some, None}
+use Rattle.std.proofs.Common.{◌≡◌, ◌≢◌, ℕ, zero, suc, ◌<◌, ◌≤◌, Bool, true, false, List, [], ◌∷◌, length, refl, sym, ap, ◌∙◌, arith}
+use Rattle.std.specs.Prelude.{◌&&◌, ◌||◌, cond, map, not, is_some, option_map, Option, Some, None, slice_get, slice_index_or}
 use Rattle.std.specs.FinMap.{contains_key, entries, get, insert, remove}
 use Rattle.std.specs.Option.{option_map_or}
+use Rattle.std.proofs.lemmas.Bool.{and_from}
+use Rattle.std.proofs.lemmas.Option.{none-some}
+use Rattle.sync_record.specs.Contents.{same_content}
 use Rattle.sync_record.specs.Devices.{Identity}
+use Rattle.sync_record.specs.Validity.{is_valid}
+use Rattle.sync_record.proofs.SameContent.{reflexive}
+use Rattle.sync_version.specs.Computed.{same_version}
+use Rattle.sync_version.proofs.Lemmas.{same_version_tells}
 use Rattle.sync_record.specs.Records.{Name, FileRecord, is_live}
+use Rattle.folder_core.specs.declared.announcement.Announcement.{Announcement as Entry}
 use Rattle.folder_core.specs.Announced.{Announced, IsBest, IsCandidate, Key, KeyedRecord, best, key}
 use Rattle.folder_core.specs.States.{is_needed, same_local_version}
+use Rattle.folder_core.specs.Plain.{devices_with}
+use Rattle.folder_core.proofs.ListTests.{inside}
 use Rattle.folder_core.proofs.AnnouncedMaps.{insert_other, remove_other}
 use Rattle.folder_core.proofs.BestRule.{best-found, best-only}
 use Rattle.folder_core.proofs.Orders.{exact_keys, keys_total}
@@ -73,3 +83,21 @@ module _ (n m : Name) (other : n ≢ m) where
 
   pub same_me : (s : IndexState) (e : Identity) → (without_record e m s).me ≡ s.me
   same_me s e = elim (contains_key s.announced (key m e)) as (λ b. (cond b (record { me = s.me; announced = remove s.announced (key m e); choices = counted s.choices; promised = s.promised }) s).me ≡ s.me) [ true ↦ refl | false ↦ refl ]
+
+-- ---- the devices that have the best
+
+at_only : (e b : Entry) (i : ℕ) → slice_get (e ∷ []) i ≡ Some b → e ≡ b
+at_only e b zero at = inside e b at
+at_only e b (suc i) at = absurd (none-some b at)
+
+-- one that is alone has itself
+pub only_has : (es : List Entry) (only b : Entry) (i : ℕ) → 1 ≤ length es → length es < 2 → only ≡ slice_index_or es 0 only → slice_get es i ≡ Some b → is_valid only.record ≡ true → only.device ∷ [] ≡ devices_with es b.record
+only_has [] only b i some few first at valid = absurd (omega arith)
+only_has (e ∷ f ∷ es) only b i some few first at valid = absurd (omega arith)
+only_has (e ∷ []) only b i some few first at valid =
+    let v = e.record.version in
+    let has : (is_valid e.record && same_version v v && same_content e.record e.record) ≡ true =
+    and_from _ _ (and_from _ _ (ap (λ (x : Entry). is_valid x.record) (sym first) ∙ valid) ((same_version_tells v v).1 refl)) (reflexive e.record) in
+    ap (λ (x : Entry). x.device ∷ []) first
+    ∙ (λ k. map (λ (f : Entry). f.device) (cond (sym has k) (e ∷ []) []))
+    ∙ ap (λ (x : Entry). devices_with (e ∷ []) x.record) (at_only e b i at)

@@ -154,7 +154,7 @@ le_less a b n less t = less_le a b n less (by (bytes_cmp b n) t)
     by Equal e = refl
     by Greater e = absurd (true≢false (sym e))
 
-is_less : (o : Ordering) → is_lt o ≡ true → o ≡ Less
+pub is_less : (o : Ordering) → is_lt o ≡ true → o ≡ Less
 is_less Less e = refl
 is_less Equal e = absurd (true≢false (sym e))
 is_less Greater e = absurd (true≢false (sym e))
@@ -162,7 +162,7 @@ is_less Greater e = absurd (true≢false (sym e))
 lt_is : (o : Ordering) → o ≡ Less → is_lt o ≡ true
 lt_is o e = ap is_lt e
 
-le_is : (o : Ordering) → o ≡ Less → not (is_gt o) ≡ true
+pub le_is : (o : Ordering) → o ≡ Less → not (is_gt o) ≡ true
 le_is o e = ap (λ o. not (is_gt o)) e
 
 -- a greater name
@@ -204,7 +204,7 @@ pub first_sorted : (n : Name) (g : Group) (ys : Groups) → AllByRecursion (λ m
 unfolding IsStrictlySortedBy
 first_sorted n g ys greater s = (greater, s)
 
-sorted_chunk : (vs : List Chunk) → Sorted (flat vs) → (v : Chunk) → In v vs → Sorted (in_chunk v)
+pub sorted_chunk : (vs : List Chunk) → Sorted (flat vs) → (v : Chunk) → In v vs → Sorted (in_chunk v)
 sorted_chunk [] s v i = absurd i
 sorted_chunk (w ∷ vs) s v (inl e) = subst (λ x. Sorted (in_chunk x)) (sym e) (sorted_left (in_chunk w) (flat vs) s)
 sorted_chunk (w ∷ vs) s v (inr i) = sorted_chunk vs (sorted_right (in_chunk w) (flat vs) s) v i
@@ -292,7 +292,7 @@ got_item [] c x e = absurd (none-some x e)
 got_item (y ∷ xs) zero x e = inl (sym (inside y x e))
 got_item (y ∷ xs) (suc c) x e = inr (got_item xs c x e)
 
-not_true : (b : Bool) → not b ≡ true → b ≡ false
+pub not_true : (b : Bool) → not b ≡ true → b ≡ false
 not_true true e = absurd (true≢false (sym e))
 not_true false e = refl
 

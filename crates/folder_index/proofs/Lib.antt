@@ -24,4 +24,5 @@ pub mod Spared
 pub mod Keeping
 pub mod Chunked
 pub mod Replaced
+pub mod Nearby
 pub mod Noting

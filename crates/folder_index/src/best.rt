@@ -1,5 +1,5 @@
 //! The best of the records of one name.
-ghost use Rattle.std.specs.Prelude.{◌≡◌, ◌&&◌, not, IfOk, IsTrue, MatchOption, None, option_and_then, option_copied, slice_get};
+ghost use Rattle.std.specs.Prelude.{◌≡◌, ◌∷◌, ◌&&◌, [], not, IfOk, IsTrue, MatchOption, None, option_and_then, option_copied, slice_get};
 ghost use Rattle.std.specs.List.{list_any};
 ghost use Rattle.sync_record.specs.Contents.{same_content};
 ghost use Rattle.sync_record.specs.Preference.{is_preferred};
@@ -19,6 +19,9 @@ use sync_version::Relation;
 pub(crate) fn place_of_best(entries: &[Announcement]) -> Option<usize>
     ensures { option_and_then (λ i. slice_get entries.now i) result ≡ best_in entries.now }
 {
+    if let [only] = entries {
+        return place_alone(only);
+    }
     let mut place = None;
     let mut best: Option<&Announcement> = None;
     for (i, entry) in entries.iter().enumerate() {
@@ -28,6 +31,17 @@ pub(crate) fn place_of_best(entries: &[Announcement]) -> Option<usize>
         }
     }
     place
+}
+
+/// The same of a name's only entry: it is the best where it is valid. O(1).
+fn place_alone(only: &Announcement) -> Option<usize>
+    ensures { option_and_then (λ i. slice_get (only.now ∷ []) i) result ≡ best_in (only.now ∷ []) }
+{
+    if only.record.is_valid() {
+        Some(0)
+    } else {
+        None
+    }
 }
 
 /// Whether the entry is preferred to the other, or there is no other.

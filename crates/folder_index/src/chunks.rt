@@ -1,5 +1,5 @@
 //! The groups of names, in the order of the names.
-ghost use Rattle.std.specs.Prelude.{bytes_eq, ◌≡◌, ◌+◌, ◌<◌, ◌≤◌, ◌++◌, ◌∷◌, [], IfOk, IfSome, IsTrue, MatchResult, None, OnErr, OnOk, drop, false, filter, flat_map, is_some, length, map, nat_lt, not, option_copied, slice_get, take, vec_len};
+ghost use Rattle.std.specs.Prelude.{bytes_eq, ◌≡◌, ◌+◌, ◌<◌, ◌≤◌, ◌++◌, ◌∷◌, ◌-◌, ◌&&◌, ◌==◌, if◌then◌else◌, [], IfOk, IfSome, IsTrue, MatchResult, None, OnErr, OnOk, drop, false, filter, flat_map, is_some, length, map, nat_lt, not, option_copied, slice_get, take, vec_len};
 ghost use Rattle.std.specs.List.{insert, list_all};
 ghost use Rattle.std.specs.List.Sorted.{IsStrictlySortedBy};
 ghost use Rattle.std.specs.Map.{keys_of};
@@ -15,9 +15,11 @@ use crate::group::Group;
 use std::alloc::{AllocError, Global};
 use sync_names::SafeName;
 
-/// The most groups of a chunk, and how many it has room for at first, and then each time.
+/// The most groups of a chunk.
 const MAX_GROUPS: usize = 128;
 
+/// For how many groups a chunk has room at first, and then each time for so many more. One that begins after all others, as where names
+/// come in order, has room for all at once.
 const ROOM: usize = 16;
 
 /// The most groups of all.
@@ -37,6 +39,36 @@ pub(crate) struct Chunks {
 pub(crate) struct Spot {
     pub(crate) chunk: usize,
     pub(crate) place: usize,
+}
+
+/// Where no group is.
+pub(crate) const NOWHERE: Spot = Spot {
+    chunk: usize::MAX,
+    place: usize::MAX,
+};
+
+impl Spot {
+    /// The next spot of the chunk. O(1).
+    pub(crate) fn next(self) -> Spot
+        ensures chunk { result.chunk ≡ self.chunk }
+        ensures place { self.place < usize.MAX → result.place ≡ self.place + 1 }
+    {
+        Spot {
+            chunk: self.chunk,
+            place: self.place.saturating_add(1),
+        }
+    }
+
+    /// The place, if the spot is in this chunk, else one where no group is. O(1).
+    fn place_in(self, chunk: usize) -> usize
+        ensures { result ≡ (if self.chunk == chunk then self.place else usize.MAX) }
+    {
+        if self.chunk == chunk {
+            self.place
+        } else {
+            usize::MAX
+        }
+    }
 }
 
 impl Chunks {
@@ -59,11 +91,66 @@ impl Chunks {
             (λ s. IsAt name.now s self.now)
             (λ s. IsGap name.now s self.now) }
     {
-        let Some(chunk) = count_begun(self.chunks.as_slice(), name).checked_sub(1) else {
+        let begun = count_begun(self.chunks.as_slice(), name);
+        self.find_in(begun, NOWHERE, name)
+    }
+
+    /// Where the group of a name is, or else where it would be. It is looked for at a spot first. O(1) where it is there, and else O(log n)
+    /// for n groups.
+    pub(crate) fn find_at(&self, spot: Spot, name: &str) -> Result<Spot, Spot>
+        requires { IsSearchable self.now }
+        ensures { MatchResult result
+            (λ s. IsAt name.now s self.now)
+            (λ s. IsGap name.now s self.now) }
+    {
+        if self.is_at(spot, name) {
+            Ok(spot)
+        } else {
+            self.find(name)
+        }
+    }
+
+    /// Where the group of a name is, or else where it would be. It is looked for from a spot on first. O(1) where it is there, O(log d) where
+    /// it is in one of d chunks after it, and O(log n) for n groups where it is before.
+    pub(crate) fn find_near(&self, near: Spot, name: &str) -> Result<Spot, Spot>
+        requires { IsSearchable self.now }
+        ensures { MatchResult result
+            (λ s. IsAt name.now s self.now)
+            (λ s. IsGap name.now s self.now) }
+    {
+        let begun = count_begun_near(self.chunks.as_slice(), near, name);
+        self.find_in(begun, near, name)
+    }
+
+    /// Whether the group of a name is at a spot. O(1).
+    fn is_at(&self, spot: Spot, name: &str) -> bool
+        ensures { result ≡ option_map_or (λ c. option_map_or (λ g. bytes_eq (name_in g) name.now) (slice_get c.items spot.place) false)
+            (slice_get self.now.chunks.items spot.chunk) false }
+    {
+        match self.chunks.get(spot.chunk) {
+            Some(chunk) => is_named(chunk.as_slice().get(spot.place), name),
+            None => false,
+        }
+    }
+
+    /// Where the group of a name is, or else where it would be, if so many chunks begin with the name or a lesser one. It is looked for at a
+    /// spot first. O(log n) for n groups of a chunk.
+    fn find_in(&self, begun: usize, near: Spot, name: &str) -> Result<Spot, Spot>
+        requires searchable { IsSearchable self.now }
+        requires bound { begun ≤ vec_len self.now.chunks }
+        requires begun { take begun self.now.chunks.items
+            ≡ filter (λ c. begins_by name.now c.items) self.now.chunks.items }
+        requires others { drop begun self.now.chunks.items
+            ≡ filter (λ c. not (begins_by name.now c.items)) self.now.chunks.items }
+        ensures { MatchResult result
+            (λ s. IsAt name.now s self.now)
+            (λ s. IsGap name.now s self.now) }
+    {
+        let Some(chunk) = begun.checked_sub(1) else {
             return Err(Spot { chunk: 0, place: 0 });
         };
         let groups = self.chunks[chunk].as_slice();
-        let place = count_lesser(groups, name);
+        let place = count_lesser_near(groups, near.place_in(chunk), name);
         let spot = Spot { chunk, place };
         if is_named(groups.get(place), name) {
             Ok(spot)
@@ -196,7 +283,7 @@ impl Chunks {
         ensures count { self.new.count ≡ self.old.count }
     {
         let mut chunk = Vec::new(alloc);
-        chunk.reserve_exact(ROOM)?;
+        chunk.reserve_exact(room_for(at, self.chunks.len()))?;
         chunk.push_reserved(group);
         self.chunks.insert(at, chunk)?;
         Ok(())
@@ -292,6 +379,54 @@ fn count_begun(chunks: &[Vec<Group>], name: &str) -> usize
     chunks.partition_point(|chunk| begins_by(chunk.as_slice(), name))
 }
 
+/// How many of the chunks begin with this name or a lesser one. Those after a spot are looked at first: O(log d) for d of them that begin
+/// so, and O(log n) for n chunks where no lesser name is right before the spot.
+fn count_begun_near(chunks: &[Vec<Group>], near: Spot, name: &str) -> usize
+    requires filled { IsTrue (list_all (λ c. nat_lt 0 (vec_len c)) chunks.now) }
+    requires ordered { IsStrictlySortedBy bytes_cmp (keys_of (flat_map in_chunk chunks.now)) }
+    ensures bound { result ≤ length chunks.now }
+    ensures begun { take result chunks.now
+        ≡ filter (λ c. begins_by name.now c.items) chunks.now }
+    ensures others { drop result chunks.now
+        ≡ filter (λ c. not (begins_by name.now c.items)) chunks.now }
+{
+    if is_after(chunks, near, name) {
+        near.chunk + 1 + count_begun_soon(&chunks[near.chunk + 1..], name)
+    } else {
+        count_begun(chunks, name)
+    }
+}
+
+/// How many of the chunks begin with this name or a lesser one. The first are looked at first: O(log d) for d that begin so.
+fn count_begun_soon(chunks: &[Vec<Group>], name: &str) -> usize
+    requires filled { IsTrue (list_all (λ c. nat_lt 0 (vec_len c)) chunks.now) }
+    requires ordered { IsStrictlySortedBy bytes_cmp (keys_of (flat_map in_chunk chunks.now)) }
+    ensures bound { result ≤ length chunks.now }
+    ensures begun { take result chunks.now
+        ≡ filter (λ c. begins_by name.now c.items) chunks.now }
+    ensures others { drop result chunks.now
+        ≡ filter (λ c. not (begins_by name.now c.items)) chunks.now }
+{
+    let mut end = 0usize;
+    while end < chunks.len() && begins_by(chunks[end].as_slice(), name) {
+        end = end.saturating_mul(2).saturating_add(1);
+    }
+    let end = end.min(chunks.len());
+    count_begun(&chunks[..end], name)
+}
+
+/// Whether there is a group right before a spot, in its chunk, and it has a lesser name. O(1).
+fn is_after(chunks: &[Vec<Group>], spot: Spot, name: &str) -> bool
+    ensures { result ≡ (nat_lt 0 spot.place && option_map_or
+        (λ c. option_map_or (is_lesser name.now) (slice_get c.items (spot.place - 1)) false)
+        (slice_get chunks.now spot.chunk) false) }
+{
+    match (chunks.get(spot.chunk), spot.place.checked_sub(1)) {
+        (Some(chunk), Some(before)) => is_lesser_at(chunk.as_slice(), before, name),
+        _ => false,
+    }
+}
+
 /// How many of the groups have lesser names. O(log n) for n groups.
 fn count_lesser(groups: &[Group], name: &str) -> usize
     requires { IsStrictlySortedBy bytes_cmp (keys_of (map keyed groups.now)) }
@@ -300,7 +435,58 @@ fn count_lesser(groups: &[Group], name: &str) -> usize
     ensures others { drop result groups.now
         ≡ filter (λ g. not (is_lesser name.now g)) groups.now }
 {
-    groups.partition_point(|group| is_lesser(group, name))
+    // By halves, like `partition_point`, but with a branch: the processor goes on with the name that it guesses to be next, and doesn't
+    // wait for the memory of this one.
+    let mut low = 0;
+    let mut high = groups.len();
+    while low < high {
+        let middle = low + (high - low) / 2;
+        if is_lesser(&groups[middle], name) {
+            low = middle + 1;
+        } else {
+            high = middle;
+        }
+    }
+    low
+}
+
+/// How many of the groups have lesser names. A number is tried first: O(1) where it is this one, and else O(log n) for n groups.
+fn count_lesser_near(groups: &[Group], near: usize, name: &str) -> usize
+    requires { IsStrictlySortedBy bytes_cmp (keys_of (map keyed groups.now)) }
+    ensures bound { result ≤ length groups.now }
+    ensures lesser { take result groups.now ≡ filter (is_lesser name.now) groups.now }
+    ensures others { drop result groups.now
+        ≡ filter (λ g. not (is_lesser name.now g)) groups.now }
+{
+    if is_between(groups, near, name) {
+        near
+    } else {
+        count_lesser(groups, name)
+    }
+}
+
+/// Whether the group before a place has a lesser name, if there is one, and that at the place has not. O(1).
+fn is_between(groups: &[Group], place: usize, name: &str) -> bool
+    requires { IsStrictlySortedBy bytes_cmp (keys_of (map keyed groups.now)) }
+    ensures bound { IsTrue result → place ≤ length groups.now }
+    ensures lesser { IsTrue result → take place groups.now ≡ filter (is_lesser name.now) groups.now }
+    ensures others { IsTrue result → drop place groups.now
+        ≡ filter (λ g. not (is_lesser name.now g)) groups.now }
+{
+    match place.checked_sub(1) {
+        Some(before) if !is_lesser_at(groups, before, name) => false,
+        _ => !is_lesser_at(groups, place, name),
+    }
+}
+
+/// Whether there is a group at a place, and it has a lesser name. O(1).
+fn is_lesser_at(groups: &[Group], place: usize, name: &str) -> bool
+    ensures { result ≡ option_map_or (is_lesser name.now) (slice_get groups.now place) false }
+{
+    match groups.get(place) {
+        Some(group) => is_lesser(group, name),
+        None => false,
+    }
 }
 
 /// Whether the first of the groups has this name or a lesser one.
@@ -327,6 +513,17 @@ fn is_named(group: Option<&Group>, name: &str) -> bool
     match group {
         Some(group) => group.name() == name,
         None => false,
+    }
+}
+
+/// For how many groups there is room in a chunk that begins before the chunk with this number.
+fn room_for(at: usize, chunks: usize) -> usize
+    ensures { 1 ≤ result }
+{
+    if at > 0 && at == chunks {
+        MAX_GROUPS
+    } else {
+        ROOM
     }
 }
 

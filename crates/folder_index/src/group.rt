@@ -4,7 +4,7 @@ ghost use Rattle.std.specs.FinMap.{put};
 ghost use Rattle.sync_record.specs.Records.{Name, is_directory, is_live, is_live_file};
 ghost use Rattle.folder_core.specs.declared.announcement.Announcement.{Announcement as Entry};
 ghost use Rattle.folder_core.specs.Announced.{key, key_cmp};
-ghost use Rattle.folder_core.specs.Plain.{filed};
+ghost use Rattle.folder_core.specs.Plain.{devices_with, filed};
 ghost use Rattle.folder_core.specs.PlainPulls.{best_in};
 ghost use Rattle.folder_core.specs.PlainReads.{is_from, is_needed_over, needed_of, record_from};
 ghost use Rattle.folder_index.specs.Groups.{HasRoom, HasSpare, IsChanged, IsGroup, best_of_group, chosen, entries_in, name_in, totals_in};
@@ -44,6 +44,21 @@ impl Group {
     {
         Group {
             kept: Kept::Vacant(name, Vec::new(alloc)),
+            best_place: NOWHERE,
+            is_needed: false,
+            is_promised: false,
+        }
+    }
+
+    /// The group of a record's name with no entries. Does not allocate.
+    pub(crate) fn vacant(alloc: Global, announced: Record) -> Group
+        ensures group { (me : List ℕ) → IsGroup me announced.name result }
+        ensures empty { entries_in result ≡ [] }
+        ensures needed { result.is_needed ≡ false }
+        ensures promised { result.is_promised ≡ false }
+    {
+        Group {
+            kept: Kept::Emptied(announced, Vec::new(alloc)),
             best_place: NOWHERE,
             is_needed: false,
             is_promised: false,
@@ -257,11 +272,26 @@ impl Group {
         let Some(best) = self.best() else {
             return Ok(None);
         };
-        let devices = devices_with(alloc, self.entries(), &best.record)?;
+        let devices = self.devices_with(alloc, best)?;
         Ok(Some(Best {
             record: best.record.copy()?,
             devices: Items::from_vec(devices),
         }))
+    }
+
+    /// The devices that have the best. One that is alone is not compared with itself. O(k) for k entries.
+    fn devices_with(&self, alloc: Global, best: &Announcement) -> Result<Vec<DeviceId>, AllocError>
+        requires { chosen self.now ≡ Some best.now }
+        ensures { IfOk result (λ ds. ds.items ≡ devices_with (entries_in self.now) best.now.record) }
+    {
+        match self.entries() {
+            [only] if only.record.is_valid() => {
+                let mut devices = Vec::with_capacity(alloc, 1)?;
+                devices.push(only.device)?;
+                Ok(devices)
+            }
+            entries => devices_with(alloc, entries, &best.record),
+        }
     }
 }
 

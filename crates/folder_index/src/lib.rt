@@ -13,6 +13,7 @@ mod by_sequence;
 mod chunks;
 mod entries;
 mod group;
+mod groups;
 mod index;
 mod kept;
 mod latest;

@@ -1,5 +1,5 @@
 //! Laws: functions without parameters that do nothing, whose contract states what the definitions of several layers imply together.
-ghost use Rattle.std.specs.Prelude.{◌≡◌, ℕ, IsTrue, List, Option, Some, true};
+ghost use Rattle.std.specs.Prelude.{◌≡◌, ℕ, IsTrue, List, None, Option, Some, true};
 ghost use Rattle.file_store.specs.Trees.{Tree};
 ghost use Rattle.file_store.specs.declared.node.Node.{Node};
 ghost use Rattle.folder_calls.specs.Shared.{CallerView, now};
@@ -49,3 +49,17 @@ pub fn files_cut_alike_are_the_same()
     ensures { (one other : List ℕ) (alike : AreCutAlike one other) →
         HasNoCollision alike.blocks one other → one ≡ other }
 {}
+
+/// What is alike under a name of two stores is nothing, directories, or files, and these have the same bytes where no block of the one
+/// has the digest of that of the other, and other bytes.
+pub fn what_is_alike_is_the_same()
+    ensures nothing { (other : Option Node) → AreAlike None other → other ≡ None }
+    ensures directories { (other : Option Node) → AreAlike (Some Node.Directory) other →
+        other ≡ Some Node.Directory }
+    ensures files { (bytes : List ℕ) (modified : ℕ) (other : Option Node) →
+        AreAlike (Some (Node.File bytes modified)) other →
+        (others : List ℕ) × (later : ℕ) × (other ≡ Some (Node.File others later))
+        × (alike : AreCutAlike bytes others) × (HasNoCollision alike.blocks bytes others → bytes ≡ others) }
+{
+    files_cut_alike_are_the_same();
+}
