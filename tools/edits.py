@@ -1,4 +1,4 @@
-"""What tools/kept_ci and tools/planted read alike: which function of a crate an edit changes."""
+"""What tools/rt_ci and tools/planted read alike: which function of a crate an edit changes."""
 import os
 import re
 from collections import namedtuple
@@ -57,22 +57,24 @@ def plain(words):
 
 
 def owners(code):
-    """The impls and traits of a file, as the spans of their bodies with the word that stands before their methods."""
+    """The impls and traits of a file, as the spans of their bodies with the word that stands before their methods and the type's name."""
     for found in re.finditer(r"^[ \t]*(?:pub(?:\([^)]*\))? )?(?:unsafe )?(impl|trait)\b([^{;]*)\{", code, flags=re.M):
         head = re.split(r"\bwhere\b", found[2])[0]
         if found[1] == "trait":
-            word = re.match(r"\s*(\w+)", head)[1]
+            word = kind = re.match(r"\s*(\w+)", head)[1]
         else:
             head = head.replace("->", "  ")
             while re.match(r"\s*<", head) and re.search(r"<[^<>]*>", head):
                 head = re.sub(r"<[^<>]*>", "", head)
             of, _, kind = head.rpartition(" for ")
-            word = plain(kind) + plain(of)
-        yield found.end() - 1, closing(code, found.end() - 1), word
+            kind = plain(kind)
+            word = kind + plain(of)
+        yield found.end() - 1, closing(code, found.end() - 1), word, kind
 
 
-def functions(crate, path, text):
-    """The functions with a body of a file of src/, each with the spans of its whole text and of its body."""
+def functions(crate, path, text, homes={}):
+    """The functions with a body of a file of src/, each with the spans of its whole text and of its body. A method has the module of its
+    file, or that which is given for its type."""
     code, module = masked(text), path[len("src/") : -len(".rt")].split("/")
     module = [it for it in module if it not in ("lib", "main", "mod")]
     spans = list(owners(code))
@@ -81,8 +83,26 @@ def functions(crate, path, text):
         start = body_at(code, found.end())
         if start is None or any(a < start < b for a, b in macros):
             continue
-        word = [word for a, b, word in spans if a < start < b]
-        yield Place(path, found.start(), closing(code, start), "::".join([crate, *module, *word, found[1]])), start
+        of = [(word, homes.get(kind) if homes.get(kind) is not None else module) for a, b, word, kind in spans if a < start < b]
+        at = [*of[-1][1], *(word for word, _ in of)] if of else module
+        yield Place(path, found.start(), closing(code, start), "::".join([crate, *at, found[1]])), start
+
+
+def names_of(crate, folder):
+    """The names by which checks call the crate's functions: a method has the module of the type or trait that it is of."""
+    files, homes = [], {}
+    for at, _, names in sorted(os.walk(f"{folder}/src")):
+        files += [os.path.relpath(f"{at}/{it}", folder) for it in sorted(names) if it.endswith(".rt")]
+    texts = {it: read(f"{folder}/{it}") for it in files}
+    for path, text in texts.items():
+        module = [it for it in path[len("src/") : -len(".rt")].split("/") if it not in ("lib", "main", "mod")]
+        for found in re.finditer(r"\b(?:struct|enum|trait)\s+(\w+)", masked(text)):
+            homes[found[1]] = None if found[1] in homes else module
+    made = set()
+    for path, text in texts.items():
+        for it, _ in functions(crate, path, text, homes):
+            made.add(it.name)
+    return made
 
 
 def function_at(crate, path, text, start, end):

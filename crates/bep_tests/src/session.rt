@@ -1,8 +1,6 @@
-//! Sessions over frames made by hand from the protocol's rules, and over streams of a real peer. Each call is made once: out of
+//! Sessions over frames made by hand from the protocol's rules; streams of a real peer are in `tools/reader_runs`. Each call is made once: out of
 //! memory ends a test, and if it was in `feed`, the session must have ended.
 mod asks;
-mod docs;
-mod graves;
 mod streams;
 mod ticks;
 
@@ -23,7 +21,7 @@ pub(crate) const REQUEST: [u8; 18] = [
 ];
 
 /// An event in short: its kind, and one number of it.
-pub(crate) type Sign = (char, usize);
+type Sign = (char, usize);
 
 fn id(id: i32) -> usize {
     usize::try_from(id).unwrap_or(usize::MAX)

@@ -8,8 +8,6 @@ ghost use Rattle.clap.specs.Words.{app_of, kind_of, rule_of, subcommand_rows_of}
 mod new_help;
 mod pair_help;
 mod run_help;
-#[cfg(test)]
-mod tests;
 
 use clap::error::ErrorKind;
 use clap::{Arg, ArgAction, ArgMatches, Command, Error};

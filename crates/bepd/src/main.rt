@@ -10,8 +10,6 @@ mod listing;
 mod playing;
 mod received;
 mod run;
-#[cfg(test)]
-mod tests;
 
 use bepd_run::{Disks, Progress};
 use run::run;

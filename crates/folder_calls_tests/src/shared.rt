@@ -1,4 +1,4 @@
-//! A folder that callers share: passes that meet, the check of its history, and workers that call it by a pass of their own.
+//! A folder that callers share: passes that meet, and the check of its history.
 ghost use Rattle.std.specs.Prelude.{◌≡◌, ◌<◌, ℕ, length};
 ghost use mathlib.Core.Option.{some};
 ghost use lib.ListN.{get_elem?};
@@ -7,17 +7,13 @@ ghost use Rattle.folder_shared.specs.Passes.{IsPassOf};
 
 use crate::copied_once::CopiedOnce;
 use crate::limits::{begins, enter_commit, finishes_when_full};
-use crate::pulls::{offers, pulls};
-use crate::values::{announces, device, directory, moment, name, scanned_as};
-use crate::{Pulled, begin_and_give_up, record_over};
+use crate::values::{announces, device, directory, moment, name};
 use folder_calls::{At, EnterRefusal, FolderCalls};
 use folder_core::{FolderCore, PlainFolder, ScanAnswer};
 use folder_shared::{Member, Pass, SharedFolder};
-use index_sender::{IndexSender, Page};
 use std::alloc::AllocError;
 use std::process::Abort;
 use std::sync::Wait;
-use sync_record::Record;
 
 #[test]
 fn is_known_after_a_meeting(rt: HostRuntime) {
@@ -91,51 +87,6 @@ fn is_not_verified<C: FolderCore + Drop, R: Abort + Wait>(rt: &R, folder: &Share
     let mut pass = given(rt, folder);
     assert_eq!(rt; folder.verify(rt, &mut pass), Err(AllocError));
     assert_eq!(rt; pass.seen(), 0);
-}
-
-#[test]
-fn workers_do_their_work(rt: HostRuntime) {
-    let folder = shared(&rt, 9);
-    let mut pass = three_work(&rt, &folder, given(&rt, &folder));
-    assert_eq!(rt; pass.seen(), 5);
-    assert_eq!(rt; folder.counts(&rt, &mut pass).at, 5);
-}
-
-/// Each worker that is proved over any `FolderCalls`, over a member. The pass that it gives back has seen what was done.
-fn three_work<C: FolderCore + Drop, R: AllocGlobal + Abort + Wait>(
-    rt: &R,
-    folder: &SharedFolder<C>,
-    pass: Pass<C>,
-) -> Pass<C>
-    requires { IsPassOf folder.now.locked pass }
-    ensures { IsPassOf folder.now.locked result }
-{
-    let mut member = Member::new(folder, rt, pass);
-    offers(rt, &mut member);
-    assert_eq!(rt; pulls(rt, &mut member, "x", b"abc"), Pulled::Done(1));
-    let name = name(rt, "y");
-    match record_over(&mut member, &name, &directory(), moment(rt)) {
-        Ok(answer) => assert_eq!(rt; scanned_as(answer), ("Recorded", 2)),
-        Err(_) => panic!(rt; "OutOfMemory"),
-    }
-    match IndexSender::new(None)
-        .next_page(&mut member)
-        .expect(rt, "a page")
-    {
-        Page::Index(records) => are(rt, records.as_slice(), &[("x", 1), ("y", 2)]),
-        _ => panic!(rt; "no Index"),
-    }
-    assert_eq!(rt; begin_and_give_up(&mut member, &name), Ok(None));
-    member.into_pass()
-}
-
-/// Compares names and sequences.
-fn are(rt: &impl Abort, given: &[Record], expected: &[(&str, u64)]) {
-    assert_eq!(rt; given.len(), expected.len());
-    for (record, (name, sequence)) in given.iter().zip(expected) {
-        assert_eq!(rt; record.name().as_str(), *name);
-        assert_eq!(rt; record.sequence(), *sequence);
-    }
 }
 
 #[test]

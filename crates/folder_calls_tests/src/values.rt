@@ -85,7 +85,7 @@ pub(crate) fn scans<W: FolderCalls>(
 }
 
 /// The name of a scan's answer, and the sequence if it is recorded.
-pub(crate) fn scanned_as(answer: Result<ScanAnswer, ScanRefusal>) -> (&'static str, u64) {
+fn scanned_as(answer: Result<ScanAnswer, ScanRefusal>) -> (&'static str, u64) {
     match answer {
         Ok(ScanAnswer::Recorded(sequence)) => ("Recorded", sequence),
         Ok(ScanAnswer::Unchanged) => ("Unchanged", 0),

@@ -1,2 +1,0 @@
-pub mod Pulling
-pub mod Recording
