@@ -6,10 +6,6 @@
 #[cfg(test)]
 mod begun;
 #[cfg(test)]
-mod beside;
-#[cfg(test)]
-mod indexer;
-#[cfg(test)]
 mod long;
 #[cfg(test)]
 mod queue;
