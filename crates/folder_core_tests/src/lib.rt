@@ -15,8 +15,6 @@ mod index;
 #[cfg(test)]
 mod local;
 #[cfg(test)]
-mod memory;
-#[cfg(test)]
 mod pulls;
 #[cfg(test)]
 mod reads;
@@ -28,5 +26,3 @@ mod rows;
 mod runs;
 #[cfg(test)]
 mod scans;
-#[cfg(test)]
-mod values;

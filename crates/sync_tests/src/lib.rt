@@ -4,10 +4,6 @@
 #![tactic(auto)]
 
 #[cfg(test)]
-mod blocks;
-#[cfg(test)]
 mod names;
 #[cfg(test)]
 mod records;
-#[cfg(test)]
-mod version;
