@@ -6,8 +6,6 @@
 #[cfg(test)]
 mod copied_once;
 #[cfg(test)]
-mod every;
-#[cfg(test)]
 mod limits;
 #[cfg(test)]
 mod mixed;
