@@ -96,12 +96,14 @@ class Store:
             return None
 
     def load_built(self, number):
+        """Returns what was built, by its sum, or None where it is damaged or gone."""
         file = f"{STORE}/built/{number}"
-        data = read(file)
-        if sum_of(data) != number:
+        try:
+            data = read(file)
+            os.utime(file)
+        except OSError:
             return None
-        os.utime(file)
-        return data
+        return data if sum_of(data) == number else None
 
     def save(self, key, step, data, **entry):
         """Keeps a step that has passed, with what it built."""
