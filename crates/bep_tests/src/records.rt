@@ -462,13 +462,14 @@ fn a_file_is_put_together(rt: HostRuntime) -> Result<(), Fail> {
 fn plain_targets_need_no_blocks(rt: HostRuntime) -> Result<(), Fail> {
     for fields in [b"\x30\x01", b"\x10\x01"] {
         let target = read(rt.alloc(), fields)?;
-        if !target.is_deleted() && target.kind() != Kind::Directory {
+        if target.is_deleted() || target.kind() == Kind::Directory {
+            let plain = Assembled::plain(target);
+            let copied = plain.copy()?;
+            assert!(rt; copied == plain);
+            assert_eq!(rt; plain.into_target().name().as_str(), "x");
+        } else {
             return Err(Fail::from("it is neither"));
         }
-        let plain = Assembled::plain(target);
-        let copied = plain.copy()?;
-        assert!(rt; copied == plain);
-        assert_eq!(rt; plain.into_target().name().as_str(), "x");
     }
     Ok(())
 }

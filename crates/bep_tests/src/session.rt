@@ -7,10 +7,12 @@ use std::process::Abort;
 use std::test::Fail;
 use sync_version::Moment;
 
+const HELLO: [u8; 9] = *b"\x2e\xa7\xd9\x0b\x00\x03\x0a\x01a";
+
 /// A Hello, and a ClusterConfig without folders.
 const BEGUN: &[u8] = b"\x2e\xa7\xd9\x0b\x00\x03\x0a\x01a\0\0\0\0\0\0";
 
-const PING: &[u8] = b"\x00\x02\x08\x06\0\0\0\0";
+const PING: [u8; 8] = *b"\x00\x02\x08\x06\0\0\0\0";
 
 const REQUEST: &[u8] = b"\x00\x02\x08\x03\0\0\0\x0a\x08\x01\x12\x01f\x1a\x01a\x28\x03";
 
@@ -60,7 +62,7 @@ fn expect_of(
 #[test]
 fn messages_of_a_session(rt: HostRuntime) -> Result<(), Fail> {
     let table: [(&[u8], &str, bool); 8] = [
-        (PING, "[]", false),
+        (&PING, "[]", false),
         (b"\x00\x02\x08\x05\0\0\0\0", "[]", false),
         (b"\x00\x02\x08\x08\0\0\0\x01\xff", "[Skipped(8)]", false),
         // Responses that were never asked for; the second has no id.
@@ -98,17 +100,24 @@ fn messages_of_a_session(rt: HostRuntime) -> Result<(), Fail> {
 #[test]
 fn a_session_begins(rt: HostRuntime) -> Result<(), Fail> {
     let mut session = fed(&rt, &[])?;
-    for byte in 0..8 {
-        expect(&rt, &mut session, &BEGUN[byte..byte + 1], 0, "[]")?;
+    let (front, last) = HELLO.split_at(8);
+    for byte in front {
+        expect(&rt, &mut session, &[*byte], 0, "[]")?;
     }
     let hello =
         r#"[PeerHello(Hello { device_name: Text { text: "a" }, client_name: Text { text: "" }, client_version: Text { text: "" } })]"#;
-    expect(&rt, &mut session, &BEGUN[8..9], 0, hello)?;
+    expect(&rt, &mut session, last, 0, hello)?;
     let unknown = b"\x00\x02\x08\x08\0\0\0\x01\xff";
     expect(&rt, &mut session, unknown, 0, "[Skipped(8)]")?;
-    expect(&rt, &mut session, PING, 0, "[Ended(NotClusterConfigFirst)]")?;
+    expect(
+        &rt,
+        &mut session,
+        &PING,
+        0,
+        "[Ended(NotClusterConfigFirst)]",
+    )?;
     expect(&rt, &mut session, REQUEST, 0, "[]")?;
-    let mut session = fed(&rt, &BEGUN[..9])?;
+    let mut session = fed(&rt, &HELLO)?;
     let close = b"\x00\x02\x08\x07\0\0\0\x03\x0a\x01x";
     expect(
         &rt,
@@ -201,12 +210,13 @@ fn time_passes(rt: HostRuntime) -> Result<(), Fail> {
     ];
     assert_eq!(rt;
         (out.as_slice(), found),
-        (PING, [nothing, nothing, timed_out])
+        (PING.as_slice(), [nothing, nothing, timed_out])
     );
     let mut session = fed(&rt, BEGUN)?;
-    expect(&rt, &mut session, &PING[..4], 100, "[]")?;
+    let (front, after) = PING.split_at(4);
+    expect(&rt, &mut session, front, 100, "[]")?;
     let half = session.tick(at(&rt, 300));
-    expect(&rt, &mut session, &PING[4..], 200, "[]")?;
+    expect(&rt, &mut session, after, 200, "[]")?;
     let found = [half, session.tick(at(&rt, 499)), session.tick(at(&rt, 500))];
     assert_eq!(rt; found, [timed_out, ping_due, timed_out]);
     Ok(())
