@@ -1,399 +1,210 @@
-//! Bytes made by hand from the protocol's tables. Each call is made once: out of memory ends a test.
+//! Bytes made by hand from the protocol's tables, with what the message that they are shows for each field (its derived `Debug`).
+//! Each call is made once: out of memory ends a test.
 use bep_messages::{
     BlockInfo, Close, ClusterConfig, Copied, Counter, Device, DownloadProgress, FileInfo, Folder,
-    Header, Hello, Index, IndexUpdate, MessageFault, Ping, ProtoMessage, Request, Response, Text,
-    Vector,
+    Header, Hello, Index, IndexUpdate, MessageFault, Ping, ProtoMessage, Request, Response, Vector,
 };
 use bep_wire::WireFault;
+use std::fmt::Debug;
 use std::process::Abort;
 use std::test::Fail;
 
-/// Encodes after a byte that is there already.
-fn expect_form<R: Abort + AllocGlobal, M: ProtoMessage>(
-    rt: &R,
-    message: &M,
-    form: &[u8],
-) -> Result<(), Fail> {
-    let mut out = Vec::new(rt.alloc());
-    out.push(7)?;
-    message.encode(&mut out)?;
-    let (front, written) = out.as_slice().split_at(out.len().min(1));
-    expect_octets(rt, front, &[7]);
-    expect_octets(rt, written, form);
-    Ok(())
-}
-
 /// The bytes are a message whose written form, and that of its copy, are the other bytes.
-fn written_as<R: Abort + AllocGlobal, M: ProtoMessage + Copied>(
-    rt: &R,
+fn written<M: ProtoMessage + Copied>(
+    rt: &(impl Abort + AllocGlobal),
     bytes: &[u8],
     form: &[u8],
 ) -> Result<M, Fail> {
     let message = M::decode(rt.alloc(), bytes)?;
-    expect_form(rt, &message, form)?;
-    expect_form(rt, &message.copy()?, form)?;
+    let mut out = vec![in rt.alloc(); 7u8; 1]?;
+    message.encode(&mut out)?;
+    message.copy()?.encode(&mut out)?;
+    let (written, copied) = out.split_at(out.len().min(form.len() + 1));
+    assert_eq!(rt;
+        (written.get(1..), copied),
+        (Some(form), form),
+        "of {bytes:?}"
+    );
     Ok(message)
 }
 
-/// The bytes are the written form of a message.
-fn both_ways<R: Abort + AllocGlobal, M: ProtoMessage + Copied>(
-    rt: &R,
-    bytes: &[u8],
-) -> Result<M, Fail> {
-    written_as(rt, bytes, bytes)
-}
-
-/// As `written_as`, of a message whose values don't matter.
-fn expect_written<M: ProtoMessage + Copied, R: Abort + AllocGlobal>(
-    rt: &R,
+/// The bytes are a message that shows so, with this written form.
+fn expect<M: ProtoMessage + Copied + Debug>(
+    rt: &(impl Abort + AllocGlobal),
     bytes: &[u8],
     form: &[u8],
+    shown: &str,
 ) -> Result<(), Fail> {
-    let _: M = written_as(rt, bytes, form)?;
+    let message = written::<M>(rt, bytes, form)?;
+    assert_eq!(rt; format!(in rt.alloc(); "{message:?}")?.as_str(), shown);
     Ok(())
 }
 
-fn expect_text(rt: &impl Abort, found: &Text, expected: &str) {
-    assert_eq!(rt; found.as_str(), expected);
-}
-
-fn expect_octets(rt: &impl Abort, found: &[u8], expected: &[u8]) {
-    assert_eq!(rt; found, expected);
-}
-
-fn expect_fault<M: ProtoMessage, R: Abort + AllocGlobal>(
-    rt: &R,
+/// As `expect`, where the bytes are the written form.
+fn expect_form<M: ProtoMessage + Copied + Debug>(
+    rt: &(impl Abort + AllocGlobal),
     bytes: &[u8],
-    fault: MessageFault,
-) {
-    match M::decode(rt.alloc(), bytes) {
-        Err(found) => assert_eq!(rt; found, fault, "{bytes:?}"),
-        Ok(_) => panic!(rt; "a message of {bytes:?}"),
-    }
+    shown: &str,
+) -> Result<(), Fail> {
+    expect::<M>(rt, bytes, bytes, shown)
 }
 
-const ALL_ONES: [u8; 10] = [0xff, 0xff, 0xff, 0xff, 0xff, 0xff, 0xff, 0xff, 0xff, 0x01];
+const HELLO: &str =
+    r#"Hello { device_name: Text { text: "a" }, client_name: Text { text: "bepd" }, client_version: Text { text: "v1" } }"#;
 
-#[test]
-fn file_with_another_name(rt: HostRuntime) -> Result<(), Fail> {
-    // Name "b" takes the place of "a", and field 30 is skipped.
-    let bytes = [
-        0x0a, 0x01, 0x61, 0xf0, 0x01, 0x05, 0x0a, 0x01, 0x62, 0x18, 0x03,
-    ];
-    let file: FileInfo = written_as(&rt, &bytes, &[0x0a, 0x01, 0x62, 0x18, 0x03])?;
-    expect_text(&rt, &file.name, "b");
-    assert_eq!(rt; file.size, 3);
-    Ok(())
-}
+const REQUEST: &str =
+    r#"Request { id: 1, folder: Text { text: "f" }, name: Text { text: "a" }, offset: 131072, size: 3, hash: ShortOctets { bytes: [9] }, from_temporary: true }"#;
+
+const RESPONSE: &str = "Response { id: 1, payload: Octets { bytes: [97, 98, 99] }, code: 2 }";
 
 #[test]
-fn file_with_a_negative_sequence(rt: HostRuntime) -> Result<(), Fail> {
-    let bytes = [
-        0x50, 0xff, 0xff, 0xff, 0xff, 0xff, 0xff, 0xff, 0xff, 0xff, 0x01,
-    ];
-    let file: FileInfo = both_ways(&rt, &bytes)?;
-    assert_eq!(rt; file.sequence, -1);
-    Ok(())
+fn messages(rt: HostRuntime) -> Result<(), Fail> {
+    expect_form::<Hello>(&rt, b"\x0a\x01a\x12\x04bepd\x1a\x02v1", HELLO)?;
+    let header = "Header { kind: 3, compression: 1 }";
+    expect_form::<Header>(&rt, b"\x08\x03\x10\x01", header)?;
+    let request = b"\x08\x01\x12\x01f\x1a\x01a\x20\x80\x80\x08\x28\x03\x32\x01\x09\x38\x01";
+    expect_form::<Request>(&rt, request, REQUEST)?;
+    expect_form::<Response>(&rt, b"\x08\x01\x12\x03abc\x18\x02", RESPONSE)?;
+    let close = r#"Close { reason: Text { text: "x" } }"#;
+    expect_form::<Close>(&rt, b"\x0a\x01x", close)?;
+    expect::<Ping>(&rt, b"\x08\x01", b"", "Ping")?;
+    let progress = b"\x0a\x01f\x12\x02\x08\x01";
+    expect::<DownloadProgress>(&rt, progress, b"", "DownloadProgress")
 }
 
+/// An enum keeps any number, also a negative one, which is written in ten bytes.
 #[test]
-fn file_with_two_versions(rt: HostRuntime) -> Result<(), Fail> {
-    // A version that occurs twice has the counters of both.
-    let bytes = [
-        0x4a, 0x06, 0x0a, 0x04, 0x08, 1, 0x10, 2, 0x4a, 0x04, 0x0a, 0x02, 0x08, 3,
-    ];
-    let form = [
-        0x4a, 0x0a, 0x0a, 0x04, 0x08, 1, 0x10, 2, 0x0a, 0x02, 0x08, 3,
-    ];
-    let file: FileInfo = written_as(&rt, &bytes, &form)?;
-    assert_eq!(rt; file.version.counters.as_slice().len(), 2);
-    Ok(())
+fn headers_with_a_negative_type(rt: HostRuntime) -> Result<(), Fail> {
+    let form = b"\x08\xff\xff\xff\xff\xff\xff\xff\xff\xff\x01";
+    let shown = "Header { kind: -1, compression: 0 }";
+    expect_form::<Header>(&rt, form, shown)?;
+    expect::<Header>(&rt, b"\x08\xff\xff\xff\xff\x0f", form, shown)
 }
+
+/// Folder "f" with one device that has no id, and index_id 1.
+const CONFIG: &str =
+    r#"ClusterConfig { folders: Items { items: [Folder { id: Text { text: "f" }, label: Text { text: "" }, read_only: false, ignore_permissions: false, ignore_delete: false, disable_temp_indexes: false, paused: false, devices: Items { items: [Device { id: Octets { bytes: [] }, name: Text { text: "" }, addresses: Items { items: [] }, compression: 0, cert_name: Text { text: "" }, max_sequence: 0, introducer: false, index_id: 1, skip_introduction_removals: false }] } }] } }"#;
+
+/// Folder "f", and another one without a field.
+const TWO_FOLDERS: &str =
+    r#"ClusterConfig { folders: Items { items: [Folder { id: Text { text: "f" }, label: Text { text: "" }, read_only: false, ignore_permissions: false, ignore_delete: false, disable_temp_indexes: false, paused: false, devices: Items { items: [] } }, Folder { id: Text { text: "" }, label: Text { text: "" }, read_only: false, ignore_permissions: false, ignore_delete: false, disable_temp_indexes: false, paused: false, devices: Items { items: [] } }] } }"#;
+
+const FOLDER: &str =
+    r#"Folder { id: Text { text: "f" }, label: Text { text: "l" }, read_only: true, ignore_permissions: true, ignore_delete: true, disable_temp_indexes: true, paused: true, devices: Items { items: [Device { id: Octets { bytes: [] }, name: Text { text: "n" }, addresses: Items { items: [] }, compression: 0, cert_name: Text { text: "" }, max_sequence: 0, introducer: false, index_id: 0, skip_introduction_removals: false }] } }"#;
+
+const DEVICE: &str =
+    r#"Device { id: Octets { bytes: [1, 2] }, name: Text { text: "n" }, addresses: Items { items: [Text { text: "x" }, Text { text: "" }] }, compression: 1, cert_name: Text { text: "c" }, max_sequence: 300, introducer: true, index_id: 18446744073709551615, skip_introduction_removals: true }"#;
+
+#[test]
+fn configs(rt: HostRuntime) -> Result<(), Fail> {
+    expect_form::<ClusterConfig>(&rt, b"\x0a\x08\x0a\x01f\x82\x01\x02\x40\x01", CONFIG)?;
+    expect_form::<ClusterConfig>(&rt, b"\x0a\x03\x0a\x01f\x0a\x00", TWO_FOLDERS)?;
+    let folder = b"\x0a\x01f\x12\x01l\x18\x01\x20\x01\x28\x01\x30\x01\x38\x01\x82\x01\x03\x12\x01n";
+    expect_form::<Folder>(&rt, folder, FOLDER)?;
+    let device =
+        b"\x0a\x02\x01\x02\x12\x01n\x1a\x01x\x1a\x00\x20\x01\x2a\x01c\x30\xac\x02\x38\x01\x40\xff\xff\xff\xff\xff\xff\xff\xff\xff\x01\x48\x01";
+    expect_form::<Device>(&rt, device, DEVICE)
+}
+
+/// Each field.
+const FILE: &str =
+    r#"FileInfo { name: Text { text: "a" }, kind: 4, size: 3, permissions: 420, modified_s: -1, deleted: true, invalid: true, no_permissions: true, version: Vector { counters: Items { items: [Counter { id: 1, value: 2 }] } }, sequence: 5, modified_ns: -1, modified_by: 7, block_size: 131072, blocks: Items { items: [BlockInfo { offset: 0, size: 3, hash: ShortOctets { bytes: [] } }, BlockInfo { offset: 0, size: 0, hash: ShortOctets { bytes: [] } }] }, symlink_target: Octets { bytes: [116] } }"#;
+
+/// Name "b", size 3, sequence -1.
+const SHORT_FILE: &str =
+    r#"FileInfo { name: Text { text: "b" }, kind: 0, size: 3, permissions: 0, modified_s: 0, deleted: false, invalid: false, no_permissions: false, version: Vector { counters: Items { items: [] } }, sequence: -1, modified_ns: 0, modified_by: 0, block_size: 0, blocks: Items { items: [] }, symlink_target: Octets { bytes: [] } }"#;
 
 #[test]
 fn files(rt: HostRuntime) -> Result<(), Fail> {
-    // A version without counters isn't written.
-    expect_written::<FileInfo, _>(&rt, &[0x4a, 0x00], &[])?;
-    // A size under wire type 2 and a name under wire type 0 are unknown fields.
-    let bytes = [0x1a, 0x01, 0x05, 0x08, 0x07, 0x18, 0x02];
-    expect_written::<FileInfo, _>(&rt, &bytes, &[0x18, 0x02])?;
+    let file =
+        b"\x0a\x01a\x10\x04\x18\x03\x20\xa4\x03\x28\xff\xff\xff\xff\xff\xff\xff\xff\xff\x01\x30\x01\x38\x01\x40\x01\x4a\x06\x0a\x04\x08\x01\x10\x02\x50\x05\x58\xff\xff\xff\xff\xff\xff\xff\xff\xff\x01\x60\x07\x68\x80\x80\x08\x82\x01\x02\x10\x03\x82\x01\x00\x8a\x01\x01t";
+    expect_form::<FileInfo>(&rt, file, FILE)?;
+    // Name "b" takes the place of "a", and field 30 is skipped, as are a size under wire type 2 and a name under wire type 0.
+    let file =
+        b"\x0a\x01a\xf0\x01\x05\x0a\x01b\x18\x03\x1a\x01\x05\x08\x07\x50\xff\xff\xff\xff\xff\xff\xff\xff\xff\x01";
+    let form = b"\x0a\x01b\x18\x03\x50\xff\xff\xff\xff\xff\xff\xff\xff\xff\x01";
+    expect::<FileInfo>(&rt, file, form, SHORT_FILE)?;
+    // A version without counters isn't written, and one that occurs twice has the counters of both.
+    written::<FileInfo>(&rt, b"\x4a\x00", b"")?;
+    let twice = b"\x4a\x06\x0a\x04\x08\x01\x10\x02\x4a\x04\x0a\x02\x08\x03";
+    let form = b"\x4a\x0a\x0a\x04\x08\x01\x10\x02\x0a\x02\x08\x03";
+    written::<FileInfo>(&rt, twice, form)?;
     // Any nonzero varint is true, and 32 bits are kept of a greater number.
-    let bytes = [0x30, 0x02, 0x20, 0x81, 0x80, 0x80, 0x80, 0x10];
-    expect_written::<FileInfo, _>(&rt, &bytes, &[0x20, 0x01, 0x30, 0x01])
-}
-
-#[test]
-fn file_with_every_field(rt: HostRuntime) -> Result<(), Fail> {
-    let bytes = [
-        0x0a, 0x01, 0x61, 0x10, 0x04, 0x18, 0x03, 0x20, 0xa4, 0x03, 0x28, 0xff, 0xff, 0xff, 0xff,
-        0xff, 0xff, 0xff, 0xff, 0xff, 0x01, 0x30, 0x01, 0x38, 0x01, 0x40, 0x01, 0x4a, 0x06, 0x0a,
-        0x04, 0x08, 0x01, 0x10, 0x02, 0x50, 0x05, 0x58, 0xff, 0xff, 0xff, 0xff, 0xff, 0xff, 0xff,
-        0xff, 0xff, 0x01, 0x60, 0x07, 0x68, 0x80, 0x80, 0x08, 0x82, 0x01, 0x02, 0x10, 0x03, 0x82,
-        0x01, 0x00, 0x8a, 0x01, 0x01, 0x74,
-    ];
-    let file: FileInfo = both_ways(&rt, &bytes)?;
-    expect_every_field(&rt, &file);
-    Ok(())
-}
-
-fn expect_every_field(rt: &impl Abort, file: &FileInfo) {
-    expect_text(rt, &file.name, "a");
-    assert_eq!(rt; (file.kind, file.size, file.permissions), (4, 3, 0o644));
-    assert_eq!(rt;
-        (file.modified_s, file.modified_ns, file.modified_by),
-        (-1, -1, 7)
-    );
-    assert!(rt; file.deleted && file.invalid && file.no_permissions);
-    assert_eq!(rt; (file.sequence, file.block_size), (5, 131_072));
-    expect_counters(rt, file.version.counters.as_slice());
-    expect_blocks(rt, file.blocks.as_slice());
-    expect_octets(rt, file.symlink_target.as_slice(), b"t");
-}
-
-fn expect_counters(rt: &impl Abort, counters: &[Counter]) {
-    assert_eq!(rt; counters.len(), 1);
-    assert_eq!(rt; (counters[0].id, counters[0].value), (1, 2));
-}
-
-fn expect_blocks(rt: &impl Abort, blocks: &[BlockInfo]) {
-    assert_eq!(rt; blocks.len(), 2);
-    assert_eq!(rt;
-        (blocks[0].offset, blocks[0].size, blocks[1].size),
-        (0, 3, 0)
-    );
-}
-
-#[test]
-fn hello(rt: HostRuntime) -> Result<(), Fail> {
-    let hello: Hello = both_ways(&rt, b"\x0a\x01a\x12\x04bepd\x1a\x02v1")?;
-    expect_text(&rt, &hello.device_name, "a");
-    expect_text(&rt, &hello.client_name, "bepd");
-    expect_text(&rt, &hello.client_version, "v1");
+    let greater = b"\x30\x02\x20\x81\x80\x80\x80\x10";
+    written::<FileInfo>(&rt, greater, b"\x20\x01\x30\x01")?;
     Ok(())
 }
 
 #[test]
-fn header(rt: HostRuntime) -> Result<(), Fail> {
-    let header: Header = both_ways(&rt, &[0x08, 0x03, 0x10, 0x01])?;
-    assert_eq!(rt; (header.kind, header.compression), (3, 1));
-    Ok(())
-}
-
-#[test]
-fn header_with_a_negative_type(rt: HostRuntime) -> Result<(), Fail> {
-    // An enum keeps any number, also a negative one, which is written in ten bytes.
-    let mut bytes = [0x08u8; 11];
-    bytes[1..].copy_from_slice(&ALL_ONES);
-    let header: Header = both_ways(&rt, &bytes)?;
-    assert_eq!(rt; header.kind, -1);
-    let header: Header = written_as(&rt, &[0x08, 0xff, 0xff, 0xff, 0xff, 0x0f], &bytes)?;
-    assert_eq!(rt; header.kind, -1);
-    Ok(())
-}
-
-#[test]
-fn counter(rt: HostRuntime) -> Result<(), Fail> {
-    let bytes = [
-        0x08, 0x01, 0x10, 0x80, 0x80, 0x80, 0x80, 0x80, 0x80, 0x80, 0x80, 0x80, 0x01,
-    ];
-    let counter: Counter = both_ways(&rt, &bytes)?;
-    assert_eq!(rt; (counter.id, counter.value), (1, 1 << 63));
-    Ok(())
-}
-
-#[test]
-fn vector(rt: HostRuntime) -> Result<(), Fail> {
-    let vector: Vector = both_ways(&rt, &[0x0a, 0x04, 0x08, 0x01, 0x10, 0x02, 0x0a, 0x00])?;
-    assert_eq!(rt; vector.counters.as_slice().len(), 2);
-    Ok(())
-}
-
-#[test]
-fn close(rt: HostRuntime) -> Result<(), Fail> {
-    let close: Close = both_ways(&rt, b"\x0a\x01x")?;
-    expect_text(&rt, &close.reason, "x");
-    Ok(())
-}
-
-#[test]
-fn messages_without_fields(rt: HostRuntime) -> Result<(), Fail> {
-    expect_written::<Ping, _>(&rt, &[0x08, 0x01], &[])?;
-    expect_written::<DownloadProgress, _>(&rt, b"\x0a\x01f\x12\x02\x08\x01", &[])
-}
-
-#[test]
-fn blocks(rt: HostRuntime) -> Result<(), Fail> {
+fn parts_of_files(rt: HostRuntime) -> Result<(), Fail> {
+    let counter = "Counter { id: 1, value: 9223372036854775808 }";
+    let bytes = b"\x08\x01\x10\x80\x80\x80\x80\x80\x80\x80\x80\x80\x01";
+    expect_form::<Counter>(&rt, bytes, counter)?;
+    let vector =
+        "Vector { counters: Items { items: [Counter { id: 1, value: 2 }, Counter { id: 0, value: 0 }] } }";
+    let bytes = b"\x0a\x04\x08\x01\x10\x02\x0a\x00";
+    expect_form::<Vector>(&rt, bytes, vector)?;
     // A digest of 32 bytes, and one of 33, which needs memory of its own.
-    for len in [32usize, 33] {
-        let mut bytes = [0xabu8; 41];
-        bytes[..8].copy_from_slice(&[0x08, 0x80, 0x80, 0x08, 0x10, 0x01, 0x1a, len as u8]);
-        let block: BlockInfo = both_ways(&rt, &bytes[..8 + len])?;
-        assert_eq!(rt; (block.offset, block.size), (131_072, 1));
-        assert_eq!(rt; block.hash.as_slice(), &bytes[8..8 + len]);
+    let digests: [&[u8]; 2] = [&[0xab; 32], &[0xab; 33]];
+    for digest in digests {
+        let mut bytes = Vec::from_slice(rt.alloc(), b"\x08\x80\x80\x08\x10\x01\x1a")?;
+        bytes.push(u8::try_from(digest.len()).unwrap_or(0))?;
+        bytes.extend_from_slice(digest)?;
+        let block = format!(in rt.alloc();
+            "BlockInfo {{ offset: 131072, size: 1, hash: ShortOctets {{ bytes: {digest:?} }} }}"
+        )?;
+        expect_form::<BlockInfo>(&rt, &bytes, block.as_str())?;
     }
     Ok(())
 }
 
-#[test]
-fn cluster_config(rt: HostRuntime) -> Result<(), Fail> {
-    // Folder "f" with one device that has no id, and index_id 1.
-    let bytes = [0x0a, 0x08, 0x0a, 0x01, 0x66, 0x82, 0x01, 0x02, 0x40, 0x01];
-    let config: ClusterConfig = both_ways(&rt, &bytes)?;
-    assert_eq!(rt; config.folders.as_slice().len(), 1);
-    let folder = &config.folders.as_slice()[0];
-    expect_text(&rt, &folder.id, "f");
-    assert_eq!(rt; folder.devices.as_slice().len(), 1);
-    let device = &folder.devices.as_slice()[0];
-    assert_eq!(rt; (device.id.as_slice().len(), device.index_id), (0, 1));
-    let bytes = [0x0a, 0x03, 0x0a, 0x01, 0x66, 0x0a, 0x00];
-    expect_written::<ClusterConfig, _>(&rt, &bytes, &bytes)
-}
-
-#[test]
-fn folder(rt: HostRuntime) -> Result<(), Fail> {
-    let bytes = [
-        0x0a, 0x01, 0x66, 0x12, 0x01, 0x6c, 0x18, 0x01, 0x20, 0x01, 0x28, 0x01, 0x30, 0x01, 0x38,
-        0x01, 0x82, 0x01, 0x03, 0x12, 0x01, 0x6e,
-    ];
-    let folder: Folder = both_ways(&rt, &bytes)?;
-    expect_text(&rt, &folder.label, "l");
-    assert!(rt; folder.read_only && folder.ignore_permissions && folder.ignore_delete);
-    assert!(rt; folder.disable_temp_indexes && folder.paused);
-    Ok(())
-}
-
-#[test]
-fn device(rt: HostRuntime) -> Result<(), Fail> {
-    let bytes = [
-        0x0a, 0x02, 0x01, 0x02, 0x12, 0x01, 0x6e, 0x1a, 0x01, 0x78, 0x1a, 0x00, 0x20, 0x01, 0x2a,
-        0x01, 0x63, 0x30, 0xac, 0x02, 0x38, 0x01, 0x40, 0xff, 0xff, 0xff, 0xff, 0xff, 0xff, 0xff,
-        0xff, 0xff, 0x01, 0x48, 0x01,
-    ];
-    let device: Device = both_ways(&rt, &bytes)?;
-    expect_octets(&rt, device.id.as_slice(), &[1, 2]);
-    expect_text(&rt, &device.name, "n");
-    expect_addresses(&rt, device.addresses.as_slice());
-    expect_text(&rt, &device.cert_name, "c");
-    assert_eq!(rt;
-        (device.compression, device.max_sequence, device.index_id),
-        (1, 300, u64::MAX)
-    );
-    assert!(rt; device.introducer && device.skip_introduction_removals);
-    Ok(())
-}
-
-fn expect_addresses(rt: &impl Abort, addresses: &[Text]) {
-    assert_eq!(rt; addresses.len(), 2);
-    expect_text(rt, &addresses[0], "x");
-    expect_text(rt, &addresses[1], "");
-}
-
 /// Folder "f", and two files.
-const TWO_FILES: [u8; 10] = [0x0a, 0x01, 0x66, 0x12, 0x03, 0x0a, 0x01, 0x61, 0x12, 0x00];
+const TWO_FILES: &[u8] = b"\x0a\x01f\x12\x03\x0a\x01a\x12\x00";
 
 #[test]
-fn index(rt: HostRuntime) -> Result<(), Fail> {
-    let index: Index = both_ways(&rt, &TWO_FILES)?;
-    expect_text(&rt, &index.folder, "f");
-    assert_eq!(rt; index.files.as_slice().len(), 2);
+fn indexes(rt: HostRuntime) -> Result<(), Fail> {
+    let index: Index = written(&rt, TWO_FILES, TWO_FILES)?;
+    assert_eq!(rt;
+        (index.folder.as_str(), index.files.as_slice().len()),
+        ("f", 2)
+    );
+    let update: IndexUpdate = written(&rt, TWO_FILES, TWO_FILES)?;
+    assert_eq!(rt;
+        (update.folder.as_str(), update.files.as_slice().len()),
+        ("f", 2)
+    );
     Ok(())
 }
 
-#[test]
-fn index_update(rt: HostRuntime) -> Result<(), Fail> {
-    let update: IndexUpdate = both_ways(&rt, &TWO_FILES)?;
-    expect_text(&rt, &update.folder, "f");
-    assert_eq!(rt; update.files.as_slice().len(), 2);
-    Ok(())
-}
-
-#[test]
-fn request(rt: HostRuntime) -> Result<(), Fail> {
-    let bytes = [
-        0x08, 0x01, 0x12, 0x01, 0x66, 0x1a, 0x01, 0x61, 0x20, 0x80, 0x80, 0x08, 0x28, 0x03, 0x32,
-        0x01, 0x09, 0x38, 0x01,
-    ];
-    let request: Request = both_ways(&rt, &bytes)?;
-    assert_eq!(rt; (request.id, request.offset, request.size), (1, 131_072, 3));
-    expect_text(&rt, &request.folder, "f");
-    expect_text(&rt, &request.name, "a");
-    expect_octets(&rt, request.hash.as_slice(), &[9]);
-    assert!(rt; request.from_temporary);
-    Ok(())
-}
-
-#[test]
-fn response(rt: HostRuntime) -> Result<(), Fail> {
-    let response: Response = both_ways(&rt, b"\x08\x01\x12\x03abc\x18\x02")?;
-    assert_eq!(rt; (response.id, response.code), (1, 2));
-    expect_octets(&rt, response.payload.as_slice(), b"abc");
-    Ok(())
-}
-
-#[test]
-fn empty_messages(rt: HostRuntime) -> Result<(), Fail> {
-    expect_written::<Hello, _>(&rt, &[], &[])?;
-    expect_written::<Header, _>(&rt, &[], &[])?;
-    expect_written::<ClusterConfig, _>(&rt, &[], &[])?;
-    expect_written::<Folder, _>(&rt, &[], &[])?;
-    expect_written::<Device, _>(&rt, &[], &[])?;
-    expect_written::<Index, _>(&rt, &[], &[])?;
-    expect_written::<IndexUpdate, _>(&rt, &[], &[])?;
-    expect_written::<FileInfo, _>(&rt, &[], &[])?;
-    expect_written::<BlockInfo, _>(&rt, &[], &[])?;
-    expect_written::<Vector, _>(&rt, &[], &[])?;
-    expect_written::<Counter, _>(&rt, &[], &[])?;
-    expect_written::<Request, _>(&rt, &[], &[])?;
-    expect_written::<Response, _>(&rt, &[], &[])?;
-    expect_written::<DownloadProgress, _>(&rt, &[], &[])?;
-    expect_written::<Ping, _>(&rt, &[], &[])?;
-    expect_written::<Close, _>(&rt, &[], &[])
+/// The fault of the bytes as a message.
+fn fault<M: ProtoMessage>(rt: &impl AllocGlobal, bytes: &[u8]) -> Option<MessageFault> {
+    M::decode(rt.alloc(), bytes).err()
 }
 
 #[test]
 fn faults(rt: HostRuntime) {
-    let truncated = MessageFault::Wire(WireFault::Truncated);
-    let group = MessageFault::Wire(WireFault::Group);
-    expect_fault::<Hello, _>(&rt, &[0x0a, 0x01, 0xff], MessageFault::NotUtf8);
-    // The bytes of a field that are missing come before what is wrong with those that are there.
-    expect_fault::<Hello, _>(&rt, &[0x0a, 0x05, 0x61, 0xff], truncated);
-    // An unknown field must be readable too.
-    expect_fault::<DownloadProgress, _>(&rt, &[0x0b], group);
-    expect_fault::<DownloadProgress, _>(&rt, &[0x0a, 0x02, 0x61], truncated);
-    let bytes = [0x1a, 0x00, 0x1a, 0x01, 0xff];
-    expect_fault::<Device, _>(&rt, &bytes, MessageFault::NotUtf8);
-}
-
-#[test]
-fn faults_of_files(rt: HostRuntime) {
-    // A name that isn't UTF-8 counts, though another one takes its place.
-    let bytes = [0x0a, 0x01, 0xff, 0x0a, 0x01, 0x62];
-    expect_fault::<FileInfo, _>(&rt, &bytes, MessageFault::NotUtf8);
-    // A group within the version, and a bad key after it; and the other way round.
-    let bytes = [0x4a, 0x01, 0x0b, 0x0e];
-    expect_fault::<FileInfo, _>(&rt, &bytes, MessageFault::Wire(WireFault::Group));
-    let bytes = [0x0e, 0x4a, 0x01, 0x0b];
-    expect_fault::<FileInfo, _>(&rt, &bytes, MessageFault::Wire(WireFault::BadKey));
-    // Each occurrence of a version must be readable by itself, also where the joined bytes are.
-    let halves = [0x4a, 0x01, 0x0a, 0x4a, 0x01, 0x00];
-    expect_fault::<FileInfo, _>(&rt, &halves, MessageFault::Wire(WireFault::Truncated));
-}
-
-#[test]
-fn names_of_faults(rt: HostRuntime) -> Result<(), Fail> {
-    let fault = MessageFault::Wire(WireFault::LongVarint);
-    expect_name(&rt, fault, 2, "LongVarint")?;
-    expect_name(&rt, MessageFault::NotUtf8, 5, "NotUtf8")?;
-    expect_name(&rt, MessageFault::OutOfMemory, 33, "OutOfMemory")
-}
-
-fn expect_name<R: Abort + AllocGlobal>(
-    rt: &R,
-    fault: MessageFault,
-    number: u8,
-    name: &str,
-) -> Result<(), Fail> {
-    assert_eq!(rt; fault.number(), number);
-    assert_eq!(rt; fault.to_string(rt.alloc())?.as_str(), name);
-    Ok(())
+    let truncated = Some(MessageFault::Wire(WireFault::Truncated));
+    let group = Some(MessageFault::Wire(WireFault::Group));
+    let bad_key = Some(MessageFault::Wire(WireFault::BadKey));
+    let not_utf8 = Some(MessageFault::NotUtf8);
+    let found = [
+        fault::<Hello>(&rt, b"\x0a\x01\xff"),
+        // The bytes of a field that are missing come before what is wrong with those that are there.
+        fault::<Hello>(&rt, b"\x0a\x05a\xff"),
+        fault::<Device>(&rt, b"\x1a\x00\x1a\x01\xff"),
+        // An unknown field must be readable too.
+        fault::<DownloadProgress>(&rt, b"\x0b"),
+        fault::<DownloadProgress>(&rt, b"\x0a\x02a"),
+    ];
+    assert_eq!(rt; found, [not_utf8, truncated, not_utf8, group, truncated]);
+    let found = [
+        // A name that isn't UTF-8 counts, though another one takes its place.
+        fault::<FileInfo>(&rt, b"\x0a\x01\xff\x0a\x01b"),
+        // A group within the version, and a bad key after it; and the other way round.
+        fault::<FileInfo>(&rt, b"\x4a\x01\x0b\x0e"),
+        fault::<FileInfo>(&rt, b"\x0e\x4a\x01\x0b"),
+        // Each occurrence of a version must be readable by itself, also where the joined bytes are.
+        fault::<FileInfo>(&rt, b"\x4a\x01\x0a\x4a\x01\x00"),
+    ];
+    assert_eq!(rt; found, [not_utf8, group, bad_key, truncated]);
 }

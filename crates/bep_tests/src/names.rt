@@ -1,51 +1,45 @@
 //! Names that are accepted, rejected and made. The dates are those of Python's `datetime`, the base32
 //! texts those of its `base64`. Each call is made once: out of memory ends a test.
-use std::process::Abort;
 use std::test::Fail;
 use sync_names::{
-    NameFault, SafeName, TempName, conflict_name, is_conflict_copy, is_internal, is_temporary,
-    temp_name,
+    NameFault, SafeName, conflict_name, is_conflict_copy, is_internal, is_temporary, temp_name,
 };
 use sync_version::Moment;
 
 #[test]
-fn rejects_names(rt: HostRuntime) -> Result<(), Fail> {
+fn names_are_rejected(rt: HostRuntime) {
     let table = [
-        ("", NameFault::Empty, 20, "Empty"),
-        ("/", NameFault::Absolute, 21, "Absolute"),
-        ("/x", NameFault::Absolute, 21, "Absolute"),
-        ("/\0", NameFault::Absolute, 21, "Absolute"),
-        ("a\0", NameFault::Nul, 23, "Nul"),
-        ("../\0", NameFault::Nul, 23, "Nul"),
-        ("a/", NameFault::BadComponent, 22, "BadComponent"),
-        ("a//b", NameFault::BadComponent, 22, "BadComponent"),
-        ("../x", NameFault::BadComponent, 22, "BadComponent"),
-        ("x/..", NameFault::BadComponent, 22, "BadComponent"),
-        ("x/./y", NameFault::BadComponent, 22, "BadComponent"),
-        (".", NameFault::BadComponent, 22, "BadComponent"),
-        ("./e\u{301}", NameFault::BadComponent, 22, "BadComponent"),
-        ("e\u{301}", NameFault::NotNfc, 24, "NotNfc"),
-        (".stignore/e\u{301}", NameFault::NotNfc, 24, "NotNfc"),
-        ("\u{1112}\u{1161}\u{11ab}", NameFault::NotNfc, 24, "NotNfc"),
-        (".stfolder/x", NameFault::Internal, 25, "Internal"),
-        (".stfolder", NameFault::Internal, 25, "Internal"),
-        (".stignore", NameFault::Internal, 25, "Internal"),
-        (".stversions/x", NameFault::Internal, 25, "Internal"),
-        (".syncthing..tmp", NameFault::Internal, 25, "Internal"),
-        ("x/.syncthing.a.tmp", NameFault::Internal, 25, "Internal"),
+        ("", NameFault::Empty),
+        ("/", NameFault::Absolute),
+        ("/x", NameFault::Absolute),
+        ("/\0", NameFault::Absolute),
+        ("a\0", NameFault::Nul),
+        ("../\0", NameFault::Nul),
+        ("a/", NameFault::BadComponent),
+        ("a//b", NameFault::BadComponent),
+        ("../x", NameFault::BadComponent),
+        ("x/..", NameFault::BadComponent),
+        ("x/./y", NameFault::BadComponent),
+        (".", NameFault::BadComponent),
+        ("./e\u{301}", NameFault::BadComponent),
+        ("e\u{301}", NameFault::NotNfc),
+        (".stignore/e\u{301}", NameFault::NotNfc),
+        ("\u{1112}\u{1161}\u{11ab}", NameFault::NotNfc),
+        (".stfolder/x", NameFault::Internal),
+        (".stfolder", NameFault::Internal),
+        (".stignore", NameFault::Internal),
+        (".stversions/x", NameFault::Internal),
+        (".syncthing..tmp", NameFault::Internal),
+        ("x/.syncthing.a.tmp", NameFault::Internal),
     ];
-    for (text, fault, number, name) in table {
-        let refused = SafeName::parse(rt.alloc(), text).map(|_| ());
-        assert_eq!(rt; refused, Err(fault), "of {text:?}");
-        assert_eq!(rt; fault.number(), number, "of {text:?}");
-        assert_eq!(rt; fault.to_string(rt.alloc())?.as_str(), name, "of {text:?}");
+    for (text, fault) in table {
+        let refused = SafeName::parse(rt.alloc(), text).err();
+        assert_eq!(rt; refused, Some(fault), "of {text:?}");
     }
-    assert_eq!(rt; NameFault::OutOfMemory.number(), 33);
-    Ok(())
 }
 
 #[test]
-fn accepts_names(rt: HostRuntime) -> Result<(), Fail> {
+fn names_are_accepted(rt: HostRuntime) -> Result<(), Fail> {
     let table = [
         "ok",
         "\u{e9}",
@@ -61,26 +55,23 @@ fn accepts_names(rt: HostRuntime) -> Result<(), Fail> {
         "a\\b",
     ];
     for text in table {
-        assert!(rt; !is_internal(text), "of {text:?}");
         let name = SafeName::parse(rt.alloc(), text)?;
-        assert_eq!(rt; name.as_str(), text);
         let copied = name.copy()?;
-        assert_eq!(rt; copied.as_str(), text);
-        assert!(rt; copied == name, "of {text:?}");
+        let found = (name.as_str(), copied.as_str(), is_internal(text));
+        assert_eq!(rt; found, (text, text, false));
     }
-    for text in [
-        ".stfolder",
-        ".stignore/x",
-        "x/.syncthing.a.tmp",
-        ".syncthing..tmp",
-    ] {
-        assert!(rt; is_internal(text), "of {text:?}");
-    }
+    let internal = [
+        is_internal(".stfolder"),
+        is_internal(".stignore/x"),
+        is_internal("x/.syncthing.a.tmp"),
+        is_internal(".syncthing..tmp"),
+    ];
+    assert_eq!(rt; internal, [true; 4]);
     Ok(())
 }
 
 #[test]
-fn orders_names_by_bytes(rt: HostRuntime) -> Result<(), Fail> {
+fn names_are_in_the_order_of_their_bytes(rt: HostRuntime) -> Result<(), Fail> {
     let table = [
         ("a", "b"),
         ("a", "a/b"),
@@ -91,15 +82,16 @@ fn orders_names_by_bytes(rt: HostRuntime) -> Result<(), Fail> {
     for (low, high) in table {
         let low = SafeName::parse(rt.alloc(), low)?;
         let high = SafeName::parse(rt.alloc(), high)?;
-        assert!(rt; low < high);
-        assert!(rt; low != high);
-        assert!(rt; low.cmp(&high).is_lt());
+        assert_eq!(rt;
+            (low < high, low == high, low.cmp(&high).is_lt()),
+            (true, false, true)
+        );
     }
     Ok(())
 }
 
 #[test]
-fn makes_conflict_names(rt: HostRuntime) -> Result<(), Fail> {
+fn conflict_names_are_made(rt: HostRuntime) -> Result<(), Fail> {
     let table = [
         (
             "notes.txt",
@@ -178,33 +170,32 @@ fn makes_conflict_names(rt: HostRuntime) -> Result<(), Fail> {
         let moment = Moment::new(seconds).expect(&rt, "a moment");
         let name = SafeName::parse(rt.alloc(), text)?;
         let made = conflict_name(&name, moment, modified_by)?;
-        assert_eq!(rt; name.as_str(), text);
-        assert_eq!(rt; made.as_str(), want);
+        assert_eq!(rt; (name.as_str(), made.as_str()), (text, want));
     }
     let moment = Moment::new(0).expect(&rt, "a moment");
     let name = SafeName::parse(rt.alloc(), ".syncthing.tmp")?;
-    let refused = conflict_name(&name, moment, 0).map(|_| ());
-    assert_eq!(rt; refused, Err(NameFault::Internal));
+    let refused = conflict_name(&name, moment, 0).err();
+    assert_eq!(rt; refused, Some(NameFault::Internal));
     Ok(())
 }
 
 #[test]
-fn makes_temporary_names(rt: HostRuntime) -> Result<(), Fail> {
+fn temporary_names_are_made(rt: HostRuntime) -> Result<(), Fail> {
     let table = [
         ("d/a.txt", "d/.syncthing.a.txt.tmp"),
         ("a", ".syncthing.a.tmp"),
         ("x/y/\u{e9}", "x/y/.syncthing.\u{e9}.tmp"),
     ];
     for (text, want) in table {
-        let made = temporary(&rt, text);
-        assert_eq!(rt; made.as_str(), want);
-        assert!(rt; is_internal(made.as_str()), "of {text:?}");
+        let name = SafeName::parse(rt.alloc(), text)?;
+        let made = temp_name(&name)?;
+        assert_eq!(rt; (made.as_str(), is_internal(made.as_str())), (want, true));
     }
     Ok(())
 }
 
 #[test]
-fn knows_components_of_temporary_files(rt: HostRuntime) {
+fn components_of_temporary_files_are_known(rt: HostRuntime) {
     let table = [
         (".syncthing.a.txt.tmp", true),
         (".syncthing..tmp", true),
@@ -215,12 +206,6 @@ fn knows_components_of_temporary_files(rt: HostRuntime) {
     for (component, wanted) in table {
         assert_eq!(rt; is_temporary(component), wanted, "of {component:?}");
     }
-}
-
-/// The temporary name of the name with this text.
-fn temporary(rt: &(impl AllocGlobal + Abort), text: &str) -> TempName {
-    let name = SafeName::parse(rt.alloc(), text).expect(rt, "a safe name");
-    temp_name(&name).expect(rt, "a temporary name")
 }
 
 #[test]
