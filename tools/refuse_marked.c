@@ -1,6 +1,5 @@
-/* Preloaded into the program worker_calls by tools/worker_runs, and into link_calls by tools/link_runs: an allocation of 2^45 + N bytes
-   fails, and so does the Nth one after it, none for 0. One of 2^45 bytes also writes into the file COUNT how many came before it since the
-   last such one. With OTHERS, allocations of the thread that made such an allocation neither count nor fail. */
+/* Preloaded into the program worker_calls by tools/worker_runs: an allocation of 2^45 + N bytes fails, and so does the Nth one after it, none for 0.
+   One of 2^45 bytes also writes into the file COUNT how many came before it since the last such one. */
 #define _GNU_SOURCE
 #include <dlfcn.h>
 #include <errno.h>
@@ -13,7 +12,6 @@
 #define MARK ((size_t)1 << 45)
 
 static atomic_size_t refuse, seen;
-static __thread int spared;
 static void *(*next_malloc)(size_t);
 static void *(*next_realloc)(void *, size_t);
 
@@ -32,8 +30,7 @@ static int is_refused(size_t size) {
         if (size == MARK) tell();
         seen = 0;
         refuse = size - MARK;
-        spared = getenv("OTHERS") != NULL;
-    } else if (spared || ++seen != refuse) {
+    } else if (++seen != refuse) {
         return 0;
     }
     errno = ENOMEM;

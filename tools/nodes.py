@@ -1,0 +1,265 @@
+"""Nodes of the built program crates/bepd/out/bepd on this machine, and what tools/node_runs and tools/peer_runs share besides."""
+import os
+import re
+import shutil
+import socket
+import subprocess
+import sys
+import tempfile
+import time
+
+from bep import field, rep
+
+ROOT = os.path.dirname(os.path.dirname(os.path.realpath(__file__)))
+PROGRAM = os.environ.get("BEPD") or f"{ROOT}/crates/bepd/out/bepd"
+work = tempfile.mkdtemp(prefix="node-runs-")
+passed, failed = 0, 0
+# How long a run waits for what is to come, in seconds.
+PATIENCE = 60
+
+
+class Differs(Exception):
+    """What was found is not what was wanted."""
+
+
+def same(found, wanted):
+    if found != wanted:
+        raise Differs(f"{found!r}, not {wanted!r}")
+
+
+def free_port():
+    with socket.create_server(("127.0.0.1", 0)) as it:
+        return it.getsockname()[1]
+
+
+def identity(number):
+    return f"{number:02x}" * 32
+
+
+class Node:
+    """The program, over folders of its own. A peer is (number, "dial" or "listen", port, ids of folders)."""
+
+    def __init__(self, me, peers, folders=("f",), text=None, state=None, starts=True, **settings):
+        self.path = tempfile.mkdtemp(dir=work)
+        self.me, self.settings = me, settings
+        self.configure(peers, folders, text)
+        if state is not None:
+            with open(f"{self.path}/state", "wb") as out:
+                out.write(state)
+        if starts:
+            self.start()
+
+    def configure(self, peers, folders=("f",), text=None):
+        self.folders = folders
+        for it in folders:
+            os.makedirs(f"{self.path}/{it}", exist_ok=True)
+        if text is None:
+            text = f'device = "{identity(self.me)}"\nname = "node {self.me}"\nstate = "{self.path}/state"\n'
+            for it in folders:
+                text += f'[[folder]]\nid = "{it}"\npath = "{self.path}/{it}"\n'
+            for number, how, port, *ids in peers:
+                text += f'[[peer]]\ndevice = "{identity(number)}"\n{how} = "127.0.0.1:{port}"\nfolders = {list(ids or folders)!r}\n'.replace("'", '"')
+        with open(f"{self.path}/config", "w") as out:
+            out.write(text)
+
+    def start(self, *words, stdout=subprocess.PIPE, tells=False):
+        self.tells = tells
+        words = words if tells else ("--quiet", *words)
+        # (a file, so that a node never waits for its lines to be read)
+        with open(f"{self.path}.errors", "wb") as errors:
+            self.ran = subprocess.Popen([*PROGRAM.split(), "run", "--config", f"{self.path}/config", *words], stdin=subprocess.PIPE, stdout=stdout,
+                                        stderr=errors, env={**os.environ, **self.settings})
+
+    def state(self):
+        with open(f"{self.path}/state", "rb") as it:
+            return it.read()
+
+    def __enter__(self):
+        return self
+
+    def __exit__(self, *_):
+        if self.ran.returncode is None:
+            self.quit()
+
+    def quit(self):
+        """Ends it; returns how long that took, in seconds."""
+        began = time.monotonic()
+        self.ran.stdin.write(b"quit\n")
+        self.ran.stdin.flush()
+        status, self.told = self.end()
+        if status or self.told and not self.tells:
+            raise Differs(f"status {status} {self.told}")
+        return time.monotonic() - began
+
+    def end(self):
+        """Its status, and its lines on standard error."""
+        self.ran.stdin.close()
+        try:
+            self.ran.wait(PATIENCE)
+        except subprocess.TimeoutExpired:
+            self.ran.kill()
+            self.ran.wait()
+            raise Differs(f"node {self.me} does not end; it told {self.errors()[-9:]}") from None
+        if self.ran.stdout:
+            self.ran.stdout.close()
+        return self.ran.returncode, self.errors()
+
+    def errors(self):
+        """Its lines on standard error until now."""
+        with open(f"{self.path}.errors", encoding="utf-8") as it:
+            return it.read().splitlines()
+
+    def file(self, name):
+        return f"{self.path}/{self.folders[0]}/{name}"
+
+    def put(self, name, data):
+        os.makedirs(os.path.dirname(self.file(name)), exist_ok=True)
+        with open(self.file(name), "wb") as out:
+            out.write(data)
+
+    def ask(self, command):
+        """The lines that answer a command, without `end`."""
+        self.ran.stdin.write(command.encode() + b"\n")
+        self.ran.stdin.flush()
+        lines = []
+        while True:
+            line = self.ran.stdout.readline().decode()
+            if not line:
+                raise Differs("the program ended")
+            lines.append(line.rstrip("\n"))
+            if lines[-1] == "end":
+                return lines[:-1]
+            if command.split(" ")[0] not in ("need", "best", "local", "peers") or lines[-1].startswith("error"):
+                return lines
+
+    def until(self, command, wanted, seconds=PATIENCE):
+        end = time.monotonic() + seconds
+        while True:
+            found = self.ask(command)
+            if found == wanted:
+                return
+            if time.monotonic() > end:
+                raise Differs(f"{command}: {found!r}, not {wanted!r}")
+            time.sleep(0.02)
+
+    def tree(self, folder=None):
+        found, path = {}, f"{self.path}/{folder or self.folders[0]}"
+        for at, names, files in os.walk(path):
+            for it in names:
+                if it != ".stfolder":
+                    found[os.path.relpath(f"{at}/{it}", path)] = None
+            for it in files:
+                # (one that is put in place or removed just now is looked for again)
+                try:
+                    with open(f"{at}/{it}", "rb") as file:
+                        found[os.path.relpath(f"{at}/{it}", path)] = file.read()
+                except FileNotFoundError:
+                    pass
+        return found
+
+    def memory(self):
+        """The most memory that it had, in bytes."""
+        with open(f"/proc/{self.ran.pid}/status") as it:
+            return next(int(line.split()[1]) * 1024 for line in it if line.startswith("VmHWM"))
+
+
+def pair(starts=True):
+    port = free_port()
+    return Node(1, [(2, "listen", port)], starts=starts), Node(2, [(1, "dial", port)], starts=starts)
+
+
+def become_alike(*nodes, folder="f"):
+    end = time.monotonic() + PATIENCE
+    while True:
+        locals_ = [it.ask(f"local {folder}") for it in nodes]
+        if all(it == locals_[0] for it in locals_):
+            trees = [it.tree(folder) for it in nodes]
+            if all(it == trees[0] for it in trees):
+                return trees[0]
+        if time.monotonic() > end:
+            raise Differs(f"{locals_}")
+        time.sleep(0.02)
+
+
+def shown(node, folder="f"):
+    """The local records without their versions."""
+    return [re.sub(r"^local (\S+ \S+) \S+ ", r"\1 ", it) for it in node.ask(f"local {folder}")]
+
+
+def holds(node, wanted, seconds=PATIENCE):
+    end = time.monotonic() + seconds
+    while shown(node) != wanted:
+        if time.monotonic() > end:
+            raise Differs(f"{shown(node)}, not {wanted}")
+        time.sleep(0.02)
+
+
+def event_of(line):
+    """A line that a node told, without the time."""
+    found = re.fullmatch(r"\d{4}-\d\d-\d\dT\d\d:\d\d:\d\dZ (.*)", line)
+    return found and found[1]
+
+
+def events(node):
+    """What a node told until it ended, without the times."""
+    found = [event_of(it) for it in node.told]
+    if None in found:
+        raise Differs(f"{node.told}")
+    return found
+
+
+def tells(node, pattern, seconds=PATIENCE):
+    """Waits until a node that runs has told a line like this."""
+    end = time.monotonic() + seconds
+    while not any(re.fullmatch(pattern, event_of(it) or "") for it in node.errors()):
+        if time.monotonic() > end:
+            raise Differs(f"no {pattern!r} in {node.errors()}")
+        time.sleep(0.02)
+
+
+def written(version, *kept):
+    """A state file of the folder "f" with index 7, without records, of which these peers' indexes are kept."""
+    folder = field(1, "f") + field(2, 7) + b"".join(rep(5, field(1, device) + field(2, index_id)) for device, index_id in kept)
+    return f"bepd state {version}\n".encode() + rep(1, folder)
+
+
+def built(name):
+    """The library of a file of C beside these scripts; None without a compiler."""
+    made = f"{work}/{name}.so"
+    compiler = os.environ.get("CC") or shutil.which("cc")
+    if not compiler:
+        return None
+    if not os.path.exists(made):
+        subprocess.run([compiler, "-O1", "-shared", "-fPIC", "-o", made, f"{ROOT}/tools/{name}.c", "-ldl"], check=True)
+    return made
+
+
+def run(name, what, *given):
+    global passed, failed
+    words = sys.argv[1:]
+    if words and not any(it in name for it in words):
+        return
+    try:
+        what(*given)
+        passed += 1
+        print(f"ok      {name}", flush=True)
+    except (Differs, OSError, EOFError, ValueError, IndexError, KeyError) as error:
+        failed += 1
+        # (what a node's end may hide)
+        first = error
+        while first.__context__:
+            first = first.__context__
+        after = f", after {type(first).__name__} {first}" if first is not error else ""
+        print(f"DIFFERS {name}: {type(error).__name__} {error}{after}", flush=True)
+
+
+def main(runs):
+    """Does the runs, and ends the program."""
+    try:
+        if not os.access(PROGRAM.split()[0], os.X_OK):
+            sys.exit(f"{sys.argv[0]}: no program is built: run ./bepd --version")
+        runs()
+        print(f"{passed} passed, {failed} failed")
+        sys.exit(1 if failed else 0)
+    finally:
+        shutil.rmtree(work, ignore_errors=True)
