@@ -1,4 +1,4 @@
-"""Nodes of the built program crates/bepd/out/bepd on this machine, and what tools/node_runs and tools/peer_runs share besides."""
+"""Nodes of the program `bepd` on this machine, and what tools/node_runs and tools/peer_runs share besides."""
 import os
 import re
 import shutil
@@ -9,9 +9,10 @@ import tempfile
 import time
 
 from bep import field, rep
+from program import bepd
 
 ROOT = os.path.dirname(os.path.dirname(os.path.realpath(__file__)))
-PROGRAM = os.environ.get("BEPD") or f"{ROOT}/crates/bepd/out/bepd"
+PROGRAM = bepd()
 work = tempfile.mkdtemp(prefix="node-runs-")
 passed, failed = 0, 0
 # How long a run waits for what is to come, in seconds.
@@ -67,7 +68,7 @@ class Node:
         words = words if tells else ("--quiet", *words)
         # (a file, so that a node never waits for its lines to be read)
         with open(f"{self.path}.errors", "wb") as errors:
-            self.ran = subprocess.Popen([*PROGRAM.split(), "run", "--config", f"{self.path}/config", *words], stdin=subprocess.PIPE, stdout=stdout,
+            self.ran = subprocess.Popen([PROGRAM, "run", "--config", f"{self.path}/config", *words], stdin=subprocess.PIPE, stdout=stdout,
                                         stderr=errors, env={**os.environ, **self.settings})
 
     def state(self):
@@ -256,8 +257,6 @@ def run(name, what, *given):
 def main(runs):
     """Does the runs, and ends the program."""
     try:
-        if not os.access(PROGRAM.split()[0], os.X_OK):
-            sys.exit(f"{sys.argv[0]}: no program is built: run ./bepd --version")
         runs()
         print(f"{passed} passed, {failed} failed")
         sys.exit(1 if failed else 0)
