@@ -1,74 +1,10 @@
-//! Names that are accepted, rejected and made. The dates are those of Python's `datetime`, the base32
+//! Names that are made and known; which are accepted and rejected is in `tools/bepd_runs`. The dates are those of Python's `datetime`, the base32
 //! texts those of its `base64`. Each call is made once: out of memory ends a test.
 use std::test::Fail;
 use sync_names::{
     NameFault, SafeName, conflict_name, is_conflict_copy, is_internal, is_temporary, temp_name,
 };
 use sync_version::Moment;
-
-#[test]
-fn names_are_rejected(rt: HostRuntime) {
-    let table = [
-        ("", NameFault::Empty),
-        ("/", NameFault::Absolute),
-        ("/x", NameFault::Absolute),
-        ("/\0", NameFault::Absolute),
-        ("a\0", NameFault::Nul),
-        ("../\0", NameFault::Nul),
-        ("a/", NameFault::BadComponent),
-        ("a//b", NameFault::BadComponent),
-        ("../x", NameFault::BadComponent),
-        ("x/..", NameFault::BadComponent),
-        ("x/./y", NameFault::BadComponent),
-        (".", NameFault::BadComponent),
-        ("./e\u{301}", NameFault::BadComponent),
-        ("e\u{301}", NameFault::NotNfc),
-        (".stignore/e\u{301}", NameFault::NotNfc),
-        ("\u{1112}\u{1161}\u{11ab}", NameFault::NotNfc),
-        (".stfolder/x", NameFault::Internal),
-        (".stfolder", NameFault::Internal),
-        (".stignore", NameFault::Internal),
-        (".stversions/x", NameFault::Internal),
-        (".syncthing..tmp", NameFault::Internal),
-        ("x/.syncthing.a.tmp", NameFault::Internal),
-    ];
-    for (text, fault) in table {
-        let refused = SafeName::parse(rt.alloc(), text).err();
-        assert_eq!(rt; refused, Some(fault), "of {text:?}");
-    }
-}
-
-#[test]
-fn names_are_accepted(rt: HostRuntime) -> Result<(), Fail> {
-    let table = [
-        "ok",
-        "\u{e9}",
-        "d/.stfolder",
-        "x/.stversions/y",
-        ".stfolders",
-        ".syncthing.tmp",
-        ".syncthing.a.tmp/b",
-        "...",
-        "a/...b/.c",
-        "\u{d55c}\u{ae00}",
-        "\u{1f600}/\u{10ffff}",
-        "a\\b",
-    ];
-    for text in table {
-        let name = SafeName::parse(rt.alloc(), text)?;
-        let copied = name.copy()?;
-        let found = (name.as_str(), copied.as_str(), is_internal(text));
-        assert_eq!(rt; found, (text, text, false));
-    }
-    let internal = [
-        is_internal(".stfolder"),
-        is_internal(".stignore/x"),
-        is_internal("x/.syncthing.a.tmp"),
-        is_internal(".syncthing..tmp"),
-    ];
-    assert_eq!(rt; internal, [true; 4]);
-    Ok(())
-}
 
 #[test]
 fn names_are_in_the_order_of_their_bytes(rt: HostRuntime) -> Result<(), Fail> {
