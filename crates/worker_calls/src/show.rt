@@ -1,8 +1,11 @@
 //! Answers as lines.
+use crate::fault::LineFault;
 use file_store::StoreRefusal;
 use folder_calls::{HistoryFull, ScanRefusal};
 use folder_core::{Counts, ScanAnswer};
 use hex::encode;
+use index_sender::Page;
+use std::alloc::AllocError;
 use std::io;
 use sync_names::SafeName;
 use sync_pull::PullAnswer;
@@ -14,10 +17,12 @@ pub(crate) fn print_refusal(rt: &impl Print, refusal: StoreRefusal) -> io::Resul
     println!(rt; "fault {} {refusal}", refusal.number())
 }
 
-pub(crate) fn print_done(rt: &impl Print, done: Result<(), StoreRefusal>) -> io::Result<()> {
-    match done {
-        Ok(()) => println!(rt; "ok"),
-        Err(refusal) => print_refusal(rt, refusal),
+/// Why a line is no command.
+pub(crate) fn print_fault(rt: &impl Print, fault: LineFault) -> io::Result<()> {
+    match fault {
+        LineFault::NoCommand => println!(rt; "error no command"),
+        LineFault::Name(fault) => println!(rt; "error {fault}"),
+        LineFault::OutOfMemory => print_out_of_memory(rt),
     }
 }
 
@@ -91,6 +96,25 @@ pub(crate) fn print_pulled(
     print!(rt; " asked")?;
     print_devices(rt, asked)?;
     println!(rt; "")
+}
+
+/// `index N` or `update N`, and sequence and name of the first and of the last record; `nothing`.
+pub(crate) fn print_page(rt: &impl Print, page: &Result<Page, AllocError>) -> io::Result<()> {
+    match page {
+        Ok(Page::Index(records)) => print_records(rt, "index", records.as_slice()),
+        Ok(Page::IndexUpdate(records)) => print_records(rt, "update", records.as_slice()),
+        Ok(Page::Nothing) => print!(rt; "nothing"),
+        Err(_) => print!(rt; "refused 33 OutOfMemory"),
+    }
+}
+
+fn print_records(rt: &impl Print, kind: &str, records: &[Record]) -> io::Result<()> {
+    print!(rt; "{kind} {}", records.len())?;
+    if let (Some(first), Some(last)) = (records.first(), records.last()) {
+        print!(rt; " from {} {}", first.sequence(), first.name().as_str())?;
+        print!(rt; " to {} {}", last.sequence(), last.name().as_str())?;
+    }
+    Ok(())
 }
 
 /// ` ID` for each device.

@@ -7,11 +7,11 @@ use sync_names::SafeName;
 use sync_pull::BlockSource;
 use sync_record::DeviceId;
 
-/// A device and the bytes of which it gives the part that is asked for, or what it has of it.
+/// A device and the bytes of which it gives the part that is asked for, or what it has of it; nothing for no bytes.
 #[derive(Drop)]
 struct Giver {
     device: DeviceId,
-    bytes: Vec<u8>,
+    bytes: Option<Vec<u8>>,
 }
 
 /// Devices that give blocks, and which devices were asked.
@@ -35,10 +35,7 @@ impl Devices {
         device: DeviceId,
         bytes: Option<Vec<u8>>,
     ) -> Result<(), AllocError> {
-        self.givers.retain(|giver| giver.device != device);
-        if let Some(bytes) = bytes {
-            self.givers.push(Giver { device, bytes })?;
-        }
+        self.givers.push(Giver { device, bytes })?;
         Ok(())
     }
 
@@ -64,14 +61,27 @@ impl BlockSource for Devices {
         bytes: &mut Vec<u8>,
     ) -> Result<bool, AllocError> {
         self.asked.push(device)?;
-        for giver in &self.givers {
-            if giver.device == device {
-                bytes.extend_from_slice(part(giver.bytes.as_slice(), block))?;
-                return Ok(true);
+        match given(self.givers.as_slice(), device) {
+            Some(given) => {
+                bytes.extend_from_slice(part(given, block))?;
+                Ok(true)
             }
+            None => Ok(false),
         }
-        Ok(false)
     }
+}
+
+/// The bytes that a device was told last to give.
+fn given(givers: &[Giver], device: DeviceId) -> Option<&[u8]> {
+    for giver in givers.iter().rev() {
+        if giver.device == device {
+            return match &giver.bytes {
+                Some(bytes) => Some(bytes.as_slice()),
+                None => None,
+            };
+        }
+    }
+    None
 }
 
 /// What the bytes have of a block.
