@@ -1,30 +1,8 @@
-//! Names that are made and known; which are accepted and rejected is in `tools/bepd_runs`. The dates are those of Python's `datetime`, the base32
+//! Names of conflict copies; which names are accepted and rejected is in `tools/bepd_runs`. The dates are those of Python's `datetime`, the base32
 //! texts those of its `base64`. Each call is made once: out of memory ends a test.
 use std::test::Fail;
-use sync_names::{
-    NameFault, SafeName, conflict_name, is_conflict_copy, is_internal, is_temporary, temp_name,
-};
+use sync_names::{NameFault, SafeName, conflict_name, is_conflict_copy};
 use sync_version::Moment;
-
-#[test]
-fn names_are_in_the_order_of_their_bytes(rt: HostRuntime) -> Result<(), Fail> {
-    let table = [
-        ("a", "b"),
-        ("a", "a/b"),
-        ("Z", "a"),
-        ("a.b", "a/b"),
-        ("z", "\u{e9}"),
-    ];
-    for (low, high) in table {
-        let low = SafeName::parse(rt.alloc(), low)?;
-        let high = SafeName::parse(rt.alloc(), high)?;
-        assert_eq!(rt;
-            (low < high, low == high, low.cmp(&high).is_lt()),
-            (true, false, true)
-        );
-    }
-    Ok(())
-}
 
 #[test]
 fn conflict_names_are_made(rt: HostRuntime) -> Result<(), Fail> {
@@ -113,35 +91,6 @@ fn conflict_names_are_made(rt: HostRuntime) -> Result<(), Fail> {
     let refused = conflict_name(&name, moment, 0).err();
     assert_eq!(rt; refused, Some(NameFault::Internal));
     Ok(())
-}
-
-#[test]
-fn temporary_names_are_made(rt: HostRuntime) -> Result<(), Fail> {
-    let table = [
-        ("d/a.txt", "d/.syncthing.a.txt.tmp"),
-        ("a", ".syncthing.a.tmp"),
-        ("x/y/\u{e9}", "x/y/.syncthing.\u{e9}.tmp"),
-    ];
-    for (text, want) in table {
-        let name = SafeName::parse(rt.alloc(), text)?;
-        let made = temp_name(&name)?;
-        assert_eq!(rt; (made.as_str(), is_internal(made.as_str())), (want, true));
-    }
-    Ok(())
-}
-
-#[test]
-fn components_of_temporary_files_are_known(rt: HostRuntime) {
-    let table = [
-        (".syncthing.a.txt.tmp", true),
-        (".syncthing..tmp", true),
-        (".syncthing.tmp", false),
-        (".syncthing.a.txt", false),
-        ("a.txt.tmp", false),
-    ];
-    for (component, wanted) in table {
-        assert_eq!(rt; is_temporary(component), wanted, "of {component:?}");
-    }
 }
 
 #[test]
