@@ -1,4 +1,4 @@
-//! Tests of the protocol's crates, of names and of records over their public calls: fields, messages, frames, sessions, names and records.
+//! Tests of the protocol's crates, of names and of records over their public calls: fields, messages, frames, names of conflict copies and records.
 //!
 //! They are in a crate of their own because a crate with tests is proved twice, once with them.
 #![tactic(auto)]
@@ -13,7 +13,5 @@ mod messages;
 mod names;
 #[cfg(test)]
 mod records;
-#[cfg(test)]
-mod session;
 #[cfg(test)]
 mod wire;
