@@ -1,5 +1,5 @@
 -- The laws of src/laws.rt, for the proofs of crates above.
-use Rattle.std.proofs.Common.{◌≡◌, ◌≢◌, ◌↔◌, ℕ, suc, ◌-◌, ◌<◌, ◌≤◌, List, [], ◌∷◌, ◌++◌, length, get_or, take, drop, cond, Some, None, refl, sym, ap, ◌∙◌, subst, arith, inr, length-append}
+use Rattle.std.proofs.Common.{◌≡◌, ◌≢◌, ◌↔◌, ℕ, suc, ◌-◌, ◌<◌, ◌≤◌, List, [], ◌∷◌, ◌++◌, length, get_or, take, drop, cond, Some, None, refl, sym, ap, ◌∙◌, subst, arith, inr, length-append, append_assoc}
 use Rattle.std.specs.Prelude.{IsUtf8, codes, bytes_eq}
 use Rattle.std.specs.List.{All, join_with_byte}
 use Rattle.std.proofs.Math.Seq.{get_or-append_seam, get_or-append_right}
@@ -9,7 +9,7 @@ use Rattle.std.proofs.lemmas.List.Splits.{join_with_byte-slice_split}
 use Rattle.sync_names.specs.Components.{components, folder_components, folder_of, folder_text, last_component}
 use Rattle.sync_names.specs.Extension.{stem_of, extension_of}
 use Rattle.sync_names.specs.Internal.{IsInternal}
-use Rattle.sync_names.specs.Made.{temp_text, conflict_mark, conflict_text, IsTempText}
+use Rattle.sync_names.specs.Made.{temp_text, replaced_text, conflict_mark, conflict_text, IsTempText, IsReplacedText}
 use Rattle.sync_names.specs.Refusal.{refusal}
 use Rattle.sync_names.specs.Safe.{IsFirstRefusal, IsSafe}
 use Rattle.sync_names.specs.Utc.{utc_time, IsUtc}
@@ -43,10 +43,10 @@ stay_below-whole folder name safe = leads_to-good folder name safe.good_componen
 pub stay_below-each_beginning : (folder : List (List ℕ)) (name : List ℕ) (n : ℕ) → IsSafe name → walk folder (take n (components name)) ≡ folder ++ take n (components name)
 stay_below-each_beginning folder name n safe = walk-beginning folder name n safe.good_components
 
-temp_good : (name : List ℕ) → IsSafe name → All IsGood (components (temp_text name))
-temp_good name safe =
+temp_good : (name : List ℕ) → All IsGood (components name) → All IsGood (components (temp_text name))
+temp_good name good =
     let last = codes ".syncthing." ++ last_component name ++ codes ".tmp" in
-    let old : All IsGood (folder_components name ++ last_component name ∷ []) = subst (All IsGood) (components-front_and_last name) safe.good_components in
+    let old : All IsGood (folder_components name ++ last_component name ∷ []) = subst (All IsGood) (components-front_and_last name) good in
     let long = temporary_length (last_component name) in
     let one : All IsGood (last ∷ []) = All-cons IsGood last [] (long_good last (omega arith)) (All-nil IsGood) in
     subst (All IsGood) (sym (components-beside name last (temp_last-no_slash name)))
@@ -54,13 +54,23 @@ temp_good name safe =
 
 temporary_good : (temporary : List ℕ) → IsTempText temporary → All IsGood (components temporary)
 temporary_good temporary h =
-    subst (λ (l : List ℕ). All IsGood (components l)) (sym h.2) (temp_good h.0 h.1)
+    subst (λ (l : List ℕ). All IsGood (components l)) (sym h.2) (temp_good h.0 h.1.good_components)
 
 pub stay_below-temporary : (folder : List (List ℕ)) (name : List ℕ) → IsTempText name → leads_to folder name ≡ folder ++ components name
 stay_below-temporary folder name h = leads_to-good folder name (temporary_good name h)
 
 pub stay_below-temporary_beginning : (folder : List (List ℕ)) (name : List ℕ) (n : ℕ) → IsTempText name → walk folder (take n (components name)) ≡ folder ++ take n (components name)
 stay_below-temporary_beginning folder name n h = walk-beginning folder name n (temporary_good name h)
+
+replaced_good : (kept : List ℕ) → IsReplacedText kept → All IsGood (components kept)
+replaced_good kept h =
+    subst (λ (l : List ℕ). All IsGood (components l)) (sym h.2) (temp_good (temp_text h.0) (temp_good h.0 h.1.good_components))
+
+pub stay_below-replaced : (folder : List (List ℕ)) (name : List ℕ) → IsReplacedText name → leads_to folder name ≡ folder ++ components name
+stay_below-replaced folder name h = leads_to-good folder name (replaced_good name h)
+
+pub stay_below-replaced_beginning : (folder : List (List ℕ)) (name : List ℕ) (n : ℕ) → IsReplacedText name → walk folder (take n (components name)) ≡ folder ++ take n (components name)
+stay_below-replaced_beginning folder name n h = walk-beginning folder name n (replaced_good name h)
 
 -- ---- components
 
@@ -123,6 +133,26 @@ temporary-one_each a b e =
     sym (take_at (last_component a) (codes ".tmp") (length (last_component a)) refl) ∙ ap (take (length (last_component a))) ended
     ∙ take_at (last_component b) (codes ".tmp") (length (last_component a)) same_length in
     folder_and_last a ∙ (λ i. folder_text (folder i) ++ last i) ∙ sym (folder_and_last b)
+
+-- ---- names of files that are kept while they are replaced
+
+pub replaced-folder : (name : List ℕ) → folder_components (replaced_text name) ≡ folder_components name
+replaced-folder name = temporary-folder (temp_text name) ∙ temporary-folder name
+
+pub replaced-last : (name : List ℕ) → last_component (replaced_text name) ≡ codes ".syncthing..syncthing." ++ last_component name ++ codes ".tmp.tmp"
+replaced-last name =
+    temporary-last (temp_text name) ∙ ap (λ (l : List ℕ). codes ".syncthing." ++ l ++ codes ".tmp") (temporary-last name)
+    ∙ simp append_assoc refl
+
+pub replaced-internal : (name : List ℕ) → IsInternal (replaced_text name)
+replaced-internal name = temporary-internal (temp_text name)
+
+pub replaced-apart : (a b : List ℕ) → IsSafe b → replaced_text a ≢ temp_text b
+replaced-apart a b safe e =
+    safe.not_internal (subst IsInternal (temporary-one_each (temp_text a) b e) (temporary-internal a))
+
+pub replaced-one_each : (a b : List ℕ) → replaced_text a ≡ replaced_text b → a ≡ b
+replaced-one_each a b e = temporary-one_each a b (temporary-one_each (temp_text a) (temp_text b) e)
 
 -- ---- conflict copies' names
 

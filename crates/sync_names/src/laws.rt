@@ -6,7 +6,7 @@ ghost use Rattle.sync_names.specs.Components.{components, folder_components, fol
 ghost use Rattle.sync_names.specs.Copies.{IsConflictCopy};
 ghost use Rattle.sync_names.specs.Extension.{stem_of, extension_of};
 ghost use Rattle.sync_names.specs.Internal.{IsInternal};
-ghost use Rattle.sync_names.specs.Made.{temp_text, conflict_mark, conflict_text, IsTempText};
+ghost use Rattle.sync_names.specs.Made.{temp_text, replaced_text, conflict_mark, conflict_text, IsTempText, IsReplacedText};
 ghost use Rattle.sync_names.specs.Refusal.{refusal};
 ghost use Rattle.sync_names.specs.Safe.{IsFirstRefusal, IsSafe};
 ghost use Rattle.sync_names.specs.Utc.{utc_time, IsUtc};
@@ -24,7 +24,7 @@ pub fn first_refusal()
 {}
 
 /// A safe name leads to its components below any folder, and never leaves the folder on the way; so does
-/// a temporary name.
+/// a temporary name, and so does the name at which a file is kept while it is replaced.
 pub fn names_stay_below()
     ensures whole { (folder : List (List ℕ)) (name : List ℕ) → IsSafe name →
         leads_to folder name ≡ folder ++ components name }
@@ -33,6 +33,10 @@ pub fn names_stay_below()
     ensures temporary { (folder : List (List ℕ)) (name : List ℕ) → IsTempText name →
         leads_to folder name ≡ folder ++ components name }
     ensures temporary_beginning { (folder : List (List ℕ)) (name : List ℕ) (n : ℕ) → IsTempText name →
+        walk folder (take n (components name)) ≡ folder ++ take n (components name) }
+    ensures replaced { (folder : List (List ℕ)) (name : List ℕ) → IsReplacedText name →
+        leads_to folder name ≡ folder ++ components name }
+    ensures replaced_beginning { (folder : List (List ℕ)) (name : List ℕ) (n : ℕ) → IsReplacedText name →
         walk folder (take n (components name)) ≡ folder ++ take n (components name) }
 {}
 
@@ -63,6 +67,17 @@ pub fn temporary_names_are_apart()
     ensures internal { (name : List ℕ) → IsInternal (temp_text name) }
     ensures apart { (name temporary : List ℕ) → IsSafe name → IsTempText temporary → name ≢ temporary }
     ensures one_each { (a b : List ℕ) → temp_text a ≡ temp_text b → a ≡ b }
+{}
+
+/// The name at which a file is kept while it is replaced or removed is in its folder and internal. It is the temporary name of no safe
+/// name, and no two names have the same: what a folder makes for one name never stands in the place of what it makes for another.
+pub fn replaced_names_are_apart()
+    ensures folder { (name : List ℕ) → folder_components (replaced_text name) ≡ folder_components name }
+    ensures last { (name : List ℕ) → last_component (replaced_text name)
+        ≡ codes ".syncthing..syncthing." ++ last_component name ++ codes ".tmp.tmp" }
+    ensures internal { (name : List ℕ) → IsInternal (replaced_text name) }
+    ensures apart { (a b : List ℕ) → IsSafe b → replaced_text a ≢ temp_text b }
+    ensures one_each { (a b : List ℕ) → replaced_text a ≡ replaced_text b → a ≡ b }
 {}
 
 /// A conflict copy's name is in its name's folder and is another name; it is refused exactly if

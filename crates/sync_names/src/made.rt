@@ -1,12 +1,12 @@
-ghost use Rattle.std.specs.Prelude.{◌≡◌, ◌⊎◌, ◌↔◌, List, ℕ, IfOk, OnOk, IfErr, Err, codes};
+ghost use Rattle.std.specs.Prelude.{◌≡◌, ◌⊎◌, ◌↔◌, List, ℕ, IfOk, OnOk, IfErr, Err, MatchOption, codes, string_bytes};
 ghost use Rattle.sync_names.specs.Components.{last_component};
-ghost use Rattle.sync_names.specs.Made.{temp_text, conflict_text, IsTempText};
+ghost use Rattle.sync_names.specs.Made.{temp_text, replaced_text, conflict_text, IsTempText, IsReplacedText, IsReplaced};
 ghost use Rattle.sync_names.specs.Parsing.{ParsesTo};
 ghost use Rattle.sync_names.specs.Safe.{IsSafe};
 
 use crate::utc::{UtcTime, push_date_and_time};
 use crate::{NameFault, SafeName, base32, text};
-use std::alloc::AllocError;
+use std::alloc::{AllocError, Global};
 use std::marker::Model;
 use sync_version::Moment;
 
@@ -42,9 +42,63 @@ impl TempName {
 pub fn temp_name(name: &SafeName) -> Result<TempName, AllocError>
     ensures { IfOk result (λ temp. temp ≡ temp_text name.now) }
 {
-    let (folder, last) = text::split_last_component(name.as_str());
-    let text = format!(in name.allocator(); "{folder}.syncthing.{last}.tmp")?;
+    let text = temporary(name.allocator(), name.as_str())?;
     Ok(TempName { text })
+}
+
+/// The name at which a file is kept while it is replaced or removed.
+#[derive(Drop, Debug)]
+pub struct ReplacedName {
+    text: String,
+}
+
+impl Model for ReplacedName {
+    ghost use Rattle.std.specs.Prelude.{ℕ, List, string_bytes};
+    ghost use Rattle.sync_names.specs.Made.{IsReplacedText};
+
+    ghost Value = { List ℕ };
+
+    ghost view = { λ name. string_bytes name.text };
+
+    ghost invariant = { λ name. IsReplacedText (string_bytes name.text) };
+}
+
+impl ReplacedName {
+    /// The text of the name. O(1).
+    pub fn as_str(&self) -> &str
+        ensures value { result.now ≡ self.now }
+        ensures replaced { IsReplacedText result.now }
+    {
+        self.text.as_str()
+    }
+}
+
+/// The name at which a name's file is kept while it is replaced or removed: the temporary name of its temporary name. It is in the
+/// same folder and internal, and is the temporary name of no safe name, since a temporary name is none. O(n).
+pub fn replaced_name(name: &SafeName) -> Result<ReplacedName, AllocError>
+    ensures { IfOk result (λ kept. kept ≡ replaced_text name.now) }
+{
+    let temp = temp_name(name)?;
+    let text = temporary(name.allocator(), temp.as_str())?;
+    Ok(ReplacedName { text })
+}
+
+/// The last component of the name whose file was kept at a name with this last component, if it has that form. Does not allocate. O(n).
+pub fn replaced_component(component: &str) -> Option<&str>
+    ensures { MatchOption result ((last : List ℕ) → ¬ (IsReplaced component.now last)) (λ last. IsReplaced component.now last.now) }
+{
+    let Some(rest) = component.strip_prefix(".syncthing..syncthing.") else {
+        return None;
+    };
+    rest.strip_suffix(".tmp.tmp")
+}
+
+// In the same folder, `.syncthing.`, the last component and `.tmp`.
+fn temporary(alloc: Global, name: &str) -> Result<String, AllocError>
+    ensures { IfOk result (λ text. string_bytes text ≡ temp_text name.now) }
+{
+    let (folder, last) = text::split_last_component(name);
+    format!(in alloc; "{folder}.syncthing.{last}.tmp")
 }
 
 /// The name of a name's conflict copy: in the same folder, the last component with
