@@ -1,3 +1,4 @@
 pub mod Dir
 pub mod Modes
 pub mod Times
+pub mod Skips

@@ -3,59 +3,66 @@ ghost use Rattle.std.specs.Prelude.{◌≡◌, ◌≢◌, ◌≤◌, length, Err
 ghost use Rattle.file_store.specs.Refusals.{IsPlain};
 ghost use Rattle.file_store.specs.declared.refusal.StoreRefusal.TheVariants.{NotEmpty, BadParent};
 
+use crate::dir::{
+    Dir, Entry, Parents, enter, find, folder_of, is_in_place, last_of, make_directory,
+    make_parents, open_one,
+};
 use crate::disk::Disk;
 use crate::found::Found;
 use crate::look::{Look, is_as_seen};
-use crate::opened::{Access, Opened, reopen};
-use crate::parents::{
-    Parents, find, folder_of, make_directory, make_parents, open_folder, parents_of, sync_folder,
-};
+use crate::opened::{Opened, reopen};
 use crate::refuse::or_fault;
-use crate::replaced::remove_by_way_of;
+use crate::replaced::{kept_path, put_new, remove_by_way_of};
 use file_store::{Stat, StoreRefusal};
 use std::fs;
 use std::io::ErrorKind;
+use std::os::fd::AsRawFd;
 use std::rt::Files;
 use sync_names::SafeName;
 
 /// What is at a name, which then is the last look.
 pub(crate) fn stat<R: Files>(
     disk: &Disk<R>,
+    dir: &mut Option<Dir<R::File>>,
     look: &mut Option<Look>,
     name: &str,
 ) -> Result<Stat, StoreRefusal>
+where
+    R::File: AsRawFd,
     ensures { IfErr result IsPlain }
 {
     *look = None;
-    let path = disk.path_of(name)?;
-    let found = find(disk, path.as_str())?;
-    *look = Some(Look::new(path, found));
+    let found = find(disk, dir, name)?.found;
+    *look = Some(Look::new(String::from_str(disk.alloc, name)?, found));
     Ok(match found {
         Found::Nothing => Stat::Missing,
-        Found::Other => Stat::Other,
-        Found::Directory => Stat::Directory,
+        Found::Link | Found::Special => Stat::Other,
+        Found::Directory(_) => Stat::Directory,
         Found::File(file) => Stat::File(file.len, file.modified),
     })
 }
 
 pub(crate) fn read_at<R: Files>(
     disk: &Disk<R>,
+    dir: &mut Option<Dir<R::File>>,
     slot: &mut Option<Opened<R::File>>,
     name: &str,
     offset: u64,
     buffer: &mut [u8],
 ) -> Result<usize, StoreRefusal>
+where
+    R::File: AsRawFd,
     ensures bound { IfOk result (λ k. k ≤ length buffer.new) }
     ensures refusals { IfErr result IsPlain }
 {
-    let path = disk.path_of(name)?;
-    let Found::File(file) = find(disk, path.as_str())? else {
+    let Entry { path, found } = find(disk, dir, name)?;
+    let Found::File(file) = found else {
         return Ok(0);
     };
     if file.len <= offset {
         return Ok(0);
     }
-    reopen(disk, slot, Access::Reading, path.as_str(), file.id)?;
+    reopen(disk, slot, name, path.as_str(), file.id)?;
     let left = usize::try_from(file.len - offset).unwrap_or(usize::MAX);
     let room = buffer.len().min(left);
     match slot {
@@ -67,87 +74,125 @@ pub(crate) fn read_at<R: Files>(
 /// Moves a file to where nothing is. Both its folders reach the disk before this returns.
 pub(crate) fn rename<R: Files>(
     disk: &Disk<R>,
+    dir: &mut Option<Dir<R::File>>,
     look: &mut Option<Look>,
     from: &str,
     to: &str,
 ) -> Result<(), StoreRefusal>
+where
+    R::File: AsRawFd,
     ensures { result ≢ Err NotEmpty }
 {
     *look = None;
-    let from = disk.path_of(from)?;
-    let to = disk.path_of(to)?;
-    match parents_of(disk, to.as_str())? {
+    match enter(disk, dir, folder_of(to))? {
         Parents::There => {}
         Parents::Missing => return Err(StoreRefusal::StoreFault),
         Parents::Blocked => return Err(StoreRefusal::BadParent),
     }
-    let (Found::File(_), Found::Nothing) = (find(disk, from.as_str())?, disk.look(to.as_str())?)
+    let new = open_one(dir)?;
+    if folder_of(from) == folder_of(to) {
+        move_between(disk, new, new, last_of(from), last_of(to))?;
+    } else {
+        let mut other = None;
+        enter(disk, &mut other, folder_of(from))?;
+        let old = open_one(&other)?;
+        move_between(disk, old, new, last_of(from), last_of(to))?;
+        old.sync()?;
+    }
+    *look = Some(Look::gone(String::from_str(disk.alloc, from)?));
+    new.sync()
+}
+
+// Moves a file from one directory to another, where nothing is at its name. It is moved back where one of them is no longer in its place.
+fn move_between<R: Files>(
+    disk: &Disk<R>,
+    old: &Dir<R::File>,
+    new: &Dir<R::File>,
+    from: &str,
+    to: &str,
+) -> Result<(), StoreRefusal>
+    ensures { IfErr result IsPlain }
+{
+    let from = old.path_of(disk.alloc, from)?;
+    let to = new.path_of(disk.alloc, to)?;
+    let (Found::File(_), Found::Nothing) = (disk.look(from.as_str())?, disk.look(to.as_str())?)
     else {
         return Err(StoreRefusal::StoreFault);
     };
-    let new_folder = open_folder(disk, to.as_str())?;
-    let old_folder = if folder_of(from.as_str()) == folder_of(to.as_str()) {
-        None
-    } else {
-        Some(open_folder(disk, from.as_str())?)
-    };
     or_fault(fs::rename(&disk.files, from.as_str(), to.as_str()))?;
-    *look = Some(Look::gone(from));
-    sync_folder::<R>(&new_folder)?;
-    if let Some(folder) = old_folder {
-        sync_folder::<R>(&folder)?;
+    if is_in_place(disk, old) && is_in_place(disk, new) {
+        return Ok(());
     }
-    Ok(())
+    put_new(disk, to.as_str(), from.as_str())?;
+    Err(StoreRefusal::StoreFault)
 }
 
 /// Removes a file. A fault if it changed since the last look, if that was at it, also while it was removed; then it is there again.
 pub(crate) fn remove<R: Files>(
     disk: &Disk<R>,
+    dir: &mut Option<Dir<R::File>>,
     look: &mut Option<Look>,
     name: &SafeName,
 ) -> Result<(), StoreRefusal>
+where
+    R::File: AsRawFd,
     ensures { IfErr result IsPlain }
 {
     let last = look.take();
-    let path = disk.path_of(name.as_str())?;
-    let found = find(disk, path.as_str())?;
-    if !is_as_seen(&last, path.as_str(), &found) {
+    let Entry { path, found } = find(disk, dir, name.as_str())?;
+    if !is_as_seen(&last, name.as_str(), &found) {
         return Err(StoreRefusal::StoreFault);
     }
     let Found::File(old) = found else {
         return Err(StoreRefusal::StoreFault);
     };
-    let temp = disk.temp_path_of(name)?;
-    remove_by_way_of(disk, temp.as_str(), path.as_str(), &old)?;
-    *look = Some(Look::gone(path));
+    let open = open_one(dir)?;
+    let kept = kept_path(disk, open, name)?;
+    remove_by_way_of(disk, open, kept.as_str(), path.as_str(), &old)?;
+    *look = Some(Look::gone(String::from_str(disk.alloc, name.as_str())?));
     Ok(())
 }
 
-pub(crate) fn make_dir<R: Files>(disk: &Disk<R>, name: &str) -> Result<(), StoreRefusal>
+pub(crate) fn make_dir<R: Files>(
+    disk: &Disk<R>,
+    dir: &mut Option<Dir<R::File>>,
+    name: &str,
+) -> Result<(), StoreRefusal>
+where
+    R::File: AsRawFd,
     ensures { result ≢ Err NotEmpty }
 {
-    let path = disk.path_of(name)?;
-    make_parents(disk, path.as_str())?;
-    make_directory(disk, path.as_str())?;
+    make_parents(disk, dir, folder_of(name))?;
+    let open = open_one(dir)?;
+    let path = open.path_of(disk.alloc, last_of(name))?;
+    make_directory(disk, open, path.as_str())?;
     Ok(())
 }
 
 pub(crate) fn remove_dir<R: Files>(
     disk: &Disk<R>,
+    dir: &mut Option<Dir<R::File>>,
     look: &mut Option<Look>,
     name: &str,
 ) -> Result<(), StoreRefusal>
+where
+    R::File: AsRawFd,
     ensures { result ≢ Err BadParent }
 {
     *look = None;
-    let path = disk.path_of(name)?;
-    let Found::Directory = find(disk, path.as_str())? else {
+    let Entry { path, found } = find(disk, dir, name)?;
+    let Found::Directory(_) = found else {
         return Err(StoreRefusal::StoreFault);
     };
-    match fs::remove_dir(&disk.files, path.as_str()) {
-        Ok(()) => {
-            *look = Some(Look::gone(path));
+    let path = path.as_str();
+    match fs::remove_dir(&disk.files, path) {
+        Ok(()) if is_in_place(disk, open_one(dir)?) => {
+            *look = Some(Look::gone(String::from_str(disk.alloc, name)?));
             Ok(())
+        }
+        Ok(()) => {
+            or_fault(fs::create_dir(&disk.files, path))?;
+            Err(StoreRefusal::StoreFault)
         }
         Err(error) if error.kind() == ErrorKind::DirectoryNotEmpty => Err(StoreRefusal::NotEmpty),
         Err(_) => Err(StoreRefusal::StoreFault),

@@ -2,15 +2,14 @@
 ghost use Rattle.std.specs.Prelude.{IfErr};
 ghost use Rattle.file_store.specs.Refusals.{IsPlain};
 
-use crate::found::Found;
+use crate::found::{FileId, Found};
 use crate::refuse::or_fault;
 use file_store::StoreRefusal;
-use std::alloc::{AllocError, Global};
+use std::alloc::Global;
 use std::fs;
 use std::io::ErrorKind;
 use std::os::unix::fs::MetadataExt;
 use std::rt::Files;
-use sync_names::{SafeName, temp_name};
 
 /// A folder on the disk.
 #[derive(Drop)]
@@ -46,19 +45,6 @@ impl<R: Files> Disk<R> {
         self.root.as_str()
     }
 
-    /// The path of a name.
-    pub(crate) fn path_of(&self, name: &str) -> Result<String, AllocError> {
-        let mut path = String::from_str(self.alloc, self.root.as_str())?;
-        path.push_str(name)?;
-        Ok(path)
-    }
-
-    /// The path of a name's temporary file.
-    pub(crate) fn temp_path_of(&self, name: &SafeName) -> Result<String, AllocError> {
-        let temp = temp_name(name)?;
-        self.path_of(temp.as_str())
-    }
-
     /// What is at a path. A symbolic link at its end is not followed.
     pub(crate) fn look(&self, path: &str) -> Result<Found, StoreRefusal>
         ensures { IfErr result IsPlain }
@@ -70,14 +56,14 @@ impl<R: Files> Disk<R> {
         }
     }
 
-    /// Fails unless the folder is there, on the device that it was on when it was opened. So a disk that is taken away is
+    /// Which directory the folder is. Fails unless it is there, on the device that it was on when it was opened. So a disk that is taken away is
     /// a fault, and not a folder without files.
-    pub(crate) fn require_root(&self) -> Result<(), StoreRefusal>
+    pub(crate) fn root_id(&self) -> Result<FileId, StoreRefusal>
         ensures { IfErr result IsPlain }
     {
         let metadata = or_fault(fs::metadata(&self.files, self.root.as_str()))?;
         if metadata.is_dir() && metadata.dev() == self.device {
-            Ok(())
+            Ok(FileId::new(&metadata))
         } else {
             Err(StoreRefusal::StoreFault)
         }

@@ -10,10 +10,12 @@ use sync_version::Moment;
 #[derive(Clone, Copy)]
 pub(crate) enum Found {
     Nothing,
-    Directory,
+    Directory(FileId),
     File(FileFacts),
-    /// A symbolic link, a pipe, a socket or a device.
-    Other,
+    /// A symbolic link.
+    Link,
+    /// A pipe, a socket or a device.
+    Special,
 }
 
 /// What the system says of a file: its bytes, when it was modified, its mode, and which file it is.
@@ -45,7 +47,7 @@ pub(crate) struct FileId {
 impl Found {
     pub(crate) fn new(metadata: &Metadata) -> Found {
         if metadata.is_dir() {
-            Found::Directory
+            Found::Directory(FileId::new(metadata))
         } else if metadata.is_file() {
             Found::File(FileFacts {
                 len: metadata.len(),
@@ -61,8 +63,10 @@ impl Found {
                     nanoseconds: metadata.ctime_nsec(),
                 },
             })
+        } else if metadata.is_symlink() {
+            Found::Link
         } else {
-            Found::Other
+            Found::Special
         }
     }
 

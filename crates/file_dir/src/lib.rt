@@ -6,17 +6,21 @@
 #![tactic(auto)]
 
 mod changes;
+mod dir;
 mod disk;
 mod found;
+mod left;
 mod look;
 mod marker;
 mod mode;
 mod opened;
-mod parents;
 mod refuse;
 mod replaced;
+mod skipped;
 mod store;
 mod temps;
 mod walk;
 
+pub use marker::{LockRefusal, MarkerLock};
+pub use skipped::{SkipReason, Skipped};
 pub use store::DirStore;

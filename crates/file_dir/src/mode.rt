@@ -5,7 +5,7 @@ ghost use Rattle.file_store.specs.Refusals.{IsPlain};
 
 use crate::disk::Disk;
 use crate::found::Found;
-use crate::refuse::or_fault;
+use crate::refuse::{or_fault, or_no_room};
 use file_store::StoreRefusal;
 use std::fs::{OpenFile, OpenOptions, Permissions};
 use std::os::unix::fs::{MetadataExt, OpenOptionsExt, PermissionsExt};
@@ -33,11 +33,12 @@ pub(crate) fn temporary_permissions(mode: u32) -> u32
 }
 
 /// Makes an empty file at a path where nothing is: one that may replace a file at another path, if a file is there, else
-/// with the permissions of any new file.
+/// with the permissions of any new file. Notes whether the disk lacks room for it.
 pub(crate) fn create<R: Files>(
     disk: &Disk<R>,
     path: &str,
     replaced: &str,
+    lacks_room: &mut bool,
 ) -> Result<R::File, StoreRefusal>
     ensures { IfErr result IsPlain }
 {
@@ -46,11 +47,11 @@ pub(crate) fn create<R: Files>(
     if let Found::File(old) = disk.look(replaced)? {
         let mode = temporary_permissions(old.mode);
         options.mode(mode);
-        let file = or_fault(options.open(&disk.files, path))?;
+        let file = or_no_room(options.open(&disk.files, path), lacks_room)?;
         set_mode(&file, mode)?;
         return Ok(file);
     }
-    or_fault(options.open(&disk.files, path))
+    or_no_room(options.open(&disk.files, path), lacks_room)
 }
 
 /// Gives an open file these permissions. It isn't changed if it has them, as on a file system where all files have the same.

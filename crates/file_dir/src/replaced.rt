@@ -1,10 +1,12 @@
 //! Files put into the place of others, and files removed, where others may write to them at any time.
 //!
 //! The system replaces or removes whatever is at a path at that moment. So the file is kept under another name meanwhile, and is put back if it turns out
-//! that it was changed. It can't be kept where there are no hard links, or where that name is too long for the file system.
+//! that it was changed, or that its directory is no longer in its place. It can't be kept where there are no hard links, or where that name is too long
+//! for the file system.
 ghost use Rattle.std.specs.Prelude.{IfErr};
 ghost use Rattle.file_store.specs.Refusals.{IsPlain};
 
+use crate::dir::{Dir, is_in_place, last_of};
 use crate::disk::Disk;
 use crate::found::{FileFacts, Found};
 use crate::refuse::or_fault;
@@ -13,29 +15,59 @@ use std::alloc::AllocError;
 use std::fs;
 use std::io::ErrorKind;
 use std::rt::Files;
+use sync_names::{SafeName, replaced_name};
 
-/// Moves a temporary file over another file. A fault if that one changed since it was looked at, also while it was replaced; then it is put back. A file
-/// that can't be kept is replaced all the same.
+/// The path at which the file of a name in the directory is kept while it is replaced or removed.
+pub(crate) fn kept_path<R: Files>(
+    disk: &Disk<R>,
+    dir: &Dir<R::File>,
+    name: &SafeName,
+) -> Result<String, AllocError> {
+    let kept = replaced_name(name)?;
+    dir.path_of(disk.alloc, last_of(kept.as_str()))
+}
+
+/// Moves a temporary file over another file in the directory. A fault if that one changed since it was looked at, also while it was replaced; then it
+/// is put back. A file that can't be kept is replaced all the same.
 pub(crate) fn replace<R: Files>(
     disk: &Disk<R>,
+    dir: &Dir<R::File>,
     temp: &str,
     path: &str,
+    kept: &str,
     old: &FileFacts,
 ) -> Result<(), StoreRefusal>
     ensures { IfErr result IsPlain }
 {
-    let kept = kept_path(disk, temp)?;
     // (what a call left that did not end)
-    let _ = fs::remove_file(&disk.files, kept.as_str());
-    if fs::hard_link(&disk.files, path, kept.as_str()).is_err() {
-        return or_fault(fs::rename(&disk.files, temp, path));
+    let _ = fs::remove_file(&disk.files, kept);
+    if fs::hard_link(&disk.files, path, kept).is_err() {
+        return move_in_place(disk, dir, temp, path);
     }
-    or_fault(fs::rename(&disk.files, temp, path))?;
-    if is_kept(disk, kept.as_str(), old)? {
-        return remove_if_there(disk, kept.as_str());
+    if fs::rename(&disk.files, temp, path).is_err() {
+        remove_if_there(disk, kept)?;
+        return Err(StoreRefusal::StoreFault);
     }
-    or_fault(fs::rename(&disk.files, kept.as_str(), path))?;
+    if is_in_place(disk, dir) && is_kept(disk, kept, old)? {
+        return remove_if_there(disk, kept);
+    }
+    or_fault(fs::rename(&disk.files, kept, path))?;
     Err(StoreRefusal::StoreFault)
+}
+
+// Moves a file in the directory, if that is in its place.
+fn move_in_place<R: Files>(
+    disk: &Disk<R>,
+    dir: &Dir<R::File>,
+    from: &str,
+    to: &str,
+) -> Result<(), StoreRefusal>
+    ensures { IfErr result IsPlain }
+{
+    if !is_in_place(disk, dir) {
+        return Err(StoreRefusal::StoreFault);
+    }
+    or_fault(fs::rename(&disk.files, from, to))
 }
 
 /// Moves a file to where nothing is. A fault if something came there meanwhile, on a file system that has hard links; else that is replaced.
@@ -43,31 +75,56 @@ pub(crate) fn put_new<R: Files>(disk: &Disk<R>, from: &str, to: &str) -> Result<
     ensures { IfErr result IsPlain }
 {
     match fs::hard_link(&disk.files, from, to) {
-        Ok(()) => or_fault(fs::remove_file(&disk.files, from)),
+        Ok(()) if fs::remove_file(&disk.files, from).is_ok() => Ok(()),
+        Ok(()) => {
+            // (one file at two names would be neither put nor left)
+            or_fault(fs::remove_file(&disk.files, to))?;
+            Err(StoreRefusal::StoreFault)
+        }
         Err(error) if error.kind() == ErrorKind::AlreadyExists => Err(StoreRefusal::StoreFault),
         Err(_) => or_fault(fs::rename(&disk.files, from, to)),
     }
 }
 
-/// Removes a file by way of a path that is made of its temporary file's. A fault if it changed since it was looked at, also while it was removed; then it is
+/// Puts a temporary file where nothing is in the directory. It is taken back where that is no longer in its place.
+pub(crate) fn put_temp<R: Files>(
+    disk: &Disk<R>,
+    dir: &Dir<R::File>,
+    temp: &str,
+    path: &str,
+) -> Result<(), StoreRefusal>
+    ensures { IfErr result IsPlain }
+{
+    put_new(disk, temp, path)?;
+    if is_in_place(disk, dir) {
+        return Ok(());
+    }
+    or_fault(fs::remove_file(&disk.files, path))?;
+    Err(StoreRefusal::StoreFault)
+}
+
+/// Removes a file by way of the path at which it is kept. A fault if it changed since it was looked at, also while it was removed; then it is
 /// put back, unless something else came there meanwhile, which then stays, and the file with it under that path. A file that can't be kept is removed all the
 /// same.
 pub(crate) fn remove_by_way_of<R: Files>(
     disk: &Disk<R>,
-    temp: &str,
+    dir: &Dir<R::File>,
+    kept: &str,
     path: &str,
     old: &FileFacts,
 ) -> Result<(), StoreRefusal>
     ensures { IfErr result IsPlain }
 {
-    let kept = kept_path(disk, temp)?;
-    if fs::rename(&disk.files, path, kept.as_str()).is_err() {
+    if fs::rename(&disk.files, path, kept).is_err() {
+        if !is_in_place(disk, dir) {
+            return Err(StoreRefusal::StoreFault);
+        }
         return or_fault(fs::remove_file(&disk.files, path));
     }
-    if is_kept(disk, kept.as_str(), old)? {
-        return remove_if_there(disk, kept.as_str());
+    if is_in_place(disk, dir) && is_kept(disk, kept, old)? {
+        return remove_if_there(disk, kept);
     }
-    put_new(disk, kept.as_str(), path)?;
+    put_new(disk, kept, path)?;
     Err(StoreRefusal::StoreFault)
 }
 
@@ -79,13 +136,6 @@ fn is_kept<R: Files>(disk: &Disk<R>, kept: &str, old: &FileFacts) -> Result<bool
         Found::File(now) => now.has_bytes_of(old),
         _ => false,
     })
-}
-
-/// The path at which a file is kept, beside its temporary file. It is that of a temporary file, too.
-fn kept_path<R: Files>(disk: &Disk<R>, temp: &str) -> Result<String, AllocError> {
-    let mut path = String::from_str(disk.alloc, temp.strip_suffix(".tmp").unwrap_or(temp))?;
-    path.push_str(".replaced.tmp")?;
-    Ok(path)
 }
 
 /// Removes what is at a path, unless nothing is. A directory is a fault.

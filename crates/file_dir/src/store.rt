@@ -2,13 +2,20 @@
 ghost use Rattle.std.specs.Prelude.{◌≡◌, IfOk, IfErr};
 ghost use Rattle.file_store.specs.Refusals.{count_after, IsPlain};
 
+use crate::dir::Dir;
 use crate::disk::Disk;
 use crate::look::Look;
 use crate::opened::Opened;
-use crate::{changes, marker, temps, walk};
+use crate::skipped::Skipped;
+use crate::temps::Writing;
+use crate::{LockRefusal, MarkerLock, changes, left, marker, temps, walk};
 use file_store::{FileStore, Listing, Stat, StoreRefusal};
-use std::alloc::Global;
+use std::alloc::{AllocError, Global};
+use std::fs::File;
+use std::mem::replace;
+use std::os::fd::AsRawFd;
 use std::rt::Files;
+use std::time::{Duration, SystemTime};
 use sync_names::SafeName;
 
 /// A store of files in a folder of a disk.
@@ -23,15 +30,22 @@ use sync_names::SafeName;
 /// Others may change the folder at any time. Of the name that `stat` looked at last, or of which this store moved or removed the file since, `commit_temp` and `remove` return `StoreFault`
 /// where something else is there now than then: another file, or the same one, written to or given other permissions. What is there then stays, or is put back where it was written to just while it
 /// was replaced or removed. So what somebody writes after a look is not lost, but for a file that is moved over the old one in the moment in which this is replaced, on a file system without
-/// hard links, and where a last component has more than 231 bytes.
+/// hard links, and where a last component has more than 225 bytes.
 ///
-/// Each call takes a call of the system for the folder and for each parent of the name.
+/// A name is reached by its open directory, so whatever becomes a symbolic link meanwhile, nothing is written, renamed or removed where it leads. A directory that is itself moved out of the folder just
+/// while something is done in it has that taken back. `/proc` must be mounted, and directories be readable.
+///
+/// Each call takes two calls of the system for the name's directory, or three for each of its components where another one was used last.
 #[derive(Drop)]
 pub struct DirStore<R: Files> {
     disk: Disk<R>,
+    // The directory that was used last.
+    dir: Option<Dir<R::File>>,
     reading: Option<Opened<R::File>>,
-    writing: Option<Opened<R::File>>,
+    writing: Writing<R::File>,
     look: Option<Look>,
+    // What the last listing left out.
+    skipped: Vec<Skipped>,
     faults: u64,
 }
 
@@ -47,15 +61,20 @@ impl<R: Files + Drop> DirStore<R> {
         let disk = Disk::open(files, alloc, path)?;
         Ok(DirStore {
             disk,
+            dir: None,
             reading: None,
-            writing: None,
+            writing: Writing::new(),
             look: None,
+            skipped: Vec::new(alloc),
             faults: 0,
         })
     }
 }
 
-impl<R: Files> DirStore<R> {
+impl<R: Files> DirStore<R>
+where
+    R::File: AsRawFd,
+{
     ghost use Rattle.file_dir.specs.Dir.{dir_faults};
 
     /// Whether the folder has the marker `.stfolder`, a directory or a file, as Syncthing checks. An empty directory in which a
@@ -64,7 +83,7 @@ impl<R: Files> DirStore<R> {
         ensures refusals { IfErr result IsPlain }
         ensures counted { dir_faults self.new ≡ count_after result (dir_faults self.old) }
     {
-        let answer = marker::has_marker(&self.disk);
+        let answer = marker::has_marker(&self.disk, &mut self.dir);
         settle(&mut self.faults, answer)
     }
 
@@ -74,24 +93,72 @@ impl<R: Files> DirStore<R> {
         ensures refusals { IfErr result IsPlain }
         ensures counted { dir_faults self.new ≡ count_after result (dir_faults self.old) }
     {
-        let answer = marker::make_marker(&self.disk);
+        let answer = marker::make_marker(&self.disk, &mut self.dir);
         settle(&mut self.faults, answer)
     }
 
     /// Removes all temporary files, as those that an earlier run has left, also those that another store on the folder is
-    /// writing. Returns how many there were. Those in directories that can't be read stay. After an error some may have been
+    /// writing. What was just replaced or removed is put back where nothing is at its name. Returns how many there were. Those in directories that can't be read stay. After an error some may have been
     /// removed. O(n) for n names in the folder.
     pub fn remove_temps(&mut self) -> Result<usize, StoreRefusal>
         ensures refusals { IfErr result IsPlain }
         ensures counted { dir_faults self.new ≡ count_after result (dir_faults self.old) }
     {
-        self.writing = None;
-        let answer = temps::remove_temps(&self.disk);
+        self.writing = Writing::new();
+        let answer = left::remove_temps(&self.disk);
         settle(&mut self.faults, answer)
     }
 }
 
-impl<R: Files> FileStore for DirStore<R> {
+impl<R: Files> DirStore<R> {
+    /// What the last listing left out, in the order of names; nothing when it is asked again. O(1).
+    pub fn take_skipped(&mut self) -> Vec<Skipped> {
+        let alloc = self.disk.alloc;
+        replace(&mut self.skipped, Vec::new(alloc))
+    }
+
+    /// Whether the last fault of a call that writes came of a disk without room. O(1).
+    pub fn lacks_room(&self) -> bool {
+        self.writing.lacks_room
+    }
+
+    /// The file that the next `commit_temp` of the name puts in place gets this modification time, in seconds and nanoseconds since 1970. A time
+    /// before 1970, and one that the disk can't hold, leaves it as the disk has it.
+    pub fn set_modified(
+        &mut self,
+        name: &SafeName,
+        seconds: i64,
+        nanoseconds: u32,
+    ) -> Result<(), AllocError> {
+        self.writing.modified = match time_of(seconds, nanoseconds) {
+            Some(time) => Some((String::from_str(self.disk.alloc, name.as_str())?, time)),
+            None => None,
+        };
+        Ok(())
+    }
+}
+
+impl<R: Files<File = File>> DirStore<R> {
+    /// Takes the folder for this run, by a lock of the system in its marker: on the file `bepd.lock`, or on the marker itself where that is a file or
+    /// can't be written. The lock ends with what is returned, and with the process. Fails with `InUse` where another run has it. On a disk
+    /// without such locks nothing is locked, and this succeeds.
+    pub fn lock_marker(&mut self) -> Result<MarkerLock, LockRefusal> {
+        marker::lock_marker(&self.disk, &mut self.dir)
+    }
+}
+
+fn time_of(seconds: i64, nanoseconds: u32) -> Option<SystemTime> {
+    let seconds = u64::try_from(seconds).ok()?;
+    let since = Duration::from_secs(seconds).checked_add(Duration::from_nanos(u64::from(
+        nanoseconds,
+    )))?;
+    SystemTime::UNIX_EPOCH.checked_add(since)
+}
+
+impl<R: Files> FileStore for DirStore<R>
+where
+    R::File: AsRawFd,
+{
     ghost use Rattle.std.specs.Prelude.{⊤, None, false};
     ghost use Rattle.file_dir.specs.Dir.{dir_faults};
     ghost use Rattle.file_store.specs.Stores.{empty_tree};
@@ -111,12 +178,18 @@ impl<R: Files> FileStore for DirStore<R> {
     }
 
     fn list(&mut self) -> Result<Listing, StoreRefusal> {
-        let answer = walk::list(&self.disk);
+        let answer = walk::list(&self.disk, &mut self.skipped);
         settle(&mut self.faults, answer)
     }
 
     fn stat(&mut self, name: &SafeName) -> Result<Stat, StoreRefusal> {
-        let answer = temps::stat(&self.disk, &mut self.writing, &mut self.look, name);
+        let answer = temps::stat(
+            &self.disk,
+            &mut self.dir,
+            &mut self.writing,
+            &mut self.look,
+            name,
+        );
         settle(&mut self.faults, answer)
     }
 
@@ -126,49 +199,75 @@ impl<R: Files> FileStore for DirStore<R> {
         offset: u64,
         buffer: &mut [u8],
     ) -> Result<usize, StoreRefusal> {
-        let answer = changes::read_at(&self.disk, &mut self.reading, name.as_str(), offset, buffer);
+        let answer = changes::read_at(
+            &self.disk,
+            &mut self.dir,
+            &mut self.reading,
+            name.as_str(),
+            offset,
+            buffer,
+        );
         settle(&mut self.faults, answer)
     }
 
     fn make_temp(&mut self, name: &SafeName) -> Result<(), StoreRefusal> {
-        let answer = temps::make_temp(&self.disk, &mut self.writing, name);
+        let answer = temps::make_temp(&self.disk, &mut self.dir, &mut self.writing, name);
         settle(&mut self.faults, answer)
     }
 
     fn write_at(&mut self, name: &SafeName, offset: u64, bytes: &[u8]) -> Result<(), StoreRefusal> {
-        let answer = temps::write_at(&self.disk, &mut self.writing, name, offset, bytes);
+        let answer = temps::write_at(
+            &self.disk,
+            &mut self.dir,
+            &mut self.writing,
+            name,
+            offset,
+            bytes,
+        );
         settle(&mut self.faults, answer)
     }
 
     fn commit_temp(&mut self, name: &SafeName) -> Result<(), StoreRefusal> {
         self.reading = None;
-        let answer = temps::commit_temp(&self.disk, &mut self.writing, &mut self.look, name);
+        let answer = temps::commit_temp(
+            &self.disk,
+            &mut self.dir,
+            &mut self.writing,
+            &mut self.look,
+            name,
+        );
         settle(&mut self.faults, answer)
     }
 
     fn drop_temp(&mut self, name: &SafeName) -> Result<(), StoreRefusal> {
-        let answer = temps::drop_temp(&self.disk, &mut self.writing, name);
+        let answer = temps::drop_temp(&self.disk, &mut self.dir, &mut self.writing, name);
         settle(&mut self.faults, answer)
     }
 
     fn rename(&mut self, from: &SafeName, to: &SafeName) -> Result<(), StoreRefusal> {
-        let answer = changes::rename(&self.disk, &mut self.look, from.as_str(), to.as_str());
+        let answer = changes::rename(
+            &self.disk,
+            &mut self.dir,
+            &mut self.look,
+            from.as_str(),
+            to.as_str(),
+        );
         settle(&mut self.faults, answer)
     }
 
     fn remove(&mut self, name: &SafeName) -> Result<(), StoreRefusal> {
         self.reading = None;
-        let answer = changes::remove(&self.disk, &mut self.look, name);
+        let answer = changes::remove(&self.disk, &mut self.dir, &mut self.look, name);
         settle(&mut self.faults, answer)
     }
 
     fn make_dir(&mut self, name: &SafeName) -> Result<(), StoreRefusal> {
-        let answer = changes::make_dir(&self.disk, name.as_str());
+        let answer = changes::make_dir(&self.disk, &mut self.dir, name.as_str());
         settle(&mut self.faults, answer)
     }
 
     fn remove_dir(&mut self, name: &SafeName) -> Result<(), StoreRefusal> {
-        let answer = changes::remove_dir(&self.disk, &mut self.look, name.as_str());
+        let answer = changes::remove_dir(&self.disk, &mut self.dir, &mut self.look, name.as_str());
         settle(&mut self.faults, answer)
     }
 }

@@ -1,0 +1,349 @@
+//! Open directories of the folder, and the paths of what is in them.
+//!
+//! The system follows whatever link a path has at that moment. So the directory of a name is opened component by component, each of which must be the
+//! directory that was looked at, and what is in it is reached by way of the open directory (`/proc/self/fd/N/NAME`): that leads to it wherever it
+//! was moved to, and through no link. Where it is, the link `/proc/self/fd/N` says.
+ghost use Rattle.std.specs.Prelude.{◌≢◌, Err, IfErr};
+ghost use Rattle.file_store.specs.Refusals.{IsPlain};
+ghost use Rattle.file_store.specs.declared.refusal.StoreRefusal.TheVariants.{NotEmpty};
+
+use crate::disk::Disk;
+use crate::found::{FileId, Found};
+use crate::refuse::or_fault;
+use file_store::StoreRefusal;
+use std::alloc::{AllocError, Global};
+use std::fs;
+use std::fs::OpenFile;
+use std::io::ErrorKind;
+use std::os::fd::AsRawFd;
+use std::rt::Files;
+use sync_names::is_temporary;
+
+/// A directory of the folder that is open.
+#[derive(Drop)]
+pub(crate) struct Dir<F> {
+    /// Its name, which is empty for the folder itself.
+    name: String,
+    /// `/proc/self/fd/N`.
+    link: String,
+    /// What the link said when it was opened.
+    place: String,
+    /// The folder at that time.
+    root: FileId,
+    file: F,
+}
+
+/// What the directory of a name is.
+#[derive(Clone, Copy, PartialEq, Eq)]
+pub(crate) enum Parents {
+    /// It and those above it are directories.
+    There,
+    /// It or one above it is missing, and those above that are directories.
+    Missing,
+    /// It or one above it is something else, as a symbolic link.
+    Blocked,
+}
+
+/// What is at a name, and the path by which it is reached.
+#[derive(Drop)]
+pub(crate) struct Entry {
+    pub(crate) path: String,
+    pub(crate) found: Found,
+}
+
+impl<F> Dir<F> {
+    /// The path of what has this name in the directory.
+    pub(crate) fn path_of(&self, alloc: Global, last: &str) -> Result<String, AllocError> {
+        let mut path = String::from_str(alloc, self.link.as_str())?;
+        path.push('/')?;
+        path.push_str(last)?;
+        Ok(path)
+    }
+}
+
+impl<F: OpenFile + Drop> Dir<F> {
+    /// Waits until what has changed in the directory has reached the disk. A file system that can't do that for a directory
+    /// is not asked for more; any other error is a fault.
+    pub(crate) fn sync(&self) -> Result<(), StoreRefusal>
+        ensures { IfErr result IsPlain }
+    {
+        match self.file.sync_all() {
+            Err(error) if is_not_done_here(error.kind()) => Ok(()),
+            answer => or_fault(answer),
+        }
+    }
+}
+
+/// Whether an error says that a file system does not do what it was asked for: `EINVAL`, or `ENOSYS` or `EOPNOTSUPP`.
+fn is_not_done_here(kind: ErrorKind) -> bool {
+    kind == ErrorKind::InvalidInput || kind == ErrorKind::Unsupported
+}
+
+/// Whether the directory is still where it was opened, below the same folder. Where that can't be found out, it is not.
+pub(crate) fn is_in_place<R: Files>(disk: &Disk<R>, dir: &Dir<R::File>) -> bool {
+    match disk.root_id() {
+        Ok(root) if root == dir.root => {}
+        _ => return false,
+    }
+    if dir.name.is_empty() {
+        return true;
+    }
+    match place_of(disk, dir.link.as_str()) {
+        Ok(place) => place.as_str() == dir.place.as_str(),
+        Err(_) => false,
+    }
+}
+
+// Where the open directory with this link is.
+fn place_of<R: Files>(disk: &Disk<R>, link: &str) -> Result<String, StoreRefusal>
+    ensures { IfErr result IsPlain }
+{
+    Ok(or_fault(disk.files.read_link(disk.alloc, link))?.into_string())
+}
+
+/// Another handle of the same directory.
+pub(crate) fn copy_of<R: Files>(
+    disk: &Disk<R>,
+    dir: &Dir<R::File>,
+) -> Result<Dir<R::File>, StoreRefusal>
+where
+    R::File: AsRawFd,
+    ensures { IfErr result IsPlain }
+{
+    let file = or_fault(dir.file.try_clone())?;
+    Ok(Dir {
+        name: String::from_str(disk.alloc, dir.name.as_str())?,
+        link: link_of(disk.alloc, &file)?,
+        place: String::from_str(disk.alloc, dir.place.as_str())?,
+        root: dir.root,
+        file,
+    })
+}
+
+fn link_of<F: AsRawFd>(alloc: Global, file: &F) -> Result<String, AllocError> {
+    let number = file.as_raw_fd();
+    format!(in alloc; "/proc/self/fd/{number}")
+}
+
+/// Opens the directory with this name, unless it is the open one and still in its place; then that is the open one. O(n) for a name of n bytes, and
+/// three calls of the system for each component, or two calls where it is open.
+pub(crate) fn enter<R: Files>(
+    disk: &Disk<R>,
+    dir: &mut Option<Dir<R::File>>,
+    name: &str,
+) -> Result<Parents, StoreRefusal>
+where
+    R::File: AsRawFd,
+    ensures { IfErr result IsPlain }
+{
+    if let Some(open) = dir {
+        if open.name.as_str() == name && is_in_place(disk, open) {
+            return Ok(Parents::There);
+        }
+    }
+    *dir = None;
+    let mut at = open_root(disk)?;
+    for component in name.split('/') {
+        if component.is_empty() {
+            continue;
+        }
+        let path = at.path_of(disk.alloc, component)?;
+        at = match disk.look(path.as_str())? {
+            Found::Directory(id) => open_below(disk, &at, path.as_str(), id)?,
+            Found::Nothing => return Ok(Parents::Missing),
+            Found::File(_) | Found::Link | Found::Special => return Ok(Parents::Blocked),
+        };
+    }
+    at.name = String::from_str(disk.alloc, name)?;
+    *dir = Some(at);
+    Ok(Parents::There)
+}
+
+/// The same, where missing directories are made, which then reach the disk. Fails with `BadParent` if something else than a directory is there.
+/// None is made at the name of a temporary file, which may be needed for that file: that is a fault.
+pub(crate) fn make_parents<R: Files>(
+    disk: &Disk<R>,
+    dir: &mut Option<Dir<R::File>>,
+    name: &str,
+) -> Result<(), StoreRefusal>
+where
+    R::File: AsRawFd,
+    ensures { result ≢ Err NotEmpty }
+{
+    match enter(disk, dir, name)? {
+        Parents::There => return Ok(()),
+        Parents::Blocked => return Err(StoreRefusal::BadParent),
+        Parents::Missing => {}
+    }
+    let mut at = open_root(disk)?;
+    for component in name.split('/') {
+        at = open_or_make(disk, &at, component)?;
+    }
+    at.name = String::from_str(disk.alloc, name)?;
+    *dir = Some(at);
+    Ok(())
+}
+
+fn open_or_make<R: Files>(
+    disk: &Disk<R>,
+    at: &Dir<R::File>,
+    component: &str,
+) -> Result<Dir<R::File>, StoreRefusal>
+where
+    R::File: AsRawFd,
+    ensures { result ≢ Err NotEmpty }
+{
+    let path = at.path_of(disk.alloc, component)?;
+    match disk.look(path.as_str())? {
+        Found::Directory(id) => return open_below(disk, at, path.as_str(), id),
+        Found::File(_) | Found::Link | Found::Special => return Err(StoreRefusal::BadParent),
+        Found::Nothing if is_temporary(component) => return Err(StoreRefusal::StoreFault),
+        Found::Nothing => make_directory(disk, at, path.as_str())?,
+    }
+    match disk.look(path.as_str())? {
+        Found::Directory(id) => open_below(disk, at, path.as_str(), id),
+        _ => Err(StoreRefusal::StoreFault),
+    }
+}
+
+/// Makes a directory in an open one, which then reaches the disk. It is taken back where that one is no longer in its place.
+pub(crate) fn make_directory<R: Files>(
+    disk: &Disk<R>,
+    at: &Dir<R::File>,
+    path: &str,
+) -> Result<(), StoreRefusal>
+    ensures { IfErr result IsPlain }
+{
+    or_fault(fs::create_dir(&disk.files, path))?;
+    if !stands_below_root(disk, at) {
+        let _ = fs::remove_dir(&disk.files, path);
+        return Err(StoreRefusal::StoreFault);
+    }
+    at.sync()
+}
+
+// Whether the directory is where it was opened, whatever its name is.
+fn stands_below_root<R: Files>(disk: &Disk<R>, at: &Dir<R::File>) -> bool {
+    match place_of(disk, at.link.as_str()) {
+        Ok(place) => place.as_str() == at.place.as_str(),
+        Err(_) => false,
+    }
+}
+
+fn open_root<R: Files>(disk: &Disk<R>) -> Result<Dir<R::File>, StoreRefusal>
+where
+    R::File: AsRawFd,
+    ensures { IfErr result IsPlain }
+{
+    let root = disk.root_id()?;
+    let file = or_fault(fs::open(&disk.files, disk.root()))?;
+    require(&file, root)?;
+    let link = link_of(disk.alloc, &file)?;
+    let place = place_of(disk, link.as_str())?;
+    Ok(Dir {
+        name: String::new(disk.alloc),
+        link,
+        place,
+        root,
+        file,
+    })
+}
+
+// Opens the directory that was just looked at in another one. A fault where it is none below that one any more.
+fn open_below<R: Files>(
+    disk: &Disk<R>,
+    at: &Dir<R::File>,
+    path: &str,
+    id: FileId,
+) -> Result<Dir<R::File>, StoreRefusal>
+where
+    R::File: AsRawFd,
+    ensures { IfErr result IsPlain }
+{
+    // (by the dot a pipe that came there is refused, and not waited for)
+    let inside = format!(in disk.alloc; "{path}/.")?;
+    let file = or_fault(fs::open(&disk.files, inside.as_str()))?;
+    require(&file, id)?;
+    let link = link_of(disk.alloc, &file)?;
+    let place = place_of(disk, link.as_str())?;
+    if !is_below(place.as_str(), at.place.as_str()) {
+        return Err(StoreRefusal::StoreFault);
+    }
+    Ok(Dir {
+        name: String::new(disk.alloc),
+        link,
+        place,
+        root: at.root,
+        file,
+    })
+}
+
+// A fault unless the open file is that one.
+fn require<F: OpenFile>(file: &F, id: FileId) -> Result<(), StoreRefusal>
+    ensures { IfErr result IsPlain }
+{
+    let metadata = or_fault(file.metadata())?;
+    if FileId::new(&metadata) == id {
+        Ok(())
+    } else {
+        Err(StoreRefusal::StoreFault)
+    }
+}
+
+// Whether a place is below another one.
+fn is_below(place: &str, above: &str) -> bool {
+    match place.strip_prefix(above) {
+        Some(rest) => rest.starts_with('/') || above.ends_with('/'),
+        None => false,
+    }
+}
+
+/// What is at a name, and its path: nothing, and no path, if its directory isn't one.
+pub(crate) fn find<R: Files>(
+    disk: &Disk<R>,
+    dir: &mut Option<Dir<R::File>>,
+    name: &str,
+) -> Result<Entry, StoreRefusal>
+where
+    R::File: AsRawFd,
+    ensures { IfErr result IsPlain }
+{
+    let parents = enter(disk, dir, folder_of(name))?;
+    match (parents, dir) {
+        (Parents::There, Some(open)) => {
+            let path = open.path_of(disk.alloc, last_of(name))?;
+            let found = disk.look(path.as_str())?;
+            Ok(Entry { path, found })
+        }
+        _ => Ok(Entry {
+            path: String::new(disk.alloc),
+            found: Found::Nothing,
+        }),
+    }
+}
+
+/// The open directory, which there is.
+pub(crate) fn open_one<F>(dir: &Option<Dir<F>>) -> Result<&Dir<F>, StoreRefusal>
+    ensures { IfErr result IsPlain }
+{
+    match dir {
+        Some(dir) => Ok(dir),
+        None => Err(StoreRefusal::StoreFault),
+    }
+}
+
+/// The name of the directory that a name is in; empty for the folder itself.
+pub(crate) fn folder_of(name: &str) -> &str {
+    match name.rsplit_once('/') {
+        Some((folder, _)) => folder,
+        None => "",
+    }
+}
+
+/// The last component of a name.
+pub(crate) fn last_of(name: &str) -> &str {
+    match name.rsplit_once('/') {
+        Some((_, last)) => last,
+        None => name,
+    }
+}
