@@ -260,8 +260,8 @@ where
     R::File: AsRawFd,
     ensures { IfErr result IsPlain }
 {
-    // (by the dot a pipe that came there is refused, and not waited for)
-    let inside = format!(in disk.alloc; "{path}/.")?;
+    // (with the slash a pipe that came there is refused, and not waited for)
+    let inside = format!(in disk.alloc; "{path}/")?;
     let file = or_fault(fs::open(&disk.files, inside.as_str()))?;
     require(&file, id)?;
     let link = link_of(disk.alloc, &file)?;

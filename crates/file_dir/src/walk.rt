@@ -153,7 +153,7 @@ where
         Parents::Blocked => return Err(StoreRefusal::StoreFault),
     }
     let at = open_one(dir)?;
-    let path = at.path_of(disk.alloc, ".")?;
+    let path = at.path_of(disk.alloc, "")?;
     let mut names = or_fault(disk.files.open_dir(path.as_str()))?;
     for _ in 0..u64::MAX {
         match names.read(buffer) {

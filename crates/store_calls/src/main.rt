@@ -14,7 +14,8 @@
 //! | `make_temp NAME`, `commit_temp`, `drop_temp`, `remove`, `make_dir` and `remove_dir` too | `ok` |
 //! | `faults` | `faults N` |
 //!
-//! `dir FOLDER` alone takes `make_marker`, answered by `ok`, `has_marker`, answered by `true` or `false`, and `remove_temps`, answered by
+//! `dir FOLDER` alone takes `lacks_room`, answered by `true` or `false`, `skipped`, answered by what the last listing left out, `set_modified SECONDS NANOSECONDS NAME`,
+//! answered by `ok`, `make_marker`, answered by `ok`, `has_marker`, answered by `true` or `false`, and `remove_temps`, answered by
 //! `removed N`, and has a second store on the folder, which a line asks that begins with `other `. What a store refuses is answered
 //! by `fault NUMBER NAME`, and a line that is no call by `error` and why; then the store is not asked.
 #![tactic(auto)]
@@ -25,8 +26,10 @@ mod command;
 use answer::{answer, print_done, print_refusal};
 use file_dir::DirStore;
 use file_store::{FailingStore, FailureTime, FileStore, MemStore};
+use std::fs::File;
 use std::rt::Files;
 use std::{env, io};
+use sync_names::SafeName;
 
 fn main(rt: HostRuntime) -> io::Result<()> {
     let words = env::args(&rt)?.collect::<Vec<String>>(rt.alloc())?;
@@ -61,7 +64,7 @@ fn serve<S: FileStore>(rt: &(impl Input + Print + AllocGlobal), store: &mut S) -
 
 /// Answers the calls by a store that fails one of them.
 fn serve_failing(
-    rt: &(impl Files + Input + Print + AllocGlobal),
+    rt: &(impl Files<File = File> + Input + Print + AllocGlobal),
     words: &[String],
 ) -> io::Result<()> {
     let time = match word(words, 2) {
@@ -86,7 +89,10 @@ fn serve_failing(
 }
 
 /// Answers the calls by one of two stores in a folder of a disk.
-fn serve_folder(rt: &(impl Files + Input + Print + AllocGlobal), folder: &str) -> io::Result<()> {
+fn serve_folder(
+    rt: &(impl Files<File = File> + Input + Print + AllocGlobal),
+    folder: &str,
+) -> io::Result<()> {
     let one = DirStore::open(rt, rt.alloc(), folder);
     let other = DirStore::open(rt, rt.alloc(), folder);
     match (one, other) {
@@ -95,7 +101,7 @@ fn serve_folder(rt: &(impl Files + Input + Print + AllocGlobal), folder: &str) -
     }
 }
 
-fn serve_both<R: Files>(
+fn serve_both<R: Files<File = File>>(
     rt: &(impl Input + Print + AllocGlobal),
     one: &mut DirStore<R>,
     other: &mut DirStore<R>,
@@ -111,7 +117,7 @@ fn serve_both<R: Files>(
 }
 
 /// Answers a call by a store in a folder of a disk, which may be one that no other store has.
-fn answer_of_folder<R: Files>(
+fn answer_of_folder<R: Files<File = File>>(
     rt: &(impl Print + AllocGlobal),
     store: &mut DirStore<R>,
     line: &str,
@@ -126,6 +132,46 @@ fn answer_of_folder<R: Files>(
             Ok(count) => println!(rt; "removed {count}"),
             Err(refusal) => print_refusal(rt, refusal),
         },
-        _ => answer(rt, store, line),
+        "lacks_room" => println!(rt; "{}", store.lacks_room()),
+        "skipped" => print_skipped(rt, store),
+        _ => match line.strip_prefix("set_modified ") {
+            Some(words) => set_modified(rt, store, words),
+            None => answer(rt, store, line),
+        },
     }
+}
+
+/// Prints what the last listing left out, in one line.
+fn print_skipped<R: Files<File = File>>(
+    rt: &(impl Print + AllocGlobal),
+    store: &mut DirStore<R>,
+) -> io::Result<()> {
+    let skipped = store.take_skipped();
+    print!(rt; "skipped {}", skipped.len())?;
+    for it in &skipped {
+        print!(rt; ", {:?} {}", it.name.as_str(), it.why)?;
+    }
+    println!(rt; "")
+}
+
+/// Gives the file that is put in place next a modification time: seconds, nanoseconds and the name.
+fn set_modified<R: Files<File = File>>(
+    rt: &(impl Print + AllocGlobal),
+    store: &mut DirStore<R>,
+    words: &str,
+) -> io::Result<()> {
+    let Some((seconds, rest)) = words.split_once(' ') else {
+        return println!(rt; "no time");
+    };
+    let Some((nanoseconds, name)) = rest.split_once(' ') else {
+        return println!(rt; "no time");
+    };
+    let (Ok(seconds), Ok(nanoseconds)) = (seconds.parse::<i64>(), nanoseconds.parse::<u32>()) else {
+        return println!(rt; "no time");
+    };
+    let Ok(name) = SafeName::parse(rt.alloc(), name) else {
+        return println!(rt; "no name");
+    };
+    store.set_modified(&name, seconds, nanoseconds)?;
+    println!(rt; "ok")
 }

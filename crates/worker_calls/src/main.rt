@@ -50,6 +50,7 @@ use folder_calls::{FolderCalls, Lone};
 use folder_core::{FolderCore, PlainFolder};
 use reads::{print_all_counts, print_best, print_local, print_need};
 use session::Session;
+use std::fs::File;
 use std::rt::Files;
 use std::thread::Threads;
 use std::{env, io};
@@ -83,7 +84,7 @@ fn word(words: &[String], index: usize) -> &str {
 }
 
 /// Answers the commands over a store in a folder of a disk, and a folder in which nothing is announced.
-fn serve<R: Files + Input + Print + AllocGlobal + Threads + Sync>(
+fn serve<R: Files<File = File> + Input + Print + AllocGlobal + Threads + Sync>(
     rt: &R,
     path: &str,
     limit: u64,
@@ -98,7 +99,7 @@ fn serve<R: Files + Input + Print + AllocGlobal + Threads + Sync>(
     }
 }
 
-fn serve_folder<R: Files + Input + Print + AllocGlobal + Threads + Sync>(
+fn serve_folder<R: Files<File = File> + Input + Print + AllocGlobal + Threads + Sync>(
     rt: &R,
     path: &str,
     calls: &mut Lone<PlainFolder>,
@@ -119,7 +120,7 @@ fn serve_folder<R: Files + Input + Print + AllocGlobal + Threads + Sync>(
     answer_all(rt, path, &mut session, calls)
 }
 
-fn answer_all<'a, R: Files + Input + Print + AllocGlobal + Threads + Sync>(
+fn answer_all<'a, R: Files<File = File> + Input + Print + AllocGlobal + Threads + Sync>(
     rt: &'a R,
     path: &str,
     session: &mut Session<Store<'a, R>>,
@@ -133,7 +134,7 @@ fn answer_all<'a, R: Files + Input + Print + AllocGlobal + Threads + Sync>(
 }
 
 /// Answers a line.
-fn answer<'a, R: Files + Input + Print + AllocGlobal + Threads + Sync>(
+fn answer<'a, R: Files<File = File> + Input + Print + AllocGlobal + Threads + Sync>(
     rt: &'a R,
     path: &str,
     session: &mut Session<Store<'a, R>>,
@@ -171,7 +172,7 @@ fn done(rt: &impl Print, done: Result<(), LineFault>) -> io::Result<()> {
 }
 
 /// Has a call of the store fail, which is opened anew.
-fn fail<'a, R: Files + Input + Print + AllocGlobal>(
+fn fail<'a, R: Files<File = File> + Input + Print + AllocGlobal>(
     rt: &'a R,
     path: &str,
     store: &mut Store<'a, R>,
