@@ -90,17 +90,20 @@ where
         Parents::Blocked => return Err(StoreRefusal::BadParent),
     }
     let new = open_one(dir)?;
-    if folder_of(from) == folder_of(to) {
-        move_between(disk, new, new, last_of(from), last_of(to))?;
-    } else {
-        let mut other = None;
+    let mut other = None;
+    if folder_of(from) != folder_of(to) {
         enter(disk, &mut other, folder_of(from))?;
         let old = open_one(&other)?;
         move_between(disk, old, new, last_of(from), last_of(to))?;
-        old.sync()?;
+    } else {
+        move_between(disk, new, new, last_of(from), last_of(to))?;
     }
     *look = Some(Look::gone(String::from_str(disk.alloc, from)?));
-    new.sync()
+    new.sync()?;
+    match &other {
+        Some(old) => old.sync(),
+        None => Ok(()),
+    }
 }
 
 // Moves a file from one directory to another, where nothing is at its name. It is moved back where one of them is no longer in its place.

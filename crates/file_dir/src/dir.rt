@@ -148,11 +148,15 @@ where
             continue;
         }
         let path = at.path_of(disk.alloc, component)?;
-        at = match disk.look(path.as_str())? {
+        let opened = match disk.look(path.as_str())? {
             Found::Directory(id) => open_below(disk, &at, path.as_str(), id)?,
-            Found::Nothing => return Ok(Parents::Missing),
+            Found::Nothing => None,
             Found::File(_) | Found::Link | Found::Special => return Ok(Parents::Blocked),
         };
+        let Some(opened) = opened else {
+            return Ok(Parents::Missing);
+        };
+        at = opened;
     }
     at.name = String::from_str(disk.alloc, name)?;
     *dir = Some(at);
@@ -195,14 +199,18 @@ where
 {
     let path = at.path_of(disk.alloc, component)?;
     match disk.look(path.as_str())? {
-        Found::Directory(id) => return open_below(disk, at, path.as_str(), id),
+        Found::Directory(_) => {}
         Found::File(_) | Found::Link | Found::Special => return Err(StoreRefusal::BadParent),
         Found::Nothing if is_temporary(component) => return Err(StoreRefusal::StoreFault),
         Found::Nothing => make_directory(disk, at, path.as_str())?,
     }
-    match disk.look(path.as_str())? {
-        Found::Directory(id) => open_below(disk, at, path.as_str(), id),
-        _ => Err(StoreRefusal::StoreFault),
+    let opened = match disk.look(path.as_str())? {
+        Found::Directory(id) => open_below(disk, at, path.as_str(), id)?,
+        _ => None,
+    };
+    match opened {
+        Some(opened) => Ok(opened),
+        None => Err(StoreRefusal::StoreFault),
     }
 }
 
@@ -249,33 +257,37 @@ where
     })
 }
 
-// Opens the directory that was just looked at in another one. A fault where it is none below that one any more.
+// Opens the directory that was just looked at in another one, unless it is gone. A fault where it is none below that one any more.
 fn open_below<R: Files>(
     disk: &Disk<R>,
     at: &Dir<R::File>,
     path: &str,
     id: FileId,
-) -> Result<Dir<R::File>, StoreRefusal>
+) -> Result<Option<Dir<R::File>>, StoreRefusal>
 where
     R::File: AsRawFd,
     ensures { IfErr result IsPlain }
 {
     // (with the slash a pipe that came there is refused, and not waited for)
     let inside = format!(in disk.alloc; "{path}/")?;
-    let file = or_fault(fs::open(&disk.files, inside.as_str()))?;
+    let file = match fs::open(&disk.files, inside.as_str()) {
+        Ok(file) => file,
+        Err(error) if error.kind() == ErrorKind::NotFound => return Ok(None),
+        Err(_) => return Err(StoreRefusal::StoreFault),
+    };
     require(&file, id)?;
     let link = link_of(disk.alloc, &file)?;
     let place = place_of(disk, link.as_str())?;
     if !is_below(place.as_str(), at.place.as_str()) {
         return Err(StoreRefusal::StoreFault);
     }
-    Ok(Dir {
+    Ok(Some(Dir {
         name: String::new(disk.alloc),
         link,
         place,
         root: at.root,
         file,
-    })
+    }))
 }
 
 // A fault unless the open file is that one.

@@ -48,8 +48,10 @@ pub(crate) fn replace<R: Files>(
         remove_if_there(disk, kept)?;
         return Err(StoreRefusal::StoreFault);
     }
-    if is_in_place(disk, dir) && is_kept(disk, kept, old)? {
-        return remove_if_there(disk, kept);
+    if is_in_place(disk, dir) && is_kept(disk, kept, old) {
+        // (what can't be removed now is by the next run, since something is at the name)
+        let _ = fs::remove_file(&disk.files, kept);
+        return Ok(());
     }
     or_fault(fs::rename(&disk.files, kept, path))?;
     Err(StoreRefusal::StoreFault)
@@ -86,7 +88,7 @@ pub(crate) fn put_new<R: Files>(disk: &Disk<R>, from: &str, to: &str) -> Result<
     }
 }
 
-/// Puts a temporary file where nothing is in the directory. It is taken back where that is no longer in its place.
+/// Puts a temporary file where nothing is in the directory, as [`put_new`]. It is taken back where the directory is no longer in its place.
 pub(crate) fn put_temp<R: Files>(
     disk: &Disk<R>,
     dir: &Dir<R::File>,
@@ -95,12 +97,22 @@ pub(crate) fn put_temp<R: Files>(
 ) -> Result<(), StoreRefusal>
     ensures { IfErr result IsPlain }
 {
-    put_new(disk, temp, path)?;
-    if is_in_place(disk, dir) {
-        return Ok(());
+    match fs::hard_link(&disk.files, temp, path) {
+        Ok(()) if is_in_place(disk, dir) && fs::remove_file(&disk.files, temp).is_ok() => Ok(()),
+        Ok(()) => {
+            or_fault(fs::remove_file(&disk.files, path))?;
+            Err(StoreRefusal::StoreFault)
+        }
+        Err(error) if error.kind() == ErrorKind::AlreadyExists => Err(StoreRefusal::StoreFault),
+        Err(_) => {
+            or_fault(fs::rename(&disk.files, temp, path))?;
+            if is_in_place(disk, dir) {
+                return Ok(());
+            }
+            or_fault(fs::rename(&disk.files, path, temp))?;
+            Err(StoreRefusal::StoreFault)
+        }
     }
-    or_fault(fs::remove_file(&disk.files, path))?;
-    Err(StoreRefusal::StoreFault)
 }
 
 /// Removes a file by way of the path at which it is kept. A fault if it changed since it was looked at, also while it was removed; then it is
@@ -121,21 +133,22 @@ pub(crate) fn remove_by_way_of<R: Files>(
         }
         return or_fault(fs::remove_file(&disk.files, path));
     }
-    if is_in_place(disk, dir) && is_kept(disk, kept, old)? {
-        return remove_if_there(disk, kept);
+    if is_in_place(disk, dir)
+        && is_kept(disk, kept, old)
+        && fs::remove_file(&disk.files, kept).is_ok()
+    {
+        return Ok(());
     }
     put_new(disk, kept, path)?;
     Err(StoreRefusal::StoreFault)
 }
 
-/// Whether the file that is kept has the bytes that it had when it was looked at.
-fn is_kept<R: Files>(disk: &Disk<R>, kept: &str, old: &FileFacts) -> Result<bool, StoreRefusal>
-    ensures { IfErr result IsPlain }
-{
-    Ok(match disk.look(kept)? {
-        Found::File(now) => now.has_bytes_of(old),
+// Whether the file that is kept has the bytes that it had when it was looked at. Where that can't be found out, it has not.
+fn is_kept<R: Files>(disk: &Disk<R>, kept: &str, old: &FileFacts) -> bool {
+    match disk.look(kept) {
+        Ok(Found::File(now)) => now.has_bytes_of(old),
         _ => false,
-    })
+    }
 }
 
 /// Removes what is at a path, unless nothing is. A directory is a fault.
