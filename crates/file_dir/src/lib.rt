@@ -8,6 +8,7 @@
 mod changes;
 mod disk;
 mod found;
+mod lock;
 mod look;
 mod marker;
 mod mode;
@@ -15,8 +16,11 @@ mod opened;
 mod parents;
 mod refuse;
 mod replaced;
+mod skipped;
 mod store;
 mod temps;
 mod walk;
 
+pub use lock::{LockRefusal, MarkerLock};
+pub use skipped::{SkipReason, Skipped};
 pub use store::DirStore;

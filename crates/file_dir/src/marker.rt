@@ -9,7 +9,7 @@ use file_store::StoreRefusal;
 use std::rt::Files;
 
 /// The marker's name, which is no safe name.
-const MARKER: &str = ".stfolder";
+pub(crate) const MARKER: &str = ".stfolder";
 
 /// Whether the folder has its marker, a directory or a file.
 pub(crate) fn has_marker<R: Files>(disk: &Disk<R>) -> Result<bool, StoreRefusal>

@@ -5,9 +5,11 @@ ghost use Rattle.file_store.specs.Refusals.{count_after, IsPlain};
 use crate::disk::Disk;
 use crate::look::Look;
 use crate::opened::Opened;
+use crate::skipped::Skipped;
 use crate::{changes, marker, temps, walk};
 use file_store::{FileStore, Listing, Stat, StoreRefusal};
 use std::alloc::Global;
+use std::mem::replace;
 use std::rt::Files;
 use sync_names::SafeName;
 
@@ -28,10 +30,11 @@ use sync_names::SafeName;
 /// Each call takes a call of the system for the folder and for each parent of the name.
 #[derive(Drop)]
 pub struct DirStore<R: Files> {
-    disk: Disk<R>,
+    pub(crate) disk: Disk<R>,
     reading: Option<Opened<R::File>>,
     writing: Option<Opened<R::File>>,
     look: Option<Look>,
+    skipped: Vec<Skipped>,
     faults: u64,
 }
 
@@ -50,6 +53,7 @@ impl<R: Files + Drop> DirStore<R> {
             reading: None,
             writing: None,
             look: None,
+            skipped: Vec::new(alloc),
             faults: 0,
         })
     }
@@ -91,6 +95,14 @@ impl<R: Files> DirStore<R> {
     }
 }
 
+impl<R: Files> DirStore<R> {
+    /// What the last `list` left out, in the order of names; nothing after a second call.
+    pub fn take_skipped(&mut self) -> Vec<Skipped> {
+        let empty = Vec::new(self.disk.alloc);
+        replace(&mut self.skipped, empty)
+    }
+}
+
 impl<R: Files> FileStore for DirStore<R> {
     ghost use Rattle.std.specs.Prelude.{⊤, None, false};
     ghost use Rattle.file_dir.specs.Dir.{dir_faults};
@@ -111,7 +123,8 @@ impl<R: Files> FileStore for DirStore<R> {
     }
 
     fn list(&mut self) -> Result<Listing, StoreRefusal> {
-        let answer = walk::list(&self.disk);
+        self.skipped.clear();
+        let answer = walk::list(&self.disk, &mut self.skipped);
         settle(&mut self.faults, answer)
     }
 

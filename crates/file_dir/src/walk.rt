@@ -8,6 +8,7 @@ ghost use Rattle.file_store.specs.declared.node.Listed.{Listed};
 
 use crate::disk::Disk;
 use crate::found::Found;
+use crate::skipped::{SkipReason, Skipped};
 use file_store::{Kind, Listed, Listing, StoreRefusal};
 use std::alloc::{AllocError, Global};
 use std::io::{ErrorKind, Read};
@@ -28,14 +29,21 @@ pub(crate) struct Walk {
     pub(crate) temps: Vec<String>,
     /// The names of directories that are still to be read.
     folders: Vec<String>,
+    /// What is left out.
+    skipped: Vec<Skipped>,
 }
 
 /// The safe names of files and directories, and those of directories that can't be read.
-pub(crate) fn list<R: Files>(disk: &Disk<R>) -> Result<Listing, StoreRefusal>
+pub(crate) fn list<R: Files>(
+    disk: &Disk<R>,
+    skipped: &mut Vec<Skipped>,
+) -> Result<Listing, StoreRefusal>
     ensures order { IfOk result IsInOrder }
     ensures refusals { IfErr result IsPlain }
 {
-    let walk = walk_folder(disk)?;
+    let mut walk = walk_folder(disk)?;
+    walk.skipped.sort_by(|a, b| a.name.cmp(&b.name))?;
+    *skipped = walk.skipped;
     Ok(Listing {
         entries: in_order(walk.listed)?,
         unread: names_in_order(walk.unread)?,
@@ -76,6 +84,7 @@ pub(crate) fn walk_folder<R: Files>(disk: &Disk<R>) -> Result<Walk, StoreRefusal
         unread: Vec::new(disk.alloc),
         temps: Vec::new(disk.alloc),
         folders: Vec::new(disk.alloc),
+        skipped: Vec::new(disk.alloc),
     };
     let mut buffer = vec![in disk.alloc; 0u8; NAMES]?;
     read_folder(disk, "", &mut buffer, &mut found)?;
@@ -190,7 +199,14 @@ fn add_name<R: Files>(
     ensures { IfErr result IsPlain }
 {
     let Ok(last) = std::str::from_utf8(name) else {
-        return Ok(());
+        let shown = String::from_utf8_lossy(disk.alloc, name)?;
+        return skip(
+            disk.alloc,
+            folder,
+            shown.as_str(),
+            SkipReason::NotUtf8,
+            found,
+        );
     };
     let name = join(disk.alloc, folder, last)?;
     if is_temporary(last) {
@@ -223,9 +239,13 @@ fn add_temporary<R: Files>(
 fn add_safe<R: Files>(disk: &Disk<R>, name: String, found: &mut Walk) -> Result<(), StoreRefusal>
     ensures { IfErr result IsPlain }
 {
+    let shown = String::from_str(disk.alloc, name.as_str())?;
     let name = match SafeName::from_string(name) {
         Ok(name) => name,
         Err(NameFault::OutOfMemory) => return Err(StoreRefusal::OutOfMemory),
+        Err(NameFault::NotNfc) => {
+            return skip(disk.alloc, "", shown.as_str(), SkipReason::NotNfc, found);
+        }
         Err(_) => return Ok(()),
     };
     let path = disk.path_of(name.as_str())?;
@@ -233,7 +253,10 @@ fn add_safe<R: Files>(disk: &Disk<R>, name: String, found: &mut Walk) -> Result<
     let kind = match at {
         Ok(Found::Directory) => Kind::Directory,
         Ok(Found::File(_)) => Kind::File,
-        Ok(Found::Nothing | Found::Other) => return Ok(()),
+        Ok(Found::Nothing) => return Ok(()),
+        Ok(Found::Other) => {
+            return skip(disk.alloc, "", shown.as_str(), SkipReason::Link, found);
+        }
         Err(_) => {
             found.unread.push(name.copy()?).map_err(AllocError::from)?;
             Kind::Directory
@@ -245,6 +268,23 @@ fn add_safe<R: Files>(disk: &Disk<R>, name: String, found: &mut Walk) -> Result<
     }
     let entry = Listed { name, kind };
     found.listed.push(entry).map_err(AllocError::from)?;
+    Ok(())
+}
+
+fn skip(
+    alloc: Global,
+    folder: &str,
+    last: &str,
+    why: SkipReason,
+    found: &mut Walk,
+) -> Result<(), StoreRefusal>
+    ensures { IfErr result IsPlain }
+{
+    let name = join(alloc, folder, last)?;
+    found
+        .skipped
+        .push(Skipped { name, why })
+        .map_err(AllocError::from)?;
     Ok(())
 }
 
