@@ -130,7 +130,7 @@ class Node:
             lines.append(line.rstrip("\n"))
             if lines[-1] == "end":
                 return lines[:-1]
-            if command.split(" ")[0] not in ("need", "best", "local", "peers") or lines[-1].startswith("error"):
+            if command.split(" ")[0] not in ("need", "skipped", "best", "local", "peers") or lines[-1].startswith("error"):
                 return lines
 
     def until(self, command, wanted, seconds=PATIENCE):
@@ -146,9 +146,11 @@ class Node:
     def tree(self, folder=None):
         found, path = {}, f"{self.path}/{folder or self.folders[0]}"
         for at, names, files in os.walk(path):
+            # (the marker has the lock of a run)
+            if at == path and ".stfolder" in names:
+                names.remove(".stfolder")
             for it in names:
-                if it != ".stfolder":
-                    found[os.path.relpath(f"{at}/{it}", path)] = None
+                found[os.path.relpath(f"{at}/{it}", path)] = None
             for it in files:
                 # (one that is put in place or removed just now is looked for again)
                 try:

@@ -28,7 +28,7 @@ fn main(rt: HostRuntime) -> ExitCode {
     let outcome = run(
         &rt,
         rt.alloc(),
-        &Disks::new(&rt),
+        &Disks::new(&rt, rt.alloc()),
         &words,
         progress,
         &mut input,

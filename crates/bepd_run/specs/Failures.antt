@@ -13,7 +13,7 @@ use Rattle.peer_node.specs.declared.fault.NodeFault.{NodeFault}
 use Rattle.peer_node.specs.declared.fault.NodeFault.TheVariants as node
 use Rattle.peer_node.specs.Faults.{node_fault_name, node_fault_number}
 use Rattle.bepd_run.specs.declared.failure.RunFailure.{RunFailure}
-use Rattle.bepd_run.specs.declared.failure.RunFailure.TheVariants.{Config, ConfigExists, Node, OutOfMemory, ReadOrWrite, State, StateInUse}
+use Rattle.bepd_run.specs.declared.failure.RunFailure.TheVariants.{Config, ConfigExists, FolderInUse, Node, OutOfMemory, ReadOrWrite, State, StateInUse}
 
 abbrev pub config_status : ConfigFault → ℕ
 config_status (config.NotToml line) = 1
@@ -28,6 +28,7 @@ abbrev pub node_status : NodeFault → ℕ
 node_status node.OutOfMemory = 4
 node_status node.OpenPulls = 5
 node_status node.StoreFault = 5
+node_status (node.FolderInUse place) = 6
 node_status node.BadAddress = 7
 
 -- the exit status
@@ -36,6 +37,7 @@ run_failure_status (Config fault) = config_status fault
 run_failure_status (State fault) = state_status fault
 run_failure_status (Node fault) = node_status fault
 run_failure_status StateInUse = 6
+run_failure_status (FolderInUse path) = 6
 run_failure_status OutOfMemory = 4
 run_failure_status ConfigExists = 5
 run_failure_status ReadOrWrite = 5
@@ -55,6 +57,7 @@ run_failure_text (Config fault) = numbered (number_of fault) (fault_name fault) 
 run_failure_text (State fault) = numbered (state_fault_number fault) (state_fault_name fault)
 run_failure_text (Node fault) = numbered (node_fault_number fault) (node_fault_name fault)
 run_failure_text StateInUse = codes "fault 63 StateInUse"
+run_failure_text (FolderInUse path) = codes "fault 64 FolderInUse\n" ++ (path ++ codes ": another run has it; end that one, or give the folder another path")
 run_failure_text OutOfMemory = codes "fault 33 OutOfMemory"
 run_failure_text ConfigExists = codes "fault config.toml is there already"
 run_failure_text ReadOrWrite = codes "fault read or write"

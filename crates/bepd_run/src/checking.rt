@@ -2,6 +2,7 @@
 use crate::addresses::address_of;
 use crate::failure::RunFailure;
 use crate::files::read_config_file;
+use crate::paths::require_apart;
 use node_config::{Config, FolderConfig, PeerAddress, PeerConfig, read_config};
 use std::alloc::Global;
 use std::fs::Files;
@@ -20,6 +21,7 @@ pub fn check_config<R: Files, O: Write>(
 ) -> Result<(), RunFailure> {
     let text = read_config_file(rt, alloc, path)?;
     let config = read_config(alloc, text.as_slice())?;
+    require_apart(rt, alloc, &config)?;
     for peer in config.peers.as_slice() {
         let _ = address_of(&peer.address)?;
     }

@@ -3,6 +3,7 @@ ghost use Rattle.std.specs.IoError.{error_kind};
 ghost use Rattle.bepd_run.specs.Failures.{io_failure, run_failure_status, run_failure_text};
 ghost use Rattle.bepd_run.specs.declared.failure.RunFailure.TheVariants as failure;
 
+use bep_messages::Text;
 use node_config::ConfigFault;
 use node_state::StateFault;
 use peer_node::NodeFault;
@@ -12,8 +13,8 @@ use std::io;
 use thiserror::Error;
 
 /// Why a node did not run, or did not end well. Displayed, it is the line for standard error; for a configuration that is refused a
-/// second line names the key, or the line of the file, and what is wrong with it.
-#[derive(Clone, Copy, Debug, PartialEq, Eq, Error)]
+/// second line names the key, or the line of the file, and what is wrong with it; for a folder that another run has a second line has its path, and what to do.
+#[derive(Debug, Drop, Error)]
 pub enum RunFailure {
     /// The configuration is refused, or there was no memory for it.
     Config(ConfigFault),
@@ -21,6 +22,8 @@ pub enum RunFailure {
     State(StateFault),
     /// Another run has the state.
     StateInUse,
+    /// Another run has the folder at this path.
+    FolderInUse(Text),
     /// The node did not begin, or memory ran out.
     Node(NodeFault),
     /// Memory ran out.
@@ -33,9 +36,9 @@ pub enum RunFailure {
 
 impl RunFailure {
     /// The exit status of a program that ends so: 1 for a configuration that is refused, 4 where memory ran out, 6 for a state file that is
-    /// refused or that another run has, 7 for an address, and 5 for all else that can't be read or written.
-    pub fn status(self) -> u8
-        ensures { result ≡ run_failure_status self }
+    /// refused or that another run has and for a folder that another run has, 7 for an address, and 5 for all else that can't be read or written.
+    pub fn status(&self) -> u8
+        ensures { result ≡ run_failure_status self.now }
     {
         match self {
             RunFailure::Config(ConfigFault::OutOfMemory) => 4,
@@ -43,6 +46,8 @@ impl RunFailure {
             RunFailure::State(StateFault::OutOfMemory) => 4,
             RunFailure::State(_) => 6,
             RunFailure::StateInUse => 6,
+            RunFailure::FolderInUse(_) => 6,
+            RunFailure::Node(NodeFault::FolderInUse(_)) => 6,
             RunFailure::Node(NodeFault::OutOfMemory) => 4,
             RunFailure::Node(NodeFault::BadAddress) => 7,
             RunFailure::Node(NodeFault::OpenPulls | NodeFault::StoreFault) => 5,
@@ -64,6 +69,11 @@ impl Display for RunFailure {
             RunFailure::State(fault) => write!(f, "fault {} {fault}", fault.number()),
             RunFailure::Node(fault) => write!(f, "fault {} {fault}", fault.number()),
             RunFailure::StateInUse => f.write_str("fault 63 StateInUse"),
+            RunFailure::FolderInUse(path) => write!(
+                f,
+                "fault 64 FolderInUse\n{}: another run has it; end that one, or give the folder another path",
+                path.as_str()
+            ),
             RunFailure::OutOfMemory => f.write_str("fault 33 OutOfMemory"),
             RunFailure::ConfigExists => f.write_str("fault config.toml is there already"),
             RunFailure::ReadOrWrite => f.write_str("fault read or write"),

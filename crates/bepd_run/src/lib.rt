@@ -9,6 +9,7 @@ mod fresh;
 mod keeping;
 mod kept;
 mod lock;
+mod paths;
 mod running;
 
 pub use checking::check_config;

@@ -7,12 +7,14 @@ use crate::files::{StateFiles, read_config_file, read_state_file};
 use crate::keeping::{Core, begin_all, end_all, shares_of};
 use crate::kept::StateKeeper;
 use crate::lock::Locked;
+use crate::paths::require_apart;
+use bep_messages::Text;
 use crossbeam_channel::{Receiver, Sender, bounded};
 use file_store::OpenGate;
 use node_config::{Config, read_config};
 use node_state::State;
 use peer_node::{
-    Heard, Listeners, Log, NodeEnd, NodeFolder, NodePeer, Progress, Share, Stores, Why,
+    Heard, Listeners, Log, NodeEnd, NodeFault, NodeFolder, NodePeer, Progress, Share, Stores, Why,
     begin_folders, listen_all, read_commands, run_node, write_log,
 };
 use std::alloc::Global;
@@ -34,6 +36,7 @@ const AFTER_BAD_END: u64 = 3;
 /// |---|---|
 /// | `scan F` | `scan F recorded N unchanged N other N` |
 /// | `need F` | `need NAME` for each name that the folder F needs, then `end` |
+/// | `skipped F` | `skipped NAME: WHY` for each name that the last whole scan left out, then `end` |
 /// | `best F` | `best KIND SIZE VERSION NAME` for each name that is needed or has a local record, then `end` |
 /// | `local F` | `local KIND SIZE VERSION NAME` for each local record, then `end` |
 /// | `peers` | `peer ID up` or `peer ID down` for each peer, then `end` |
@@ -89,7 +92,9 @@ where
 /// | `gone ID: WHY` | it ended |
 /// | `received F up to N from ID` | more of the peer's index of the folder F came |
 /// | `scanned F recorded N unchanged N other N` | a scan that recorded changes, or left names out |
-/// | `away F: ..`, `back F` | the folder isn't there, or has no marker; it is there again |
+/// | `skipped F NAME: WHY` | a scan left the name out, and did not before |
+/// | `skipped F: N more; ..` | it left out more than 100 |
+/// | `away F: ..`, `back F` | the folder isn't there, has no marker, or another run has it; it is there again |
 /// | `pulled F NAME` | the best of the name is in place |
 /// | `conflict copy F NAME` | what was there before is kept under this name |
 /// | `failed F NAME: WHY` | the name could not be pulled; it is tried again |
@@ -145,7 +150,9 @@ where
 
 fn config_at<R: Files>(rt: &R, alloc: Global, path: &str) -> Result<Config, RunFailure> {
     let text = read_config_file(rt, alloc, path)?;
-    Ok(read_config(alloc, text.as_slice())?)
+    let config = read_config(alloc, text.as_slice())?;
+    require_apart(rt, alloc, &config)?;
+    Ok(config)
 }
 
 // What a run has before its threads begin.
@@ -177,7 +184,7 @@ impl Ready {
         let state = read_state_file(rt, alloc, config.device, config.state.as_str())?;
         let run = Run::begin(rt, alloc, config, state, lock.is_left)?;
         let listeners = listen_all(rt, alloc, run.peers.as_slice())?;
-        begin_folders(alloc, stores, run.folders.as_slice())?;
+        begin(alloc, stores, run.folders.as_slice())?;
         let lines = bounded::<Heard, Global>(alloc, 1)?;
         lock.begin()?;
         Ok(Ready {
@@ -186,6 +193,24 @@ impl Ready {
             listeners,
             lines,
         })
+    }
+}
+
+// Makes the folders ready, and takes them for as long as the stores are kept.
+fn begin<T: Stores>(
+    alloc: Global,
+    stores: &T,
+    folders: &[NodeFolder<Core>],
+) -> Result<(), RunFailure> {
+    match begin_folders(alloc, stores, folders) {
+        Err(NodeFault::FolderInUse(place)) => {
+            let path = match folders.get(place) {
+                Some(folder) => folder.path.as_str(),
+                None => "",
+            };
+            Err(RunFailure::FolderInUse(Text::from_str(alloc, path)?))
+        }
+        begun => Ok(begun?),
     }
 }
 

@@ -7,3 +7,4 @@ pub mod Documents
 pub mod Addresses
 pub mod Rules
 pub mod Lines
+pub mod Overlaps

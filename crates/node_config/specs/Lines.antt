@@ -7,7 +7,7 @@ use Rattle.node_config.specs.declared.fault.ConfigFault.TheVariants.{NotToml, Ba
 use Rattle.node_config.specs.declared.key.Place.{Place}
 use Rattle.node_config.specs.declared.key.Place.TheVariants.{Node, Folder, Peer}
 use Rattle.node_config.specs.declared.key.Problem.{Problem}
-use Rattle.node_config.specs.declared.key.Problem.TheVariants.{Absent, NotString, NotInteger, NotTables, NotStrings, NotDevice, OutOfRange, Empty, Repeats, SameDevice, SameShortId, UnknownFolder, BothAddresses, NoAddress}
+use Rattle.node_config.specs.declared.key.Problem.TheVariants.{Absent, NotString, NotInteger, NotTables, NotStrings, NotDevice, OutOfRange, Empty, Repeats, SameDevice, SameShortId, UnknownFolder, BothAddresses, NoAddress, Inside}
 
 abbrev pub place_text : Place → List ℕ
 place_text Node = []
@@ -29,6 +29,7 @@ problem_text SameShortId = codes "begins with the same 8 bytes as another device
 problem_text (UnknownFolder entry) = codes "has as number " ++ (decimal entry ++ codes " the id of no folder")
 problem_text BothAddresses = codes "and listen are both given"
 problem_text NoAddress = codes "and listen are both absent"
+problem_text (Inside folder) = codes "is that of folder " ++ (decimal folder ++ codes ", or inside of it")
 
 abbrev pub fault_text : ConfigFault → List ℕ
 fault_text (NotToml line) = codes "line " ++ (decimal line ++ codes ": not TOML")

@@ -107,6 +107,8 @@ pub enum Problem {
     BothAddresses,
     /// Neither `dial` nor `listen` is there.
     NoAddress,
+    /// It is the path of the folder of this number, counted from 1, or one inside of it.
+    Inside { folder: usize },
 }
 
 impl Display for Problem {
@@ -130,6 +132,7 @@ impl Display for Problem {
             }
             Problem::BothAddresses => f.write_str("and listen are both given"),
             Problem::NoAddress => f.write_str("and listen are both absent"),
+            Problem::Inside { folder } => write!(f, "is that of folder {folder}, or inside of it"),
         }
     }
 }

@@ -23,6 +23,7 @@ mod document;
 mod fault;
 mod folders;
 mod key;
+mod overlap;
 mod peers;
 mod values;
 
@@ -31,3 +32,4 @@ pub use config::{Config, FolderConfig, PeerAddress, PeerConfig};
 pub use document::read_config;
 pub use fault::ConfigFault;
 pub use key::{Key, Place, Problem};
+pub use overlap::{Overlap, check_paths, first_overlap};

@@ -5,17 +5,20 @@ use crate::fault::NodeFault;
 use crate::folder_store::Marked;
 use crate::host::Host;
 use crate::input::Heard;
+use crate::log::Log;
 use crate::moments::ScanTimes;
 use crate::shared::Histories;
+use crate::skips::{LeftOut, Skips};
 use crossbeam_channel::{Receiver, RecvTimeoutError};
 use file_store::{FileStore, Gate};
 use folder_calls::FolderCalls;
 use record_lines::{push_name, push_record};
 use std::alloc::{AllocError, Global};
 use std::io::{self, Write};
+use std::sync::Wait;
 use std::time::Duration;
 use sync_record::{DeviceId, Record};
-use sync_scan::{NoProgress, ScanStop, scan_all};
+use sync_scan::{ScanStop, scan_all};
 
 /// How many names are read at once.
 const PAGE: usize = 1_000;
@@ -26,7 +29,9 @@ pub(crate) struct CommandFolder<'a, S, W> {
     // Among the folders.
     pub(crate) place: usize,
     pub(crate) id: &'a str,
+    pub(crate) log: &'a Log,
     pub(crate) times: &'a ScanTimes,
+    pub(crate) skips: &'a Skips,
     pub(crate) store: S,
     pub(crate) calls: W,
 }
@@ -167,6 +172,7 @@ where
             )
         }
         Command::Need(id) => need(alloc, folder_in(folders, id)?, writer),
+        Command::Skipped(id) => tell_skipped(rt, folder_in(folders, id)?, writer),
         Command::Best(id) => list(alloc, folder_in(folders, id)?, Listed::Bests, writer),
         Command::Local(id) => list(alloc, folder_in(folders, id)?, Listed::Locals, writer),
         Command::Peers => tell_peers(rt, alloc, connections, peers, writer),
@@ -196,7 +202,9 @@ fn scan<R: Host, S: FileStore + Marked, W: FolderCalls, G: Gate, O: Write>(
 ) -> Result<(), Refused> {
     let CommandFolder {
         id,
+        log,
         times,
+        skips,
         store,
         calls,
         ..
@@ -205,7 +213,9 @@ fn scan<R: Host, S: FileStore + Marked, W: FolderCalls, G: Gate, O: Write>(
         return Err(Refused::FolderMissing);
     }
     let moment = times.next(rt, connections);
-    let sum = scan_all(rt, alloc, store, calls, gate, moment, &mut NoProgress);
+    let mut left_out = LeftOut::new(alloc, rt, connections);
+    let sum = scan_all(rt, alloc, store, calls, gate, moment, &mut left_out);
+    skips.take(rt, *log, *id, store, left_out, &sum);
     if let Some(stop) = sum.stopped {
         return Err(Refused::Scan(stop));
     }
@@ -238,6 +248,18 @@ fn need<S, W: FolderCalls, O: Write>(
         writer.write_all(lines.as_slice())?;
         page = folder.calls.need(Some(last), PAGE)?.value;
     }
+    writer.write_all(b"end\n")?;
+    Ok(())
+}
+
+// What the last scan left out.
+fn tell_skipped<R: Wait, S, W, O: Write>(
+    rt: &R,
+    folder: &CommandFolder<S, W>,
+    writer: &mut O,
+) -> Result<(), Refused> {
+    let lines = folder.skips.lines(rt)?;
+    writer.write_all(lines.as_slice())?;
     writer.write_all(b"end\n")?;
     Ok(())
 }

@@ -10,6 +10,8 @@ pub(crate) enum Command<'a> {
     Scan(&'a str),
     /// Its needed names.
     Need(&'a str),
+    /// What its last scan left out.
+    Skipped(&'a str),
     /// Its bests.
     Best(&'a str),
     /// Its local records.
@@ -40,6 +42,9 @@ impl<'a> Command<'a> {
         }
         if let Some(id) = line.strip_prefix("need ") {
             return Some(Command::Need(id));
+        }
+        if let Some(id) = line.strip_prefix("skipped ") {
+            return Some(Command::Skipped(id));
         }
         if let Some(id) = line.strip_prefix("best ") {
             return Some(Command::Best(id));

@@ -15,12 +15,14 @@ pub enum NodeFault {
     OpenPulls,
     /// The path of a folder is no directory.
     StoreFault,
+    /// Another run has the folder at this place.
+    FolderInUse(usize),
     /// An address can't be listened on.
     BadAddress,
 }
 
 impl NodeFault {
-    /// The number under which programs report it: 33, 34, 40 or 62. O(1).
+    /// The number under which programs report it: 33, 34, 40, 62 or 64. O(1).
     pub fn number(self) -> u8
         ensures { result ≡ node_fault_number self }
     {
@@ -28,6 +30,7 @@ impl NodeFault {
             NodeFault::OutOfMemory => 33,
             NodeFault::OpenPulls => 34,
             NodeFault::StoreFault => 40,
+            NodeFault::FolderInUse(_) => 64,
             NodeFault::BadAddress => 62,
         }
     }
@@ -41,6 +44,7 @@ impl Display for NodeFault {
             NodeFault::OutOfMemory => "OutOfMemory",
             NodeFault::OpenPulls => "Stray",
             NodeFault::StoreFault => "StoreFault",
+            NodeFault::FolderInUse(_) => "FolderInUse",
             NodeFault::BadAddress => "BadAddress",
         })
     }

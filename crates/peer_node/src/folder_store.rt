@@ -7,6 +7,7 @@ ghost use Rattle.file_store.specs.declared.refusal.StoreRefusal.TheVariants.{Not
 
 use crate::connections::Connections;
 use crate::stores::Stores;
+use file_dir::{LockRefusal, Skipped};
 use file_store::{FileStore, Listing, Stat, StoreRefusal};
 use std::alloc::Global;
 use std::sync::Wait;
@@ -16,6 +17,12 @@ use sync_names::SafeName;
 pub(crate) trait Marked {
     /// Whether the folder is there, with its marker.
     fn is_there(&mut self) -> bool;
+
+    /// Whether it was not there when it was last looked for, since another run has it.
+    fn is_in_use(&self) -> bool;
+
+    /// What its last listing left out, once.
+    fn take_skipped(&mut self) -> Vec<Skipped>;
 
     /// The name to which a file was moved last, if one was since this was called last.
     fn take_moved(&mut self) -> Option<SafeName>;
@@ -54,6 +61,8 @@ struct Root<'a, T, S> {
     path: &'a str,
     // What it is read and written by, once it was there.
     store: Option<S>,
+    // Whether another run has it.
+    is_in_use: bool,
 }
 
 impl<'a, T, S, R> FolderStore<'a, T, S, R> {
@@ -75,6 +84,7 @@ impl<'a, T, S, R> FolderStore<'a, T, S, R> {
                 stores,
                 path,
                 store: None,
+                is_in_use: false,
             },
             moved: None,
             faults: 0,
@@ -102,18 +112,27 @@ impl<T: Stores<Store = S>, S: FileStore + Drop> Root<'_, T, S> {
         }
     }
 
-    // Whether the directory is there, with its marker.
+    // Whether the directory is there, with its marker, and no other run has it.
     fn is_there(&mut self) -> bool {
         let stores = self.stores;
-        let is_marked = match self.opened() {
-            Ok(store) => stores.is_marked(store),
-            Err(_) => false,
+        let path = self.path;
+        let taken = match self.opened() {
+            Ok(store) => {
+                if stores.is_marked(store) {
+                    Some(stores.take(store, path))
+                } else {
+                    None
+                }
+            }
+            Err(_) => None,
         };
-        if !is_marked {
+        if taken.is_none() {
             // (what comes back may be on another device)
             self.store = None;
+            stores.let_go(path);
         }
-        is_marked
+        self.is_in_use = matches!(taken, Some(Err(LockRefusal::InUse)));
+        matches!(taken, Some(Ok(())))
     }
 
     // What is in the directory, if it is still there afterwards.
@@ -170,6 +189,18 @@ impl<T: Stores<Store = S>, S: FileStore + Drop> Root<'_, T, S> {
 impl<T: Stores<Store = S>, S: FileStore + Drop, R> Marked for FolderStore<'_, T, S, R> {
     fn is_there(&mut self) -> bool {
         self.root.is_there()
+    }
+
+    fn is_in_use(&self) -> bool {
+        self.root.is_in_use
+    }
+
+    fn take_skipped(&mut self) -> Vec<Skipped> {
+        let stores = self.root.stores;
+        match &mut self.root.store {
+            Some(store) => stores.take_skipped(store),
+            None => Vec::new(self.root.alloc),
+        }
     }
 
     fn take_moved(&mut self) -> Option<SafeName> {

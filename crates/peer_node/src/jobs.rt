@@ -12,6 +12,7 @@ use crate::peer::{PeerJob, Reach};
 use crate::rounds::{HANDS, Hand, PulledFolder};
 use crate::scans::ScannedFolder;
 use crate::shared::take_caller;
+use crate::skips::Skips;
 use crate::stores::Stores;
 use bep_messages::Text;
 use file_store::FileStore;
@@ -36,6 +37,7 @@ pub(crate) struct FolderPlace {
     pub(crate) most: MaxConflicts,
     pub(crate) rescan: u64,
     pub(crate) times: ScanTimes,
+    pub(crate) skips: Skips,
 }
 
 /// What a node is told.
@@ -171,6 +173,7 @@ pub(crate) fn scanned_of<'a, 'b, F: FolderFiles, W: FolderCalls>(
             place.id.as_str(),
             node.log,
             &place.times,
+            &place.skips,
             store,
             calls,
             place.rescan,
@@ -250,7 +253,9 @@ pub(crate) fn asked_of<'a, 'b, F: FolderFiles, W: FolderCalls>(
         asked.push(CommandFolder {
             place: at,
             id: place.id.as_str(),
+            log: node.log,
             times: &place.times,
+            skips: &place.skips,
             store: files.of(at, GivesUp::Never)?,
             calls: take_caller(callers, at)?,
         })?;

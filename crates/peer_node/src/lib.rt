@@ -19,6 +19,7 @@ mod peer;
 mod rounds;
 mod scans;
 mod shared;
+mod skips;
 mod stores;
 mod ways;
 
@@ -31,4 +32,5 @@ pub use node::{
     Listeners, NodeAddress, NodeEnd, NodeFolder, NodePeer, Share, begin_folders, listen_all,
     run_node,
 };
+pub use skips::SkipWhy;
 pub use stores::{Disks, Stores};

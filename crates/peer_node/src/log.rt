@@ -1,9 +1,10 @@
 //! What a node tells while it runs: a line for each thing that happened, with the time in UTC.
 use crate::moments::moment;
+use crate::skips::SkipWhy;
 use bep_messages::Text;
 use jiff::Timestamp;
 use peer_reader::ReaderStop;
-use record_lines::push_name;
+use record_lines::{push_name, push_text};
 use std::alloc::Global;
 use std::io::{self, Write};
 use std::mem::replace;
@@ -48,6 +49,12 @@ pub enum Event<'a> {
     Received(&'a str, DeviceId, u64),
     /// A scan of a folder recorded changes, or left names out.
     Scanned(&'a str, ScanSum),
+    /// A scan of a folder left out this name, which was not so before.
+    Skipped(&'a str, &'a str, SkipWhy),
+    /// It left out so many more.
+    SkippedMore(&'a str, u64),
+    /// A folder is away: another run has it.
+    InUse(&'a str),
     /// A scan of a folder is at this name of so many.
     Scanning(&'a str, u64, u64),
     /// A folder isn't there, or has no marker.
@@ -263,6 +270,12 @@ fn push_event(line: &mut Vec<u8>, event: &Event) -> io::Result<()> {
             push_device(line, *peer)
         }
         Event::Scanned(folder, sum) => push_scanned(line, folder, sum),
+        Event::Skipped(folder, name, why) => push_skipped(line, folder, name, *why),
+        Event::SkippedMore(folder, count) => write!(
+            line,
+            "skipped {folder}: {count} more; the command `skipped {folder}` lists them"
+        ),
+        Event::InUse(folder) => write!(line, "away {folder}: another run has it"),
         Event::Scanning(folder, at, of) => write!(line, "scanning {folder} {at} of {of}"),
         Event::Away(folder) => write!(line, "away {folder}: it has no .stfolder, or isn't there"),
         Event::Back(folder) => write!(line, "back {folder}"),
@@ -302,6 +315,12 @@ fn push_scanned(line: &mut Vec<u8>, folder: &str, sum: &ScanSum) -> io::Result<(
         write!(line, ": {} {stop}", stop.number())?;
     }
     Ok(())
+}
+
+fn push_skipped(line: &mut Vec<u8>, folder: &str, name: &str, why: SkipWhy) -> io::Result<()> {
+    write!(line, "skipped {folder} ")?;
+    push_text(line, name)?;
+    write!(line, ": {why}")
 }
 
 fn push_named(line: &mut Vec<u8>, word: &str, folder: &str, name: &SafeName) -> io::Result<()> {

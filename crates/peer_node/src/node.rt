@@ -20,9 +20,11 @@ use crate::peer::{PeerJob, Reach, run_peer};
 use crate::rounds::{HANDS, PulledFolder, run_rounds};
 use crate::scans::{ScannedFolder, run_scans};
 use crate::shared::{Histories, Locked, callers_at};
+use crate::skips::Skips;
 use crate::stores::Stores;
 use bep_messages::Text;
 use crossbeam_channel::Receiver;
+use file_dir::LockRefusal;
 use file_store::{FileStore, Gate};
 use folder_calls::FolderCalls;
 use folder_core::FolderCore;
@@ -127,19 +129,20 @@ pub fn listen_all<R: Net<Listener = TcpListener, Stream = TcpStream>>(
 }
 
 /// Makes each folder ready, before anybody reads or writes it: one of which nothing was recorded yet gets its marker, and temporary files that an
-/// earlier run left are removed. Fails with `StoreFault` where the path of such a new folder is no directory; one of which something was recorded may be
-/// away.
+/// earlier run left are removed. Fails with `FolderInUse` where another run has a folder, and with `StoreFault` where the path of such a new folder is no
+/// directory; one of which something was recorded may be away. The others are taken for as long as the stores are kept.
 pub fn begin_folders<T: Stores, C: FolderCore>(
     alloc: Global,
     stores: &T,
     folders: &[NodeFolder<C>],
 ) -> Result<(), NodeFault> {
-    for folder in folders {
+    for (place, folder) in folders.iter().enumerate() {
         let counts = folder.core.counts();
         let is_new = counts.files == 0 && counts.directories == 0 && counts.deletions == 0;
-        let begun = stores.begin(alloc, folder.path.as_str(), is_new);
-        if begun.is_err() && is_new {
-            return Err(NodeFault::StoreFault);
+        match stores.begin(alloc, folder.path.as_str(), is_new) {
+            Err(LockRefusal::InUse) => return Err(NodeFault::FolderInUse(place)),
+            Err(_) if is_new => return Err(NodeFault::StoreFault),
+            _ => {}
         }
     }
     Ok(())
@@ -266,6 +269,7 @@ fn open_all<R: Wait, C: FolderCore + Drop>(
             most,
             rescan,
             times: ScanTimes::new(),
+            skips: Skips::new(alloc),
         })?;
         shared.push(open_folder(rt, alloc, core, history_limit)?)?;
     }

@@ -4,12 +4,14 @@ use crate::folder_store::Marked;
 use crate::host::Host;
 use crate::log::{Event, Log};
 use crate::moments::ScanTimes;
-use file_store::{FileStore, Gate};
+use crate::skips::{LeftOut, Skips};
+use file_store::{FileStore, Gate, StoreRefusal};
 use folder_calls::FolderCalls;
 use std::alloc::Global;
 use std::sync::Wait;
 use std::time::Clock;
-use sync_scan::{Progress, scan_all};
+use sync_names::SafeName;
+use sync_scan::{Progress, Scanned, scan_all};
 
 /// After how many seconds a folder is scanned again of which some names could not be recorded, as a file that changed while it was read. Each
 /// time that this is so once more they are twice as many, up to an hour.
@@ -35,15 +37,26 @@ enum Came {
     Away,
 }
 
+// Where a folder is.
+#[derive(Clone, Copy, PartialEq, Eq)]
+enum Whereabouts {
+    There,
+    // It isn't there, or has no marker.
+    Away,
+    // Another run has it.
+    InUse,
+}
+
 /// A folder, for the scanner.
 #[derive(Drop)]
 pub(crate) struct ScannedFolder<'a, S, W> {
     id: &'a str,
     log: &'a Log,
     times: &'a ScanTimes,
+    skips: &'a Skips,
     store: S,
     calls: W,
-    is_away: bool,
+    at: Whereabouts,
     // How many seconds lie between two scans, or 0 for none by the clock.
     every: u64,
     // How many seconds are left until the next scan, if there is to be one.
@@ -58,6 +71,7 @@ impl<'a, S, W> ScannedFolder<'a, S, W> {
         id: &'a str,
         log: &'a Log,
         times: &'a ScanTimes,
+        skips: &'a Skips,
         store: S,
         calls: W,
         every: u64,
@@ -66,9 +80,10 @@ impl<'a, S, W> ScannedFolder<'a, S, W> {
             id,
             log,
             times,
+            skips,
             store,
             calls,
-            is_away: false,
+            at: Whereabouts::There,
             every,
             left: Some(0),
             soon: 0,
@@ -145,6 +160,7 @@ struct Far<'a, R> {
     rt: &'a R,
     id: &'a str,
     log: &'a Log,
+    left_out: LeftOut<'a, R>,
 }
 
 impl<R: Clock + Wait> Progress for Far<'_, R> {
@@ -154,23 +170,35 @@ impl<R: Clock + Wait> Progress for Far<'_, R> {
         self.log
             .tell(self.rt, &Event::Scanning(self.id, names, listed));
     }
+
+    fn came_to(&mut self, name: &SafeName, scanned: &Result<Scanned, StoreRefusal>) {
+        self.left_out.came_to(name, scanned);
+    }
 }
 
-// Tells that a folder is away, or back, where it was not so before.
-fn tell_away<R, S, W>(rt: &R, folder: &mut ScannedFolder<S, W>, is_away: bool)
+// Looks where a folder is, and tells it where it was not so before.
+fn find<R, S, W>(rt: &R, folder: &mut ScannedFolder<S, W>) -> Whereabouts
 where
     R: Clock + Wait,
+    S: Marked,
 {
-    if folder.is_away == is_away {
-        return;
-    }
-    folder.is_away = is_away;
-    let event = if is_away {
-        Event::Away(folder.id)
+    let at = if folder.store.is_there() {
+        Whereabouts::There
+    } else if folder.store.is_in_use() {
+        Whereabouts::InUse
     } else {
-        Event::Back(folder.id)
+        Whereabouts::Away
     };
-    folder.log.tell(rt, &event);
+    if folder.at != at {
+        folder.at = at;
+        let event = match at {
+            Whereabouts::There => Event::Back(folder.id),
+            Whereabouts::Away => Event::Away(folder.id),
+            Whereabouts::InUse => Event::InUse(folder.id),
+        };
+        folder.log.tell(rt, &event);
+    }
+    at
 }
 
 // Scans a folder, if it is there.
@@ -187,15 +215,14 @@ where
     W: FolderCalls,
     G: Gate,
 {
-    let is_away = !folder.store.is_there();
-    tell_away(rt, folder, is_away);
-    if is_away {
+    if find(rt, folder) != Whereabouts::There {
         return Came::Away;
     }
     let ScannedFolder {
         id,
         log,
         times,
+        skips,
         store,
         calls,
         ..
@@ -204,12 +231,14 @@ where
         rt,
         id: *id,
         log: *log,
+        left_out: LeftOut::new(alloc, rt, connections),
     };
     let moment = times.next(rt, connections);
     let sum = scan_all(rt, alloc, store, calls, gate, moment, &mut far);
     if sum.recorded > 0 || sum.other > 0 || sum.stopped.is_some() {
         log.tell(rt, &Event::Scanned(*id, sum));
     }
+    skips.take(rt, *log, *id, store, far.left_out, &sum);
     if sum.other == 0 && sum.stopped.is_none() {
         Came::Whole
     } else {

@@ -72,7 +72,14 @@ fn push_counter(line: &mut Vec<u8>, counter: (u64, u64)) -> Result<(), AllocErro
 pub fn push_name(line: &mut Vec<u8>, name: &SafeName) -> Result<(), AllocError>
     ensures { OnOk result (line.new.items ≡ line.old.items ++ name_text name.now) }
 {
-    for byte in name.as_str().as_bytes() {
+    push_text(line, name.as_str())
+}
+
+/// Appends a text as [`push_name`] does a name: so it is a part of one line, whatever is in it. O(n).
+pub fn push_text(line: &mut Vec<u8>, text: &str) -> Result<(), AllocError>
+    ensures { OnOk result (line.new.items ≡ line.old.items ++ name_text text.now) }
+{
+    for byte in text.as_bytes() {
         push_byte(line, *byte)?;
     }
     Ok(())

@@ -125,6 +125,7 @@ fn scan_listed<S: FileStore, W: FolderCalls, G: Gate, P: Progress>(
             progress,
         );
         sum.count(&came_to);
+        progress.came_to(&entry.name, &came_to);
         progress.scanned(index as u64 + 1, entries.len() as u64);
         if sum.stopped.is_some() {
             return sum;
@@ -223,6 +224,7 @@ fn scan_next<S: FileStore, W: FolderCalls, G: Gate, P: Progress>(
         rt, alloc, store, calls, gate, name, moment, buffer, progress,
     );
     sum.count(&scanned);
+    progress.came_to(name, &scanned);
 }
 
 // Whether the name is below one of the directories.

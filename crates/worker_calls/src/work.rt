@@ -4,7 +4,7 @@ use crate::show::{print_out_of_memory, print_page, print_pulled, print_scanned, 
 use crate::words::split;
 use bep_messages::{ProtoMessage, Request, Response, Text};
 use block_server::answer;
-use file_store::{FileStore, Gate};
+use file_store::{FileStore, Gate, StoreRefusal};
 use folder_calls::FolderCalls;
 use hex::encode;
 use sha2::{Digest, Sha256};
@@ -13,7 +13,7 @@ use std::io;
 use std::thread::Threads;
 use sync_names::SafeName;
 use sync_pull::pull_name;
-use sync_scan::{Progress, scan_all, scan_name};
+use sync_scan::{Progress, Scanned, scan_all, scan_name};
 
 /// How many bytes were hashed.
 #[derive(Clone, Copy)]
@@ -27,6 +27,8 @@ impl Progress for Hashed {
     }
 
     fn scanned(&mut self, _names: u64, _listed: u64) {}
+
+    fn came_to(&mut self, _name: &SafeName, _scanned: &Result<Scanned, StoreRefusal>) {}
 }
 
 pub(crate) fn scan_names<S: FileStore, W: FolderCalls, G: Gate>(

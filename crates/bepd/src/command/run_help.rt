@@ -46,6 +46,7 @@ id of a folder.
 
     scan F      the folder is scanned
     need F      its names of which a better version is announced
+    skipped F   the names that its last scan left out, and why
     best F      the best version of each name, where it is needed or recorded here
     local F     the records of this device
     peers       which peers are connected
@@ -54,11 +55,12 @@ id of a folder.
     verify F    whether these changes lead to what the folder is now
     quit        the program ends, as it does at the end of the input
 
-Output: need, best, local and peers print a line for each, and then `end`; the
+Output: need, skipped, best, local and peers print a line for each, and then `end`; the
 others one line, and quit none:
 
     scan F recorded R unchanged U other O
     need NAME
+    skipped NAME: WHY
     best KIND SIZE VERSION NAME
     local KIND SIZE VERSION NAME
     peer ID up, or peer ID down
@@ -73,6 +75,7 @@ time in UTC, and
     connected ID, gone ID: WHY
     received F up to N from ID         more of a peer's index came, up to sequence N
     scanned F recorded R unchanged U other O
+    skipped F NAME: WHY                a scan left it out, and did not before
     pulled F NAME                      the best version is in place
     conflict copy F NAME               what was there before is kept under this name
     failed F NAME: NUMBER WHY          it could not be pulled, and is tried again
@@ -94,5 +97,6 @@ Exit status; from 1 on a line on standard error says why:
   5  `fault 40 StoreFault`: the path of a folder is no directory; or `fault read or
      write`: a file, or the commands, or an answer could not be read or written
   6  `fault 61 BadState`: the state file is not one; `fault 63 StateInUse`: another run
-     has it
+     has it; `fault 64 FolderInUse`: another run has a folder, whose path is on a second
+     line
   7  `fault 62 BadAddress`: an address can't be read, or not be listened on";

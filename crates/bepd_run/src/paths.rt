@@ -1,0 +1,56 @@
+//! Where the folders and the state of a configuration are.
+use crate::failure::RunFailure;
+use bep_messages::Text;
+use node_config::{Config, check_paths};
+use std::alloc::{AllocError, Global};
+use std::fs::Files;
+use std::io::ErrorKind;
+
+/// Fails where a folder lies within another one, or the state within a folder, by their canonical paths.
+pub(crate) fn require_apart<R: Files>(
+    rt: &R,
+    alloc: Global,
+    config: &Config,
+) -> Result<(), RunFailure> {
+    let mut folders = Vec::new(alloc);
+    for folder in config.folders.as_slice() {
+        folders.push(canonical(rt, alloc, folder.path.as_str())?)?;
+    }
+    let state = canonical(rt, alloc, config.state.as_str())?;
+    Ok(check_paths(folders.as_slice(), state.as_str())?)
+}
+
+// The canonical path. Of one at which nothing is, as while a disk is away, it is that of the nearest directory above it, and then the rest.
+fn canonical<R: Files>(rt: &R, alloc: Global, path: &str) -> Result<Text, RunFailure> {
+    let root = if path.starts_with('/') { "/" } else { "." };
+    let mut parts = Vec::new(alloc);
+    for part in path.split('/') {
+        if !part.is_empty() && part != "." {
+            parts.push(part)?;
+        }
+    }
+    for count in (0..=parts.len()).rev() {
+        let (above, below) = parts.as_slice().split_at(count);
+        let above = extended(String::from_str(alloc, root)?, above)?;
+        match rt.canonicalize(alloc, above.as_str()) {
+            Ok(found) => return Ok(Text::from_string(extended(found.into_string(), below)?)),
+            Err(error) if error.kind() == ErrorKind::OutOfMemory => {
+                return Err(RunFailure::OutOfMemory);
+            }
+            Err(_) => {}
+        }
+    }
+    Ok(Text::from_string(String::from_str(alloc, path)?))
+}
+
+// The path of what these parts lead to from a directory.
+fn extended(directory: String, parts: &[&str]) -> Result<String, AllocError> {
+    let mut path = directory;
+    for part in parts {
+        if !path.ends_with('/') {
+            path.push('/')?;
+        }
+        path.push_str(part)?;
+    }
+    Ok(path)
+}

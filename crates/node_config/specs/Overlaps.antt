@@ -1,0 +1,66 @@
+-- Which paths of a configuration lie within others (own rule). Paths are canonical: absolute, without links, `.`, `..` and a slash at the end.
+use Rattle.std.specs.Prelude.{ℕ, ◌+◌, Bool, false, ◌||◌, ◌&&◌, List, [], ◌∷◌, ◌++◌, length, bytes_eq, nat_eq, codes, get_or, Option, Some, None, Result, Ok, Err, if◌then◌else◌, slice_get, ◌==◌}
+use Rattle.std.specs.List.{position, starts_with}
+use Rattle.node_config.specs.declared.fault.ConfigFault.{ConfigFault}
+use Rattle.node_config.specs.declared.fault.ConfigFault.TheVariants.{BadKey}
+use Rattle.node_config.specs.declared.key.Key.TheVariants.{Path, State}
+use Rattle.node_config.specs.declared.key.Place.TheVariants.{Folder, Node}
+use Rattle.node_config.specs.declared.key.Problem.TheVariants.{Inside as IsInside}
+use Rattle.node_config.specs.declared.overlap.Overlap.{Overlap}
+use Rattle.node_config.specs.declared.overlap.Overlap.TheVariants.{Inside, StateIn}
+
+-- what stands before the slash that follows a path: the root has none but its own
+abbrev pub stem : List ℕ → List ℕ
+stem path = if bytes_eq path (codes "/") then [] else path
+
+-- there is a slash
+abbrev pub is_slash : Option ℕ → Bool
+is_slash None = false
+is_slash (Some byte) = byte == 47
+
+-- the path is the outer one, or goes on after it with a slash
+abbrev pub is_within : List ℕ → List ℕ → Bool
+is_within inner outer = bytes_eq inner outer
+    || (starts_with nat_eq inner (stem outer) && is_slash (slice_get inner (length (stem outer))))
+
+-- one of two folders lies within the other
+abbrev pub are_within : List ℕ → List ℕ → Bool
+are_within folder other = is_within folder other || is_within other folder
+
+-- and which one, by their numbers
+abbrev pub overlap_of : ℕ → List ℕ → ℕ → List ℕ → Overlap
+overlap_of number folder earlier other = if is_within folder other then Inside number earlier else Inside earlier number
+
+-- the folder after the earlier ones, and the one at a place that it overlaps; folders are counted from 1
+abbrev pub with_earlier : List (List ℕ) → List ℕ → Option ℕ → Option Overlap
+with_earlier earlier folder None = None
+with_earlier earlier folder (Some place) = Some (overlap_of (length earlier + 1) folder (place + 1) (get_or earlier place []))
+
+-- the first
+abbrev pub or_else : Option Overlap → Option Overlap → Option Overlap
+or_else (Some overlap) other = Some overlap
+or_else None other = other
+
+-- the first of the folders that overlaps one before it
+abbrev pub first_nested : List (List ℕ) → List (List ℕ) → Option Overlap
+first_nested earlier [] = None
+first_nested earlier (folder ∷ folders) =
+    or_else (with_earlier earlier folder (position (are_within folder) earlier)) (first_nested (earlier ++ folder ∷ []) folders)
+
+-- the first of the folders that the state lies within
+abbrev pub state_in : Option ℕ → Option Overlap
+state_in None = None
+state_in (Some place) = Some (StateIn (place + 1))
+
+-- the first folder that overlaps an earlier one, with the first of these; where there is none, the state and the first folder that it lies within
+abbrev pub first_overlap : List (List ℕ) → List ℕ → Option Overlap
+first_overlap folders state = or_else (first_nested [] folders) (state_in (position (is_within state) folders))
+
+-- how it is said: the inner path is wrong
+abbrev pub fault_of : Overlap → ConfigFault
+fault_of (Inside inner outer) = BadKey (Folder inner) Path (IsInside outer)
+fault_of (StateIn folder) = BadKey Node State (IsInside folder)
+
+abbrev pub checked : Option Overlap → Result (Unit {0}) ConfigFault
+checked None = Ok tt
+checked (Some overlap) = Err (fault_of overlap)
