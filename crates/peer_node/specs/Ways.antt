@@ -1,5 +1,5 @@
 -- When a file makes way for what is to be below its name (own rule; the digest by FIPS 180-4).
-use Rattle.std.specs.Prelude.{ℕ, Bool, true, false, bytes_eq, ◌&&◌, ◌==◌, if◌then◌else◌, List, [], ◌∷◌, length, Option, Some, None}
+use Rattle.std.specs.Prelude.{ℕ, Bool, true, false, bytes_eq, ◌&&◌, ◌==◌, nat_lt, List, find, length, Option, Some, None}
 use Rattle.sha2.specs.Sha256.{sha256}
 use Rattle.sync_blocks.specs.declared.block.Block.{Block}
 use Rattle.sync_record.specs.declared.kind.Kind.{Kind}
@@ -8,8 +8,7 @@ use Rattle.sync_record.specs.Records.{FileRecord, is_live, kind_of}
 
 -- the first block that has bytes
 abbrev pub first_with_bytes : List Block → Option Block
-first_with_bytes [] = None
-first_with_bytes (b ∷ bs) = if b.size == 0 then first_with_bytes bs else Some b
+first_with_bytes blocks = find (λ b. nat_lt 0 b.size) blocks
 
 -- the bytes have this block's size and digest
 abbrev pub are_bytes_of : Block → List ℕ → Bool

@@ -193,9 +193,12 @@ where
     let needed = needed.as_slice();
     let round = Round::of(alloc, &mut hand.calls, needed, pauses, up, is_later)?;
     let mut has_pulled = false;
+    let turn = Turn::first();
     for wanted in round.live.iter().filter(|wanted| !wanted.is_empty()) {
-        pull_side_by_side(rt, alloc, connections, gate, folder, wanted.as_slice());
-        if settle(rt, folder, wanted.as_slice(), up)? {
+        turn.begin(rt);
+        let wanted = wanted.as_slice();
+        pull_side_by_side(rt, alloc, connections, gate, folder, wanted, &turn);
+        if settle(rt, folder, wanted, up)? {
             has_pulled = true;
         }
     }
@@ -283,6 +286,7 @@ fn pull_side_by_side<'x, R, S, W, G>(
     gate: &'x G,
     folder: &mut PulledFolder<'x, S, W>,
     wanted: &[Wanted],
+    turn: &Turn,
 )
 where
     R: Host,
@@ -310,14 +314,13 @@ where
         most: *most,
     };
     let peers = peers.as_slice();
-    let turn = Turn::first();
     let threads = wanted.len().min(HANDS).max(1);
     for_each_mut(
         rt,
         hands.as_mut_slice(),
         threads,
         &|_, hand| {
-            let _ = pull_some(&pulling, peers, wanted, &turn, hand);
+            let _ = pull_some(&pulling, peers, wanted, turn, hand);
         },
     );
 }
@@ -394,13 +397,12 @@ where
         let Some(wanted) = wanted.get(place) else {
             return Ok(());
         };
-        let answer = if turn.has_room(rt, &wanted.best) {
-            let answer = puller.pull(&wanted.name);
-            log.tell(rt, &Event::Pulling(id, place as u64 + 1, of));
-            answer
-        } else {
-            PullAnswer::Failed(PullFailure::StoreFault)
-        };
+        if !turn.has_room(rt, &wanted.best) {
+            failed.push(wanted.miss_for_room(place))?;
+            continue;
+        }
+        let answer = puller.pull(&wanted.name);
+        log.tell(rt, &Event::Pulling(id, place as u64 + 1, of));
         match answer {
             PullAnswer::Done(_) => *has_pulled = true,
             PullAnswer::Failed(PullFailure::StoreFault) if puller.store.lacks_room() => {

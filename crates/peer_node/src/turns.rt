@@ -19,6 +19,11 @@ impl Turn {
         }
     }
 
+    /// The first of other names is the next. There is no more room than before.
+    pub(crate) fn begin<R: Wait>(&self, rt: &R) {
+        *self.next.lock(rt) = 0;
+    }
+
     /// Takes the place of the next name.
     pub(crate) fn take<R: Wait>(&self, rt: &R) -> usize {
         let mut next = self.next.lock(rt);
