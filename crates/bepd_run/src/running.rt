@@ -97,9 +97,10 @@ where
 /// | `away F: ..`, `back F` | the folder isn't there, has no marker, or another run has it; it is there again |
 /// | `pulled F NAME` | the best of the name is in place |
 /// | `conflict copy F NAME` | what was there before is kept under this name |
-/// | `failed F NAME: WHY` | the name could not be pulled; it is tried again |
+/// | `failed F NAME: WHY` | the name could not be pulled; it is tried again, and told again where it is for another reason |
 /// | `history full F: ..` | the node ends, and begins anew |
 /// | `state not written: ..` | it is tried again within a minute |
+/// | `no room F: ..` | the disk is full; it is tried again each minute |
 /// | `scanning F N of N`, `pulling F N of N` | how far a scan or a pull of many names is |
 pub fn run_and_tell<R, T, I, O, E>(
     rt: &R,

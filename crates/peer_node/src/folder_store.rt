@@ -26,6 +26,12 @@ pub(crate) trait Marked {
 
     /// The name to which a file was moved last, if one was since this was called last.
     fn take_moved(&mut self) -> Option<SafeName>;
+
+    /// The file that is put in place next at this name gets this modification time, as far as the folder can.
+    fn set_modified(&mut self, name: &SafeName, seconds: i64, nanoseconds: u32);
+
+    /// Whether the last `StoreFault` came of a disk that is full, or of a quota.
+    fn lacks_room(&self) -> bool;
 }
 
 /// When the calls of a store give up.
@@ -205,6 +211,21 @@ impl<T: Stores<Store = S>, S: FileStore + Drop, R> Marked for FolderStore<'_, T,
 
     fn take_moved(&mut self) -> Option<SafeName> {
         self.moved.take()
+    }
+
+    fn set_modified(&mut self, name: &SafeName, seconds: i64, nanoseconds: u32) {
+        let stores = self.root.stores;
+        if let Ok(store) = self.root.opened() {
+            // (out of memory, it gets the time at which it is written)
+            let _ = stores.set_modified(store, name, seconds, nanoseconds);
+        }
+    }
+
+    fn lacks_room(&self) -> bool {
+        match &self.root.store {
+            Some(store) => self.root.stores.lacks_room(store),
+            None => false,
+        }
     }
 }
 

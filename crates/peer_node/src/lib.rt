@@ -1,7 +1,9 @@
 //! A node: folders on a disk that are kept alike with peers, over TCP.
 #![tactic(auto)]
 
+mod advice;
 mod answers;
+mod beginning;
 mod command;
 mod connections;
 mod fault;
@@ -16,11 +18,13 @@ mod moments;
 mod node;
 mod pauses;
 mod peer;
+mod puller;
 mod rounds;
 mod scans;
 mod shared;
 mod skips;
 mod stores;
+mod turns;
 mod ways;
 
 pub use connections::Why;

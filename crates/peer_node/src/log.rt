@@ -1,4 +1,5 @@
 //! What a node tells while it runs: a line for each thing that happened, with the time in UTC.
+use crate::advice::{UNSUPPORTED, advice};
 use crate::moments::moment;
 use crate::skips::SkipWhy;
 use bep_messages::Text;
@@ -77,6 +78,8 @@ pub enum Event<'a> {
     HistoryFull(&'a str),
     /// The state could not be written while the node runs.
     NotKept,
+    /// A file of a folder could not be written, since the disk is full.
+    NoRoom(&'a str),
 }
 
 impl Event<'_> {
@@ -284,7 +287,7 @@ fn push_event(line: &mut Vec<u8>, event: &Event) -> io::Result<()> {
         Event::Pulling(folder, at, of) => write!(line, "pulling {folder} {at} of {of}"),
         Event::Failed(folder, name, why) => {
             push_named(line, "failed", folder, name)?;
-            write!(line, ": {} {why}", why.number())
+            write!(line, ": {} {why}{}", why.number(), advice(*why))
         }
         Event::Refused(folder, name, why) => {
             push_named(line, "failed", folder, name)?;
@@ -292,8 +295,7 @@ fn push_event(line: &mut Vec<u8>, event: &Event) -> io::Result<()> {
         }
         Event::Unsupported(folder, name) => {
             push_named(line, "failed", folder, name)?;
-            line.extend_from_slice(b": it is neither a file nor a directory")?;
-            Ok(())
+            write!(line, ": it is neither a file nor a directory{UNSUPPORTED}")
         }
         Event::HistoryFull(folder) => {
             write!(line, "history full {folder}: the node begins anew")
@@ -302,6 +304,10 @@ fn push_event(line: &mut Vec<u8>, event: &Event) -> io::Result<()> {
             line.extend_from_slice(b"state not written: it is tried again")?;
             Ok(())
         }
+        Event::NoRoom(folder) => write!(
+            line,
+            "no room {folder}: the disk is full, or a quota: make room, it is tried again each minute"
+        ),
     }
 }
 

@@ -3,21 +3,20 @@ use crate::connections::{Connections, Why};
 use crate::folder_store::Marked;
 use crate::host::Host;
 use crate::log::{Event, Log};
-use crate::moments::{ScanTimes, moment};
-use crate::pauses::{Pauses, Wanted};
-use crate::ways::make_way;
+use crate::moments::ScanTimes;
+use crate::pauses::{Miss, Pauses, Wanted};
+use crate::puller::{Puller, Pulling};
+use crate::turns::Turn;
 use file_store::{FileStore, Gate};
 use folder_calls::FolderCalls;
-use peer_asks::{PeerBook, PeerSource};
+use peer_asks::PeerBook;
 use std::alloc::{AllocError, Global};
 use std::mem::replace;
-use std::sync::{Mutex, Wait};
 use std::thread::for_each_mut;
 use std::time::{Clock, Duration};
 use sync_names::SafeName;
-use sync_pull::{MaxConflicts, PullAnswer, PullFailure, pull_name};
+use sync_pull::{MaxConflicts, PullAnswer, PullFailure};
 use sync_record::Kind;
-use sync_scan::scan_name;
 
 /// How many milliseconds lie between two rounds of which the first pulled something, so that what peers announced meanwhile is pulled soon.
 const LEAST_PAUSE: u64 = 25;
@@ -52,8 +51,8 @@ pub(crate) struct PulledFolder<'a, S, W> {
 pub(crate) struct Hand<S, W> {
     store: S,
     calls: W,
-    // The places of names among those that are pulled that it could not pull.
-    failed: Vec<usize>,
+    // The names that it could not pull.
+    failed: Vec<Miss>,
     // Whether it pulled any.
     has_pulled: bool,
 }
@@ -71,12 +70,12 @@ impl<S, W> Hand<S, W> {
 
 /// Once the folders were scanned, pulls what is needed of each, in their order, and again each second, or sooner after something was pulled and at the
 /// start, until the node quits. A history that is full makes it quit.
-pub(crate) fn run_rounds<R, S, W, G>(
-    rt: &R,
+pub(crate) fn run_rounds<'x, R, S, W, G>(
+    rt: &'x R,
     alloc: Global,
-    connections: &Connections,
-    gate: &G,
-    folders: Vec<PulledFolder<S, W>>,
+    connections: &'x Connections,
+    gate: &'x G,
+    folders: Vec<PulledFolder<'x, S, W>>,
 )
 where
     R: Host,
@@ -141,12 +140,12 @@ fn is_full<S, W: FolderCalls>(folder: &mut PulledFolder<S, W>) -> bool {
 
 // Pulls each needed name of a folder once, but those that are left alone. Returns whether any was pulled. Whether a second lies between this round and the
 // last one tells whether the time passes for which names are left alone.
-fn pull_round<R, S, W, G>(
-    rt: &R,
+fn pull_round<'x, R, S, W, G>(
+    rt: &'x R,
     alloc: Global,
-    connections: &Connections,
-    gate: &G,
-    folder: &mut PulledFolder<S, W>,
+    connections: &'x Connections,
+    gate: &'x G,
+    folder: &mut PulledFolder<'x, S, W>,
     is_later: bool,
 ) -> Result<bool, AllocError>
 where
@@ -194,15 +193,22 @@ where
     let needed = needed.as_slice();
     let round = Round::of(alloc, &mut hand.calls, needed, pauses, up, is_later)?;
     let mut has_pulled = false;
+    let turn = Turn::first();
     for wanted in round.live.iter().filter(|wanted| !wanted.is_empty()) {
-        pull_side_by_side(rt, alloc, connections, gate, folder, wanted.as_slice());
-        if settle(folder, wanted.as_slice(), up)? {
+        turn.begin(rt);
+        let wanted = wanted.as_slice();
+        pull_side_by_side(rt, alloc, connections, gate, folder, wanted, &turn);
+        if settle(rt, folder, wanted, up)? {
             has_pulled = true;
         }
     }
     let deleted = round.deleted.as_slice();
     pull_in_turn(rt, alloc, connections, gate, folder, deleted)?;
-    Ok(settle(folder, deleted, up)? || has_pulled)
+    if settle(rt, folder, deleted, up)? {
+        has_pulled = true;
+    }
+    folder.pauses.end_round(has_pulled);
+    Ok(has_pulled)
 }
 
 // Notes what is known of each peer before it is heard.
@@ -241,20 +247,30 @@ fn tell_received<R: Host, W: FolderCalls>(
 }
 
 // The names that could not be pulled are left alone for a time. Returns whether any was pulled.
-fn settle<S, W>(
+fn settle<R: Host, S, W>(
+    rt: &R,
     folder: &mut PulledFolder<S, W>,
     wanted: &[Wanted],
     up: usize,
 ) -> Result<bool, AllocError> {
-    let PulledFolder { hands, pauses, .. } = folder;
+    let PulledFolder {
+        id,
+        log,
+        hands,
+        pauses,
+        ..
+    } = folder;
     let mut has_pulled = false;
     for hand in hands.iter_mut() {
         if replace(&mut hand.has_pulled, false) {
             has_pulled = true;
         }
-        for place in hand.failed.iter() {
-            if let Some(wanted) = wanted.get(*place) {
-                pauses.begin(wanted.copy()?, up)?;
+        for miss in hand.failed.iter() {
+            if miss.lacks_room && pauses.lack_room() {
+                log.tell(rt, &Event::NoRoom(*id));
+            }
+            if let Some(wanted) = wanted.get(miss.place) {
+                pauses.begin(wanted.told(miss.told)?, up, miss.lacks_room)?;
             }
         }
         hand.failed.clear();
@@ -263,13 +279,14 @@ fn settle<S, W>(
 }
 
 // Pulls names by all hands, each the next one that none has. Out of memory, the others are left to the next round.
-fn pull_side_by_side<R, S, W, G>(
-    rt: &R,
+fn pull_side_by_side<'x, R, S, W, G>(
+    rt: &'x R,
     alloc: Global,
-    connections: &Connections,
-    gate: &G,
-    folder: &mut PulledFolder<S, W>,
+    connections: &'x Connections,
+    gate: &'x G,
+    folder: &mut PulledFolder<'x, S, W>,
     wanted: &[Wanted],
+    turn: &Turn,
 )
 where
     R: Host,
@@ -286,39 +303,35 @@ where
         most,
         ..
     } = folder;
-    let (id, log, times, peers, most) = (*id, *log, *times, peers.as_slice(), *most);
-    let next = Mutex::new(0usize);
+    let pulling = Pulling {
+        rt,
+        alloc,
+        connections,
+        gate,
+        id: *id,
+        log: *log,
+        times: *times,
+        most: *most,
+    };
+    let peers = peers.as_slice();
     let threads = wanted.len().min(HANDS).max(1);
     for_each_mut(
         rt,
         hands.as_mut_slice(),
         threads,
         &|_, hand| {
-            let _ = pull_some(
-                rt,
-                alloc,
-                connections,
-                gate,
-                id,
-                log,
-                times,
-                peers,
-                most,
-                wanted,
-                &next,
-                hand,
-            );
+            let _ = pull_some(&pulling, peers, wanted, turn, hand);
         },
     );
 }
 
 // Pulls names one after another.
-fn pull_in_turn<R, S, W, G>(
-    rt: &R,
+fn pull_in_turn<'x, R, S, W, G>(
+    rt: &'x R,
     alloc: Global,
-    connections: &Connections,
-    gate: &G,
-    folder: &mut PulledFolder<S, W>,
+    connections: &'x Connections,
+    gate: &'x G,
+    folder: &mut PulledFolder<'x, S, W>,
     wanted: &[Wanted],
 ) -> Result<(), AllocError>
 where
@@ -339,36 +352,27 @@ where
     let Some(hand) = hands.first_mut() else {
         return Ok(());
     };
-    pull_some(
+    let pulling = Pulling {
         rt,
         alloc,
         connections,
         gate,
-        id,
-        log,
-        times,
-        peers.as_slice(),
-        *most,
-        wanted,
-        &Mutex::new(0usize),
-        hand,
-    )
+        id: *id,
+        log: *log,
+        times: *times,
+        most: *most,
+    };
+    let peers = peers.as_slice();
+    pull_some(&pulling, peers, wanted, &Turn::first(), hand)
 }
 
 // Pulls the next name, as long as there is one and the node does not quit.
-fn pull_some<R, S, W, G>(
-    rt: &R,
-    alloc: Global,
-    connections: &Connections,
-    gate: &G,
-    id: &str,
-    log: &Log,
-    times: &ScanTimes,
-    peers: &[PeerBook],
-    most: MaxConflicts,
+fn pull_some<'p, 'x, R, S, W, G>(
+    pulling: &'p Pulling<'x, R, G>,
+    peers: &[PeerBook<'x>],
     wanted: &[Wanted],
-    next: &Mutex<usize>,
-    hand: &mut Hand<S, W>,
+    turn: &Turn,
+    hand: &'p mut Hand<S, W>,
 ) -> Result<(), AllocError>
 where
     R: Host,
@@ -382,73 +386,41 @@ where
         failed,
         has_pulled,
     } = hand;
-    let mut source = PeerSource::new(rt, alloc, id, peers)?;
-    let wanted_count = wanted.len() as u64;
+    let (rt, id, log) = (pulling.rt, pulling.id, pulling.log);
+    let mut puller = Puller::new(pulling, peers, store, calls)?;
+    let of = wanted.len() as u64;
     for _ in wanted {
-        if connections.is_quitting(rt) {
+        if pulling.connections.is_quitting(rt) {
             return Ok(());
         }
-        let place = take_next(rt, next);
+        let place = turn.take(rt);
         let Some(wanted) = wanted.get(place) else {
             return Ok(());
         };
-        let answer = pull_name(
-            rt,
-            alloc,
-            store,
-            calls,
-            &mut source,
-            gate,
-            &wanted.name,
-            moment(rt),
-            most,
-        );
-        source.let_go();
-        let (at, of) = (place as u64 + 1, wanted_count);
-        log.tell(rt, &Event::Pulling(id, at, of));
-        let mut kept = store.take_moved();
-        let is_in_place = match answer {
-            PullAnswer::Done(_) => true,
-            PullAnswer::Failed(PullFailure::BadParent) => {
-                let name = &wanted.name;
-                let is_made = make_way(rt, alloc, connections, times, store, calls, gate, name);
-                kept = store.take_moved();
-                is_made
-            }
-            _ => false,
-        };
-        if let (true, Some(copy)) = (is_in_place, &kept) {
-            log.tell(rt, &Event::Kept(id, copy));
-            record_copy(rt, alloc, gate, times, copy, store, calls);
+        if !turn.has_room(rt, &wanted.best) {
+            failed.push(wanted.miss_for_room(place))?;
+            continue;
         }
-        tell_answer(rt, id, log, &wanted.name, answer);
+        let answer = puller.pull(&wanted.name);
+        log.tell(rt, &Event::Pulling(id, place as u64 + 1, of));
         match answer {
-            _ if is_in_place => *has_pulled = true,
-            PullAnswer::Failed(_) | PullAnswer::Unsupported => failed.push(place)?,
+            PullAnswer::Done(_) => *has_pulled = true,
+            PullAnswer::Failed(PullFailure::StoreFault) if puller.store.lacks_room() => {
+                turn.lack_room(rt, &wanted.best);
+                failed.push(wanted.miss_for_room(place))?;
+                continue;
+            }
+            PullAnswer::Failed(_) | PullAnswer::Unsupported => {
+                failed.push(wanted.miss(place, answer))?;
+                if wanted.told == Some(answer) {
+                    continue;
+                }
+            }
             _ => {}
         }
+        tell_answer(rt, id, log, &wanted.name, answer);
     }
     Ok(())
-}
-
-// Records what was kept under another name, so that the peers hear of it before the next scan of all. (What can't be recorded is left to that.)
-fn record_copy<R, S, W, G>(
-    rt: &R,
-    alloc: Global,
-    gate: &G,
-    times: &ScanTimes,
-    copy: &SafeName,
-    store: &mut S,
-    calls: &mut W,
-)
-where
-    R: Host,
-    S: FileStore,
-    W: FolderCalls,
-    G: Gate,
-{
-    let moment = times.of_new(rt);
-    let _ = scan_name(rt, alloc, store, calls, gate, copy, moment);
 }
 
 // Tells what a pull of a name came to.
@@ -463,14 +435,6 @@ fn tell_answer<R: Host>(rt: &R, id: &str, log: &Log, name: &SafeName, answer: Pu
         | PullAnswer::LocalMoved
         | PullAnswer::Superseded => {}
     }
-}
-
-// The next place that nobody took.
-fn take_next<R: Wait>(rt: &R, next: &Mutex<usize>) -> usize {
-    let mut at = next.lock(rt);
-    let place = *at;
-    *at = at.saturating_add(1);
-    place
 }
 
 fn up_count<R: Host>(rt: &R, connections: &Connections, places: &[usize]) -> usize {
@@ -512,11 +476,13 @@ impl Round {
             } else {
                 Some(best.kind())
             };
-            let wanted = Wanted {
+            let mut wanted = Wanted {
                 name: name.copy()?,
                 best,
                 local: calls.local(name)?.value,
+                told: None,
             };
+            wanted.told = pauses.told_of(&wanted);
             if !pauses.is_over(&wanted, up, is_later) {
                 continue;
             }

@@ -3,9 +3,10 @@ ghost use Rattle.file_store.specs.Refusals.{IsPlain};
 
 use file_dir::{DirStore, LockRefusal, MarkerLock, Skipped};
 use file_store::{FileStore, StoreRefusal};
-use std::alloc::Global;
+use std::alloc::{AllocError, Global};
 use std::fs::{File, Files};
 use std::sync::{Mutex, Wait};
+use sync_names::SafeName;
 
 /// Where a node's folders are.
 pub trait Stores {
@@ -18,6 +19,18 @@ pub trait Stores {
 
     /// Whether the folder has its marker. An empty directory, at which a disk is not mounted, has none.
     fn is_marked(&self, store: &mut Self::Store) -> bool;
+
+    /// The file that is put in place next at this name gets this modification time, if the disk can hold it.
+    fn set_modified(
+        &self,
+        store: &mut Self::Store,
+        name: &SafeName,
+        seconds: i64,
+        nanoseconds: u32,
+    ) -> Result<(), AllocError>;
+
+    /// Whether the last `StoreFault` came of a disk that is full, or of a quota.
+    fn lacks_room(&self, store: &Self::Store) -> bool;
 
     /// Gives the folder at a path its marker, if it is a new one; takes it, and removes temporary files that an earlier run left, if it has one. Fails
     /// with `StoreFault` where no directory is there, and with `InUse` where another run has it.
@@ -70,6 +83,20 @@ impl<'a, R: Files<File = File> + Sync + Wait> Stores for Disks<'a, R> {
 
     fn is_marked(&self, store: &mut DirStore<&'a R>) -> bool {
         store.has_marker().unwrap_or(false)
+    }
+
+    fn set_modified(
+        &self,
+        store: &mut DirStore<&'a R>,
+        name: &SafeName,
+        seconds: i64,
+        nanoseconds: u32,
+    ) -> Result<(), AllocError> {
+        store.set_modified(name, seconds, nanoseconds)
+    }
+
+    fn lacks_room(&self, store: &DirStore<&'a R>) -> bool {
+        store.lacks_room()
     }
 
     fn begin(&self, alloc: Global, path: &str, is_new: bool) -> Result<(), LockRefusal> {

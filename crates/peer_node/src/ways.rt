@@ -1,44 +1,56 @@
 //! Files where directories are needed.
-use crate::connections::Connections;
-use crate::moments::ScanTimes;
-use file_store::{FileStore, Gate, GatePlace, Stat, StoreRefusal};
+use crate::beginning::{first_with_bytes, may_make_way};
+use crate::folder_store::Marked;
+use crate::host::Host;
+use crate::puller::Puller;
+use file_store::{FileStore, Gate, GatePlace, Stat, StoreRefusal, read_full};
 use folder_calls::FolderCalls;
 use std::alloc::{AllocError, Global};
-use std::sync::Wait;
-use std::time::Clock;
+use sync_blocks::Block;
 use sync_names::{SafeName, conflict_name};
-use sync_pull::make_copy;
+use sync_pull::{BlockSource, PullAnswer, PullFailure, make_copy};
 use sync_record::{Kind, Record};
+use sync_scan::scan_name;
 use sync_version::Moment;
 
-/// Makes way for a name that could not be put in place, since a file is where one of its directories should be. Returns whether it did.
+/// Pulls a name that could not be put in place, since something is where one of its directories is to be.
 ///
-/// It does where this device has recorded that file and needs nothing else at its name: no pull would ever take the file away, nor could those that
-/// have the directory pull the file. So it is moved to the name of a conflict copy, and it is recorded that it is gone, but not
-/// yet that the copy is there. What does not succeed is left to a later round, or to the next scan.
-pub(crate) fn make_way<R, S, W, G>(
-    rt: &R,
-    alloc: Global,
-    connections: &Connections,
-    times: &ScanTimes,
-    store: &mut S,
-    calls: &mut W,
-    gate: &G,
-    name: &SafeName,
-) -> bool
+/// A file makes way if this device has recorded it and needs nothing else at its name: no pull would ever take it away, nor could those that have
+/// the directory pull the file. It does so only once the first block of what needs the way is at hand, if that is a file with any: else the
+/// answer is `NoSource`, and nothing has changed. It is moved to the name of a conflict copy, and back if the pull then fails. Only once the pull is
+/// done it is recorded that the file is gone and the copy there. Where nothing may make way the answer is `BadParent`.
+pub(crate) fn pull_past<R, S, W, G>(puller: &mut Puller<R, S, W, G>, name: &SafeName) -> PullAnswer
 where
-    R: Clock + Wait,
-    S: FileStore,
+    R: Host,
+    S: FileStore + Marked,
     W: FolderCalls,
     G: Gate,
 {
-    match file_in_the_way(alloc, calls, gate, name) {
-        Ok(Some(file)) => {
-            let moment = times.next(rt, connections);
-            move_away(store, calls, gate, &file, moment).unwrap_or(false)
-        }
-        Ok(None) | Err(AllocError) => false,
+    let by = puller.by;
+    let blocked = PullAnswer::Failed(PullFailure::BadParent);
+    let Ok(Some(file)) = file_in_the_way(by.alloc, puller.calls, by.gate, name) else {
+        return blocked;
+    };
+    match has_beginning(puller, name) {
+        Ok(true) => {}
+        Ok(false) => return PullAnswer::Failed(PullFailure::NoSource),
+        Err(AllocError) => return blocked,
     }
+    let moment = by.times.next(by.rt, by.connections);
+    let Some(copy) = move_aside(puller, &file, moment) else {
+        return blocked;
+    };
+    let answer = puller.pull_once(name);
+    let is_done = matches!(answer, PullAnswer::Done(_));
+    if is_done || !move_back(puller, name, &file, &copy) {
+        by.gate.at(GatePlace::FolderCall);
+        // (where memory runs out, or the record is another one now, the next scan records it)
+        let _ = puller
+            .calls
+            .scan_gone(file.name(), Some(file.version()), moment);
+        puller.keep(&copy);
+    }
+    answer
 }
 
 // The record of the file that is where a directory of the name should be, if it is this device's and the best of its name. O(n) calls for a name
@@ -87,27 +99,162 @@ fn is_best<W: FolderCalls, G: Gate>(
     })
 }
 
-// Moves the file to the name of a conflict copy, if that is free, and records that it is gone. Returns whether it was moved.
-fn move_away<S: FileStore, W: FolderCalls, G: Gate>(
+// Whether what the best of the name begins with is at hand: from a local place, or from a device that has it, but never this one.
+fn has_beginning<R, S, W, G>(
+    puller: &mut Puller<R, S, W, G>,
+    name: &SafeName,
+) -> Result<bool, AllocError>
+where
+    R: Host,
+    S: FileStore,
+    W: FolderCalls,
+    G: Gate,
+{
+    let by = puller.by;
+    by.gate.at(GatePlace::FolderCall);
+    let Some(best) = puller.calls.best(name)?.value else {
+        return Ok(false);
+    };
+    let mut bytes = Vec::new(by.alloc);
+    let Some(block) = first_with_bytes(best.record.blocks()) else {
+        return Ok(may_make_way(&best.record, &[]));
+    };
+    if read_place(puller.store, puller.calls, by.gate, &block, &mut bytes)?
+        && may_make_way(&best.record, bytes.as_slice())
+    {
+        return Ok(true);
+    }
+    let me = puller.calls.me();
+    for device in best.devices.as_slice() {
+        if *device != me
+            && puller.source.fetch(*device, name, &block, &mut bytes)?
+            && may_make_way(&best.record, bytes.as_slice())
+        {
+            return Ok(true);
+        }
+    }
+    Ok(false)
+}
+
+// Reads the bytes at a place in a local file that has the block's digest, if the folder knows one. Returns whether the file has as many there.
+fn read_place<S: FileStore, W: FolderCalls, G: Gate>(
     store: &mut S,
     calls: &mut W,
     gate: &G,
-    file: &Record,
-    moment: Moment,
-) -> Result<bool, StoreRefusal> {
-    let name = file.name();
-    let Ok(copy) = conflict_name(name, moment, file.modified_by()) else {
+    block: &Block,
+    bytes: &mut Vec<u8>,
+) -> Result<bool, AllocError> {
+    gate.at(GatePlace::FolderCall);
+    let Some(place) = calls.find_block(&block.hash)?.value else {
         return Ok(false);
     };
-    gate.at(GatePlace::StoreRead);
-    let Stat::File(_, _) = store.stat(name)? else {
-        return Ok(false);
-    };
-    if !make_copy(store, gate, name, Some(&copy))? {
+    if place.offset.checked_add(u64::from(block.size)).is_none() {
         return Ok(false);
     }
+    bytes.clear();
+    bytes.resize(block.size as usize, 0)?;
+    match read_full(store, gate, &place.name, place.offset, bytes.as_mut_slice()) {
+        Ok(count) => Ok(count == bytes.len()),
+        Err(_) => Ok(false),
+    }
+}
+
+// Moves the file to the name of a conflict copy, if that is free. Returns this name if it was moved.
+fn move_aside<R, S, W, G>(
+    puller: &mut Puller<R, S, W, G>,
+    file: &Record,
+    moment: Moment,
+) -> Option<SafeName>
+where
+    R: Host,
+    S: FileStore + Marked,
+    W: FolderCalls,
+    G: Gate,
+{
+    let by = puller.by;
+    let name = file.name();
+    if by.connections.is_quitting(by.rt) {
+        return None;
+    }
+    let copy = conflict_name(name, moment, file.modified_by()).ok()?;
+    by.gate.at(GatePlace::StoreRead);
+    let Ok(Stat::File(_, _)) = puller.store.stat(name) else {
+        return None;
+    };
+    let is_moved = make_copy(puller.store, by.gate, name, Some(&copy));
+    let _ = puller.store.take_moved();
+    match is_moved {
+        Ok(true) => Some(copy),
+        _ => None,
+    }
+}
+
+// Moves the file back, after a pull that failed. Returns whether it is back.
+fn move_back<R, S, W, G>(
+    puller: &mut Puller<R, S, W, G>,
+    name: &SafeName,
+    file: &Record,
+    copy: &SafeName,
+) -> bool
+where
+    R: Host,
+    S: FileStore + Marked,
+    W: FolderCalls,
+    G: Gate,
+{
+    remove_dirs(puller.by.alloc, puller.store, name, file.name());
+    let is_back = puller.store.rename(copy, file.name()).is_ok();
+    let _ = puller.store.take_moved();
+    if is_back && !is_recorded(puller.calls, puller.by.gate, file) {
+        // (a scan found it gone, and the copy there)
+        let by = puller.by;
+        let moment = by.times.next(by.rt, by.connections);
+        for name in [file.name(), copy] {
+            let _ = scan_name(
+                by.rt,
+                by.alloc,
+                puller.store,
+                puller.calls,
+                by.gate,
+                name,
+                moment,
+            );
+        }
+    }
+    is_back
+}
+
+// Whether the record is still the local one of its name.
+fn is_recorded<W: FolderCalls, G: Gate>(calls: &mut W, gate: &G, record: &Record) -> bool {
     gate.at(GatePlace::FolderCall);
-    // (where memory runs out, or the record is another one now, the next scan records it)
-    let _ = calls.scan_gone(name, Some(file.version()), moment);
-    Ok(true)
+    match calls.local(record.name()) {
+        Ok(local) => match &local.value {
+            Some(local) => local.version() == record.version(),
+            None => false,
+        },
+        Err(AllocError) => true,
+    }
+}
+
+// Removes the directories of a name from this one on, which were made for it, the deepest first, as far as nothing is in them.
+fn remove_dirs<S: FileStore>(alloc: Global, store: &mut S, name: &SafeName, first: &SafeName) {
+    let text = name.as_str();
+    for (end, byte) in text.as_bytes().iter().enumerate().rev() {
+        if end < first.as_str().len() {
+            return;
+        }
+        if *byte != b'/' {
+            continue;
+        }
+        let Some(dir) = text.get(..end) else {
+            return;
+        };
+        let Ok(dir) = SafeName::parse(alloc, dir) else {
+            return;
+        };
+        // (a fault if it was not made)
+        if let Err(StoreRefusal::NotEmpty) = store.remove_dir(&dir) {
+            return;
+        }
+    }
 }

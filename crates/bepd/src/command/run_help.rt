@@ -78,7 +78,9 @@ time in UTC, and
     skipped F NAME: WHY                a scan left it out, and did not before
     pulled F NAME                      the best version is in place
     conflict copy F NAME               what was there before is kept under this name
-    failed F NAME: NUMBER WHY          it could not be pulled, and is tried again
+    failed F NAME: NUMBER WHY          it could not be pulled, and is tried again; told
+                                       again where it is for another reason
+    no room F: WHY                     the disk is full; it is tried again each minute
     away F: WHY, back F                the folder lacks its marker; it has it again
     history full F: WHY                the node ends, and begins anew
     state not written: WHY
