@@ -1,5 +1,5 @@
 -- Which paths of a configuration lie within others (own rule). Paths are canonical: absolute, without links, `.`, `..` and a slash at the end.
-use Rattle.std.specs.Prelude.{ℕ, ◌+◌, Bool, false, ◌||◌, ◌&&◌, List, [], ◌∷◌, ◌++◌, length, bytes_eq, nat_eq, codes, get_or, Option, Some, None, Result, Ok, Err, if◌then◌else◌, slice_get, ◌==◌}
+use Rattle.std.specs.Prelude.{◌≡◌, ◌⊎◌, ℕ, ◌+◌, Bool, false, ◌||◌, ◌&&◌, List, [], ◌∷◌, ◌++◌, length, bytes_eq, nat_eq, codes, get_or, Option, Some, None, Result, Ok, Err, if◌then◌else◌, slice_get, ◌==◌}
 use Rattle.std.specs.List.{position, starts_with}
 use Rattle.node_config.specs.declared.fault.ConfigFault.{ConfigFault}
 use Rattle.node_config.specs.declared.fault.ConfigFault.TheVariants.{BadKey}
@@ -22,6 +22,10 @@ is_slash (Some byte) = byte == 47
 abbrev pub is_within : List ℕ → List ℕ → Bool
 is_within inner outer = bytes_eq inner outer
     || (starts_with nat_eq inner (stem outer) && is_slash (slice_get inner (length (stem outer))))
+
+-- the same as a fact: all that is absolute lies within the root
+abbrev pub IsWithin : List ℕ → List ℕ → Type 0
+IsWithin inner outer = (inner ≡ outer) ⊎ ((rest : List ℕ) × (inner ≡ stem outer ++ 47 ∷ rest))
 
 -- one of two folders lies within the other
 abbrev pub are_within : List ℕ → List ℕ → Bool

@@ -32,4 +32,4 @@ pub use config::{Config, FolderConfig, PeerAddress, PeerConfig};
 pub use document::read_config;
 pub use fault::ConfigFault;
 pub use key::{Key, Place, Problem};
-pub use overlap::{Overlap, check_paths, first_overlap};
+pub use overlap::{Overlap, check_paths, first_overlap, inner_paths_go_on_after_a_slash};

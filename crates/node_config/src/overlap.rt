@@ -1,6 +1,6 @@
 //! Folders and a state of which one lies within another.
-ghost use Rattle.std.specs.Prelude.{◌≡◌, []};
-ghost use Rattle.node_config.specs.Overlaps.{are_within, checked, fault_of, first_nested, first_overlap, is_within, overlap_of, state_in, stem, with_earlier};
+ghost use Rattle.std.specs.Prelude.{◌≡◌, ◌↔◌, ℕ, List, [], true};
+ghost use Rattle.node_config.specs.Overlaps.{IsWithin, are_within, checked, fault_of, first_nested, first_overlap, is_within, overlap_of, state_in, stem, with_earlier};
 ghost use Rattle.std.specs.List.{position};
 
 use crate::fault::ConfigFault;
@@ -15,6 +15,11 @@ pub enum Overlap {
     /// The state lies within the folder.
     StateIn(usize),
 }
+
+/// A path lies within another one exactly if it is the same, or goes on after it with a slash; what is absolute lies within the root.
+pub fn inner_paths_go_on_after_a_slash()
+    ensures { (inner outer : List ℕ) → (is_within inner outer ≡ true) ↔ IsWithin inner outer }
+{}
 
 /// Fails if a folder lies within another one, or is the same, or if the state lies within a folder or is one. The paths are canonical: absolute, without
 /// links, `.`, `..` and a slash at the end. O(n²) for n folders.
