@@ -126,6 +126,7 @@ where
     }
     let me = puller.calls.me();
     for device in best.devices.as_slice() {
+        bytes.clear();
         if *device != me
             && puller.source.fetch(*device, name, &block, &mut bytes)?
             && may_make_way(&best.record, bytes.as_slice())
