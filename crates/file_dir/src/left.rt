@@ -2,7 +2,7 @@
 ghost use Rattle.std.specs.Prelude.{IfErr};
 ghost use Rattle.file_store.specs.Refusals.{IsPlain};
 
-use crate::dir::{Dir, find, folder_of, last_of};
+use crate::dir::{Dir, Entry, find, folder_of, last_of, open_one};
 use crate::disk::Disk;
 use crate::found::Found;
 use crate::replaced::{put_new, remove_if_there};
@@ -37,17 +37,26 @@ where
     R::File: AsRawFd,
     ensures { IfErr result IsPlain }
 {
-    let left = find(disk, dir, temp)?;
-    let Found::File(_) = left.found else {
+    let name = name_of_kept(disk.alloc, temp)?;
+    let is_missing = match &name {
+        Some(name) => is_nothing(&find(disk, dir, name.as_str())?.found),
+        None => false,
+    };
+    let Entry { path: left, found } = find(disk, dir, temp)?;
+    let Found::File(_) = found else {
         return Ok(());
     };
-    if let Some(name) = name_of_kept(disk.alloc, temp)? {
-        let there = find(disk, dir, name.as_str())?;
-        if let Found::Nothing = there.found {
-            return put_new(disk, left.path.as_str(), there.path.as_str());
+    match name {
+        Some(name) if is_missing => {
+            let path = open_one(dir)?.path_of(disk.alloc, last_of(name.as_str()))?;
+            put_new(disk, left.as_str(), path.as_str())
         }
+        _ => remove_if_there(disk, left.as_str()),
     }
-    remove_if_there(disk, left.path.as_str())
+}
+
+fn is_nothing(found: &Found) -> bool {
+    matches!(found, Found::Nothing)
 }
 
 // The name whose file was kept under this one while it was replaced or removed.
