@@ -39,7 +39,7 @@ use sync_names::SafeName;
 #[derive(Drop)]
 pub struct DirStore<R: Files> {
     disk: Disk<R>,
-    // The directory that was used last.
+    // The directory that was used last, until a file or a directory was put in place or taken away: a store that waits for the next one keeps none open.
     dir: Option<Dir<R::File>>,
     reading: Option<Opened<R::File>>,
     writing: Writing<R::File>,
@@ -236,11 +236,13 @@ where
             &mut self.look,
             name,
         );
+        self.dir = None;
         settle(&mut self.faults, answer)
     }
 
     fn drop_temp(&mut self, name: &SafeName) -> Result<(), StoreRefusal> {
         let answer = temps::drop_temp(&self.disk, &mut self.dir, &mut self.writing, name);
+        self.dir = None;
         settle(&mut self.faults, answer)
     }
 
@@ -252,22 +254,26 @@ where
             from.as_str(),
             to.as_str(),
         );
+        self.dir = None;
         settle(&mut self.faults, answer)
     }
 
     fn remove(&mut self, name: &SafeName) -> Result<(), StoreRefusal> {
         self.reading = None;
         let answer = changes::remove(&self.disk, &mut self.dir, &mut self.look, name);
+        self.dir = None;
         settle(&mut self.faults, answer)
     }
 
     fn make_dir(&mut self, name: &SafeName) -> Result<(), StoreRefusal> {
         let answer = changes::make_dir(&self.disk, &mut self.dir, name.as_str());
+        self.dir = None;
         settle(&mut self.faults, answer)
     }
 
     fn remove_dir(&mut self, name: &SafeName) -> Result<(), StoreRefusal> {
         let answer = changes::remove_dir(&self.disk, &mut self.dir, &mut self.look, name.as_str());
+        self.dir = None;
         settle(&mut self.faults, answer)
     }
 }
