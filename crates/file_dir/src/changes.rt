@@ -4,8 +4,8 @@ ghost use Rattle.file_store.specs.Refusals.{IsPlain};
 ghost use Rattle.file_store.specs.declared.refusal.StoreRefusal.TheVariants.{NotEmpty, BadParent};
 
 use crate::dir::{
-    Dir, Entry, Parents, enter, find, folder_of, is_in_place, last_of, make_directory,
-    make_parents, open_one,
+    Dir, Entry, Parents, enter, find, folder_of, last_of, make_directory, make_parents, open_one,
+    require_in_place,
 };
 use crate::disk::Disk;
 use crate::found::Found;
@@ -84,6 +84,7 @@ where
     ensures { result ≢ Err NotEmpty }
 {
     *look = None;
+    let gone = Look::gone(String::from_str(disk.alloc, from)?);
     match enter(disk, dir, folder_of(to))? {
         Parents::There => {}
         Parents::Missing => return Err(StoreRefusal::StoreFault),
@@ -98,7 +99,7 @@ where
     } else {
         move_between(disk, new, new, last_of(from), last_of(to))?;
     }
-    *look = Some(Look::gone(String::from_str(disk.alloc, from)?));
+    *look = Some(gone);
     new.sync()?;
     match &other {
         Some(old) => old.sync(),
@@ -123,11 +124,22 @@ fn move_between<R: Files>(
         return Err(StoreRefusal::StoreFault);
     };
     or_fault(fs::rename(&disk.files, from.as_str(), to.as_str()))?;
-    if is_in_place(disk, old) && is_in_place(disk, new) {
-        return Ok(());
+    let moved = require_both(disk, old, new);
+    if moved.is_err() {
+        put_new(disk, to.as_str(), from.as_str())?;
     }
-    put_new(disk, to.as_str(), from.as_str())?;
-    Err(StoreRefusal::StoreFault)
+    moved
+}
+
+fn require_both<R: Files>(
+    disk: &Disk<R>,
+    old: &Dir<R::File>,
+    new: &Dir<R::File>,
+) -> Result<(), StoreRefusal>
+    ensures { IfErr result IsPlain }
+{
+    require_in_place(disk, old)?;
+    require_in_place(disk, new)
 }
 
 /// Removes a file. A fault if it changed since the last look, if that was at it, also while it was removed; then it is there again.
@@ -151,8 +163,9 @@ where
     };
     let open = open_one(dir)?;
     let kept = kept_path(disk, open, name)?;
+    let gone = Look::gone(String::from_str(disk.alloc, name.as_str())?);
     remove_by_way_of(disk, open, kept.as_str(), path.as_str(), &old)?;
-    *look = Some(Look::gone(String::from_str(disk.alloc, name.as_str())?));
+    *look = Some(gone);
     Ok(())
 }
 
@@ -188,16 +201,19 @@ where
         return Err(StoreRefusal::StoreFault);
     };
     let path = path.as_str();
+    let gone = Look::gone(String::from_str(disk.alloc, name)?);
     match fs::remove_dir(&disk.files, path) {
-        Ok(()) if is_in_place(disk, open_one(dir)?) => {
-            *look = Some(Look::gone(String::from_str(disk.alloc, name)?));
-            Ok(())
+        Ok(()) => {}
+        Err(error) if error.kind() == ErrorKind::DirectoryNotEmpty => {
+            return Err(StoreRefusal::NotEmpty);
         }
-        Ok(()) => {
-            or_fault(fs::create_dir(&disk.files, path))?;
-            Err(StoreRefusal::StoreFault)
-        }
-        Err(error) if error.kind() == ErrorKind::DirectoryNotEmpty => Err(StoreRefusal::NotEmpty),
-        Err(_) => Err(StoreRefusal::StoreFault),
+        Err(_) => return Err(StoreRefusal::StoreFault),
     }
+    let open = open_one(dir)?;
+    if let Err(refusal) = require_in_place(disk, open) {
+        or_fault(fs::create_dir(&disk.files, path))?;
+        return Err(refusal);
+    }
+    *look = Some(gone);
+    Ok(())
 }

@@ -79,18 +79,31 @@ fn is_not_done_here(kind: ErrorKind) -> bool {
     kind == ErrorKind::InvalidInput || kind == ErrorKind::Unsupported
 }
 
-/// Whether the directory is still where it was opened, below the same folder. Where that can't be found out, it is not.
-pub(crate) fn is_in_place<R: Files>(disk: &Disk<R>, dir: &Dir<R::File>) -> bool {
+/// Whether the directory is still where it was opened, below the same folder. Where that can't be found out, it is not. Fails only if out of memory.
+fn is_in_place<R: Files>(disk: &Disk<R>, dir: &Dir<R::File>) -> Result<bool, StoreRefusal>
+    ensures { IfErr result IsPlain }
+{
     match disk.root_id() {
         Ok(root) if root == dir.root => {}
-        _ => return false,
+        _ => return Ok(false),
     }
     if dir.name.is_empty() {
-        return true;
+        return Ok(true);
     }
-    match place_of(disk, dir.link.as_str()) {
-        Ok(place) => place.as_str() == dir.place.as_str(),
-        Err(_) => false,
+    stands(disk, dir)
+}
+
+/// A fault unless the directory is still in its place.
+pub(crate) fn require_in_place<R: Files>(
+    disk: &Disk<R>,
+    dir: &Dir<R::File>,
+) -> Result<(), StoreRefusal>
+    ensures { IfErr result IsPlain }
+{
+    if is_in_place(disk, dir)? {
+        Ok(())
+    } else {
+        Err(StoreRefusal::StoreFault)
     }
 }
 
@@ -98,7 +111,11 @@ pub(crate) fn is_in_place<R: Files>(disk: &Disk<R>, dir: &Dir<R::File>) -> bool 
 fn place_of<R: Files>(disk: &Disk<R>, link: &str) -> Result<String, StoreRefusal>
     ensures { IfErr result IsPlain }
 {
-    Ok(or_fault(disk.files.read_link(disk.alloc, link))?.into_string())
+    match disk.files.read_link(disk.alloc, link) {
+        Ok(place) => Ok(place.into_string()),
+        Err(error) if error.kind() == ErrorKind::OutOfMemory => Err(StoreRefusal::OutOfMemory),
+        Err(_) => Err(StoreRefusal::StoreFault),
+    }
 }
 
 /// Another handle of the same directory.
@@ -137,7 +154,7 @@ where
     ensures { IfErr result IsPlain }
 {
     if let Some(open) = dir {
-        if open.name.as_str() == name && is_in_place(disk, open) {
+        if open.name.as_str() == name && is_in_place(disk, open)? {
             return Ok(Parents::There);
         }
     }
@@ -223,18 +240,27 @@ pub(crate) fn make_directory<R: Files>(
     ensures { IfErr result IsPlain }
 {
     or_fault(fs::create_dir(&disk.files, path))?;
-    if !stands_below_root(disk, at) {
-        let _ = fs::remove_dir(&disk.files, path);
-        return Err(StoreRefusal::StoreFault);
+    match stands(disk, at) {
+        Ok(true) => at.sync(),
+        Ok(false) => {
+            let _ = fs::remove_dir(&disk.files, path);
+            Err(StoreRefusal::StoreFault)
+        }
+        Err(refusal) => {
+            let _ = fs::remove_dir(&disk.files, path);
+            Err(refusal)
+        }
     }
-    at.sync()
 }
 
-// Whether the directory is where it was opened, whatever its name is.
-fn stands_below_root<R: Files>(disk: &Disk<R>, at: &Dir<R::File>) -> bool {
+// Whether the directory is where it was opened. Where that can't be found out, it is not. Fails only if out of memory.
+fn stands<R: Files>(disk: &Disk<R>, at: &Dir<R::File>) -> Result<bool, StoreRefusal>
+    ensures { IfErr result IsPlain }
+{
     match place_of(disk, at.link.as_str()) {
-        Ok(place) => place.as_str() == at.place.as_str(),
-        Err(_) => false,
+        Ok(place) => Ok(place.as_str() == at.place.as_str()),
+        Err(StoreRefusal::OutOfMemory) => Err(StoreRefusal::OutOfMemory),
+        Err(_) => Ok(false),
     }
 }
 

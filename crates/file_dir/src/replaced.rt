@@ -6,7 +6,7 @@
 ghost use Rattle.std.specs.Prelude.{IfErr};
 ghost use Rattle.file_store.specs.Refusals.{IsPlain};
 
-use crate::dir::{Dir, is_in_place, last_of};
+use crate::dir::{Dir, last_of, require_in_place};
 use crate::disk::Disk;
 use crate::found::{FileFacts, Found};
 use crate::refuse::or_fault;
@@ -48,13 +48,34 @@ pub(crate) fn replace<R: Files>(
         remove_if_there(disk, kept)?;
         return Err(StoreRefusal::StoreFault);
     }
-    if is_in_place(disk, dir) && is_kept(disk, kept, old) {
-        // (what can't be removed now is by the next run, since something is at the name)
-        let _ = fs::remove_file(&disk.files, kept);
-        return Ok(());
+    match require_kept(disk, dir, kept, old) {
+        Ok(()) => {
+            // (what can't be removed now is by the next run, since something is at the name)
+            let _ = fs::remove_file(&disk.files, kept);
+            Ok(())
+        }
+        Err(refusal) => {
+            or_fault(fs::rename(&disk.files, kept, path))?;
+            Err(refusal)
+        }
     }
-    or_fault(fs::rename(&disk.files, kept, path))?;
-    Err(StoreRefusal::StoreFault)
+}
+
+// A fault unless the directory is in its place, and the file that is kept has the bytes that it had when it was looked at.
+fn require_kept<R: Files>(
+    disk: &Disk<R>,
+    dir: &Dir<R::File>,
+    kept: &str,
+    old: &FileFacts,
+) -> Result<(), StoreRefusal>
+    ensures { IfErr result IsPlain }
+{
+    require_in_place(disk, dir)?;
+    if is_kept(disk, kept, old) {
+        Ok(())
+    } else {
+        Err(StoreRefusal::StoreFault)
+    }
 }
 
 // Moves a file in the directory, if that is in its place.
@@ -66,9 +87,7 @@ fn move_in_place<R: Files>(
 ) -> Result<(), StoreRefusal>
     ensures { IfErr result IsPlain }
 {
-    if !is_in_place(disk, dir) {
-        return Err(StoreRefusal::StoreFault);
-    }
+    require_in_place(disk, dir)?;
     or_fault(fs::rename(&disk.files, from, to))
 }
 
@@ -98,21 +117,31 @@ pub(crate) fn put_temp<R: Files>(
     ensures { IfErr result IsPlain }
 {
     match fs::hard_link(&disk.files, temp, path) {
-        Ok(()) if is_in_place(disk, dir) && fs::remove_file(&disk.files, temp).is_ok() => Ok(()),
         Ok(()) => {
-            or_fault(fs::remove_file(&disk.files, path))?;
-            Err(StoreRefusal::StoreFault)
+            let put = leave(disk, dir, temp);
+            if put.is_err() {
+                or_fault(fs::remove_file(&disk.files, path))?;
+            }
+            put
         }
         Err(error) if error.kind() == ErrorKind::AlreadyExists => Err(StoreRefusal::StoreFault),
         Err(_) => {
             or_fault(fs::rename(&disk.files, temp, path))?;
-            if is_in_place(disk, dir) {
-                return Ok(());
+            let put = require_in_place(disk, dir);
+            if put.is_err() {
+                or_fault(fs::rename(&disk.files, path, temp))?;
             }
-            or_fault(fs::rename(&disk.files, path, temp))?;
-            Err(StoreRefusal::StoreFault)
+            put
         }
     }
+}
+
+// Removes what is at a path of the directory, if that is in its place.
+fn leave<R: Files>(disk: &Disk<R>, dir: &Dir<R::File>, path: &str) -> Result<(), StoreRefusal>
+    ensures { IfErr result IsPlain }
+{
+    require_in_place(disk, dir)?;
+    or_fault(fs::remove_file(&disk.files, path))
 }
 
 /// Removes a file by way of the path at which it is kept. A fault if it changed since it was looked at, also while it was removed; then it is
@@ -128,19 +157,26 @@ pub(crate) fn remove_by_way_of<R: Files>(
     ensures { IfErr result IsPlain }
 {
     if fs::rename(&disk.files, path, kept).is_err() {
-        if !is_in_place(disk, dir) {
-            return Err(StoreRefusal::StoreFault);
-        }
-        return or_fault(fs::remove_file(&disk.files, path));
+        return leave(disk, dir, path);
     }
-    if is_in_place(disk, dir)
-        && is_kept(disk, kept, old)
-        && fs::remove_file(&disk.files, kept).is_ok()
-    {
-        return Ok(());
+    let removed = remove_kept(disk, dir, kept, old);
+    if removed.is_err() {
+        put_new(disk, kept, path)?;
     }
-    put_new(disk, kept, path)?;
-    Err(StoreRefusal::StoreFault)
+    removed
+}
+
+// Removes the file that is kept, unless it changed.
+fn remove_kept<R: Files>(
+    disk: &Disk<R>,
+    dir: &Dir<R::File>,
+    kept: &str,
+    old: &FileFacts,
+) -> Result<(), StoreRefusal>
+    ensures { IfErr result IsPlain }
+{
+    require_kept(disk, dir, kept, old)?;
+    or_fault(fs::remove_file(&disk.files, kept))
 }
 
 // Whether the file that is kept has the bytes that it had when it was looked at. Where that can't be found out, it has not.

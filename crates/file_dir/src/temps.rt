@@ -5,7 +5,7 @@ ghost use Rattle.file_store.specs.declared.refusal.StoreRefusal.TheVariants.{Not
 
 use crate::changes;
 use crate::dir::{
-    Dir, Entry, copy_of, find, folder_of, is_in_place, last_of, make_parents, open_one,
+    Dir, Entry, copy_of, find, folder_of, last_of, make_parents, open_one, require_in_place,
 };
 use crate::disk::Disk;
 use crate::found::Found;
@@ -64,6 +64,7 @@ where
 {
     let temp = temp_name(name)?;
     writing.open = None;
+    writing.lacks_room = false;
     make_parents(disk, dir, folder_of(name.as_str()))?;
     let at = open_one(dir)?;
     let path = at.path_of(disk.alloc, last_of(temp.as_str()))?;
@@ -71,9 +72,9 @@ where
     remove_if_there(disk, path.as_str())?;
     let lacks_room = &mut writing.lacks_room;
     let file = create(disk, path.as_str(), replaced.as_str(), lacks_room)?;
-    if !is_in_place(disk, at) {
+    if let Err(refusal) = require_in_place(disk, at) {
         remove_if_there(disk, path.as_str())?;
-        return Err(StoreRefusal::StoreFault);
+        return Err(refusal);
     }
     let opened = Opened::new(String::from_str(disk.alloc, temp.as_str())?, file, None)?;
     writing.open = Some((copy_of(disk, at)?, opened));
