@@ -8,3 +8,4 @@ pub mod TreeLemmas
 pub mod MemLemmas
 pub mod LeavesLemmas
 pub mod LawLemmas
+pub mod SequenceLemmas

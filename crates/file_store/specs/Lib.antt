@@ -5,6 +5,7 @@ pub mod Trees
 pub mod Refusals
 pub mod Asked
 pub mod FullReads
+pub mod Sequences
 pub mod Calls
 pub mod Listings
 pub mod Laws

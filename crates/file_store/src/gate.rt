@@ -12,8 +12,16 @@ pub enum GatePlace {
 /// What a worker passes at each step that takes long or that others see, and may be held by: a test sees by it in which order
 /// the steps come, and what others do meanwhile.
 pub trait Gate {
+    /// What the gate was shown. Of a gate that is not known, it holds of a store and of calls only if they were once such, both at
+    /// one moment, and the gate was shown them: so a contract says by it that the one was called before the other.
+    ghost shown: { Self → (S : Type 0) → (W : Type 0) → S → W → Type 0 };
+
     /// Returns when the worker may go on.
     fn at(&self, place: GatePlace);
+
+    /// Is shown a store and the calls of a folder, as both are now.
+    fn show<S, W>(&self, store: &S, calls: &W)
+        ensures shown { shown self.now S W store.now calls.now };
 }
 
 /// A gate that holds nobody.
@@ -21,6 +29,13 @@ pub trait Gate {
 pub struct OpenGate;
 
 impl Gate for OpenGate {
+    ghost use Rattle.std.specs.Prelude.{⊤};
+
+    ghost shown = { λ _ _ _ _ _. ⊤ };
+
     #[inline]
     fn at(&self, _place: GatePlace) {}
+
+    #[inline]
+    fn show<S, W>(&self, _store: &S, _calls: &W) {}
 }

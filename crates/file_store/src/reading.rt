@@ -1,6 +1,7 @@
 ghost use Rattle.std.specs.Prelude.{◌≡◌, ◌+◌, ◌^◌, ◌<◌, ◌≤◌, IfErr, IfOk, drop, length, take, true};
 ghost use Rattle.file_store.specs.Refusals.{IsPlain, count_after};
 ghost use Rattle.file_store.specs.FullReads.{FillsAll};
+ghost use Rattle.file_store.specs.Sequences.{LooksOnly};
 ghost use Rattle.file_store.specs.Trees.{bytes_of};
 
 use crate::{FileStore, Gate, GatePlace, StoreRefusal};
@@ -25,6 +26,7 @@ pub fn read_full<S: FileStore, G: Gate>(
     ensures kept { S.keeps ≡ true → S.tree store.new ≡ S.tree store.old }
     // Of every store: no byte is another than those that it gave.
     ensures given { FillsAll S.gives name.now offset store.old buffer.old result store.new buffer.new }
+    ensures looks { LooksOnly S.gives store.old store.new }
     ensures refusals { IfErr result IsPlain }
     ensures counted { S.fault_count store.new ≡ count_after result (S.fault_count store.old) }
 {

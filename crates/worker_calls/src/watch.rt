@@ -76,6 +76,8 @@ fn wait(rt: &(impl Input + Print + AllocGlobal)) {
 
 /// A gate that notes its places, and holds nobody.
 impl<R: Input + Print + AllocGlobal> Gate for Watch<'_, R> {
+    ghost shown = { λ _ _ _ _ _. ⊤ };
+
     fn at(&self, place: GatePlace) {
         self.note(match place {
             GatePlace::StoreRead => "(read)",
@@ -83,6 +85,8 @@ impl<R: Input + Print + AllocGlobal> Gate for Watch<'_, R> {
             GatePlace::FolderCall => "(call)",
         });
     }
+
+    fn show<S, W>(&self, _store: &S, _calls: &W) {}
 }
 
 /// A store whose calls are watched.

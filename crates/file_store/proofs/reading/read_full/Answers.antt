@@ -1,8 +1,10 @@
 use Rattle.std.proofs.Common.{◌≡◌, ◌+◌, ◌-◌, ◌∙◌, Err, rules, arith, ap, refl, sym, subst, length, take, drop}
 use borrow.Rule.Slice.PartMut.{put_mid}
 use Rattle.file_store.specs.FullReads.{FillsAll, full, not_asked}
+use Rattle.file_store.specs.Sequences.{called}
 use Rattle.file_store.specs.Trees.{bytes_of}
 use Rattle.file_store.proofs.ReadLemmas.{filled-more, gave-more, gave-none, gave-refusal}
+use Rattle.file_store.proofs.SequenceLemmas.{fills_look}
 use Rattle.file_store.proofs.reading.read_full.Goals as goal
 
 pub loop-filled-preserved : goal.loop-filled-preserved
@@ -43,3 +45,18 @@ returns-then-count-eq0-clause-given g c = gave-none g.S.FileStore.gives c.args.n
 
 pub returns-clause-given : goal.returns-clause-given
 returns-clause-given g c = full c.loop-filled.filled _ _ c.loop-filled.invariant.given (omega arith)
+
+pub returns-in_err-count-clause-looks : goal.returns-in_err-count-clause-looks
+returns-in_err-count-clause-looks g c = called c.loop-filled.store c.read_at.new.self _ _
+    (fills_look g.S.FileStore.gives c.args.name.now c.args.offset c.args.store.now c.args.buffer.now c.loop-filled.filled c.loop-filled.store c.loop-filled.buffer
+    c.loop-filled.invariant.given) tt c.in_err-count.ensures.gives
+
+pub returns-then-count-eq0-clause-looks : goal.returns-then-count-eq0-clause-looks
+returns-then-count-eq0-clause-looks g c = called c.loop-filled.store c.read_at.new.self _ _
+    (fills_look g.S.FileStore.gives c.args.name.now c.args.offset c.args.store.now c.args.buffer.now c.loop-filled.filled c.loop-filled.store c.loop-filled.buffer
+    c.loop-filled.invariant.given) tt c.in_ok-count.ensures.gives
+
+pub returns-clause-looks : goal.returns-clause-looks
+returns-clause-looks g c =
+    fills_look g.S.FileStore.gives c.args.name.now c.args.offset c.args.store.now c.args.buffer.now c.loop-filled.filled c.loop-filled.store c.loop-filled.buffer
+    c.loop-filled.invariant.given

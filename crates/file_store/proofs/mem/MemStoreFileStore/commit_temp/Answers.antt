@@ -30,14 +30,18 @@ returns-then-not-contains-clause-commits c =
 
 pub returns-clause-gives : goal.returns-clause-gives
 returns-clause-gives c =
+    let n = c.args.name.now in
     let m = c.as_str-name.result.now in
     let F = found_at c.args.self.now.names in
-    let S = found_at c.args.self.now.temps in (
-      same_tree (put_at m (Some (File (unwrap_or (S m) []) 0)) F) (found_at c.commit_temp.new.names) (put_at m None S) (found_at c.commit_temp.new.temps)
-          c.in_ok-commit_temp.ensures.names c.in_ok-commit_temp.ensures.temps
-          ∙ ap (λ q. committed (tree_of F S) q 0) c.as_str-name.ensures.value,
-      search rules,
-    )
+    let S = found_at c.args.self.now.temps in
+    let there : IsSome (S n) = search rules in
+    let no' : is_directory (F n) ≡ false = search rules in
+    let is = same_tree (put_at m (Some (File (unwrap_or (S m) []) 0)) F) (found_at c.commit_temp.new.names) (put_at m None S) (found_at c.commit_temp.new.temps)
+    c.in_ok-commit_temp.ensures.names c.in_ok-commit_temp.ensures.temps ∙ ap (λ q. committed (tree_of F S) q 0) c.as_str-name.ensures.value in
+    ((0, (commit_allowed (tree_of F S) n there no', is)), (is, search rules))
+
+pub returns-then-not-contains-clause-gives : goal.returns-then-not-contains-clause-gives
+returns-then-not-contains-clause-gives c = (returns-then-not-contains-clause-commits c refl, search rules)
 
 pub returns-in_err-commit_temp-clause-gives : goal.returns-in_err-commit_temp-clause-gives
 returns-in_err-commit_temp-clause-gives c =
@@ -47,4 +51,4 @@ returns-in_err-commit_temp-clause-gives c =
     let there : IsSome (S n) = search rules in
     let no' : is_directory (F n) ≡ false = search rules in
     let none : F n ≡ None = search rules in
-    (search rules, λ h. (commit_allowed (tree_of F S) n there no', none_is (F n) none))
+    (search rules, (search rules, λ h. (commit_allowed (tree_of F S) n there no', none_is (F n) none)))

@@ -26,3 +26,6 @@ returns-in_err-make_dir-clause-makes c =
     let is : c.from_residual.result ≡ Err OutOfMemory = search rules in
     let same : found_at c.make_dir.new.names ≡ F = search rules in
     λ k. ran_out _ _ _ _ _ _ c.from_residual.result is tt (same_tree F (found_at c.make_dir.new.names) S S same refl)
+
+pub returns-in_err-make_dir-clause-gives : goal.returns-in_err-make_dir-clause-gives
+returns-in_err-make_dir-clause-gives c = (returns-in_err-make_dir-clause-makes c refl, search rules)

@@ -24,4 +24,4 @@ returns-in_err-make_temp-clause-gives c =
     let S = found_at c.args.self.now.temps in
     let free : (p : Name) → is_parent p n ≡ true → is_file (F p) ≡ false = search rules in
     let none : S n ≡ None = search rules in
-    λ h. (make_temp_allowed (tree_of F S) n free, none_is (S n) none)
+    (search rules, λ h. (make_temp_allowed (tree_of F S) n free, none_is (S n) none))

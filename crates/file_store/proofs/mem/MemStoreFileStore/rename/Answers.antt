@@ -55,3 +55,12 @@ returns-clause-renames c =
     let moved : found_at c.rename.new.names ≡ put_at to (F from) (put_at from None F) =
     done ∙ (λ t. put_at (c.as_str-to.ensures.value t) (F (c.as_str-from.ensures.value t)) (put_at (c.as_str-from.ensures.value t) None F)) in
     λ k. (rename_allowed (tree_of F S) from to file none there, same_tree (put_at to (F from) (put_at from None F)) (found_at c.rename.new.names) S S moved refl)
+
+pub returns-in_err-rename-clause-gives : goal.returns-in_err-rename-clause-gives
+returns-in_err-rename-clause-gives c = (returns-in_err-rename-clause-renames c refl, search rules)
+
+pub returns-then-not-can_move-clause-gives : goal.returns-then-not-can_move-clause-gives
+returns-then-not-can_move-clause-gives c = (returns-then-not-can_move-clause-renames c refl, search rules)
+
+pub returns-clause-gives : goal.returns-clause-gives
+returns-clause-gives c = (returns-clause-renames c refl, search rules)

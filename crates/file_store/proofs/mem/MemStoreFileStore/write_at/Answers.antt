@@ -35,4 +35,4 @@ returns-in-Some-Err-clause-gives c =
     let S = found_at c.args.self.now.temps in
     let there : IsSome (S n) = search rules in
     let failed : (c.args.bytes.now ≢ []) × (length (unwrap_or (S n) []) < c.args.offset + length c.args.bytes.now) = search rules in
-    λ h. (write_allowed (tree_of F S) n there, failed.0, failed.1)
+    (search rules, λ h. (write_allowed (tree_of F S) n there, failed.0, failed.1))
