@@ -11,6 +11,6 @@ returns-in_default c =
     let mid = mem_tree c.stat.new.self in
     let n = c.args.name.now in
     let kept = (c.in_ok-stat.ensures.stats refl).kept in
-    let free = ap (λ (t : Tree). is_directory (t.names n)) kept ∙ no_directory _ c.in_ok-stat.field-0 c.in_ok-stat.ensures.gives c.in_default.not-Directory in
+    let free = ap (λ (t : Tree). is_directory (t.names n)) kept ∙ no_directory _ c.in_ok-stat.field-0 c.in_ok-stat.ensures.gives.1 c.in_default.not-Directory in
     from_same (λ t. IsNoPlaceForDirectory t n) (λ t. directory_put t n) old mid (mem_tree c.make_dir.new.self) c.make_dir.result kept
     (directory_made mid (mem_tree c.make_dir.new.self) n c.make_dir.result free (c.make_dir.ensures.makes refl))

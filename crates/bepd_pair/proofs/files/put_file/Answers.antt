@@ -8,7 +8,7 @@ use Rattle.bepd_pair.proofs.files.put_file.Goals as goal
 pub write_file-requires : goal.write_file-requires
 write_file-requires c =
     let kept = (c.in_ok-stat.ensures.stats refl).kept in
-    ap (λ (t : Tree). is_directory (t.names c.args.name.now)) kept ∙ no_directory _ c.in_ok-stat.field-0 c.in_ok-stat.ensures.gives c.in_default.not-Directory
+    ap (λ (t : Tree). is_directory (t.names c.args.name.now)) kept ∙ no_directory _ c.in_ok-stat.field-0 c.in_ok-stat.ensures.gives.1 c.in_default.not-Directory
 
 pub returns-in_default : goal.returns-in_default
 returns-in_default c =

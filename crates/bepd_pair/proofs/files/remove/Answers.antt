@@ -13,7 +13,7 @@ returns-in-Directory c =
     let new = mem_tree c.remove_dir.new.self in
     let n = c.args.name.now in
     let kept = (c.in_ok-stat.ensures.stats refl).kept in
-    let there = ap (λ (t : Tree). is_directory (t.names n)) kept ∙ a_directory _ c.in_ok-stat.field-0 c.in_ok-stat.ensures.gives c.in-Directory.is in
+    let there = ap (λ (t : Tree). is_directory (t.names n)) kept ∙ a_directory _ c.in_ok-stat.field-0 c.in_ok-stat.ensures.gives.1 c.in-Directory.is in
     from_same (λ t. CannotBeRemoved t n) (λ t. removed t n) old mid new c.remove_dir.result kept
     (directory_removed mid new n c.remove_dir.result there (c.remove_dir.ensures.removes refl))
 
@@ -24,6 +24,6 @@ returns-in_default c =
     let new = mem_tree c.remove.new.self in
     let n = c.args.name.now in
     let kept = (c.in_ok-stat.ensures.stats refl).kept in
-    let free = ap (λ (t : Tree). is_directory (t.names n)) kept ∙ no_directory _ c.in_ok-stat.field-0 c.in_ok-stat.ensures.gives c.in_default.not-Directory in
+    let free = ap (λ (t : Tree). is_directory (t.names n)) kept ∙ no_directory _ c.in_ok-stat.field-0 c.in_ok-stat.ensures.gives.1 c.in_default.not-Directory in
     from_same (λ t. CannotBeRemoved t n) (λ t. removed t n) old mid new c.remove.result kept
     (file_removed mid new n c.remove.result free (c.remove.ensures.removes refl))
