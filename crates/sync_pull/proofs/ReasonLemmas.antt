@@ -96,7 +96,7 @@ module _ (n : Name) (old mid : Tree) (w : WritesTempAlone n old mid) where
 
 -- ---- why
 
-module _ (most : ℤ) (moment : ℕ) (n : Name) (keeps sourceless : Type 0) (t : PullInfo) (old mid new : Tree) (before after : ℕ) (w : keeps → WritesTempAlone n old mid) where
+module _ (most : ℤ) (moment : ℕ) (n : Name) (keeps : Type 0) (t : PullInfo) (old mid new : Tree) (before after : ℕ) (w : keeps → WritesTempAlone n old mid) where
   planned-place : (plan : CopyPlan) → IsPlanned most moment n t.base t.target plan → IsDue plan × (keeps → IsCopyTaken plan new)
       → (is_copy_due most t.base t.target ≡ true) × (keeps → HasNoPlace (copy_name n moment t.base) new)
   planned-place NotDue planned h = absurd h.0
@@ -110,7 +110,7 @@ module _ (most : ℤ) (moment : ℕ) (n : Name) (keeps sourceless : Type 0) (t :
   planned-parent (Due (Some copy)) k planned h = (planned.0, subst (HasBadParent old) planned.1 (parent-before n old mid (w k) copy h))
 
   pub pull-fails : (plan : CopyPlan) → IsPlanned most moment n t.base t.target plan → (f : PullFailure)
-      → ReplaceFails keeps t.base t.target plan n mid new before after f → PullFails most moment n keeps (IsFaultCounted before after) sourceless t old new f
+      → ReplaceFails keeps t.base t.target plan n mid new before after f → PullFails most moment n keeps (IsFaultCounted before after) t old new f
   pull-fails plan planned StoreFault h = h
   pull-fails plan planned NoSource h = absurd h
   pull-fails plan planned LocalChanged h = λ k s. h k (subst (StandsAs t.base) (sym (w k).name) s)
@@ -125,16 +125,16 @@ counted-one : (a b : ℕ) → b ≡ min (a + 1) (2 ^ 64 - 1) → IsFaultCounted 
 counted-one a b h = grind arith
 
 -- a pull that stops before its commit is entered
-pub stops-before : (most : ℤ) (moment : ℕ) (n : Name) (keeps sourceless : Type 0) (t : PullInfo) (old new : Tree) (a b c : ℕ) (s : Stop)
-    → StopCounts sourceless (keeps → HasBadParent old n) s a b → CountsFaults b c
-    → StopsFor (PullFails most moment n keeps (IsFaultCounted a c) sourceless t old new) s
-stops-before most moment n keeps sourceless t old new a b c stop.OutOfMemory h counts = tt
-stops-before most moment n keeps sourceless t old new a b c (stop.Failed StoreFault) h counts = counted-on a b c (counted-one a b h) counts
-stops-before most moment n keeps sourceless t old new a b c (stop.Failed NoSource) h counts = h.0
-stops-before most moment n keeps sourceless t old new a b c (stop.Failed LocalChanged) h counts = absurd h
-stops-before most moment n keeps sourceless t old new a b c (stop.Failed ConflictNameTaken) h counts = absurd h
-stops-before most moment n keeps sourceless t old new a b c (stop.Failed NotEmpty) h counts = absurd h
-stops-before most moment n keeps sourceless t old new a b c (stop.Failed BadParent) h counts = λ k. inl (h.0 k)
+pub stops-before : (most : ℤ) (moment : ℕ) (n : Name) (keeps : Type 0) (t : PullInfo) (old new : Tree) (a b c : ℕ) (s : Stop)
+    → StopCounts (t.target.deleted ≡ false) (keeps → HasBadParent old n) s a b → CountsFaults b c
+    → StopsFor (PullFails most moment n keeps (IsFaultCounted a c) t old new) s
+stops-before most moment n keeps t old new a b c stop.OutOfMemory h counts = tt
+stops-before most moment n keeps t old new a b c (stop.Failed StoreFault) h counts = counted-on a b c (counted-one a b h) counts
+stops-before most moment n keeps t old new a b c (stop.Failed NoSource) h counts = h.0
+stops-before most moment n keeps t old new a b c (stop.Failed LocalChanged) h counts = absurd h
+stops-before most moment n keeps t old new a b c (stop.Failed ConflictNameTaken) h counts = absurd h
+stops-before most moment n keeps t old new a b c (stop.Failed NotEmpty) h counts = absurd h
+stops-before most moment n keeps t old new a b c (stop.Failed BadParent) h counts = λ k. inl (h.0 k)
 
 -- ---- what is left
 

@@ -7,8 +7,6 @@ ghost use Rattle.sync_pull.specs.Faults.{CountsFaults, FailsFor};
 ghost use Rattle.sync_pull.specs.Pulled.{IfDone, IfFile, IsDropped, IsEnteredFirst, IsNameKept, IsTakenOrDropped};
 ghost use Rattle.sync_pull.specs.Putting.{IsLeft, standing_of};
 ghost use Rattle.sync_pull.specs.Replacing.{ChangesAlone, IsCopyAlone, IsOfFile, IsOverBase, IsReplaced, IsSaved, MayEmpty, ReplaceFails};
-ghost use Rattle.file_store.specs.Sequences.{CallsOnly, IsOfTemp};
-ghost use Rattle.sync_pull.specs.Moments.{ChecksFirst, EntersFirst, IsOfPlace, copy_of};
 ghost use Rattle.sync_pull.specs.Standing.{HasRoom};
 
 use crate::ends::{abort, answer_of, finish, give_up, refused};
@@ -35,8 +33,6 @@ pub(crate) fn drop_temp<S: FileStore>(store: &mut S, name: &SafeName, target: &R
         (store.new ≡ store.old) }
     ensures counted { CountsFaults (S.fault_count store.old) (S.fault_count store.new) }
     ensures temp { S.keeps ≡ true → ChangesTemp (S.tree store.old) name.now (S.tree store.new) }
-    ensures calls { CallsOnly S.gives (IsOfTemp name.now) store.old store.new }
-    ensures drops { CallsOnly S.gives (IsOfPlace name.now None) store.old store.new }
 {
     if standing_of(Some(target)) == Standing::File {
         let _ = store.drop_temp(name);
@@ -82,8 +78,6 @@ pub(crate) fn commit_pull<S: FileStore, W: FolderCalls, G: Gate>(
         IsCopyAlone plan.now name.now (S.tree store.old) (S.tree store.new) }
     ensures entered { S.keeps ≡ true → IsEnteredFirst name.now ticket (W.view calls.old)
         (S.tree store.old) (W.view calls.new) (S.tree store.new) }
-    ensures checks { EntersFirst S.gives (λ s v. (w : W) × G.shown gate.now S W s w × (W.view w ≡ v)) name.now ticket
-        (IsOfPlace name.now (copy_of plan.now)) (IfDone result ⊥) (W.view calls.old) store.old store.new }
 {
     tickets_are_those_that_were_asked_for();
     gate.at(GatePlace::FolderCall);
@@ -96,10 +90,7 @@ pub(crate) fn commit_pull<S: FileStore, W: FolderCalls, G: Gate>(
         }
     };
     match entered {
-        Ok(commit) => {
-            gate.show(store, calls);
-            replace_and_finish(store, calls, gate, name, commit, ready, plan)
-        }
+        Ok(commit) => replace_and_finish(store, calls, gate, name, commit, ready, plan),
         Err(refusal) => {
             drop_temp(store, name, ready.assembled.target());
             refused(calls, gate, refusal)
@@ -145,8 +136,6 @@ fn replace_and_finish<S: FileStore, W: FolderCalls, G: Gate>(
         IsCopyAlone plan.now name.now (S.tree store.old) (S.tree store.new) }
     ensures over_base { S.keeps ≡ true →
         IsOverBase commit.base name.now (S.tree store.old) (S.tree store.new) }
-    ensures checks { ChecksFirst S.gives name.now commit.base (IsOfPlace name.now (copy_of plan.now))
-        (IfDone result ⊥) store.old store.new }
 {
     let Ready {
         assembled,

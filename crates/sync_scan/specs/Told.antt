@@ -4,8 +4,6 @@ use Rattle.sync_names.specs.Refusal.{refusal}
 use Rattle.file_store.specs.Asked.{Call, Value, StatAt, ReadAt}
 use Rattle.file_store.specs.FullReads.{FillsAll}
 use Rattle.file_store.specs.Names.{Name, is_parent}
-use Rattle.file_store.specs.Stores.{MemGives, mem_tree}
-use Rattle.file_store.specs.declared.mem.MemStore.{MemStore}
 use Rattle.file_store.specs.declared.node.Stat.{Stat}
 use Rattle.file_store.specs.declared.node.Stat.TheVariants as stat
 use Rattle.file_store.specs.declared.refusal.StoreRefusal.{StoreRefusal}
@@ -14,10 +12,6 @@ use Rattle.file_store.specs.declared.refusal.StoreRefusal.TheVariants.{StoreFaul
 -- what each call of a store gives: the store before, the call, its answer, and the store after
 abbrev pub Giving : Type 0 → Type 1
 Giving S = S → (call : Call) → Result (Value call) StoreRefusal → S → Type 0
-
--- what a store in memory gives
-abbrev pub mem_gives : Giving MemStore
-mem_gives = λ old call result new. MemGives (mem_tree old) call result (mem_tree new)
 
 -- the store was asked what is at the name, and said this
 abbrev pub Says : {S : Type 0} → Giving S → Name → Stat → Type 0

@@ -53,8 +53,6 @@ impl Devices {
 impl BlockSource for Devices {
     ghost may_ask = { λ _. ⊤ };
 
-    ghost gives = { λ _ _ _ _ _ _ _. ⊤ };
-
     fn fetch(
         &mut self,
         device: DeviceId,

@@ -1,12 +1,10 @@
-use Rattle.std.proofs.Common.{inr, ◌<◌, ◌≤◌, ◌++◌, ◌∷◌, [], List, length, take, arith, length-append, refl, subst, sym, ◌∙◌}
+use Rattle.std.proofs.Common.{◌<◌, ◌≤◌, ◌++◌, ◌∷◌, [], List, length, take, arith, length-append, subst, sym, ◌∙◌}
 use Rattle.std.proofs.lemmas.Bool.{false≢true}
 use Rattle.std.proofs.lemmas.List.{take_all}
 use Rattle.file_store.specs.Asked.{Remove}
 use Rattle.file_store.specs.Names.{Name}
-use Rattle.file_store.specs.Sequences.{CallsOnly, called, not_called}
-use Rattle.sync_pull.specs.Moments.{IsOfPull}
 use Rattle.sync_pull.specs.Copies.{AreListedCopies, IsRefused, RemovesFiles}
-use Rattle.sync_pull.proofs.OldCopyLemmas.{listed-push, listed-same, listed-skip, removes-next, removes-none, take-more-no, take-more-yes, take-one}
+use Rattle.sync_pull.proofs.OldCopyLemmas.{listed-push, listed-same, listed-skip, removes-next, take-more-no, take-more-yes, take-one}
 use Rattle.sync_pull.proofs.old_copies.remove_first.Goals as goal
 use Rattle.sync_pull.proofs.old_copies.remove_first.Goals.{then-is_old_copy, then-seen-surplus, else-seen-surplus, else-is_old_copy}
 
@@ -46,14 +44,6 @@ loop-listed-preserved g c =
                     (subst (λ l. removes l c.loop-listed.store) (sym (take-more-no most done e.name more)) (inv.chosen.3 keeps))
               ],
         );
-        calls = λ q.
-            let only = λ (s : g.row.S.Denot). CallsOnly g.S.FileStore.gives (IsOfPull n q) c.args.store.now s in
-            elim w.if-seen-surplus.branch [
-              | then-seen-surplus v ↦ subst only (sym (w.store-is ∙ v.store-is))
-                  (called c.loop-listed.store v.remove.new.self (Remove e.name) v.remove.result (inv.calls q)
-                  (inr (c.is_old_copy.ensures.0 w.if-is_old_copy.true).1) v.remove.ensures.gives)
-              | else-seen-surplus v ↦ subst only (sym (w.store-is ∙ v.store-is)) (inv.calls q)
-            ];
       }
       | else-is_old_copy w ↦ record {
         within = (let within = inv.within in omega arith);
@@ -63,12 +53,11 @@ loop-listed-preserved g c =
           w.seen-is ∙ inv.chosen.2,
           λ keeps. subst (λ s. removes (take most done) s) (sym w.store-is) (inv.chosen.3 keeps),
         );
-        calls = λ q. subst (λ s. CallsOnly g.S.FileStore.gives (IsOfPull n q) c.args.store.now s) (sym w.store-is) (inv.calls q);
       }
     ]
 
-pub returns-clause-removes : goal.returns-clause-removes
-returns-clause-removes g c = λ keeps copies listed.
+pub returns : goal.returns
+returns g c = λ keeps copies listed.
     let n = c.args.name.now in
     let copy = c.args.copy.now in
     let inv = c.loop-listed.invariant in
@@ -76,16 +65,3 @@ returns-clause-removes g c = λ keeps copies listed.
     let done = subst (λ l. AreListedCopies n copy l inv.chosen.0) all inv.chosen.1 in
     subst (λ l. RemovesFiles (IsRefused g.S.FileStore.gives) (take c.args.surplus l) (g.S.FileStore.tree c.args.store.now) (g.S.FileStore.tree c.loop-listed.store))
     (listed-same n copy c.args.entries.now inv.chosen.0 copies done listed) (inv.chosen.3 keeps)
-
-pub loop-listed-init : goal.loop-listed-init
-loop-listed-init g c = record {
-  within = omega arith;
-  chosen = (
-    [],
-    refl,
-    refl,
-    λ keeps. subst (λ l. RemovesFiles (IsRefused g.S.FileStore.gives) l (g.S.FileStore.tree c.args.store.now) (g.S.FileStore.tree c.args.store.now))
-        (sym (take_all c.args.surplus [] (omega arith))) (removes-none (IsRefused g.S.FileStore.gives) (g.S.FileStore.tree c.args.store.now)),
-  );
-  calls = λ q. not_called;
-}
