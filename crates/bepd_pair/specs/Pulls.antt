@@ -1,8 +1,9 @@
 -- What `pull P` comes to (own rule): a pull of each name of a round, over the peer's store and its folder.
-use Rattle.std.specs.Prelude.{◌≡◌, ⊤, ℕ, true, List, [], ◌∷◌, ◌++◌, flat_map, map, Result, Ok, Err}
+use Rattle.std.specs.Prelude.{◌≡◌, ⊤, ℕ, true, List, [], ◌∷◌, ◌++◌, flat_map, map, IsTrue, Result, Ok, Err}
 use Rattle.file_store.specs.Names.{Name as AnyName}
-use Rattle.file_store.specs.Stores.{mem_faults, mem_tree}
+use Rattle.file_store.specs.Stores.{mem_faults, mem_gives, mem_tree}
 use Rattle.folder_calls.specs.LoneStates.{seen_by}
+use Rattle.sync_record.specs.Records.{is_live_file}
 use Rattle.sync_pull.specs.Copies.{IsRefused}
 use Rattle.sync_pull.specs.Faults.{IsFaultCounted}
 use Rattle.sync_pull.specs.Pulled.{Comes, IsDropped}
@@ -12,13 +13,12 @@ use Rattle.bepd_pair.specs.declared.peer.Peer.{Peer}
 use Rattle.bepd_pair.specs.declared.refused.Refused.{Refused}
 use Rattle.bepd_pair.specs.declared.refused.Refused.TheVariants.{OutOfMemory}
 use Rattle.bepd_pair.specs.Lines.{pull_line}
-use Rattle.bepd_pair.specs.Scans.{mem_gives}
 
 -- The pull of one name at the moment, with the peer's limit of conflict copies, and what it answered. Where its blocks come from is
--- left open.
+-- left open: it lacks a source only of a live file.
 pub record PullsOne (moment : ℕ) (old : Peer) (n : AnyName) (answer : PullAnswer) (new : Peer) : Type 0 where
-  pub comes : Comes old.most moment n (true ≡ true) (IsFaultCounted (mem_faults old.store) (mem_faults new.store))
-      (IsDropped mem_gives (true ≡ true) n (mem_tree new.store).temps new.store) (IsRefused mem_gives) answer
+  pub comes : Comes old.most moment n (true ≡ true) (IsFaultCounted (mem_faults old.store) (mem_faults new.store)) (λ target view. IsTrue (is_live_file target))
+      (IsDropped mem_gives (true ≡ true) n (mem_tree new.store).temps new.store) (IsRefused mem_gives mem_tree) answer
       (seen_by old.calls) (mem_tree old.store) (seen_by new.calls) (mem_tree new.store)
   pub others : new ≡ record old { store = new.store; calls = new.calls }
 

@@ -104,6 +104,8 @@ pub(crate) struct Link<'a> {
 impl BlockSource for Link<'_> {
     ghost may_ask = { λ device. ⊤ };
 
+    ghost gives = { λ _ _ _ _ _ _ _. ⊤ };
+
     fn fetch(
         &mut self,
         _device: DeviceId,

@@ -240,17 +240,13 @@ pub(crate) fn make_directory<R: Files>(
     ensures { IfErr result IsPlain }
 {
     or_fault(fs::create_dir(&disk.files, path))?;
-    match stands(disk, at) {
-        Ok(true) => at.sync(),
-        Ok(false) => {
-            let _ = fs::remove_dir(&disk.files, path);
-            Err(StoreRefusal::StoreFault)
-        }
-        Err(refusal) => {
-            let _ = fs::remove_dir(&disk.files, path);
-            Err(refusal)
-        }
-    }
+    let refusal = match stands(disk, at) {
+        Ok(true) => return at.sync(),
+        Ok(false) => StoreRefusal::StoreFault,
+        Err(refusal) => refusal,
+    };
+    let _ = fs::remove_dir(&disk.files, path);
+    Err(refusal)
 }
 
 // Whether the directory is where it was opened. Where that can't be found out, it is not. Fails only if out of memory.

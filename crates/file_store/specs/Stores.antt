@@ -20,7 +20,8 @@ mem_faults s = s.faults
 abbrev pub empty_tree : Tree
 empty_tree = tree_of (λ q. None) (λ q. None)
 
--- A store in memory runs out of memory only in a call that nothing refuses, and that has to allocate.
+-- A store in memory looks, and reads all that there is, whatever memory is left, and drops. It runs out of memory only in a call that
+-- nothing refuses and that has to allocate.
 abbrev pub MemRunsOut : Tree → (call : Call) → Result (Value call) StoreRefusal → Tree → Type 0
 MemRunsOut old ListAll result new = result ≡ Err OutOfMemory → (q : Name) × IsSome (old.names q)
 MemRunsOut old (StatAt n) result new = result ≡ Ok (stat_of (old.names n))
@@ -39,3 +40,7 @@ MemRunsOut old (RemoveDir n) result new = result ≢ Err OutOfMemory
 -- What a store in memory gives: each call does what its definition says, and no fault has a reason outside the tree.
 abbrev pub MemGives : Tree → (call : Call) → Result (Value call) StoreRefusal → Tree → Type 0
 MemGives old call result new = Does ⊥ old call result new × MemRunsOut old call result new
+
+-- the same of the store itself
+abbrev pub mem_gives : MemStore → (call : Call) → Result (Value call) StoreRefusal → MemStore → Type 0
+mem_gives = λ old call result new. MemGives (mem_tree old) call result (mem_tree new)

@@ -58,7 +58,7 @@ impl MemStore {
 
 impl FileStore for MemStore {
     ghost use Rattle.std.specs.Prelude.{true};
-    ghost use Rattle.file_store.specs.Stores.{MemGives, mem_faults, mem_tree};
+    ghost use Rattle.file_store.specs.Stores.{mem_faults, mem_gives, mem_tree};
 
     ghost keeps = { true };
 
@@ -68,7 +68,7 @@ impl FileStore for MemStore {
 
     ghost fault_count = { mem_faults };
 
-    ghost gives = { λ old call result new. MemGives (mem_tree old) call result (mem_tree new) };
+    ghost gives = { mem_gives };
 
     /// O(1).
     fn faults(&self) -> u64 {

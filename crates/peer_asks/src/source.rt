@@ -102,6 +102,8 @@ impl<'a, R: Wait + Clock> PeerSource<'a, R> {
 impl<R: Wait + Clock> BlockSource for PeerSource<'_, R> {
     ghost may_ask = { λ _. ⊤ };
 
+    ghost gives = { λ _ _ _ _ _ _ _. ⊤ };
+
     fn fetch(
         &mut self,
         device: DeviceId,

@@ -57,31 +57,31 @@ not-done old n k new (inr x) = never x.0
     never e = cc
 
 -- a pull that is done was begun
-pub pulled : AnswerLaws → (most : ℤ) (moment : ℕ) (n : Name) (keeps counted dropped : Type 0) (refused : Call → Type 0) (result : PullAnswer)
+pub pulled : AnswerLaws → (most : ℤ) (moment : ℕ) (n : Name) (keeps counted : Type 0) (sourceless : FileRecord → CallerView → Type 0) (dropped : Type 0) (refused : Call → Type 0) (result : PullAnswer)
     (old : CallerView) (before : Tree) (new : CallerView) (after : Tree)
-    → Comes most moment n keeps counted dropped refused result old before new after → keeps → IfDone result (PullsTarget old n (after.names n) new)
-pulled laws most moment n keeps counted dropped refused (Done k) old before new after (inl x) kept = absurd (not-done old n k new x.0)
-pulled laws most moment n keeps counted dropped refused (Done k) old before new after (inr x) kept = record {
+    → Comes most moment n keeps counted sourceless dropped refused result old before new after → keeps → IfDone result (PullsTarget old n (after.names n) new)
+pulled laws most moment n keeps counted sourceless dropped refused (Done k) old before new after (inl x) kept = absurd (not-done old n k new x.0)
+pulled laws most moment n keeps counted sourceless dropped refused (Done k) old before new after (inr x) kept = record {
   ticket = x.0;
   next = x.1;
   begun = x.2;
   since = pull-goes laws x.3.ends.0 x.1 new x.3.ends.2;
   stands = (x.3.done kept).there;
 }
-pulled laws most moment n keeps counted dropped refused NotNeeded old before new after x kept = tt
-pulled laws most moment n keeps counted dropped refused Busy old before new after x kept = tt
-pulled laws most moment n keeps counted dropped refused Unsupported old before new after x kept = tt
-pulled laws most moment n keeps counted dropped refused LocalMoved old before new after x kept = tt
-pulled laws most moment n keeps counted dropped refused Superseded old before new after x kept = tt
-pulled laws most moment n keeps counted dropped refused (Refused r) old before new after x kept = tt
-pulled laws most moment n keeps counted dropped refused (Failed f) old before new after x kept = tt
+pulled laws most moment n keeps counted sourceless dropped refused NotNeeded old before new after x kept = tt
+pulled laws most moment n keeps counted sourceless dropped refused Busy old before new after x kept = tt
+pulled laws most moment n keeps counted sourceless dropped refused Unsupported old before new after x kept = tt
+pulled laws most moment n keeps counted sourceless dropped refused LocalMoved old before new after x kept = tt
+pulled laws most moment n keeps counted sourceless dropped refused Superseded old before new after x kept = tt
+pulled laws most moment n keeps counted sourceless dropped refused (Refused r) old before new after x kept = tt
+pulled laws most moment n keeps counted sourceless dropped refused (Failed f) old before new after x kept = tt
 
 -- whatever it came to, the folder was asked for it
-pub asks-to-pull : (most : ℤ) (moment : ℕ) (n : Name) (keeps counted dropped : Type 0) (refused : Call → Type 0) (result : PullAnswer)
+pub asks-to-pull : (most : ℤ) (moment : ℕ) (n : Name) (keeps counted : Type 0) (sourceless : FileRecord → CallerView → Type 0) (dropped : Type 0) (refused : Call → Type 0) (result : PullAnswer)
     (old : CallerView) (before : Tree) (new : CallerView) (after : Tree)
-    → Comes most moment n keeps counted dropped refused result old before new after → AsksToPull old n result new
-asks-to-pull most moment n keeps counted dropped refused result old before new after (inl x) = inl x.0
-asks-to-pull most moment n keeps counted dropped refused result old before new after (inr x) = inr (x.0, x.1, x.2, x.3.ends)
+    → Comes most moment n keeps counted sourceless dropped refused result old before new after → AsksToPull old n result new
+asks-to-pull most moment n keeps counted sourceless dropped refused result old before new after (inl x) = inl x.0
+asks-to-pull most moment n keeps counted sourceless dropped refused result old before new after (inr x) = inr (x.0, x.1, x.2, x.3.ends)
 
 -- ---- the target of the pull
 

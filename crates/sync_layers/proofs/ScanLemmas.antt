@@ -27,7 +27,7 @@ use Rattle.folder_calls.specs.Histories.{state_after}
 use Rattle.folder_calls.specs.Shared.{CallerView, Gets, IsLegalView, now, own_entry, seeing}
 use Rattle.folder_calls.specs.declared.entry.Entry.{Entry}
 use Rattle.folder_calls.specs.declared.refusal.ScanRefusal.{ScanRefusal}
-use Rattle.sync_scan.specs.Looks.{MayFind, block_size_of, directory_finding, file_finding, look_of, max_file_size}
+use Rattle.sync_scan.specs.Looks.{MayFindAt, block_size_of, directory_finding, file_finding, look_of, max_file_size}
 use Rattle.sync_scan.specs.Scans.{AsksFor, Scans}
 use Rattle.sync_scan.specs.Told.{Giving}
 use Rattle.sync_scan.specs.declared.scanned.Look.TheVariants as look
@@ -226,13 +226,13 @@ module _ (calls : FolderLaws) (laws : ScanLaws) (read new : CallerView) (n : Nam
   taken known there scanned.Changing is asks = absurd is
 
 -- where a scan took what it found, that is what the local record says
-pub scan-stands : FolderLaws → ScanLaws → {S : Type 0} (gives : Giving S) (keeps : Type 0) (tree : Tree) (old new : CallerView) (n : Name) (moment : ℕ) (result : Scanned)
-    → keeps → Scans old n moment (MayFind gives keeps tree n) result new → IsTaken result → StandsAs (local (now new) n) (tree.names n)
-scan-stands calls laws gives keeps tree old new n moment result kept scans is =
+pub scan-stands : FolderLaws → ScanLaws → {S : Type 0} (gives : Giving S) (shown : S → CallerView → Type 0) (keeps : Type 0) (tree : Tree) (old new : CallerView) (n : Name) (moment : ℕ) (result : Scanned)
+    → keeps → Scans old n moment (MayFindAt gives shown keeps tree n) result new → IsTaken result → StandsAs (local (now new) n) (tree.names n)
+scan-stands calls laws gives shown keeps tree old new n moment result kept scans is =
     let known = local (now scans.read) n in
     let expected = local_version (now scans.read) n in
     taken calls laws scans.read new n expected moment known (tree.names n) result is
-    (subst (λ l. AsksFor scans.read n expected moment l result new) (scans.may_be.1 kept) scans.asks)
+    (subst (λ l. AsksFor scans.read n expected moment l result new) (scans.may_be.2.1 kept) scans.asks)
 
 -- ---- from the laws
 

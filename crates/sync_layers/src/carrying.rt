@@ -75,7 +75,7 @@ pub fn carry<
     begun_pulls_are_of_the_name();
     best_is_preferred();
     same_content_is_an_equivalence();
-    what_is_pulled_is_what_was_scanned::<S>();
+    what_is_pulled_is_what_was_scanned::<S, A, OpenGate>();
     let (mut near, mut far) = connect(alloc, folder, moment)?;
     scan(rt, alloc, one_store, one, name, moment)?;
     send_index(alloc, None, folder, one, &mut near, other, &mut far, moment)?;
@@ -109,8 +109,8 @@ fn scan<S: FileStore, W: FolderCalls>(
         ((S.tree store.new).names name.now)) }
     ensures kept { S.keeps ≡ true → S.tree store.new ≡ S.tree store.old }
 {
-    a_scan_adds_one_entry_at_most::<S>();
-    what_is_pulled_is_what_was_scanned::<S>();
+    a_scan_adds_one_entry_at_most::<S, W, OpenGate>();
+    what_is_pulled_is_what_was_scanned::<S, W, OpenGate>();
     match scan_name(rt, alloc, store, calls, &OpenGate, name, moment)? {
         Scanned::Answered(Ok(ScanAnswer::Recorded(_))) => Ok(()),
         Scanned::Answered(Ok(ScanAnswer::Unchanged)) => Ok(()),

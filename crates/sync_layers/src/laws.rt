@@ -6,14 +6,15 @@ ghost use Rattle.folder_calls.specs.Shared.{CallerView, now};
 ghost use Rattle.folder_core.specs.States.{local};
 ghost use Rattle.sync_record.specs.Contents.{same_content};
 ghost use Rattle.sync_record.specs.Records.{FileRecord, Name};
-ghost use Rattle.sync_scan.specs.Looks.{MayFind};
+ghost use Rattle.sync_scan.specs.Looks.{MayFindAt, ShownFirst};
 ghost use Rattle.sync_scan.specs.Scans.{Scans};
 ghost use Rattle.sync_scan.specs.declared.scanned.Scanned.{Scanned};
 ghost use Rattle.sync_pull.specs.Standing.{StandsAs};
 ghost use Rattle.sync_layers.specs.Alike.{AreAlike, AreCutAlike, HasNoCollision};
 ghost use Rattle.sync_layers.specs.Taken.{IsTaken};
 
-use file_store::FileStore;
+use file_store::{FileStore, Gate};
+use folder_calls::FolderCalls;
 use folder_calls::laws::{
     answers_are_those_of_the_folder, calls_share_one_history, histories_may_be_divided,
     views_are_of_folders,
@@ -27,9 +28,10 @@ use sync_record::laws::same_content_in_words;
 /// that keeps what is written. And where two records have the same content, and one says what is at a name of one store and the
 /// other what is at a name of another, both stores hold alike there: directories, nothing, or files of as many bytes, cut into the
 /// same blocks, of which each has the same SHA-256 digest on both sides.
-pub fn what_is_pulled_is_what_was_scanned<S: FileStore>()
-    ensures scanned { (old new : CallerView) (n : Name) (moment : ℕ) (tree : Tree) (result : Scanned) →
-        S.keeps ≡ true → Scans old n moment (MayFind S.gives (IsTrue S.keeps) tree n) result new →
+pub fn what_is_pulled_is_what_was_scanned<S: FileStore, W: FolderCalls, G: Gate>()
+    ensures scanned { (gate : G) (begun : S) (old new : CallerView) (n : Name) (moment : ℕ) (tree : Tree) (result : Scanned) →
+        S.keeps ≡ true →
+        Scans old n moment (MayFindAt S.gives (ShownFirst (G.shown gate S W) W.view begun) (IsTrue S.keeps) tree n) result new →
         IsTaken result → StandsAs (local (now new) n) (tree.names n) }
     ensures alike { (r q : FileRecord) (one other : Option Node) → StandsAs (Some r) one →
         StandsAs (Some q) other → IsTrue (same_content r q) → AreAlike one other }

@@ -36,6 +36,8 @@ pub(crate) struct Served<'a, 'f, S, W> {
 impl<S: FileStore, W: FolderCalls> BlockSource for Served<'_, '_, S, W> {
     ghost may_ask = { λ device. ⊤ };
 
+    ghost gives = { λ _ _ _ _ _ _ _. ⊤ };
+
     fn fetch(
         &mut self,
         _device: DeviceId,

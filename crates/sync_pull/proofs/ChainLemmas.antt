@@ -12,7 +12,7 @@ use Rattle.folder_calls.specs.declared.entry.Entry.{Entry}
 pub sees-itself : (v : CallerView) → Sees v v
 sees-itself v = record { longer = ([], append-nil v.seen); own = refl; same = refl }
 
-longer : (a b c : List Entry) → IsPrefix a b → IsPrefix b c → IsPrefix a c
+pub longer : (a b c : List Entry) → IsPrefix a b → IsPrefix b c → IsPrefix a c
 longer a b c x y = (x.0 ++ y.0, sym (append_assoc a x.0 y.0) ∙ ap (λ l. l ++ y.0) x.1 ∙ y.1)
 
 pub sees-together : (a b c : CallerView) → Sees a b → Sees b c → Sees a c

@@ -149,7 +149,7 @@ tiled-size bs size block_size (inr t) =
     let empty = t.empty in
     omega arith
 
-some-at : (bs : List Block) (i : ℕ) → i < length bs → (b : Block) × (slice_get bs i ≡ Some b)
+pub some-at : (bs : List Block) (i : ℕ) → i < length bs → (b : Block) × (slice_get bs i ≡ Some b)
 some-at [] i h = absurd (omega arith)
 some-at (b ∷ bs) zero h = (b, refl)
 some-at (b ∷ bs) (suc i) h = some-at bs i (omega arith)

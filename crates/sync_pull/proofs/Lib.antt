@@ -1,12 +1,15 @@
 pub mod BytesLemmas
 pub mod StandingLemmas
+pub mod MomentLemmas
 pub mod PuttingLemmas
 pub mod FetchLemmas
+pub mod SourceLemmas
 pub mod GroupLemmas
 pub mod ChainLemmas
 pub mod EndsLemmas
 pub mod PulledLemmas
 pub mod FailLemmas
 pub mod ReasonLemmas
+pub mod TargetLemmas
 pub mod OldCopyLemmas
 pub mod TrimLemmas

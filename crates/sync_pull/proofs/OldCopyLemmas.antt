@@ -1,9 +1,9 @@
 -- Which conflict copies are removed.
-use Rattle.std.proofs.Common.{◌≡◌, ◌≢◌, ℕ, ◌+◌, ◌<◌, ◌≤◌, Bool, true, false, List, [], ◌∷◌, ◌++◌, length, take, get_or, Option, Some, None, Ok, Err, Result, suc, zero, inl, inr, refl, sym, ap, subst, ◌∙◌, arith, length-append}
-use Rattle.std.specs.Prelude.{bytes_eq, ◌⊎◌, ◌↔◌, Contains, IsNone, MatchBool, map, nat_eq, not}
+use Rattle.std.proofs.Common.{◌≡◌, ◌≢◌, ℕ, ◌+◌, ◌<◌, ◌≤◌, Bool, true, false, List, [], ◌∷◌, ◌++◌, length, take, drop, get_or, Option, Some, None, Ok, Err, Result, suc, zero, inl, inr, refl, sym, ap, subst, ◌∙◌, arith, length-append}
+use Rattle.std.specs.Prelude.{bytes_eq, ◌⊎◌, ◌↔◌, Contains, IsNone, MatchBool, map, nat_eq, not, ℤ, pos, negsuc}
 use Rattle.std.specs.List.{AllByRecursion}
 use Rattle.std.specs.List.Sorted.{IsStrictlySortedBy}
-use Rattle.std.proofs.lemmas.List.{take_all, take-append-le}
+use Rattle.std.proofs.lemmas.List.{take-append-drop, take_all, take-append-le}
 use Rattle.std.proofs.lemmas.List.Elements.{Contains-append_left, Contains-push, Contains-push_cases}
 use Rattle.std.proofs.lemmas.Slice.Eq.{bytes_eq-Decides}
 use Rattle.std.proofs.Math.Seq.{take-suc}
@@ -11,9 +11,11 @@ use Rattle.file_store.specs.Asked.{Call, Remove}
 use Rattle.file_store.specs.Calls.{Removes, removed}
 use Rattle.file_store.specs.Listings.{AreAscending}
 use Rattle.file_store.specs.Names.{Name}
+use Rattle.file_store.specs.Stores.{MemGives, mem_gives, mem_tree}
 use Rattle.file_store.specs.Trees.{Tree, is_file}
 use Rattle.file_store.specs.declared.node.Listed.{Listed}
 use Rattle.file_store.specs.declared.refusal.StoreRefusal.{StoreRefusal}
+use Rattle.file_store.specs.declared.refusal.StoreRefusal.TheVariants.{StoreFault, NotEmpty, BadParent, OutOfMemory}
 use Rattle.std.specs.Cmp.Lexicographic.{pointwise, slice_cmp, told_text}
 use Rattle.std.specs.Ordering.{nat_cmp}
 use Rattle.std.specs.declared.cmp.Ordering.TheVariants.{Less}
@@ -23,7 +25,7 @@ use Rattle.file_store.specs.declared.node.Kind.TheVariants as kind
 use Rattle.file_store.specs.declared.node.Node.{Node}
 use Rattle.file_store.specs.declared.node.Node.TheVariants.{Directory, File}
 use Rattle.sync_names.specs.Refusal.{refusal}
-use Rattle.sync_pull.specs.Copies.{AreListedCopies, AreOldCopies, IsListedCopy, IsOldCopy, RemovesFiles}
+use Rattle.sync_pull.specs.Copies.{AreListedCopies, AreOldCopies, IsListedCopy, IsOldCopy, IsRefused, IsRemoveRefused, RemovesFiles, TrimsCopies, surplus}
 use Rattle.sync_pull.proofs.PuttingLemmas.{elsewhere, here}
 
 -- two texts that are not unequal are equal
@@ -62,7 +64,7 @@ take-one es i e within is =
 
 -- ---- what is removed
 
-pub removes-none : (refused : Call → Type 0) (t : Tree) → RemovesFiles refused [] t t
+pub removes-none : (refused : Tree → Call → Type 0) (t : Tree) → RemovesFiles refused [] t t
 removes-none refused t = record { temps = refl; others = λ q. inl refl; gone = λ q has. absurd (omega (arith, has.1)) }
 
 removed-or-same : (fails : Type 0) (t u : Tree) (n : Name) (r : Result (Unit {0}) StoreRefusal) → Removes fails t n r u → (u ≡ t) ⊎ (u ≡ removed t n)
@@ -97,8 +99,8 @@ stays-gone t u n q (inr e) h =
     ]
 
 -- one file more
-pub removes-next : (refused : Call → Type 0) (ns : List Name) (n : Name) (old t u : Tree) (fails : Type 0) (r : Result (Unit {0}) StoreRefusal)
-    → RemovesFiles refused ns old t → Removes fails t n r u → ((why : StoreRefusal) → r ≡ Err why → refused (Remove n)) → RemovesFiles refused (ns ++ n ∷ []) old u
+pub removes-next : (refused : Tree → Call → Type 0) (ns : List Name) (n : Name) (old t u : Tree) (fails : Type 0) (r : Result (Unit {0}) StoreRefusal)
+    → RemovesFiles refused ns old t → Removes fails t n r u → ((why : StoreRefusal) → r ≡ Err why → refused t (Remove n)) → RemovesFiles refused (ns ++ n ∷ []) old u
 removes-next refused ns n old t u fails r x h why =
     let both = removed-or-same fails t u n r h in
     record {
@@ -117,13 +119,20 @@ removes-next refused ns n old t u fails r x h why =
           | inr same ↦ inl (ap (λ (v : Tree). v.names q) e ∙ same ∙ was)
         ]
 
-    still : (q : Name) → (u ≡ t) ⊎ (u ≡ removed t n) → (t.names q ≡ None) ⊎ refused (Remove q) → (u.names q ≡ None) ⊎ refused (Remove q)
+    Gone : Name → Type 0
+    Gone q = (u.names q ≡ None) ⊎ IsRemoveRefused refused (old.names q) q
+
+    still : (q : Name) → (u ≡ t) ⊎ (u ≡ removed t n) → (t.names q ≡ None) ⊎ IsRemoveRefused refused (old.names q) q → Gone q
     still q both (inl none) = inl (stays-gone t u n q both none)
     still q both (inr why) = inr why
 
-    gone : (q : Name) → (u ≡ t) ⊎ (u ≡ removed t n) → Contains ns q ⊎ (n ≡ q) → (u.names q ≡ None) ⊎ refused (Remove q)
+    last : (u ≡ t) ⊎ (u ≡ removed t n) → (t.names n ≡ old.names n) ⊎ (Contains ns n × (t.names n ≡ None)) → Gone n
+    last both (inl was) = gone-after fails t u n r (IsRemoveRefused refused (old.names n) n) h (λ w is. (t, was, why w is))
+    last both (inr none) = inl (stays-gone t u n n both none.1)
+
+    gone : (q : Name) → (u ≡ t) ⊎ (u ≡ removed t n) → Contains ns q ⊎ (n ≡ q) → Gone q
     gone q both (inl has) = still q both (x.gone q has)
-    gone q both (inr same) = subst (λ m. (u.names m ≡ None) ⊎ refused (Remove m)) same (gone-after fails t u n r (refused (Remove n)) h why)
+    gone q both (inr same) = subst Gone same (last both (x.others n))
 
 -- the first of one more
 pub take-more-yes : (s : ℕ) (ns : List Name) (n : Name) → length ns < s → take s (ns ++ n ∷ []) ≡ take s ns ++ n ∷ []
@@ -232,3 +241,36 @@ taken-below (suc k) (x ∷ xs) q r up has within apart =
 pub none-taken : (xs : List Name) → xs ≢ [] → 0 < length xs
 none-taken [] some = absurd (some refl)
 none-taken (x ∷ xs) some = omega arith
+
+-- ---- what stays, and what is gone from a store in memory
+
+pub contains-take : (k : ℕ) (xs : List Name) (q : Name) → Contains (take k xs) q → Contains xs q
+contains-take k xs q h = subst (λ l. Contains l q) (take-append-drop k xs) (Contains-append_left (take k xs) (drop k xs) q h)
+
+pub kept-at : (refused : Tree → Call → Type 0) (names : List Name) (old new : Tree) → RemovesFiles refused names old new → (q : Name) → (Contains names q → ⊥) → new.names q ≡ old.names q
+kept-at refused names old new r q apart = elim (r.others q) [ inl same ↦ same | inr has ↦ absurd (apart has.0) ]
+
+pub others-stay : (refused : Tree → Call → Type 0) (n copy q : Name) (old new : Tree) → (IsOldCopy n copy old q → ⊥) → (most : ℤ) → TrimsCopies refused most n copy old new → new.names q ≡ old.names q
+others-stay refused n copy q old new other (negsuc k) e = ap (λ (t : Tree). t.names q) e
+others-stay refused n copy q old new other (pos most) (inl h) = ap (λ (t : Tree). t.names q) h.1
+others-stay refused n copy q old new other (pos most) (inr h) = kept-at refused _ old new h.2 q (λ has. other ((h.1.each q).0 (contains-take _ h.0 q has)))
+
+never-refused : (t u : Tree) (q : Name) (why : StoreRefusal) → is_file (t.names q) ≡ true → Removes ⊥ t q (Err why) u → why ≢ OutOfMemory → ⊥
+never-refused t u q StoreFault file (inl r) m = false≢true (sym r.0 ∙ file)
+never-refused t u q NotEmpty file (inl r) m = r.0
+never-refused t u q BadParent file (inl r) m = r.0
+never-refused t u q OutOfMemory file (inl r) m = m refl
+never-refused t u q why file (inr f) m = f.0
+
+pub gone-in-memory : (most : ℕ) (n copy : Name) (old new : Tree) (copies : List Name) → AreOldCopies n copy old copies
+    → RemovesFiles (IsRefused mem_gives mem_tree) (surplus most copies) old new → (q : Name) → Contains (surplus most copies) q → new.names q ≡ None
+gone-in-memory most n copy old new copies are removes q has =
+    elim (removes.gone q has) [
+      | inl none ↦ none
+      | inr r ↦
+          let t = r.0 in
+          let x = r.2 in
+          let file : is_file (t.names q) ≡ true = subst (λ (o : Option Node). is_file o ≡ true) (sym r.1) ((are.each q).0 (contains-take _ copies q has)).file in
+          let given = subst (λ (u : Tree). MemGives u (Remove q) (Err x.2) (mem_tree x.3)) x.1 x.4 in
+          absurd (never-refused t (mem_tree x.3) q x.2 file given.0 (λ e. given.1 (ap Err e)))
+    ]

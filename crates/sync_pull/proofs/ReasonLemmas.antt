@@ -7,6 +7,7 @@ use Rattle.file_store.specs.Asked.{Call}
 use Rattle.file_store.specs.Calls.{HasBadParent, HasEntries}
 use Rattle.file_store.specs.Names.{Name, is_parent}
 use Rattle.file_store.specs.Trees.{Tree, is_file}
+use Rattle.file_store.specs.declared.node.Node.{Node}
 use Rattle.folder_core.specs.Steps.{is_copy_due}
 use Rattle.folder_core.specs.declared.pull_info.PullInfo.{PullInfo}
 use Rattle.sync_pull.specs.Faults.{CountsFaults, IsFaultCounted, StopCounts, StopsFor}
@@ -96,7 +97,7 @@ module _ (n : Name) (old mid : Tree) (w : WritesTempAlone n old mid) where
 
 -- ---- why
 
-module _ (most : ℤ) (moment : ℕ) (n : Name) (keeps : Type 0) (t : PullInfo) (old mid new : Tree) (before after : ℕ) (w : keeps → WritesTempAlone n old mid) where
+module _ (most : ℤ) (moment : ℕ) (n : Name) (keeps sourceless : Type 0) (t : PullInfo) (old mid new : Tree) (before after : ℕ) (w : keeps → WritesTempAlone n old mid) where
   planned-place : (plan : CopyPlan) → IsPlanned most moment n t.base t.target plan → IsDue plan × (keeps → IsCopyTaken plan new)
       → (is_copy_due most t.base t.target ≡ true) × (keeps → HasNoPlace (copy_name n moment t.base) new)
   planned-place NotDue planned h = absurd h.0
@@ -110,7 +111,7 @@ module _ (most : ℤ) (moment : ℕ) (n : Name) (keeps : Type 0) (t : PullInfo) 
   planned-parent (Due (Some copy)) k planned h = (planned.0, subst (HasBadParent old) planned.1 (parent-before n old mid (w k) copy h))
 
   pub pull-fails : (plan : CopyPlan) → IsPlanned most moment n t.base t.target plan → (f : PullFailure)
-      → ReplaceFails keeps t.base t.target plan n mid new before after f → PullFails most moment n keeps (IsFaultCounted before after) t old new f
+      → ReplaceFails keeps t.base t.target plan n mid new before after f → PullFails most moment n keeps (IsFaultCounted before after) sourceless t old new f
   pull-fails plan planned StoreFault h = h
   pull-fails plan planned NoSource h = absurd h
   pull-fails plan planned LocalChanged h = λ k s. h k (subst (StandsAs t.base) (sym (w k).name) s)
@@ -125,31 +126,32 @@ counted-one : (a b : ℕ) → b ≡ min (a + 1) (2 ^ 64 - 1) → IsFaultCounted 
 counted-one a b h = grind arith
 
 -- a pull that stops before its commit is entered
-pub stops-before : (most : ℤ) (moment : ℕ) (n : Name) (keeps : Type 0) (t : PullInfo) (old new : Tree) (a b c : ℕ) (s : Stop)
-    → StopCounts (t.target.deleted ≡ false) (keeps → HasBadParent old n) s a b → CountsFaults b c
-    → StopsFor (PullFails most moment n keeps (IsFaultCounted a c) t old new) s
-stops-before most moment n keeps t old new a b c stop.OutOfMemory h counts = tt
-stops-before most moment n keeps t old new a b c (stop.Failed StoreFault) h counts = counted-on a b c (counted-one a b h) counts
-stops-before most moment n keeps t old new a b c (stop.Failed NoSource) h counts = h.0
-stops-before most moment n keeps t old new a b c (stop.Failed LocalChanged) h counts = absurd h
-stops-before most moment n keeps t old new a b c (stop.Failed ConflictNameTaken) h counts = absurd h
-stops-before most moment n keeps t old new a b c (stop.Failed NotEmpty) h counts = absurd h
-stops-before most moment n keeps t old new a b c (stop.Failed BadParent) h counts = λ k. inl (h.0 k)
+pub stops-before : (most : ℤ) (moment : ℕ) (n : Name) (keeps sourceless : Type 0) (t : PullInfo) (old new : Tree) (a b c : ℕ) (s : Stop)
+    → StopCounts sourceless (keeps → HasBadParent old n) s a b → CountsFaults b c
+    → StopsFor (PullFails most moment n keeps (IsFaultCounted a c) sourceless t old new) s
+stops-before most moment n keeps sourceless t old new a b c stop.OutOfMemory h counts = tt
+stops-before most moment n keeps sourceless t old new a b c (stop.Failed StoreFault) h counts = counted-on a b c (counted-one a b h) counts
+stops-before most moment n keeps sourceless t old new a b c (stop.Failed NoSource) h counts = h.0
+stops-before most moment n keeps sourceless t old new a b c (stop.Failed LocalChanged) h counts = absurd h
+stops-before most moment n keeps sourceless t old new a b c (stop.Failed ConflictNameTaken) h counts = absurd h
+stops-before most moment n keeps sourceless t old new a b c (stop.Failed NotEmpty) h counts = absurd h
+stops-before most moment n keeps sourceless t old new a b c (stop.Failed BadParent) h counts = λ k. inl (h.0 k)
 
 -- ---- what is left
 
-emptied-by : (most : ℤ) (moment : ℕ) (n : Name) (refused : Call → Type 0) (t : PullInfo) (plan : CopyPlan) → IsPlanned most moment n t.base t.target plan
-    → MayEmpty refused n plan (standing_of t.base) (standing_of (Some t.target)) → MayBeEmpty most moment n refused t
-emptied-by most moment n refused t NotDue planned m = inr m
-emptied-by most moment n refused t (Due None) planned m = absurd m
-emptied-by most moment n refused t (Due (Some copy)) planned m = inl (planned.0, subst (IsMoveRefused refused n) planned.1 m)
+emptied-by : (most : ℤ) (moment : ℕ) (n : Name) (refused : Tree → Call → Type 0) (t : PullInfo) (plan : CopyPlan) (node : Option Node) → IsPlanned most moment n t.base t.target plan
+    → MayEmpty refused node n plan (standing_of t.base) (standing_of (Some t.target)) → MayBeEmpty most moment n refused t node
+emptied-by most moment n refused t NotDue node planned m = inr m
+emptied-by most moment n refused t (Due None) node planned m = absurd m
+emptied-by most moment n refused t (Due (Some copy)) node planned m = inl (planned.0, subst (IsMoveRefused refused node n) planned.1 m)
 
-pub left-pulled : (most : ℤ) (moment : ℕ) (n : Name) (refused : Call → Type 0) (t : PullInfo) (plan : CopyPlan) (old mid new : Tree) → IsPlanned most moment n t.base t.target plan
+pub left-pulled : (most : ℤ) (moment : ℕ) (n : Name) (refused : Tree → Call → Type 0) (t : PullInfo) (plan : CopyPlan) (old mid new : Tree) → IsPlanned most moment n t.base t.target plan
     → mid.names n ≡ old.names n → IsReadyAs t.target.deleted t.target n mid
-    → IsLeft (MayEmpty refused n plan (standing_of t.base) (standing_of (Some t.target))) (standing_of (Some t.target)) mid n new → IsOldOrTarget most moment n refused t old new
+    → IsLeft (MayEmpty refused (mid.names n) n plan (standing_of t.base) (standing_of (Some t.target))) (standing_of (Some t.target)) mid n new → IsOldOrTarget most moment n refused t old new
 left-pulled most moment n refused t plan old mid new planned same ready (inl e) = inl (e ∙ same)
 left-pulled most moment n refused t plan old mid new planned same ready (inr (inl p)) = inr (inl (there-is t.target n mid new ready p))
-left-pulled most moment n refused t plan old mid new planned same ready (inr (inr e)) = inr (inr (emptied-by most moment n refused t plan planned e.0, e.1))
+left-pulled most moment n refused t plan old mid new planned same ready (inr (inr e)) = inr (inr (emptied-by most moment n refused t plan (old.names n) planned
+    (subst (λ (o : Option Node). MayEmpty refused o n plan (standing_of t.base) (standing_of (Some t.target))) same e.0), e.1))
 
 -- ---- the temporary file
 

@@ -1,8 +1,6 @@
 -- What the removal of older conflict copies leaves as it was.
-use Rattle.std.proofs.Common.{◌≡◌, ◌≢◌, ◌⊎◌, ◌∷◌, ℕ, Bool, true, false, List, take, drop, Option, Some, None, inl, inr, refl, sym, ap, subst, ◌∙◌}
+use Rattle.std.proofs.Common.{◌≡◌, ◌≢◌, ◌⊎◌, ◌∷◌, ℕ, Bool, true, false, List, Option, Some, None, inl, inr, refl, sym, ap, subst, ◌∙◌}
 use Rattle.std.specs.Prelude.{bytes_eq, ⊤, Contains, ℤ, pos, negsuc}
-use Rattle.std.proofs.lemmas.List.{take-append-drop}
-use Rattle.std.proofs.lemmas.List.Elements.{Contains-append_left}
 use Rattle.file_store.specs.Asked.{Call}
 use Rattle.file_store.specs.Calls.{ChangesTemp}
 use Rattle.file_store.specs.Names.{Name}
@@ -13,7 +11,7 @@ use Rattle.file_store.specs.declared.node.Node.TheVariants.{Directory}
 use Rattle.folder_calls.specs.Shared.{CallerView, Sees}
 use Rattle.sync_names.specs.Copies.{IsConflictCopy}
 use Rattle.sync_record.specs.Records.{FileRecord}
-use Rattle.sync_pull.specs.Copies.{RemovesFiles, TrimsCopies, surplus}
+use Rattle.sync_pull.specs.Copies.{TrimsCopies, surplus}
 use Rattle.sync_pull.specs.Ends.{enters}
 use Rattle.sync_pull.specs.Plans.{IsPlanned, copy_name}
 use Rattle.sync_pull.specs.Pulled.{ChangesAndTrims, ChangesNameAndCopy, IfDone, IfDoneElse, IfFile, IsCopyFree, IsEnteredFirst, IsNameKept, IsOldOrTarget, IsPulled, IsThereOrCopied, TrimsAfter, TrimsIfDue}
@@ -29,10 +27,8 @@ use Rattle.sync_pull.specs.declared.commit.Standing.TheVariants as standing
 use Rattle.sync_pull.specs.declared.replace.CopyPlan.{CopyPlan}
 use Rattle.sync_pull.specs.declared.replace.CopyPlan.TheVariants.{Due, NotDue}
 use Rattle.sync_pull.proofs.EndsLemmas.{sees-first}
+use Rattle.sync_pull.proofs.OldCopyLemmas.{contains-take, kept-at}
 use Rattle.sync_pull.proofs.PuttingLemmas.{kept-then, some-none}
-
-contains-take : (k : ℕ) (xs : List Name) (q : Name) → Contains (take k xs) q → Contains xs q
-contains-take k xs q h = subst (λ l. Contains l q) (take-append-drop k xs) (Contains-append_left (take k xs) (drop k xs) q h)
 
 -- what stays as it was
 pub record StaysSo (n copy : Name) (old new : Tree) : Type 0 where
@@ -43,18 +39,15 @@ pub record StaysSo (n copy : Name) (old new : Tree) : Type 0 where
 pub stays-same : (n copy : Name) (old new : Tree) → new ≡ old → StaysSo n copy old new
 stays-same n copy old new e = record { name = ap (λ (t : Tree). t.names n) e; copy_name = ap (λ (t : Tree). t.names copy) e; temps = ap (λ (t : Tree). t.temps) e }
 
-module _ (refused : Call → Type 0) (n copy : Name) (old new : Tree) (other : (name copy : List ℕ) → IsConflictCopy name copy → copy ≢ name) where
-  still-at : (q : Name) (names : List Name) → RemovesFiles refused names old new → (Contains names q → ⊥) → new.names q ≡ old.names q
-  still-at q names r apart = elim (r.others q) [ inl same ↦ same | inr has ↦ absurd (apart has.0) ]
-
+module _ (refused : Tree → Call → Type 0) (n copy : Name) (old new : Tree) (other : (name copy : List ℕ) → IsConflictCopy name copy → copy ≢ name) where
   pub trims-stay : (most : ℤ) → TrimsCopies refused most n copy old new → StaysSo n copy old new
   trims-stay (negsuc k) e = stays-same n copy old new e
   trims-stay (pos most) (inl h) = stays-same n copy old new h.1
   trims-stay (pos most) (inr h) =
       let names = surplus most h.0 in
       record {
-        name = still-at n names h.2 (λ has. other n n ((h.1.each n).0 (contains-take _ h.0 n has)).named refl);
-        copy_name = still-at copy names h.2 (λ has. ((h.1.each copy).0 (contains-take _ h.0 copy has)).other refl);
+        name = kept-at refused names old new h.2 n (λ has. other n n ((h.1.each n).0 (contains-take _ h.0 n has)).named refl);
+        copy_name = kept-at refused names old new h.2 copy (λ has. ((h.1.each copy).0 (contains-take _ h.0 copy has)).other refl);
         temps = h.2.temps;
       }
 
@@ -69,7 +62,7 @@ module _ (refused : Call → Type 0) (n copy : Name) (old new : Tree) (other : (
   if-done-stay most (Failed f) keeps still held same h = stays-same n copy old new (same h)
 
 -- the name, the copy and the temporary files are as they were
-pub after-stay : (refused : Call → Type 0) (most : ℤ) (moment : ℕ) (n : Name) (base : Option FileRecord) (target : FileRecord) (plan : CopyPlan) (old new : Tree)
+pub after-stay : (refused : Tree → Call → Type 0) (most : ℤ) (moment : ℕ) (n : Name) (base : Option FileRecord) (target : FileRecord) (plan : CopyPlan) (old new : Tree)
     → ((name copy : List ℕ) → IsConflictCopy name copy → copy ≢ name) → IsPlanned most moment n base target plan → (p : PullAnswer) (keeps still : Type 0) → keeps → (still → new ≡ old)
     → TrimsAfter plan p (λ copy. keeps → TrimsCopies refused most n copy old new) still → StaysSo n (copy_name n moment base) old new
 after-stay refused most moment n base target NotDue old new other planned p keeps still held same h = stays-same n _ old new (same h)
@@ -144,7 +137,7 @@ pulled-on most moment n t old placed new s h = record {
   copied = λ due. s.copy_name ∙ h.copied due;
 }
 
-pub old-or-target-on : (most : ℤ) (moment : ℕ) (n : Name) (refused : Call → Type 0) (t : PullInfo) (old placed new : Tree) → new.names n ≡ placed.names n
+pub old-or-target-on : (most : ℤ) (moment : ℕ) (n : Name) (refused : Tree → Call → Type 0) (t : PullInfo) (old placed new : Tree) → new.names n ≡ placed.names n
     → IsOldOrTarget most moment n refused t old placed → IsOldOrTarget most moment n refused t old new
 old-or-target-on most moment n refused t old placed new e (inl h) = inl (e ∙ h)
 old-or-target-on most moment n refused t old placed new e (inr (inl h)) = inr (inl (subst (StandsAs (Some t.target)) (sym e) h))
@@ -154,7 +147,7 @@ pub there-or-copied-on : (n copy : Name) (old placed new : Tree) → StaysSo n c
 there-or-copied-on n copy old placed new s (inl h) = inl (s.name ∙ h)
 there-or-copied-on n copy old placed new s (inr h) = inr (s.copy_name ∙ h)
 
-pub changes-and-trims : (refused : Call → Type 0) (most : ℤ) (moment : ℕ) (n : Name) (t : PullInfo) (plan : CopyPlan) (p : PullAnswer) (old placed new : Tree)
+pub changes-and-trims : (refused : Tree → Call → Type 0) (most : ℤ) (moment : ℕ) (n : Name) (t : PullInfo) (plan : CopyPlan) (p : PullAnswer) (old placed new : Tree)
     → ChangesNameAndCopy n (copy_name n moment t.base) old placed → IsPlanned most moment n t.base t.target plan → (keeps still : Type 0) → keeps → (still → new ≡ placed)
     → (mid : Tree) → IfDone p (IsCopyKept plan mid n placed)
     → TrimsAfter plan p (λ copy. keeps → TrimsCopies refused most n copy placed new) still → ChangesAndTrims most moment n refused t p old new

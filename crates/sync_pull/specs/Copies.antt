@@ -6,6 +6,7 @@ use Rattle.file_store.specs.Names.{Name}
 use Rattle.file_store.specs.Trees.{Tree, is_file}
 use Rattle.file_store.specs.declared.node.Kind.TheVariants.{File}
 use Rattle.file_store.specs.declared.node.Listed.{Listed}
+use Rattle.file_store.specs.declared.node.Node.{Node}
 use Rattle.file_store.specs.declared.refusal.StoreRefusal.{StoreRefusal}
 use Rattle.sync_names.specs.Copies.{IsConflictCopy}
 use Rattle.sync_names.specs.Refusal.{refusal}
@@ -30,31 +31,37 @@ pub record AreOldCopies (n copy : Name) (t : Tree) (copies : List Name) : Type 0
 abbrev pub surplus : ℕ → List Name → List Name
 surplus most copies = take (length copies - (most - 1)) copies
 
--- the store refused the call
-abbrev pub IsRefused : {S : Type 0} → (S → (call : Call) → Result (Value call) StoreRefusal → S → Type 0) → Call → Type 0
-IsRefused {S = S} gives call = (old : S) × (why : StoreRefusal) × (new : S) × gives old call (Err why) new
+-- the store refused the call when it had this
+abbrev pub IsRefused : {S : Type 0} → (S → (call : Call) → Result (Value call) StoreRefusal → S → Type 0) → (S → Tree) → Tree → Call → Type 0
+IsRefused {S = S} gives tree t call = (old : S) × (tree old ≡ t) × (why : StoreRefusal) × (new : S) × gives old call (Err why) new
 
--- the store refused to move a file to the name of its copy
-abbrev pub IsCopyRefused : (Call → Type 0) → Name → Option Name → Type 0
-IsCopyRefused refused n None = ⊥
-IsCopyRefused refused n (Some copy) = refused (Rename n copy)
+-- the store refused to move a file to the name of its copy, at which nothing was
+abbrev pub IsCopyRefused : (Tree → Call → Type 0) → Tree → Name → Option Name → Type 0
+IsCopyRefused refused t n None = ⊥
+IsCopyRefused refused t n (Some copy) = (t.names copy ≡ None) × refused t (Rename n copy)
 
--- that, or to move it back
-abbrev pub IsMoveRefused : (Call → Type 0) → Name → Name → Type 0
-IsMoveRefused refused n copy = refused (Rename n copy) ⊎ refused (Rename copy n)
+-- that, when this was at the name; or to move it back, when it was at the name of the copy and nothing at the name
+abbrev pub IsMoveRefused : (Tree → Call → Type 0) → Option Node → Name → Name → Type 0
+IsMoveRefused refused node n copy =
+    ((t : Tree) × (t.names n ≡ node) × IsCopyRefused refused t n (Some copy))
+    ⊎ ((t : Tree) × (t.names copy ≡ node) × (t.names n ≡ None) × refused t (Rename copy n))
 
--- nothing changes but that what is at these names is gone; the store may have refused to remove it
-pub record RemovesFiles (refused : Call → Type 0) (names : List Name) (old new : Tree) : Type 0 where
+-- the store refused to remove what was at the name
+abbrev pub IsRemoveRefused : (Tree → Call → Type 0) → Option Node → Name → Type 0
+IsRemoveRefused refused node n = (t : Tree) × (t.names n ≡ node) × refused t (Remove n)
+
+-- Nothing changes but that what is at these names is gone; the store may have refused to remove it, as it was.
+pub record RemovesFiles (refused : Tree → Call → Type 0) (names : List Name) (old new : Tree) : Type 0 where
   pub temps : new.temps ≡ old.temps
   pub others : (q : Name) → (new.names q ≡ old.names q) ⊎ (Contains names q × (new.names q ≡ None))
-  pub gone : (q : Name) → Contains names q → (new.names q ≡ None) ⊎ refused (Remove q)
+  pub gone : (q : Name) → Contains names q → (new.names q ≡ None) ⊎ IsRemoveRefused refused (old.names q) q
 
 -- Older copies are removed until, with the new one, at most so many are left; none of them where any number is kept, or where the
 -- store refused to list them.
-abbrev pub TrimsCopies : (Call → Type 0) → ℤ → Name → Name → Tree → Tree → Type 0
+abbrev pub TrimsCopies : (Tree → Call → Type 0) → ℤ → Name → Name → Tree → Tree → Type 0
 TrimsCopies refused (negsuc k) n copy old new = new ≡ old
 TrimsCopies refused (pos most) n copy old new =
-    (refused ListAll × (new ≡ old))
+    (refused old ListAll × (new ≡ old))
     ⊎ ((copies : List Name) × AreOldCopies n copy old copies × RemovesFiles refused (surplus most copies) old new)
 
 -- the entry of a listing is that of an older copy

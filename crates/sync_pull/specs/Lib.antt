@@ -1,9 +1,11 @@
 pub mod Copies
 pub mod Bytes
 pub mod Standing
+pub mod Moments
 pub mod Answers
 pub mod Faults
 pub mod Putting
+pub mod Sources
 pub mod Fetching
 pub mod Replacing
 pub mod Plans

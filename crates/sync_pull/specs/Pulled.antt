@@ -1,9 +1,10 @@
 -- What a pull does to the store, by the answer that it comes to (own rule).
-use Rattle.std.specs.Prelude.{bytes_eq, ◌≡◌, ◌≢◌, ◌⊎◌, ◌∷◌, ⊤, ℕ, Bool, true, false, List, ℤ, Option, Some, None, IsSome, Result, IfOk}
+use Rattle.std.specs.Prelude.{◌&&◌, ◌||◌, IsTrue, bytes_eq, ◌≡◌, ◌≢◌, ◌⊎◌, ◌∷◌, ⊤, ℕ, Bool, true, false, List, ℤ, Option, Some, None, IsSome, Result, IfOk}
 use Rattle.file_store.specs.Asked.{Call, Value, DropTemp}
 use Rattle.file_store.specs.Calls.{HasBadParent, HasEntries}
 use Rattle.file_store.specs.Names.{Name}
 use Rattle.file_store.specs.Trees.{Tree}
+use Rattle.file_store.specs.declared.node.Node.{Node}
 use Rattle.file_store.specs.declared.refusal.StoreRefusal.{StoreRefusal}
 use Rattle.folder_core.specs.Steps.{is_copy_due}
 use Rattle.folder_core.specs.declared.pull_info.PullInfo.{PullInfo}
@@ -16,6 +17,9 @@ use Rattle.sync_pull.specs.Copies.{IsMoveRefused, TrimsCopies}
 use Rattle.sync_pull.specs.Ends.{Ends, IsNotBegun, enters}
 use Rattle.sync_pull.specs.Plans.{copy_name}
 use Rattle.sync_names.specs.Refusal.{refusal}
+use Rattle.sync_record.specs.Assemblies.{is_plain}
+use Rattle.sync_record.specs.Records.{FileRecord, is_live_file}
+use Rattle.sync_record.specs.Validity.{is_valid}
 use Rattle.sync_pull.specs.Faults.{FailsFor}
 use Rattle.sync_pull.specs.Putting.{AreUnlike, IsKeptOrMade, standing_of}
 use Rattle.sync_pull.specs.Standing.{StandsAs}
@@ -28,6 +32,10 @@ use Rattle.sync_pull.specs.declared.commit.Standing.TheVariants as standing
 use Rattle.sync_pull.specs.declared.replace.CopyPlan.{CopyPlan}
 use Rattle.sync_pull.specs.declared.replace.CopyPlan.TheVariants.{Due, NotDue}
 use Rattle.sync_pull.specs.declared.answer.PullRefusal.TheVariants.{OutOfMemory, Stray}
+
+-- what a pull is begun for: a valid record of a deletion, a directory or a file
+abbrev pub IsPullable : FileRecord → Type 0
+IsPullable r = IsTrue (is_valid r && (is_plain r || is_live_file r))
 
 -- it is done, and this holds
 abbrev pub IfDone : PullAnswer → Type 0 → Type 0
@@ -110,16 +118,16 @@ TrimsIfDue true result trims still = IfDoneElse result trims still
 TrimsIfDue false result trims still = still
 
 -- nothing may be at the name: the store refused to move a due copy there or back, a file becomes a directory, or a directory a file
-abbrev pub MayBeEmpty : ℤ → ℕ → Name → (Call → Type 0) → PullInfo → Type 0
-MayBeEmpty most moment n refused t =
-    ((is_copy_due most t.base t.target ≡ true) × IsMoveRefused refused n (copy_name n moment t.base))
+abbrev pub MayBeEmpty : ℤ → ℕ → Name → (Tree → Call → Type 0) → PullInfo → Option Node → Type 0
+MayBeEmpty most moment n refused t node =
+    ((is_copy_due most t.base t.target ≡ true) × IsMoveRefused refused node n (copy_name n moment t.base))
     ⊎ AreUnlike (standing_of t.base) (standing_of (Some t.target))
 
 -- What is at the name, whatever the answer: what was there, what the target says, or, only where that may be, nothing.
-abbrev pub IsOldOrTarget : ℤ → ℕ → Name → (Call → Type 0) → PullInfo → Tree → Tree → Type 0
+abbrev pub IsOldOrTarget : ℤ → ℕ → Name → (Tree → Call → Type 0) → PullInfo → Tree → Tree → Type 0
 IsOldOrTarget most moment n refused t old new =
     (new.names n ≡ old.names n)
-    ⊎ (StandsAs (Some t.target) (new.names n) ⊎ (MayBeEmpty most moment n refused t × (new.names n ≡ None)))
+    ⊎ (StandsAs (Some t.target) (new.names n) ⊎ (MayBeEmpty most moment n refused t (old.names n) × (new.names n ≡ None)))
 
 -- the name of the copy is not safe, or something is there
 abbrev pub HasNoPlace : Name → Tree → Type 0
@@ -127,32 +135,32 @@ HasNoPlace copy t = IsSome (refusal copy) ⊎ IsSome (t.names copy)
 
 -- Why a pull that was begun fails, if the store keeps what is written: something else than what the base says was at the name; a due
 -- copy has no place; a directory that is to make way has entries; a parent of the name or of the copy's is a file. Of any store: a
--- fault was counted; a deletion needs no source.
-abbrev pub PullFails : ℤ → ℕ → Name → Type 0 → Type 0 → PullInfo → Tree → Tree → PullFailure → Type 0
-PullFails most moment n keeps counted t old new StoreFault = counted
-PullFails most moment n keeps counted t old new NoSource = t.target.deleted ≡ false
-PullFails most moment n keeps counted t old new LocalChanged = keeps → StandsAs t.base (old.names n) → ⊥
-PullFails most moment n keeps counted t old new ConflictNameTaken =
+-- fault was counted; there is no source.
+abbrev pub PullFails : ℤ → ℕ → Name → Type 0 → Type 0 → Type 0 → PullInfo → Tree → Tree → PullFailure → Type 0
+PullFails most moment n keeps counted sourceless t old new StoreFault = counted
+PullFails most moment n keeps counted sourceless t old new NoSource = sourceless
+PullFails most moment n keeps counted sourceless t old new LocalChanged = keeps → StandsAs t.base (old.names n) → ⊥
+PullFails most moment n keeps counted sourceless t old new ConflictNameTaken =
     (is_copy_due most t.base t.target ≡ true) × (keeps → HasNoPlace (copy_name n moment t.base) new)
-PullFails most moment n keeps counted t old new NotEmpty =
+PullFails most moment n keeps counted sourceless t old new NotEmpty =
     keeps → (standing_of t.base ≡ standing.Directory) × (standing_of (Some t.target) ≢ standing.Directory) × HasEntries old n
-PullFails most moment n keeps counted t old new BadParent =
+PullFails most moment n keeps counted sourceless t old new BadParent =
     keeps → HasBadParent old n ⊎ ((is_copy_due most t.base t.target ≡ true) × HasBadParent old (copy_name n moment t.base))
 
 -- Nothing else changes until the pull is done or has failed, and after a pull that is done and made a copy nothing but that older
 -- conflict copies are removed.
-pub record ChangesAndTrims (most : ℤ) (moment : ℕ) (n : Name) (refused : Call → Type 0) (t : PullInfo) (result : PullAnswer) (old new : Tree) : Type 0 where
+pub record ChangesAndTrims (most : ℤ) (moment : ℕ) (n : Name) (refused : Tree → Call → Type 0) (t : PullInfo) (result : PullAnswer) (old new : Tree) : Type 0 where
   pub placed : Tree
   pub alone : ChangesNameAndCopy n (copy_name n moment t.base) old placed
   pub trimmed : TrimsIfDue (is_copy_due most t.base t.target) result (TrimsCopies refused most n (copy_name n moment t.base) placed new) (new ≡ placed)
 
 -- What the pull of a ticket's target comes to: what is asked of the folder until it ends, and, if the store keeps what is
--- written, what is done to the store. That a fault was counted, that the temporary file was dropped, and that the store refused a
--- call, is handed in.
-pub record Pulls (most : ℤ) (moment : ℕ) (n : Name) (keeps counted dropped : Type 0) (refused : Call → Type 0) (t : PullInfo) (result : PullAnswer) (old : CallerView) (before : Tree) (new : CallerView) (after : Tree) : Type 0 where
+-- written, what is done to the store. That a fault was counted, that there is no source, that the temporary file was dropped, and
+-- that the store refused a call, is handed in.
+pub record Pulls (most : ℤ) (moment : ℕ) (n : Name) (keeps counted sourceless dropped : Type 0) (refused : Tree → Call → Type 0) (t : PullInfo) (result : PullAnswer) (old : CallerView) (before : Tree) (new : CallerView) (after : Tree) : Type 0 where
   pub ends : Ends old t result new
   pub done : keeps → IfDone result (IsPulled most moment n t before after)
-  pub reasons : FailsFor (PullFails most moment n keeps counted t before after) result
+  pub reasons : FailsFor (PullFails most moment n keeps counted sourceless t before after) result
   pub kept : keeps → IsNameKept result n before after
   pub left : keeps → IsOldOrTarget most moment n refused t before after
   pub entered : keeps → IsEnteredFirst n t old before new after
@@ -162,7 +170,7 @@ pub record Pulls (most : ℤ) (moment : ℕ) (n : Name) (keeps counted dropped :
   pub alone : keeps → ChangesAndTrims most moment n refused t result before after
 
 -- what a pull of a name comes to: it is not begun, and nothing changes; or it is begun, and pulls the ticket's target
-abbrev pub Comes : ℤ → ℕ → Name → Type 0 → Type 0 → Type 0 → (Call → Type 0) → PullAnswer → CallerView → Tree → CallerView → Tree → Type 0
-Comes most moment n keeps counted dropped refused result old before new after =
+abbrev pub Comes : ℤ → ℕ → Name → Type 0 → Type 0 → (FileRecord → CallerView → Type 0) → Type 0 → (Tree → Call → Type 0) → PullAnswer → CallerView → Tree → CallerView → Tree → Type 0
+Comes most moment n keeps counted sourceless dropped refused result old before new after =
     (IsNotBegun old n result new × (keeps → after ≡ before))
-    ⊎ ((t : PullInfo) × (next : CallerView) × Gets old (BeginPull n) (Begun t) next × Pulls most moment n keeps counted dropped refused t result next before new after)
+    ⊎ ((t : PullInfo) × (next : CallerView) × Gets old (BeginPull n) (Begun t) next × Pulls most moment n keeps counted (sourceless t.target next) dropped refused t result next before new after)

@@ -4,6 +4,7 @@ use Rattle.file_store.specs.Asked.{Call}
 use Rattle.file_store.specs.Calls.{HasBadParent, HasEntries}
 use Rattle.file_store.specs.Names.{Name}
 use Rattle.file_store.specs.Trees.{Tree}
+use Rattle.file_store.specs.declared.node.Node.{Node}
 use Rattle.sync_record.specs.Records.{FileRecord}
 use Rattle.sync_pull.specs.Copies.{IsMoveRefused}
 use Rattle.sync_pull.specs.Faults.{IsFaultCounted}
@@ -113,7 +114,7 @@ CopiedFails keeps copy old new before after BadParent = keeps → HasBadCopyPare
 
 -- where nothing may be left at the name: a kept file was moved away, and the store refused that or to move it back, or what was there
 -- is of another kind than what is wanted
-abbrev pub MayEmpty : (Call → Type 0) → Name → CopyPlan → Standing → Standing → Type 0
-MayEmpty refused n NotDue there wanted = AreUnlike there wanted
-MayEmpty refused n (Due None) there wanted = ⊥
-MayEmpty refused n (Due (Some copy)) there wanted = IsMoveRefused refused n copy
+abbrev pub MayEmpty : (Tree → Call → Type 0) → Option Node → Name → CopyPlan → Standing → Standing → Type 0
+MayEmpty refused node n NotDue there wanted = AreUnlike there wanted
+MayEmpty refused node n (Due None) there wanted = ⊥
+MayEmpty refused node n (Due (Some copy)) there wanted = IsMoveRefused refused node n copy

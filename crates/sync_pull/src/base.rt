@@ -1,8 +1,11 @@
 //! Whether what is at a name is what its local record says.
-ghost use Rattle.std.specs.Prelude.{◌≡◌, ◌↔◌, ◌+◌, ◌^◌, ◌<◌, ◌≤◌, All, IfErr, IfOk, IsTrue, drop, length, option_copied, true};
+ghost use Rattle.std.specs.Prelude.{◌≡◌, ◌↔◌, ◌+◌, ◌^◌, ◌<◌, ◌≤◌, ℕ, All, IfErr, IfOk, IsTrue, List, Ok, drop, length, option_copied, pos, true};
+ghost use Rattle.file_store.specs.FullReads.{FillsAll};
 ghost use Rattle.file_store.specs.Refusals.{IsPlain, count_after};
 ghost use Rattle.file_store.specs.Trees.{IsTree, bytes_of};
 ghost use Rattle.sync_pull.specs.Bytes.{AreOf, HasBlock};
+ghost use Rattle.file_store.specs.Sequences.{LooksOnly};
+ghost use Rattle.sync_pull.specs.Moments.{GivesBlocks, SaysFile, SaysStands};
 ghost use Rattle.sync_pull.specs.Standing.{HasRoom, IsFileOf, StandsAs};
 
 use file_store::{FileStore, Gate, GatePlace, Stat, StoreRefusal, read_full};
@@ -42,6 +45,7 @@ fn greatest_size(blocks: &[Block]) -> u32
 ///
 /// A file is read once, block after block into the buffer, and only if its size is the record's; the gate is passed before
 /// each read and each digest. Allocates only in calls of the store.
+#[tactic(auto, using(crate::proofs::MomentLemmas::looked_stat, crate::proofs::MomentLemmas::looked_on))]
 pub fn stands_as<S: FileStore, G: Gate>(
     store: &mut S,
     gate: &G,
@@ -52,6 +56,8 @@ pub fn stands_as<S: FileStore, G: Gate>(
     requires { HasRoom (option_copied base) (length buffer.old) }
     ensures exact { S.keeps ≡ true → IfOk result (λ stands.
         IsTrue stands ↔ StandsAs (option_copied base.entry) ((S.tree store.old).names name.now)) }
+    ensures told { result ≡ Ok true → SaysStands S.gives name.now (option_copied base.entry) store.old store.new }
+    ensures looks { LooksOnly S.gives store.old store.new }
     ensures kept { S.keeps ≡ true → S.tree store.new ≡ S.tree store.old }
     ensures refusals { IfErr result IsPlain }
     ensures counted { S.fault_count store.new ≡ count_after result (S.fault_count store.old) }
@@ -73,6 +79,7 @@ pub fn stands_as<S: FileStore, G: Gate>(
 }
 
 // Whether the file at the name, of so many bytes, has the record's size and, unless that is 0, its blocks.
+#[tactic(auto, using(crate::proofs::MomentLemmas::still, crate::proofs::MomentLemmas::empty_said, crate::proofs::MomentLemmas::whole_said))]
 fn is_file_of<S: FileStore, G: Gate>(
     store: &mut S,
     gate: &G,
@@ -84,6 +91,9 @@ fn is_file_of<S: FileStore, G: Gate>(
     requires room { All (λ b. b.size ≤ length buffer.old) base.now.blocks }
     ensures exact { S.keeps ≡ true → size ≡ length (bytes_of ((S.tree store.old).names name.now))
         → IfOk result (λ has. IsTrue has ↔ IsFileOf base.now (bytes_of ((S.tree store.old).names name.now))) }
+    ensures sized { result ≡ Ok true → base.now.size ≡ pos size }
+    ensures told { result ≡ Ok true → SaysFile S.gives name.now base.now store.old size store.new }
+    ensures looks { LooksOnly S.gives store.old store.new }
     ensures kept { S.keeps ≡ true → S.tree store.new ≡ S.tree store.old }
     ensures refusals { IfErr result IsPlain }
     ensures counted { S.fault_count store.new ≡ count_after result (S.fault_count store.old) }
@@ -98,6 +108,7 @@ fn is_file_of<S: FileStore, G: Gate>(
 }
 
 // Whether the file at the name, of so many bytes, is these blocks, one after the other.
+#[tactic(auto, using(crate::proofs::MomentLemmas::then_on))]
 fn has_blocks<S: FileStore, G: Gate>(
     store: &mut S,
     gate: &G,
@@ -109,6 +120,8 @@ fn has_blocks<S: FileStore, G: Gate>(
     requires room { All (λ b. b.size ≤ length buffer.old) blocks.now }
     ensures exact { S.keeps ≡ true → size ≡ length (bytes_of ((S.tree store.old).names name.now))
         → IfOk result (λ has. IsTrue has ↔ AreOf blocks.now (bytes_of ((S.tree store.old).names name.now))) }
+    ensures told { result ≡ Ok true → GivesBlocks S.gives name.now store.old blocks.now size store.new }
+    ensures looks { LooksOnly S.gives store.old store.new }
     ensures kept { S.keeps ≡ true → S.tree store.new ≡ S.tree store.old }
     ensures refusals { IfErr result IsPlain }
     ensures counted { S.fault_count store.new ≡ count_after result (S.fault_count store.old) }
@@ -139,6 +152,10 @@ fn has_block<S: FileStore, G: Gate>(
     requires fits { at + block.now.size < 2 ^ 64 }
     ensures exact { S.keeps ≡ true → IfOk result (λ has.
         IsTrue has ↔ HasBlock block.now (drop at (bytes_of ((S.tree store.old).names name.now)))) }
+    ensures told { result ≡ Ok true → (count : ℕ) × (before bytes : List ℕ)
+        × FillsAll S.gives name.now at store.old before (Ok count) store.new bytes × (block.now.size ≤ count)
+        × HasBlock block.now bytes }
+    ensures looks { LooksOnly S.gives store.old store.new }
     ensures kept { S.keeps ≡ true → S.tree store.new ≡ S.tree store.old }
     ensures refusals { IfErr result IsPlain }
     ensures counted { S.fault_count store.new ≡ count_after result (S.fault_count store.old) }

@@ -1,6 +1,8 @@
 //! A target that is put in the place of what its base says.
-ghost use Rattle.std.specs.Prelude.{◌≡◌, IfErr, IfOk, option_copied, true};
+ghost use Rattle.std.specs.Prelude.{◌≡◌, IfErr, IfOk, None, option_copied, true};
 ghost use Rattle.file_store.specs.Refusals.{count_after};
+ghost use Rattle.file_store.specs.Sequences.{CallsOnly};
+ghost use Rattle.sync_pull.specs.Moments.{IsOfPlace};
 ghost use Rattle.sync_pull.specs.Putting.{AreTempsKept, AreUnlike, ChangesNameAlone, ClearRefused, IsCleared, IsInPlace, IsLeft, IsStanding, IsTempTaken, PutRefused, standing_of};
 
 use file_store::{FileStore, StoreRefusal};
@@ -37,6 +39,7 @@ pub fn standing_of(record: Option<&Record>) -> Standing
 ///
 /// Fails as the store does: with `NotEmpty` if a directory that is there has entries, with `BadParent` if a parent of the
 /// name is there and is not a directory. Allocates only in calls of the store. At most two calls.
+#[tactic(auto, using(crate::proofs::MomentLemmas::still, crate::proofs::MomentLemmas::once, crate::proofs::MomentLemmas::then_once))]
 pub fn put_in_place<S: FileStore>(
     store: &mut S,
     name: &SafeName,
@@ -53,6 +56,7 @@ pub fn put_in_place<S: FileStore>(
     ensures counted { S.fault_count store.new ≡ count_after result (S.fault_count store.old) }
     ensures temps { S.keeps ≡ true → AreTempsKept wanted (S.tree store.old) (S.tree store.new) }
     ensures alone { S.keeps ≡ true → ChangesNameAlone name.now (S.tree store.old) (S.tree store.new) }
+    ensures calls { CallsOnly S.gives (IsOfPlace name.now None) store.old store.new }
 {
     make_way(store, name, there, wanted)?;
     match wanted {
@@ -63,6 +67,7 @@ pub fn put_in_place<S: FileStore>(
 }
 
 // Removes what is there if it is of another kind than what is wanted.
+#[tactic(auto, using(crate::proofs::MomentLemmas::still, crate::proofs::MomentLemmas::once, crate::proofs::MomentLemmas::then_once))]
 fn make_way<S: FileStore>(
     store: &mut S,
     name: &SafeName,
@@ -78,6 +83,7 @@ fn make_way<S: FileStore>(
     ensures counted { S.fault_count store.new ≡ count_after result (S.fault_count store.old) }
     ensures temps { S.keeps ≡ true → (S.tree store.new).temps ≡ (S.tree store.old).temps }
     ensures alone { S.keeps ≡ true → ChangesNameAlone name.now (S.tree store.old) (S.tree store.new) }
+    ensures calls { CallsOnly S.gives (IsOfPlace name.now None) store.old store.new }
 {
     match (there, wanted) {
         (Standing::File, Standing::Directory) => store.remove(name),

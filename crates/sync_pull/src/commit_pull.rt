@@ -7,6 +7,8 @@ ghost use Rattle.sync_pull.specs.Faults.{CountsFaults, FailsFor};
 ghost use Rattle.sync_pull.specs.Pulled.{IfDone, IfFile, IsDropped, IsEnteredFirst, IsNameKept, IsTakenOrDropped};
 ghost use Rattle.sync_pull.specs.Putting.{IsLeft, standing_of};
 ghost use Rattle.sync_pull.specs.Replacing.{ChangesAlone, IsCopyAlone, IsOfFile, IsOverBase, IsReplaced, IsSaved, MayEmpty, ReplaceFails};
+ghost use Rattle.file_store.specs.Sequences.{CallsOnly, IsOfTemp};
+ghost use Rattle.sync_pull.specs.Moments.{ChecksFirst, EntersFirst, IsOfPlace, copy_of};
 ghost use Rattle.sync_pull.specs.Standing.{HasRoom};
 
 use crate::ends::{abort, answer_of, finish, give_up, refused};
@@ -33,6 +35,8 @@ pub(crate) fn drop_temp<S: FileStore>(store: &mut S, name: &SafeName, target: &R
         (store.new ≡ store.old) }
     ensures counted { CountsFaults (S.fault_count store.old) (S.fault_count store.new) }
     ensures temp { S.keeps ≡ true → ChangesTemp (S.tree store.old) name.now (S.tree store.new) }
+    ensures calls { CallsOnly S.gives (IsOfTemp name.now) store.old store.new }
+    ensures drops { CallsOnly S.gives (IsOfPlace name.now None) store.old store.new }
 {
     if standing_of(Some(target)) == Standing::File {
         let _ = store.drop_temp(name);
@@ -65,7 +69,7 @@ pub(crate) fn commit_pull<S: FileStore, W: FolderCalls, G: Gate>(
         name.now (S.tree store.old) (S.tree store.new) (S.fault_count store.old)
         (S.fault_count store.new)) result }
     ensures left { S.keeps ≡ true → IsLeft
-        (MayEmpty (IsRefused S.gives) name.now plan.now (standing_of ticket.base)
+        (MayEmpty (IsRefused S.gives S.tree) ((S.tree store.old).names name.now) name.now plan.now (standing_of ticket.base)
         (standing_of (Some ticket.target)))
         (standing_of (Some ticket.target)) (S.tree store.old) name.now (S.tree store.new) }
     ensures temporary { IfFile (standing_of (Some ticket.target))
@@ -78,6 +82,8 @@ pub(crate) fn commit_pull<S: FileStore, W: FolderCalls, G: Gate>(
         IsCopyAlone plan.now name.now (S.tree store.old) (S.tree store.new) }
     ensures entered { S.keeps ≡ true → IsEnteredFirst name.now ticket (W.view calls.old)
         (S.tree store.old) (W.view calls.new) (S.tree store.new) }
+    ensures checks { EntersFirst S.gives (λ s v. (w : W) × G.shown gate.now S W s w × (W.view w ≡ v)) name.now ticket
+        (IsOfPlace name.now (copy_of plan.now)) (IfDone result ⊥) (W.view calls.old) store.old store.new }
 {
     tickets_are_those_that_were_asked_for();
     gate.at(GatePlace::FolderCall);
@@ -90,7 +96,10 @@ pub(crate) fn commit_pull<S: FileStore, W: FolderCalls, G: Gate>(
         }
     };
     match entered {
-        Ok(commit) => replace_and_finish(store, calls, gate, name, commit, ready, plan),
+        Ok(commit) => {
+            gate.show(store, calls);
+            replace_and_finish(store, calls, gate, name, commit, ready, plan)
+        }
         Err(refusal) => {
             drop_temp(store, name, ready.assembled.target());
             refused(calls, gate, refusal)
@@ -123,7 +132,7 @@ fn replace_and_finish<S: FileStore, W: FolderCalls, G: Gate>(
         name.now (S.tree store.old) (S.tree store.new) (S.fault_count store.old)
         (S.fault_count store.new)) result }
     ensures left { S.keeps ≡ true → IsLeft
-        (MayEmpty (IsRefused S.gives) name.now plan.now (standing_of commit.base)
+        (MayEmpty (IsRefused S.gives S.tree) ((S.tree store.old).names name.now) name.now plan.now (standing_of commit.base)
         (standing_of (Some commit.target)))
         (standing_of (Some commit.target)) (S.tree store.old) name.now (S.tree store.new) }
     ensures temporary { IfFile (standing_of (Some commit.target))
@@ -136,6 +145,8 @@ fn replace_and_finish<S: FileStore, W: FolderCalls, G: Gate>(
         IsCopyAlone plan.now name.now (S.tree store.old) (S.tree store.new) }
     ensures over_base { S.keeps ≡ true →
         IsOverBase commit.base name.now (S.tree store.old) (S.tree store.new) }
+    ensures checks { ChecksFirst S.gives name.now commit.base (IsOfPlace name.now (copy_of plan.now))
+        (IfDone result ⊥) store.old store.new }
 {
     let Ready {
         assembled,

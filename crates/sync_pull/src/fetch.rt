@@ -1,6 +1,8 @@
 //! The bytes of a target's blocks, put into the temporary file.
-ghost use Rattle.std.specs.Prelude.{◌≡◌, ◌≢◌, ⊤, ◌+◌, ◌^◌, ◌<◌, ◌≤◌, ◌&&◌, IfErr, IfOk, IfSome, IsTrue, [], MatchBool, drop, length, slice_get, take, Some, true};
+ghost use Rattle.std.specs.Option.{option_map_or};
+ghost use Rattle.std.specs.Prelude.{◌≡◌, ◌≢◌, ◌+◌, ◌^◌, ◌<◌, ◌≤◌, ◌&&◌, IfErr, IfOk, IfSome, IsTrue, [], MatchBool, drop, length, slice_get, take, Some, true};
 ghost use Rattle.file_store.specs.Calls.{ChangesTemp, HasBadParent};
+ghost use Rattle.file_store.specs.Sequences.{CallsOnly, IsOfTemp, LooksOnly};
 ghost use Rattle.folder_calls.specs.Shared.{Sees};
 ghost use Rattle.sha2.specs.Sha256.{sha256};
 ghost use Rattle.sync_blocks.specs.Groups.{blocks_from};
@@ -8,8 +10,9 @@ ghost use Rattle.sync_record.specs.Devices.{Identity};
 ghost use Rattle.sync_record.specs.Records.{is_live_file};
 ghost use Rattle.sync_record.specs.Validity.{is_valid};
 ghost use Rattle.sync_pull.specs.Faults.{CountsStop};
-ghost use Rattle.sync_pull.specs.Fetching.{HoldsBlocks, IsPut, IsPutOf, IsWritten};
+ghost use Rattle.sync_pull.specs.Fetching.{AreFound, ArePut, Finds, HoldsBlocks, IsFound, IsNotPut, IsPut, IsPutOf, IsWritten};
 ghost use Rattle.sync_pull.specs.Putting.{WritesTempAlone};
+ghost use Rattle.sync_pull.specs.Sources.{AsksOnly, HasNoBytes, HasNoSource, Lacks};
 ghost use Rattle.sync_pull.specs.declared.answer.Stop.TheVariants.{OutOfMemory};
 
 use crate::answer::Stop;
@@ -50,6 +53,7 @@ struct Group {
 
 // Reads the bytes at a place in a local file that has the block's digest, if the folder knows one. Returns whether the file has
 // as many there as the block has.
+#[tactic(auto, using(crate::proofs::MomentLemmas::still))]
 fn read_place<S: FileStore, W: FolderCalls, G: Gate>(
     store: &mut S,
     calls: &mut W,
@@ -59,8 +63,10 @@ fn read_place<S: FileStore, W: FolderCalls, G: Gate>(
 ) -> Result<bool, Stop>
     ensures folder { W.folder calls.new ≡ W.folder calls.old }
     ensures sees { Sees (W.view calls.old) (W.view calls.new) }
-    ensures counted { CountsStop ⊤ ⊥ result (S.fault_count store.old) (S.fault_count store.new) }
+    ensures counted { CountsStop ⊥ ⊥ result (S.fault_count store.old) (S.fault_count store.new) }
     ensures kept { S.keeps ≡ true → S.tree store.new ≡ S.tree store.old }
+    ensures looks { LooksOnly S.gives store.old store.new }
+    ensures whole { IfOk result (λ there. there ≡ true → length bytes.new.items ≡ block.now.size) }
 {
     gate.at(GatePlace::FolderCall);
     let Some(place) = calls.find_block(&block.hash)?.value else {
@@ -84,6 +90,9 @@ fn ask_devices<B: BlockSource>(
     bytes: &mut Vec<u8>,
 ) -> Result<Option<usize>, AllocError>
     requires { (device : Identity) → device ≢ from.now.me → B.may_ask device }
+    ensures asks { IfOk result (λ _. AsksOnly B.gives from.now.name.now source.old source.new) }
+    ensures finds { IfOk result (Finds B.gives from.now.me from.now.name.now from.now.devices.now
+        source.new block.now bytes.new.items) }
 {
     for i in 0..from.devices.len() {
         let device = from.devices[i];
@@ -102,6 +111,7 @@ fn ask_devices<B: BlockSource>(
 
 // Finds bytes of a block, and leaves them in `bytes`: none of an empty block, else those of a local place or of a device. Whether they
 // have its digest is not tested yet. Returns how many of the devices need not be asked again: all of them for an empty block.
+#[tactic(auto, using(crate::proofs::MomentLemmas::still))]
 fn find_bytes<S: FileStore, W: FolderCalls, B: BlockSource, G: Gate>(
     store: &mut S,
     calls: &mut W,
@@ -114,8 +124,12 @@ fn find_bytes<S: FileStore, W: FolderCalls, B: BlockSource, G: Gate>(
     requires { (device : Identity) → device ≢ from.now.me → B.may_ask device }
     ensures folder { W.folder calls.new ≡ W.folder calls.old }
     ensures sees { Sees (W.view calls.old) (W.view calls.new) }
-    ensures counted { CountsStop ⊤ ⊥ result (S.fault_count store.old) (S.fault_count store.new) }
+    ensures counted { CountsStop ⊥ ⊥ result (S.fault_count store.old) (S.fault_count store.new) }
     ensures kept { S.keeps ≡ true → S.tree store.new ≡ S.tree store.old }
+    ensures looks { LooksOnly S.gives store.old store.new }
+    ensures asks { IfOk result (λ _. AsksOnly B.gives from.now.name.now source.old source.new) }
+    ensures finds { IfOk result (Finds B.gives from.now.me from.now.name.now from.now.devices.now
+        source.new block.now bytes.new.items) }
 {
     if block.size == 0 {
         bytes.clear();
@@ -128,6 +142,7 @@ fn find_bytes<S: FileStore, W: FolderCalls, B: BlockSource, G: Gate>(
 }
 
 // Finds bytes of the blocks, which become the group. Fails with `NoSource` if none gave as many bytes as a block has.
+#[tactic(auto, using(crate::proofs::MomentLemmas::still))]
 fn gather<S: FileStore, W: FolderCalls, B: BlockSource, G: Gate>(
     store: &mut S,
     calls: &mut W,
@@ -140,10 +155,14 @@ fn gather<S: FileStore, W: FolderCalls, B: BlockSource, G: Gate>(
 ) -> Result<(), Stop>
     requires { (device : Identity) → device ≢ from.now.me → B.may_ask device }
     ensures each { IfOk result (λ _. length group.new.asked.items ≡ length blocks.now) }
+    ensures found { IfOk result (λ _. AreFound (IsFound B.gives from.now.me from.now.name.now
+        from.now.devices.now source.new) blocks.now group.new.bytes.items group.new.asked.items) }
     ensures folder { W.folder calls.new ≡ W.folder calls.old }
     ensures sees { Sees (W.view calls.old) (W.view calls.new) }
-    ensures counted { CountsStop ⊤ ⊥ result (S.fault_count store.old) (S.fault_count store.new) }
+    ensures counted { CountsStop (Lacks B.gives from.now.me from.now.name.now from.now.devices.now source.new
+        blocks.now) ⊥ result (S.fault_count store.old) (S.fault_count store.new) }
     ensures kept { S.keeps ≡ true → S.tree store.new ≡ S.tree store.old }
+    ensures looks { LooksOnly S.gives store.old store.new }
 {
     group.bytes.clear();
     group.asked.clear();
@@ -159,36 +178,36 @@ fn gather<S: FileStore, W: FolderCalls, B: BlockSource, G: Gate>(
     Ok(())
 }
 
-// The bytes of block `i` of those that were hashed, with their digest; no bytes if there are not as many blocks.
-fn cut_of<'a>(bytes: &'a [u8], hashed: &[Block], block_size: u32, i: usize) -> (&'a [u8], [u8; 32])
+// The digest of the bytes from an offset on: that of block `i` of those that were hashed, if it is of just these bytes.
+fn digest_of(
+    bytes: &[u8],
+    offset: usize,
+    found: &[u8],
+    hashed: &[Block],
+    block_size: u32,
+    i: usize,
+) -> [u8; 32]
     requires some { 1 ≤ block_size }
     requires hashed { hashed.now ≡ blocks_from 0 bytes.now block_size }
-    ensures { result.1 ≡ sha256 result.0.now }
+    requires found { found.now ≡ take (length found.now) (drop offset bytes.now) }
+    ensures { result ≡ sha256 found.now }
 {
     parts_make_the_block_list();
     block_list_is_by_cuts();
     if let Some(block) = hashed.get(i) {
-        if let Some(cut) = bytes_at(bytes, block) {
-            return (cut, block.hash);
+        if block.offset == offset as u64 && block.size as usize == found.len() {
+            return block.hash;
         }
     }
-    (&[], Sha256::digest(&[]))
-}
-
-// The bytes where the block is, if there are as many.
-fn bytes_at<'a>(bytes: &'a [u8], block: &Block) -> Option<&'a [u8]>
-    ensures { IfSome result (λ cut. cut.now ≡ take block.now.size (drop block.now.offset bytes.now)) }
-{
-    bytes
-        .get(block.offset as usize..)?
-        .get(..block.size as usize)
+    Sha256::digest(found)
 }
 
 // Tries bytes with their digest as a block of the target. Returns whether they are the block's, and were put.
 fn try_hashed(assembly: &mut Assembly, index: usize, bytes: &[u8], digest: &[u8; 32]) -> bool
     requires index { index < length assembly.old.target.blocks }
     requires digest { digest.now ≡ sha256 bytes.now }
-    ensures { MatchBool result (IsPut index bytes.now assembly.old assembly.new) (assembly.new ≡ assembly.old) }
+    ensures { MatchBool result (IsPut index bytes.now assembly.old assembly.new)
+        (IsNotPut index bytes.now assembly.old assembly.new) }
 {
     match assembly.put_hashed(index, bytes, digest) {
         Put::Ok => true,
@@ -200,7 +219,8 @@ fn try_hashed(assembly: &mut Assembly, index: usize, bytes: &[u8], digest: &[u8;
 // Tries the bytes as a block of the target. Returns whether they are the block's, and were put.
 fn try_bytes<G: Gate>(gate: &G, assembly: &mut Assembly, index: usize, bytes: &[u8]) -> bool
     requires { index < length assembly.old.target.blocks }
-    ensures { MatchBool result (IsPut index bytes.now assembly.old assembly.new) (assembly.new ≡ assembly.old) }
+    ensures { MatchBool result (IsPut index bytes.now assembly.old assembly.new)
+        (IsNotPut index bytes.now assembly.old assembly.new) }
 {
     gate.at(GatePlace::Digest);
     match assembly.put(index, bytes) {
@@ -222,17 +242,23 @@ fn try_devices<B: BlockSource, G: Gate>(
 ) -> Result<bool, Stop>
     requires index { index < length assembly.old.target.blocks }
     requires others { (device : Identity) → device ≢ from.now.me → B.may_ask device }
+    requires asked { IfSome (slice_get assembly.old.target.blocks index) (HasNoBytes B.gives from.now.me
+        from.now.name.now (take asked from.now.devices.now) source.old) }
     ensures put { IfOk result (λ is_put. MatchBool is_put
-        (IsPut index bytes.new.items assembly.old assembly.new) (assembly.new ≡ assembly.old)) }
+        (IsPut index bytes.new.items assembly.old assembly.new) ((assembly.new ≡ assembly.old)
+        × IfSome (slice_get assembly.old.target.blocks index) (HasNoBytes B.gives from.now.me
+        from.now.name.now from.now.devices.now source.new))) }
+    ensures asks { IfOk result (λ _. AsksOnly B.gives from.now.name.now source.old source.new) }
     ensures failed { IfErr result (λ stop. stop ≡ OutOfMemory) }
 {
     let block = assembly.target().blocks()[index];
-    for device in from.devices.get(asked..).unwrap_or(&[]) {
-        if *device == from.me {
+    for i in asked..from.devices.len() {
+        let other = from.devices[i];
+        if other == from.me {
             continue;
         }
         bytes.clear();
-        if source.fetch(*device, from.name, &block, bytes)?
+        if source.fetch(other, from.name, &block, bytes)?
             && try_bytes(gate, assembly, index, bytes.as_slice())
         {
             return Ok(true);
@@ -243,6 +269,7 @@ fn try_devices<B: BlockSource, G: Gate>(
 
 // Puts bytes that were found, with their digest, as a block; or if they are not the block's, bytes of a device that was not asked yet. They
 // are written to the temporary file at the block's offset. Fails with `NoSource` if none gave them.
+#[tactic(auto, using(crate::proofs::MomentLemmas::still))]
 fn put_block<S: FileStore, B: BlockSource, G: Gate>(
     store: &mut S,
     source: &mut B,
@@ -258,14 +285,20 @@ fn put_block<S: FileStore, B: BlockSource, G: Gate>(
     requires index { index < length assembly.old.target.blocks }
     requires digest { digest.now ≡ sha256 found.now }
     requires others { (device : Identity) → device ≢ from.now.me → B.may_ask device }
+    requires found { IfSome (slice_get assembly.old.target.blocks index) (λ b. IsFound B.gives from.now.me
+        from.now.name.now from.now.devices.now source.old b found.now asked) }
     ensures put { IfOk result (λ _. IsPutOf index assembly.old assembly.new) }
+    ensures asks { IfOk result (λ _. AsksOnly B.gives from.now.name.now source.old source.new) }
     ensures written { S.keeps ≡ true → IfOk result (λ _. IfSome
         (slice_get assembly.old.target.blocks index)
         (λ b. IsWritten index b from.now.name.now assembly.old assembly.new (S.tree store.old)
         (S.tree store.new))) }
-    ensures counted { CountsStop ⊤ ⊥ result (S.fault_count store.old) (S.fault_count store.new) }
+    ensures counted { CountsStop (IfSome (slice_get assembly.old.target.blocks index) (HasNoBytes B.gives
+        from.now.me from.now.name.now from.now.devices.now source.new)) ⊥ result
+        (S.fault_count store.old) (S.fault_count store.new) }
     ensures temp { S.keeps ≡ true →
         ChangesTemp (S.tree store.old) from.now.name.now (S.tree store.new) }
+    ensures calls { CallsOnly S.gives (IsOfTemp from.now.name.now) store.old store.new }
 {
     let offset = assembly.target().blocks()[index].offset;
     if try_hashed(assembly, index, found, digest) {
@@ -280,6 +313,7 @@ fn put_block<S: FileStore, B: BlockSource, G: Gate>(
 }
 
 // Puts the blocks of a group, which begins at block `start`, and writes them to the temporary file, which has those before.
+#[tactic(auto, using(crate::proofs::MomentLemmas::still))]
 fn put_group<S: FileStore, B: BlockSource, G: Gate>(
     store: &mut S,
     source: &mut B,
@@ -298,20 +332,29 @@ fn put_group<S: FileStore, B: BlockSource, G: Gate>(
     requires some { 1 ≤ block_size }
     requires hashed { hashed.now ≡ blocks_from 0 group.now.bytes.items block_size }
     requires others { (device : Identity) → device ≢ from.now.me → B.may_ask device }
+    requires found { AreFound (IsFound B.gives from.now.me from.now.name.now from.now.devices.now source.old)
+        (drop start assembly.old.target.blocks) group.now.bytes.items group.now.asked.items }
+    requires put { ArePut start assembly.old }
     ensures target { IfOk result (λ _. assembly.new.target ≡ assembly.old.target) }
+    ensures put { IfOk result (λ _. ArePut (start + length group.now.asked.items) assembly.new) }
     ensures held { S.keeps ≡ true
         → HoldsBlocks (take start assembly.old.target.blocks) from.now.name.now (S.tree store.old)
         → IfOk result (λ _. HoldsBlocks (take (start + length group.now.asked.items) assembly.old.target.blocks)
         from.now.name.now (S.tree store.new)) }
-    ensures counted { CountsStop ⊤ ⊥ result (S.fault_count store.old) (S.fault_count store.new) }
+    ensures counted { CountsStop (Lacks B.gives from.now.me from.now.name.now from.now.devices.now source.new
+        assembly.old.target.blocks) ⊥ result (S.fault_count store.old) (S.fault_count store.new) }
     ensures temp { S.keeps ≡ true →
         ChangesTemp (S.tree store.old) from.now.name.now (S.tree store.new) }
+    ensures calls { CallsOnly S.gives (IsOfTemp from.now.name.now) store.old store.new }
 {
     tiling_is_tested();
     only_well_formed_files_have_blocks();
     bytes_written_are_read();
+    let mut offset = 0;
     for i in 0..group.asked.len() {
-        let (found, digest) = cut_of(group.bytes.as_slice(), hashed, block_size, i);
+        let size = assembly.target().blocks()[start + i].size as usize;
+        let found = &group.bytes[offset..offset + size];
+        let digest = digest_of(group.bytes.as_slice(), offset, found, hashed, block_size, i);
         put_block(
             store,
             source,
@@ -324,6 +367,7 @@ fn put_group<S: FileStore, B: BlockSource, G: Gate>(
             group.asked[i],
             bytes,
         )?;
+        offset += size;
     }
     Ok(())
 }
@@ -346,16 +390,20 @@ fn fetch_group<S: FileStore, W: FolderCalls, B: BlockSource, G: Gate>(
     requires valid { IsTrue (is_valid assembly.old.target && is_live_file assembly.old.target) }
     requires within { start + count ≤ length assembly.old.target.blocks }
     requires others { (device : Identity) → device ≢ from.now.me → B.may_ask device }
+    requires put { ArePut start assembly.old }
     ensures folder { W.folder calls.new ≡ W.folder calls.old }
     ensures sees { Sees (W.view calls.old) (W.view calls.new) }
     ensures target { IfOk result (λ _. assembly.new.target ≡ assembly.old.target) }
+    ensures put { IfOk result (λ _. ArePut (start + count) assembly.new) }
     ensures held { S.keeps ≡ true
         → HoldsBlocks (take start assembly.old.target.blocks) from.now.name.now (S.tree store.old)
         → IfOk result (λ _. HoldsBlocks (take (start + count) assembly.old.target.blocks) from.now.name.now
         (S.tree store.new)) }
-    ensures counted { CountsStop ⊤ ⊥ result (S.fault_count store.old) (S.fault_count store.new) }
+    ensures counted { CountsStop (Lacks B.gives from.now.me from.now.name.now from.now.devices.now source.new
+        assembly.old.target.blocks) ⊥ result (S.fault_count store.old) (S.fault_count store.new) }
     ensures temp { S.keeps ≡ true →
         ChangesTemp (S.tree store.old) from.now.name.now (S.tree store.new) }
+    ensures calls { CallsOnly S.gives (IsOfTemp from.now.name.now) store.old store.new }
 {
     let blocks = &assembly.target().blocks()[start..start + count];
     gather(store, calls, source, gate, from, blocks, group, bytes)?;
@@ -384,6 +432,7 @@ fn fetch_group<S: FileStore, W: FolderCalls, B: BlockSource, G: Gate>(
 }
 
 // Puts all blocks of a target and writes them to the temporary file, which is empty.
+#[tactic(auto, using(crate::proofs::MomentLemmas::still))]
 fn fetch_blocks<S: FileStore, W: FolderCalls, B: BlockSource, G: Gate>(
     rt: &(impl Threads + Sync),
     alloc: Global,
@@ -398,14 +447,18 @@ fn fetch_blocks<S: FileStore, W: FolderCalls, B: BlockSource, G: Gate>(
 ) -> Result<(), Stop>
     requires valid { IsTrue (is_valid assembly.old.target && is_live_file assembly.old.target) }
     requires others { (device : Identity) → device ≢ from.now.me → B.may_ask device }
+    requires none { ArePut 0 assembly.old }
     ensures folder { W.folder calls.new ≡ W.folder calls.old }
     ensures sees { Sees (W.view calls.old) (W.view calls.new) }
     ensures target { IfOk result (λ _. assembly.new.target ≡ assembly.old.target) }
+    ensures put { IfOk result (λ _. ArePut (length assembly.old.target.blocks) assembly.new) }
     ensures held { S.keeps ≡ true → (S.tree store.old).temps from.now.name.now ≡ Some []
         → IfOk result (λ _. HoldsBlocks assembly.old.target.blocks from.now.name.now (S.tree store.new)) }
-    ensures counted { CountsStop ⊤ ⊥ result (S.fault_count store.old) (S.fault_count store.new) }
+    ensures counted { CountsStop (Lacks B.gives from.now.me from.now.name.now from.now.devices.now source.new
+        assembly.old.target.blocks) ⊥ result (S.fault_count store.old) (S.fault_count store.new) }
     ensures temp { S.keeps ≡ true →
         ChangesTemp (S.tree store.old) from.now.name.now (S.tree store.new) }
+    ensures calls { CallsOnly S.gives (IsOfTemp from.now.name.now) store.old store.new }
 {
     let count = assembly.target().blocks().len();
     let most = blocks_at_once(assembly.target());
@@ -426,6 +479,7 @@ fn fetch_blocks<S: FileStore, W: FolderCalls, B: BlockSource, G: Gate>(
 ///
 /// As many whole blocks as fit 16 MiB, and at least one, are found at once, and hashed in a few threads for each processor; one
 /// block is hashed in this thread.
+#[tactic(auto, using(crate::proofs::MomentLemmas::still))]
 pub(crate) fn fetch_file<S: FileStore, W: FolderCalls, B: BlockSource, G: Gate>(
     rt: &(impl Threads + Sync),
     alloc: Global,
@@ -442,9 +496,11 @@ pub(crate) fn fetch_file<S: FileStore, W: FolderCalls, B: BlockSource, G: Gate>(
     ensures sees { Sees (W.view calls.old) (W.view calls.new) }
     ensures target { IfOk result (λ file. file ≡ target) }
     ensures held { S.keeps ≡ true → IfOk result (λ _. HoldsBlocks target.blocks name.now (S.tree store.new)) }
-    ensures counted { CountsStop ⊤ (S.keeps ≡ true → HasBadParent (S.tree store.old) name.now)
+    ensures counted { CountsStop (HasNoSource B.gives name.now source.new (W.view calls.new) target
+        (W.view calls.old)) (S.keeps ≡ true → HasBadParent (S.tree store.old) name.now)
         result (S.fault_count store.old) (S.fault_count store.new) }
     ensures temp { S.keeps ≡ true → WritesTempAlone name.now (S.tree store.old) (S.tree store.new) }
+    ensures calls { CallsOnly S.gives (IsOfTemp name.now) store.old store.new }
 {
     store.make_temp(name)?;
     let mut assembly = Assembly::new(alloc, target)?;
@@ -477,7 +533,9 @@ pub(crate) fn fetch_file<S: FileStore, W: FolderCalls, B: BlockSource, G: Gate>(
     }
 }
 
-fn devices_of(best: &Option<Best>) -> &[DeviceId] {
+fn devices_of(best: &Option<Best>) -> &[DeviceId]
+    ensures { result.now ≡ option_map_or (λ b. b.devices) best.now [] }
+{
     match best {
         Some(best) => best.devices.as_slice(),
         None => &[],

@@ -1,14 +1,37 @@
 //! What the definitions say, as contracts of functions that do nothing.
-ghost use Rattle.std.specs.Prelude.{◌≡◌, ◌≢◌, ◌+◌, ◌-◌, ◌<◌, ◌≤◌, ℕ, [], Contains, List, Some, drop, length, slice_get};
+ghost use Rattle.std.specs.Prelude.{◌≡◌, ◌≢◌, ◌+◌, ◌-◌, ◌<◌, ◌≤◌, ◌⊎◌, ℕ, ℤ, [], ◌∷◌, Bool, Contains, IsTrue, List, None, Some, drop, length, pos, slice_get, true};
 ghost use Rattle.std.specs.Cmp.Lexicographic.{slice_cmp};
 ghost use Rattle.std.specs.Ordering.{nat_cmp};
 ghost use Rattle.std.specs.declared.cmp.Ordering.TheVariants.{Less};
+ghost use Rattle.file_store.specs.Asked.{ListAll};
 ghost use Rattle.file_store.specs.Listings.{AreAscending};
 ghost use Rattle.file_store.specs.Names.{Name};
+ghost use Rattle.file_store.specs.Stores.{mem_gives, mem_tree};
+ghost use Rattle.file_store.specs.Trees.{Tree};
+ghost use Rattle.file_store.specs.declared.node.Node.{Node};
+ghost use Rattle.file_store.specs.Sequences.{CallsOnly, IsOfTemp};
+ghost use Rattle.folder_calls.specs.Shared.{CallerView, Gets, Sees};
+ghost use Rattle.folder_core.specs.declared.answer.Answer.TheVariants.{Begun};
+ghost use Rattle.folder_core.specs.declared.change.Change.TheVariants.{BeginPull};
+ghost use Rattle.folder_core.specs.declared.pull_info.PullInfo.{PullInfo};
+ghost use Rattle.sync_record.specs.Assemblies.{put_answer};
+ghost use Rattle.sync_record.specs.Devices.{Identity};
+ghost use Rattle.sync_record.specs.Records.{FileRecord, is_live_file};
+ghost use Rattle.sync_record.specs.declared.put.Put.TheVariants.{Ok};
+ghost use Rattle.sync_pull.specs.Chains.{AsksAndSees};
+ghost use Rattle.sync_pull.specs.Ends.{enters};
+ghost use Rattle.sync_pull.specs.Moments.{BeginsFirst, IsOfPull, SaysStands};
+ghost use Rattle.sync_pull.specs.Sources.{HasNoSource, IsWronglyEmpty, best_devices};
 ghost use Rattle.sync_blocks.specs.Tiling.{Tiles};
 ghost use Rattle.sync_blocks.specs.declared.block.Block.{Block};
 ghost use Rattle.sync_pull.specs.Bytes.{AreOf, HasBlock};
-ghost use Rattle.sync_pull.specs.Copies.{surplus};
+ghost use Rattle.sync_pull.specs.Copies.{AreOldCopies, IsOldCopy, IsRefused, TrimsCopies, surplus};
+ghost use Rattle.sync_pull.specs.Plans.{copy_name};
+ghost use Rattle.sync_pull.specs.Pulled.{IsThereOrCopied};
+
+use crate::BlockSource;
+use file_store::{FileStore, Gate};
+use folder_calls::FolderCalls;
 
 /// Bytes of blocks that make up a file are as many as the file has, and at the offset of each block are as many as the block has,
 /// with its digest.
@@ -30,4 +53,54 @@ pub fn the_greatest_copies_are_kept()
     ensures greatest { (most : ℕ) (copies : List Name) (removed kept : Name) → AreAscending copies →
         Contains (surplus most copies) removed → Contains copies kept →
         (Contains (surplus most copies) kept → ⊥) → slice_cmp nat_cmp removed kept ≡ Less }
+{}
+
+/// When older conflict copies are removed, all else stays as it was, whatever the store refuses.
+pub fn what_is_no_older_copy_stays<S: FileStore>()
+    ensures { (most : ℤ) (n copy q : Name) (old new : Tree) →
+        TrimsCopies (IsRefused S.gives S.tree) most n copy old new → (IsOldCopy n copy old q → ⊥) → new.names q ≡ old.names q }
+{}
+
+/// A store in memory refuses to remove no file: unless it refused to list them, exactly those of the older copies are gone that are too
+/// many.
+pub fn surplus_copies_in_memory_are_gone()
+    ensures { (most : ℕ) (n copy : Name) (old new : Tree) →
+        TrimsCopies (IsRefused mem_gives mem_tree) (pos most) n copy old new →
+        (IsRefused mem_gives mem_tree old ListAll × (new ≡ old))
+        ⊎ ((copies : List Name) × AreOldCopies n copy old copies
+        × ((q : Name) → Contains (surplus most copies) q → new.names q ≡ None)
+        × ((q : Name) → (Contains (surplus most copies) q → ⊥) → new.names q ≡ old.names q)) }
+{}
+
+/// A file of which a copy is due is not lost: it is still at its name, or at that of its copy.
+pub fn a_file_with_a_due_copy_is_kept()
+    ensures { (n copy : Name) (old new : Tree) (file : Node) →
+        IsThereOrCopied n copy old new → old.names n ≡ Some file →
+        (new.names n ≡ Some file) ⊎ (new.names copy ≡ Some file) }
+{}
+
+/// Of every store: a pull that is done entered its commit, and then the store said and gave what the base says, before anything was
+/// changed but the temporary file of the name.
+pub fn what_is_replaced_was_checked_first<S: FileStore, W: FolderCalls, G: Gate>()
+    ensures { (gate : G) (moment : ℕ) (n : Name) (old : CallerView) (before after : S) →
+        BeginsFirst S.gives (λ s v. (w : W) × G.shown gate S W s w × (W.view w ≡ v)) moment n ⊥ old before after →
+        (t : PullInfo) × (begun entered : CallerView) × Gets old (BeginPull n) (Begun t) begun
+        × AsksAndSees begun (enters t ∷ []) entered
+        × (mid checked : S) × CallsOnly S.gives (IsOfTemp n) before mid
+        × ((w : W) × G.shown gate S W mid w × (W.view w ≡ entered))
+        × SaysStands S.gives n t.base mid checked
+        × CallsOnly S.gives (IsOfPull n (copy_name n moment t.base)) checked after }
+{}
+
+/// Of every source: where there is none, the target is a live file with a block that is empty and has another digest than no bytes have,
+/// or for which each device that had the best, but this one, was asked, and gave nothing or other bytes.
+pub fn each_other_device_was_asked_in_vain<B: BlockSource>()
+    ensures { (n : Name) (source : B) (old new : CallerView) (target : FileRecord) →
+        HasNoSource B.gives n source new target old →
+        IsTrue (is_live_file target) × (point : CallerView) × Sees old point
+        × (b : Block) × Contains target.blocks b
+        × (IsWronglyEmpty b
+        ⊎ ((d : Identity) → Contains (best_devices point n) d → d ≢ old.opening.me →
+        (before after : B) × (given : Bool) × (bytes : List ℕ) × B.gives before d n b given bytes after
+        × (given ≡ true → put_answer b bytes ≢ Ok))) }
 {}

@@ -1,6 +1,8 @@
 //! Older conflict copies, of which only so many are kept.
 ghost use Rattle.std.specs.Prelude.{◌≡◌, ◌↔◌, ℕ, IsTrue, List, length, take, true};
 ghost use Rattle.file_store.specs.Names.{Name};
+ghost use Rattle.file_store.specs.Sequences.{CallsOnly};
+ghost use Rattle.sync_pull.specs.Moments.{IsOfPull};
 ghost use Rattle.sync_pull.specs.Copies.{AreListedCopies, IsListedCopy, IsRefused, RemovesFiles, TrimsCopies};
 
 use crate::MaxConflicts;
@@ -19,8 +21,9 @@ pub fn remove_old_copies<S: FileStore, G: Gate>(
     copy: &SafeName,
     max_conflicts: MaxConflicts,
 )
-    ensures { S.keeps ≡ true → TrimsCopies (IsRefused S.gives) max_conflicts name.now copy.now
+    ensures trims { S.keeps ≡ true → TrimsCopies (IsRefused S.gives S.tree) max_conflicts name.now copy.now
         (S.tree store.old) (S.tree store.new) }
+    ensures calls { (q : Name) → CallsOnly S.gives (IsOfPull name.now q) store.old store.new }
 {
     listings_are_exact();
     let Some(most) = max_conflicts.limit() else {
@@ -58,9 +61,10 @@ fn remove_first<S: FileStore>(
     copy: &SafeName,
     surplus: usize,
 )
-    ensures { S.keeps ≡ true → (copies : List Name)
+    ensures removes { S.keeps ≡ true → (copies : List Name)
         → AreListedCopies name.now copy.now entries.now copies
-        → RemovesFiles (IsRefused S.gives) (take surplus copies) (S.tree store.old) (S.tree store.new) }
+        → RemovesFiles (IsRefused S.gives S.tree) (take surplus copies) (S.tree store.old) (S.tree store.new) }
+    ensures calls { (q : Name) → CallsOnly S.gives (IsOfPull name.now q) store.old store.new }
 {
     let mut seen = 0usize;
     for listed in entries {

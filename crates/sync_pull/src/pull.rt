@@ -1,5 +1,5 @@
 //! The pull of a name.
-ghost use Rattle.std.specs.Prelude.{◌≡◌, ◌≢◌, ⊤, IfOk, None, Some, false, length, true};
+ghost use Rattle.std.specs.Prelude.{◌≡◌, ◌≢◌, ⊤, IfOk, None, Some, length, true};
 ghost use Rattle.file_store.specs.Calls.{HasBadParent};
 ghost use Rattle.folder_core.specs.Steps.{is_copy_due};
 ghost use Rattle.folder_calls.specs.Shared.{Sees};
@@ -8,9 +8,13 @@ ghost use Rattle.sync_pull.specs.Copies.{IsRefused, TrimsCopies};
 ghost use Rattle.sync_pull.specs.Ends.{Ends};
 ghost use Rattle.sync_pull.specs.Faults.{CountsStop, FailsFor, IsFaultCounted};
 ghost use Rattle.sync_pull.specs.Plans.{IsPlanned, copy_name};
-ghost use Rattle.sync_pull.specs.Pulled.{ChangesAndTrims, Comes, IfDone, IfFile, IsCopyFree, IsDropped, IsEnteredFirst, IsNameKept, IsOldOrTarget, IsPulled, IsTakenOrDropped, IsThereOrCopied, PullFails, TrimsAfter};
+ghost use Rattle.sync_pull.specs.Pulled.{ChangesAndTrims, Comes, IfDone, IfFile, IsCopyFree, IsDropped, IsEnteredFirst, IsNameKept, IsOldOrTarget, IsPullable, IsPulled, IsTakenOrDropped, IsThereOrCopied, PullFails, TrimsAfter};
 ghost use Rattle.sync_pull.specs.Putting.{WritesTempAlone, standing_of};
 ghost use Rattle.sync_pull.specs.Replacing.{IsOfFile};
+ghost use Rattle.file_store.specs.Names.{Name};
+ghost use Rattle.file_store.specs.Sequences.{CallsOnly, IsOfTemp};
+ghost use Rattle.sync_pull.specs.Moments.{BeginsFirst, EntersFirst, IsOfPull};
+ghost use Rattle.sync_pull.specs.Sources.{HasNoSource};
 ghost use Rattle.sync_pull.specs.Standing.{HasRoom, IsReadyAs};
 
 use crate::answer::Stop;
@@ -19,9 +23,7 @@ use crate::ends::{answer_of, give_up};
 use crate::fetch::fetch_file;
 use crate::plan::plan_copy;
 use crate::replace::CopyPlan;
-use crate::{
-    BlockSource, MaxConflicts, PullAnswer, PullFailure, PullRefusal, remove_old_copies, room_for,
-};
+use crate::{BlockSource, MaxConflicts, PullAnswer, PullRefusal, remove_old_copies, room_for};
 use file_store::{FileStore, Gate, GatePlace};
 use folder_calls::{At, BeginAnswer, FolderCalls, Ticket};
 use std::alloc::Global;
@@ -34,6 +36,7 @@ use sync_record::{Assembled, Kind, Record};
 use sync_version::Moment;
 
 // Puts a target together: a file from its blocks, in a new temporary file; there is nothing to put of a directory or a deletion.
+#[tactic(auto, using(crate::proofs::MomentLemmas::still))]
 fn assemble<S: FileStore, W: FolderCalls, B: BlockSource, G: Gate>(
     rt: &(impl Threads + Sync),
     alloc: Global,
@@ -44,25 +47,23 @@ fn assemble<S: FileStore, W: FolderCalls, B: BlockSource, G: Gate>(
     name: &SafeName,
     target: &Record,
 ) -> Result<Assembled, Stop>
-    requires { (device : Identity) → device ≢ (W.view calls.old).opening.me → B.may_ask device }
+    requires others { (device : Identity) → device ≢ (W.view calls.old).opening.me → B.may_ask device }
+    requires target { IsPullable target.now }
     ensures folder { W.folder calls.new ≡ W.folder calls.old }
     ensures sees { Sees (W.view calls.old) (W.view calls.new) }
     ensures target { IfOk result (λ assembled. assembled ≡ target.now) }
     ensures ready { S.keeps ≡ true → IfOk result
         (λ _. IsReadyAs target.now.deleted target.now name.now (S.tree store.new)) }
-    ensures counted { CountsStop (target.now.deleted ≡ false)
-        (S.keeps ≡ true → HasBadParent (S.tree store.old) name.now) result
+    ensures counted { CountsStop (HasNoSource B.gives name.now source.new (W.view calls.new) target.now
+        (W.view calls.old)) (S.keeps ≡ true → HasBadParent (S.tree store.old) name.now) result
         (S.fault_count store.old) (S.fault_count store.new) }
     ensures still { IfFile (standing_of (Some target.now)) ⊤ (store.new ≡ store.old) }
     ensures temp { S.keeps ≡ true →
         WritesTempAlone name.now (S.tree store.old) (S.tree store.new) }
+    ensures calls { CallsOnly S.gives (IsOfTemp name.now) store.old store.new }
 {
     if target.is_deleted() {
         return Ok(Assembled::plain(target.copy()?));
-    }
-    // The target of a ticket is valid, and if it is live, it is a file or a directory.
-    if !target.is_valid() {
-        return Err(Stop::Failed(PullFailure::NoSource));
     }
     match target.kind() {
         Kind::File => {
@@ -72,11 +73,13 @@ fn assemble<S: FileStore, W: FolderCalls, B: BlockSource, G: Gate>(
             fetch_file(rt, alloc, store, calls, source, gate, name, file)
         }
         Kind::Directory => Ok(Assembled::plain(target.copy()?)),
-        Kind::Other => Err(Stop::Failed(PullFailure::NoSource)),
+        // (no live target of a ticket is of another kind)
+        Kind::Other => Ok(Assembled::plain(target.copy()?)),
     }
 }
 
 // All that a pull needs before its commit is entered.
+#[tactic(auto, using(crate::proofs::MomentLemmas::still))]
 fn prepare<S: FileStore, W: FolderCalls, B: BlockSource, G: Gate>(
     rt: &(impl Threads + Sync),
     alloc: Global,
@@ -89,7 +92,8 @@ fn prepare<S: FileStore, W: FolderCalls, B: BlockSource, G: Gate>(
     moment: Moment,
     max_conflicts: MaxConflicts,
 ) -> Result<(Ready, CopyPlan), Stop>
-    requires { (device : Identity) → device ≢ (W.view calls.old).opening.me → B.may_ask device }
+    requires others { (device : Identity) → device ≢ (W.view calls.old).opening.me → B.may_ask device }
+    requires target { IsPullable ticket.now.target }
     ensures folder { W.folder calls.new ≡ W.folder calls.old }
     ensures sees { Sees (W.view calls.old) (W.view calls.new) }
     ensures target { IfOk result (λ made. made.0.assembled ≡ ticket.now.target) }
@@ -99,12 +103,13 @@ fn prepare<S: FileStore, W: FolderCalls, B: BlockSource, G: Gate>(
     ensures of_file { IfOk result (λ made. IsOfFile made.1 ticket.now.base) }
     ensures ready { S.keeps ≡ true → IfOk result (λ _.
         IsReadyAs ticket.now.target.deleted ticket.now.target name.now (S.tree store.new)) }
-    ensures counted { CountsStop (ticket.now.target.deleted ≡ false)
-        (S.keeps ≡ true → HasBadParent (S.tree store.old) name.now) result
+    ensures counted { CountsStop (HasNoSource B.gives name.now source.new (W.view calls.new)
+        ticket.now.target (W.view calls.old)) (S.keeps ≡ true → HasBadParent (S.tree store.old) name.now) result
         (S.fault_count store.old) (S.fault_count store.new) }
     ensures still { IfFile (standing_of (Some ticket.now.target)) ⊤ (store.new ≡ store.old) }
     ensures temp { S.keeps ≡ true →
         WritesTempAlone name.now (S.tree store.old) (S.tree store.new) }
+    ensures calls { CallsOnly S.gives (IsOfTemp name.now) store.old store.new }
 {
     let plan = plan_copy(name, ticket.base(), ticket.target(), moment, max_conflicts)?;
     let room = room_for(alloc, ticket.base())?;
@@ -113,6 +118,7 @@ fn prepare<S: FileStore, W: FolderCalls, B: BlockSource, G: Gate>(
 }
 
 // Removes older conflict copies after a pull that is done and made one.
+#[tactic(auto, using(crate::proofs::MomentLemmas::still))]
 fn trim_copies<S: FileStore, G: Gate>(
     store: &mut S,
     gate: &G,
@@ -121,8 +127,9 @@ fn trim_copies<S: FileStore, G: Gate>(
     max_conflicts: MaxConflicts,
     answer: PullAnswer,
 )
-    ensures { TrimsAfter plan.now answer (λ copy. S.keeps ≡ true → TrimsCopies (IsRefused S.gives)
+    ensures trims { TrimsAfter plan.now answer (λ copy. S.keeps ≡ true → TrimsCopies (IsRefused S.gives S.tree)
         max_conflicts name.now copy (S.tree store.old) (S.tree store.new)) (store.new ≡ store.old) }
+    ensures calls { (q : Name) → CallsOnly S.gives (IsOfPull name.now q) store.old store.new }
 {
     if let (CopyPlan::Due(Some(copy)), PullAnswer::Done(_)) = (plan, answer) {
         remove_old_copies(store, gate, name, copy, max_conflicts);
@@ -142,7 +149,8 @@ fn pull_begun<S: FileStore, W: FolderCalls, B: BlockSource, G: Gate>(
     moment: Moment,
     max_conflicts: MaxConflicts,
 ) -> PullAnswer
-    requires { (device : Identity) → device ≢ (W.view calls.old).opening.me → B.may_ask device }
+    requires others { (device : Identity) → device ≢ (W.view calls.old).opening.me → B.may_ask device }
+    requires target { IsPullable ticket.target }
     ensures folder { W.folder calls.new ≡ W.folder calls.old }
     ensures ends { Ends (W.view calls.old) ticket result (W.view calls.new) }
     ensures done { S.keeps ≡ true → IfDone result (IsPulled max_conflicts moment name.now ticket
@@ -153,20 +161,24 @@ fn pull_begun<S: FileStore, W: FolderCalls, B: BlockSource, G: Gate>(
         → IsThereOrCopied name.now (copy_name name.now moment ticket.base) (S.tree store.old)
         (S.tree store.new) }
     ensures reasons { FailsFor (PullFails max_conflicts moment name.now (S.keeps ≡ true)
-        (IsFaultCounted (S.fault_count store.old) (S.fault_count store.new)) ticket
+        (IsFaultCounted (S.fault_count store.old) (S.fault_count store.new))
+        (HasNoSource B.gives name.now source.new (W.view calls.new) ticket.target (W.view calls.old)) ticket
         (S.tree store.old) (S.tree store.new)) result }
-    ensures left { S.keeps ≡ true → IsOldOrTarget max_conflicts moment name.now (IsRefused S.gives) ticket
+    ensures left { S.keeps ≡ true → IsOldOrTarget max_conflicts moment name.now (IsRefused S.gives S.tree) ticket
         (S.tree store.old) (S.tree store.new) }
     ensures temporary { IfFile (standing_of (Some ticket.target))
         (IsTakenOrDropped result (S.keeps ≡ true → (S.tree store.new).temps name.now ≡ None)
         (IsDropped S.gives (S.keeps ≡ true) name.now (S.tree store.new).temps store.new))
         (S.keeps ≡ true → (S.tree store.new).temps ≡ (S.tree store.old).temps) }
     ensures alone { S.keeps ≡ true → ChangesAndTrims max_conflicts moment name.now
-        (IsRefused S.gives) ticket result (S.tree store.old) (S.tree store.new) }
+        (IsRefused S.gives S.tree) ticket result (S.tree store.old) (S.tree store.new) }
     ensures entered { S.keeps ≡ true → IsEnteredFirst name.now ticket (W.view calls.old)
         (S.tree store.old) (W.view calls.new) (S.tree store.new) }
     ensures free { S.keeps ≡ true → IsCopyFree (is_copy_due max_conflicts ticket.base ticket.target)
         name.now (copy_name name.now moment ticket.base) (S.tree store.old) (S.tree store.new) }
+    ensures checks { EntersFirst S.gives (λ s v. (w : W) × G.shown gate.now S W s w × (W.view w ≡ v)) name.now ticket
+        (IsOfPull name.now (copy_name name.now moment ticket.base)) (IfDone result ⊥) (W.view calls.old)
+        store.old store.new }
 {
     conflict_names_are_of_copies();
     match prepare(
@@ -224,9 +236,12 @@ pub fn pull_name<S: FileStore, W: FolderCalls, B: BlockSource, G: Gate>(
     ensures folder { W.folder calls.new ≡ W.folder calls.old }
     ensures comes { Comes max_conflicts moment name.now (S.keeps ≡ true)
         (IsFaultCounted (S.fault_count store.old) (S.fault_count store.new))
+        (HasNoSource B.gives name.now source.new (W.view calls.new))
         (IsDropped S.gives (S.keeps ≡ true) name.now (S.tree store.new).temps store.new)
-        (IsRefused S.gives) result (W.view calls.old) (S.tree store.old) (W.view calls.new)
+        (IsRefused S.gives S.tree) result (W.view calls.old) (S.tree store.old) (W.view calls.new)
         (S.tree store.new) }
+    ensures checks { BeginsFirst S.gives (λ s v. (w : W) × G.shown gate.now S W s w × (W.view w ≡ v)) moment name.now
+        (IfDone result ⊥) (W.view calls.old) store.old store.new }
 {
     gate.at(GatePlace::FolderCall);
     let begun = match calls.begin_pull(name) {

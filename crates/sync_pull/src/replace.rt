@@ -5,6 +5,8 @@ ghost use Rattle.sync_pull.specs.Copies.{IsRefused};
 ghost use Rattle.sync_pull.specs.Faults.{StopsFor};
 ghost use Rattle.sync_pull.specs.Putting.{AreTempsKept, IsInPlace, IsLeft, IsStanding, IsTempTaken, standing_of};
 ghost use Rattle.sync_pull.specs.Replacing.{ChangesAlone, CopiedFails, IsCopyAlone, IsCopyKept, IsOfFile, IsOverBase, IsReplaced, IsSaved, IsUntouched, MayEmpty, ReplaceFails};
+ghost use Rattle.file_store.specs.Sequences.{CallsOnly};
+ghost use Rattle.sync_pull.specs.Moments.{ChecksFirst, IsOfPlace, copy_of};
 ghost use Rattle.sync_pull.specs.Standing.{HasRoom};
 ghost use Rattle.sync_pull.specs.declared.commit.Standing.TheVariants.{File};
 ghost use Rattle.sync_pull.specs.declared.replace.CopyPlan.TheVariants.{Due};
@@ -47,7 +49,7 @@ pub(crate) fn replace<S: FileStore, G: Gate>(
         target.now plan.now name.now (S.tree store.old) (S.tree store.new) (S.fault_count store.old)
         (S.fault_count store.new))) }
     ensures left { S.keeps ≡ true → IfErr result (λ _.
-        IsLeft (MayEmpty (IsRefused S.gives) name.now plan.now (standing_of (option_copied base.entry))
+        IsLeft (MayEmpty (IsRefused S.gives S.tree) ((S.tree store.old).names name.now) name.now plan.now (standing_of (option_copied base.entry))
         (standing_of (Some target.now)))
         (standing_of (Some target.now)) (S.tree store.old) name.now (S.tree store.new)) }
     ensures taken { S.keeps ≡ true → IfOk result (λ _.
@@ -60,6 +62,8 @@ pub(crate) fn replace<S: FileStore, G: Gate>(
         IsCopyAlone plan.now name.now (S.tree store.old) (S.tree store.new) }
     ensures over_base { S.keeps ≡ true → IsOverBase (option_copied base.entry) name.now
         (S.tree store.old) (S.tree store.new) }
+    ensures checks { ChecksFirst S.gives name.now (option_copied base.entry) (IsOfPlace name.now (copy_of plan.now))
+        (IfOk result (λ _. ⊥)) store.old store.new }
 {
     if !stands_as(store, gate, name, base, buffer)? {
         return Err(Stop::Failed(PullFailure::LocalChanged));
@@ -75,6 +79,7 @@ pub(crate) fn replace<S: FileStore, G: Gate>(
 }
 
 // Keeps the file at the name as a copy, and puts what is wanted in its place.
+#[tactic(auto, using(crate::proofs::MomentLemmas::still))]
 fn replace_copied<S: FileStore, G: Gate>(
     store: &mut S,
     gate: &G,
@@ -96,7 +101,7 @@ fn replace_copied<S: FileStore, G: Gate>(
         (S.fault_count store.new))) }
     ensures left { S.keeps ≡ true → IsStanding File ((S.tree store.old).names name.now)
         → IfErr result (λ _. IsLeft
-        (MayEmpty (IsRefused S.gives) name.now (Due copy.now) File wanted) wanted
+        (MayEmpty (IsRefused S.gives S.tree) ((S.tree store.old).names name.now) name.now (Due copy.now) File wanted) wanted
         (S.tree store.old) name.now (S.tree store.new)) }
     ensures taken { S.keeps ≡ true →
         IfOk result (λ _. IsTempTaken wanted name.now (S.tree store.new)) }
@@ -105,6 +110,7 @@ fn replace_copied<S: FileStore, G: Gate>(
         ChangesAlone name.now (Due copy.now) (S.tree store.old) (S.tree store.new) }
     ensures copy_alone { S.keeps ≡ true → IsStanding File ((S.tree store.old).names name.now)
         → IsCopyAlone (Due copy.now) name.now (S.tree store.old) (S.tree store.new) }
+    ensures calls { CallsOnly S.gives (IsOfPlace name.now copy.now) store.old store.new }
 {
     let Some(copy) = copy else {
         return Err(Stop::Failed(PullFailure::ConflictNameTaken));

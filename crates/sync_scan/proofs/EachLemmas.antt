@@ -7,13 +7,15 @@ use Rattle.folder_core.specs.declared.scan.ScanAnswer.TheVariants.{Recorded, Unc
 use Rattle.folder_core.specs.States.{local}
 use Rattle.folder_calls.specs.Shared.{CallerView, Sees, now}
 use Rattle.folder_calls.specs.declared.refusal.ScanRefusal.TheVariants.{CounterFull, SequenceFull, HistoryFull}
+use Rattle.file_store.specs.Sequences.{IsLook, LooksOnly, Since, not_called}
 use Rattle.file_store.specs.Trees.{Tree}
+use Rattle.file_store.proofs.SequenceLemmas.{called_on}
 use Rattle.file_store.specs.declared.refusal.StoreRefusal.{StoreRefusal}
 use Rattle.file_store.specs.declared.refusal.StoreRefusal.TheVariants.{StoreFault, NotEmpty, BadParent, OutOfMemory}
 use Rattle.sync_scan.specs.AllNames.{GoesOver, ScansEach, ScansOne, Tried, UnlessBelow, is_below_any, sum_after}
 use Rattle.sync_scan.specs.Told.{Giving}
 use Rattle.std.proofs.lemmas.Bool.{true≢false}
-use Rattle.sync_scan.specs.Looks.{MayFind, look_of}
+use Rattle.sync_scan.specs.Looks.{MayFind, MayFindAt, ShownFirst, ShownSince, look_of}
 use Rattle.sync_scan.specs.Stops.{counted, stop_of}
 use Rattle.sync_scan.specs.declared.scanned.Look.{Look}
 use Rattle.sync_scan.specs.declared.scanned.Look.TheVariants as look
@@ -26,7 +28,7 @@ use Rattle.sync_scan.proofs.OnLemmas.{goes-itself, goes-then, one-goes}
 use Rattle.sync_scan.proofs.ScanLemmas.{sees-itself, sees-on}
 
 -- a name that is skipped is not looked at
-pub skipped : (v : CallerView) (n : Name) (moment : ℕ) (unread : List Name) (may : Name → Option FileRecord → Look → Type 0) (fails : StoreRefusal → Type 0)
+pub skipped : (v : CallerView) (n : Name) (moment : ℕ) (unread : List Name) (may : Name → CallerView → Look → Type 0) (fails : StoreRefusal → Type 0)
     → is_below_any unread n ≡ true → ScansOne v v n moment (UnlessBelow unread may n) fails (Ok Skipped) v
 skipped v n moment unread may fails below = record {
   read = v;
@@ -40,13 +42,13 @@ skipped v n moment unread may fails below = record {
 }
 
 -- what may be found is said in other words
-pub one-weaker : (first old new : CallerView) (n : Name) (moment : ℕ) (may other : Option FileRecord → Look → Type 0) (fails : StoreRefusal → Type 0) (r : Result Scanned StoreRefusal)
-    → ((local : Option FileRecord) (look : Look) → may local look → other local look) → ScansOne first old n moment may fails r new → ScansOne first old n moment other fails r new
+pub one-weaker : (first old new : CallerView) (n : Name) (moment : ℕ) (may other : CallerView → Look → Type 0) (fails : StoreRefusal → Type 0) (r : Result Scanned StoreRefusal)
+    → ((v : CallerView) (look : Look) → may v look → other v look) → ScansOne first old n moment may fails r new → ScansOne first old n moment other fails r new
 one-weaker first old new n moment may other fails (Ok s) weaker scans = record {
   read = scans.read;
   since = scans.since;
   found = scans.found;
-  may_be = weaker (local (now scans.read) n) scans.found scans.may_be;
+  may_be = weaker scans.read scans.found scans.may_be;
   point = scans.point;
   until = scans.until;
   sees = scans.sees;
@@ -55,7 +57,7 @@ one-weaker first old new n moment may other fails (Ok s) weaker scans = record {
 one-weaker first old new n moment may other fails (Err e) weaker scans = scans
 
 -- the names were begun with at an earlier point
-pub one-earlier : (before first old new : CallerView) (n : Name) (moment : ℕ) (may : Option FileRecord → Look → Type 0) (fails : StoreRefusal → Type 0) (r : Result Scanned StoreRefusal)
+pub one-earlier : (before first old new : CallerView) (n : Name) (moment : ℕ) (may : CallerView → Look → Type 0) (fails : StoreRefusal → Type 0) (r : Result Scanned StoreRefusal)
     → GoesOn before first → ScansOne first old n moment may fails r new → ScansOne before old n moment may fails r new
 one-earlier before first old new n moment may fails (Ok s) goes scans = record {
   read = scans.read;
@@ -69,8 +71,8 @@ one-earlier before first old new n moment may fails (Ok s) goes scans = record {
 }
 one-earlier before first old new n moment may fails (Err e) goes scans = scans
 
-pub each-weaker : (tried : List Tried) (first old new : CallerView) (moment : ℕ) (may other : Name → Option FileRecord → Look → Type 0) (fails : Name → StoreRefusal → Type 0)
-    → ((n : Name) (local : Option FileRecord) (look : Look) → may n local look → other n local look) → ScansEach first old moment may fails tried new → ScansEach first old moment other fails tried new
+pub each-weaker : (tried : List Tried) (first old new : CallerView) (moment : ℕ) (may other : Name → CallerView → Look → Type 0) (fails : Name → StoreRefusal → Type 0)
+    → ((n : Name) (v : CallerView) (look : Look) → may n v look → other n v look) → ScansEach first old moment may fails tried new → ScansEach first old moment other fails tried new
 each-weaker [] first old new moment may other fails weaker sees = sees
 each-weaker (x ∷ xs) first old new moment may other fails weaker each =
     (each.0, one-weaker first old each.0 x.0 moment (may x.0) (other x.0) (fails x.0) x.1 (weaker x.0) each.1, each-weaker xs first each.0 new moment may other fails weaker each.2)
@@ -80,16 +82,33 @@ pub may-moved : {S : Type 0} (gives : Giving S) (keeps : Type 0) (t u : Tree) �
     → MayFind gives keeps t n local look → MayFind gives keeps u n local look
 may-moved gives keeps t u same n local look may = (may.0, λ k. may.1 k ∙ ap (λ (x : Tree). look_of local (x.names n)) (same k))
 
-pub below-moved : {S : Type 0} (gives : Giving S) (keeps : Type 0) (t u : Tree) (unread : List Name) → (keeps → t ≡ u) → (n : Name) (local : Option FileRecord) (look : Look)
-    → UnlessBelow unread (MayFind gives keeps t) n local look → UnlessBelow unread (MayFind gives keeps u) n local look
-below-moved gives keeps t u unread same n local look may = (may.0, λ e. may-moved gives keeps t u same n local look (may.1 e))
+-- the gate was shown this, in other words, and the store's tree is as it was
+pub at-moved : {S : Type 0} (gives : Giving S) (shown other : S → CallerView → Type 0) (keeps : Type 0) (t u : Tree) → ((s : S) (v : CallerView) → shown s v → other s v) → (keeps → t ≡ u)
+    → (n : Name) (v : CallerView) (look : Look) → MayFindAt gives shown keeps t n v look → MayFindAt gives other keeps u n v look
+at-moved gives shown other keeps t u wider same n v look (s, is, may) = (s, wider s v is, may-moved (Since gives s) keeps t u same n (local (now v) n) look may)
+
+pub below-moved : {S : Type 0} (gives : Giving S) (shown other : S → CallerView → Type 0) (keeps : Type 0) (t u : Tree) (unread : List Name) → ((s : S) (v : CallerView) → shown s v → other s v) → (keeps → t ≡ u)
+    → (n : Name) (v : CallerView) (look : Look) → UnlessBelow unread (MayFindAt gives shown keeps t) n v look → UnlessBelow unread (MayFindAt gives other keeps u) n v look
+below-moved gives shown other keeps t u unread wider same n v look may = (may.0, λ e. at-moved gives shown other keeps t u wider same n v look (may.1 e))
+
+module _ {S W : Type 0} (gives : Giving S) (shown : S → W → Type 0) (view : W → CallerView) where
+  -- what was shown since a moment was shown since an earlier one
+  pub shown-earlier : (a b : S) → LooksOnly gives a b → (s : S) (v : CallerView) → ShownSince gives shown view b s v → ShownSince gives shown view a s v
+  shown-earlier a b looks s v (since, was) = (called_on gives IsLook a b s looks since, was)
+
+  -- what was shown at a moment was shown since then
+  pub shown-first : (a s : S) (v : CallerView) → ShownFirst shown view a s v → ShownSince gives shown view a s v
+  shown-first a s v (is, was) = (subst (LooksOnly gives a) (sym is) not_called, was)
+
+  pub shown-same : (a s : S) (v : CallerView) → ShownSince gives shown view a s v → ShownSince gives shown view a s v
+  shown-same a s v was = was
 
 -- a name that is not below an unread directory
-pub not-below : (unread : List Name) (may : Name → Option FileRecord → Look → Type 0) (n : Name) → is_below_any unread n ≡ false
-    → (local : Option FileRecord) (look : Look) → may n local look → UnlessBelow unread may n local look
-not-below unread may n apart local look found = (λ e. absurd (true≢false (sym e ∙ apart)), λ e. found)
+pub not-below : (unread : List Name) (may : Name → CallerView → Look → Type 0) (n : Name) → is_below_any unread n ≡ false
+    → (v : CallerView) (look : Look) → may n v look → UnlessBelow unread may n v look
+not-below unread may n apart v look found = (λ e. absurd (true≢false (sym e ∙ apart)), λ e. found)
 
-module _ (first : CallerView) (moment : ℕ) (may : Name → Option FileRecord → Look → Type 0) (fails : Name → StoreRefusal → Type 0) where
+module _ (first : CallerView) (moment : ℕ) (may : Name → CallerView → Look → Type 0) (fails : Name → StoreRefusal → Type 0) where
   pub after-seen : (a b c : CallerView) (n : Name) (r : Result Scanned StoreRefusal) → Sees a b → ScansOne first b n moment (may n) (fails n) r c → ScansOne first a n moment (may n) (fails n) r c
   after-seen a b c n (Ok s) sees scans = record {
     read = scans.read;
@@ -158,18 +177,18 @@ counted-stop sum (Err BadParent) on = on
 counted-stop sum (Err OutOfMemory) on = refl
 
 -- some names were gone over, none of which stops the scan, and counted
-abbrev pub Goes : CallerView → ℕ → (Name → Option FileRecord → Look → Type 0) → (Name → StoreRefusal → Type 0) → List Name → ScanSum → ScanSum → CallerView → Type 0
+abbrev pub Goes : CallerView → ℕ → (Name → CallerView → Look → Type 0) → (Name → StoreRefusal → Type 0) → List Name → ScanSum → ScanSum → CallerView → Type 0
 Goes old moment may fails ns first sum new = (tried : List Tried) × ScansEach old old moment may fails tried new × GoesOver ns tried None × (sum ≡ sum_after first tried)
 
 -- the same of all of them, or those up to one that stops it
-abbrev pub Ends : CallerView → ℕ → (Name → Option FileRecord → Look → Type 0) → (Name → StoreRefusal → Type 0) → List Name → ScanSum → ScanSum → CallerView → Type 0
+abbrev pub Ends : CallerView → ℕ → (Name → CallerView → Look → Type 0) → (Name → StoreRefusal → Type 0) → List Name → ScanSum → ScanSum → CallerView → Type 0
 Ends old moment may fails ns first sum new = (tried : List Tried) × ScansEach old old moment may fails tried new × GoesOver ns tried sum.stopped × (sum ≡ sum_after first tried)
 
 -- the scan of a name, and its count
-abbrev pub Next : CallerView → CallerView → ℕ → (Name → Option FileRecord → Look → Type 0) → (Name → StoreRefusal → Type 0) → Name → ScanSum → ScanSum → CallerView → Type 0
+abbrev pub Next : CallerView → CallerView → ℕ → (Name → CallerView → Look → Type 0) → (Name → StoreRefusal → Type 0) → Name → ScanSum → ScanSum → CallerView → Type 0
 Next first old moment may fails n sum more new = (r : Result Scanned StoreRefusal) × ScansOne first old n moment (may n) (fails n) r new × (more ≡ counted sum r)
 
-module _ (old v w : CallerView) (moment : ℕ) (may : Name → Option FileRecord → Look → Type 0) (fails : Name → StoreRefusal → Type 0) (ns : List Name) (n : Name) (first sum more : ScanSum)
+module _ (old v w : CallerView) (moment : ℕ) (may : Name → CallerView → Look → Type 0) (fails : Name → StoreRefusal → Type 0) (ns : List Name) (n : Name) (first sum more : ScanSum)
     (goes : Goes old moment may fails ns first sum v) (next : Next old v moment may fails n sum more w) (on : sum.stopped ≡ None) where
   stop-is : more.stopped ≡ stop_of next.0
   stop-is = ap (λ (s : ScanSum). s.stopped) next.2 ∙ counted-stop sum next.0 on
@@ -197,15 +216,15 @@ module _ (old v w : CallerView) (moment : ℕ) (may : Name → Option FileRecord
         counts,
       )
 
-pub next-weaker : (first old new : CallerView) (n : Name) (moment : ℕ) (may other : Name → Option FileRecord → Look → Type 0) (fails : Name → StoreRefusal → Type 0) (sum more : ScanSum)
-    → ((local : Option FileRecord) (look : Look) → may n local look → other n local look) → Next first old moment may fails n sum more new → Next first old moment other fails n sum more new
+pub next-weaker : (first old new : CallerView) (n : Name) (moment : ℕ) (may other : Name → CallerView → Look → Type 0) (fails : Name → StoreRefusal → Type 0) (sum more : ScanSum)
+    → ((v : CallerView) (look : Look) → may n v look → other n v look) → Next first old moment may fails n sum more new → Next first old moment other fails n sum more new
 next-weaker first old new n moment may other fails sum more weaker (r, one, e) = (r, one-weaker first old new n moment (may n) (other n) (fails n) r weaker one, e)
 
-pub next-earlier : (before old new : CallerView) (n : Name) (moment : ℕ) (may : Name → Option FileRecord → Look → Type 0) (fails : Name → StoreRefusal → Type 0) (sum more : ScanSum)
+pub next-earlier : (before old new : CallerView) (n : Name) (moment : ℕ) (may : Name → CallerView → Look → Type 0) (fails : Name → StoreRefusal → Type 0) (sum more : ScanSum)
     → GoesOn before old → Next old old moment may fails n sum more new → Next before old moment may fails n sum more new
 next-earlier before old new n moment may fails sum more goes (r, one, e) = (r, one-earlier before old old new n moment (may n) (fails n) r goes one, e)
 
-pub goes-nowhere : (v : CallerView) (moment : ℕ) (may : Name → Option FileRecord → Look → Type 0) (fails : Name → StoreRefusal → Type 0) (sum : ScanSum) → Goes v moment may fails [] sum sum v
+pub goes-nowhere : (v : CallerView) (moment : ℕ) (may : Name → CallerView → Look → Type 0) (fails : Name → StoreRefusal → Type 0) (sum : ScanSum) → Goes v moment may fails [] sum sum v
 goes-nowhere v moment may fails sum = ([], sees-itself v, refl, refl)
 
 -- a list up to an element, with it and the rest
@@ -221,13 +240,13 @@ is-none None e = refl
 is-none (Some x) e = absurd (cc)
 
 -- the caller saw the history go on after the names were scanned
-pub each-seen : (tried : List Tried) (moment : ℕ) (may : Name → Option FileRecord → Look → Type 0) (fails : Name → StoreRefusal → Type 0) (first a b c : CallerView) → ScansEach first a moment may fails tried b → Sees b c
+pub each-seen : (tried : List Tried) (moment : ℕ) (may : Name → CallerView → Look → Type 0) (fails : Name → StoreRefusal → Type 0) (first a b c : CallerView) → ScansEach first a moment may fails tried b → Sees b c
     → ScansEach first a moment may fails tried c
 each-seen [] moment may fails first a b c seen later = sees-on a b c seen later
 each-seen (t ∷ ts) moment may fails first a b c each later = (each.0, each.1, each-seen ts moment may fails first each.0 b c each.2 later)
 
 -- the history goes on where names are scanned
-pub each-goes : (tried : List Tried) (moment : ℕ) (may : Name → Option FileRecord → Look → Type 0) (fails : Name → StoreRefusal → Type 0) (first a b : CallerView) → ScansEach first a moment may fails tried b
+pub each-goes : (tried : List Tried) (moment : ℕ) (may : Name → CallerView → Look → Type 0) (fails : Name → StoreRefusal → Type 0) (first a b : CallerView) → ScansEach first a moment may fails tried b
     → GoesOn a b
 each-goes [] moment may fails first a b seen = record { longer = seen.longer; same = seen.same }
 each-goes (t ∷ ts) moment may fails first a b each =

@@ -10,3 +10,5 @@ pub mod GoneLemmas
 pub mod OnLemmas
 pub mod SeenLemmas
 pub mod CutLemmas
+pub mod FaultLemmas
+pub mod LookLemmas

@@ -1,5 +1,5 @@
 -- Names that are listed in order, and a set of those that are not.
-use Rattle.std.proofs.Common.{◌≡◌, ℕ, zero, suc, ◌<◌, ◌≤◌, List, [], ◌∷◌, ◌++◌, length, map, get_or, Bool, true, false, cond, refl, sym, ap, subst, ◌∙◌, ◌⊎◌, inl, inr, ⊎_elim, arith, le_refl, is_ok}
+use Rattle.std.proofs.Common.{◌≡◌, ℕ, zero, suc, ◌<◌, ◌≤◌, List, [], ◌∷◌, ◌++◌, length, map, get_or, Bool, true, false, cond, append-nil, refl, sym, ap, subst, ◌∙◌, ◌⊎◌, inl, inr, ⊎_elim, arith, le_refl, is_ok}
 use Rattle.std.specs.Prelude.{Contains, IsTrue, Ok, Err, Result, ◌↔◌}
 use Rattle.std.specs.BTreeSet.{BTreeSet, Updates, contains}
 use Rattle.std.specs.BTreeMap.{is_at}
@@ -7,7 +7,7 @@ use Rattle.std.specs.Cmp.Lexicographic.{slice_cmp, nat_list_cmp_total}
 use Rattle.std.specs.List.{HoldsAt}
 use Rattle.std.specs.List.Sorted.{IsBinarySearchResult, IsNonDecreasingBy, IsPartitionPoint, IsSearchInRange, IsStrictlySortedBy}
 use Rattle.std.proofs.lemmas.Bool.{cases_lt}
-use Rattle.std.proofs.lemmas.List.{get_or-map, length-map}
+use Rattle.std.proofs.lemmas.List.{get_or-map, length-append, length-map}
 use Rattle.std.proofs.lemmas.List.Elements.{Contains-append_cases, Contains-append_left, Contains-append_right}
 use Rattle.std.specs.Ordering.{is_eq, nat_cmp, ordering_index, ordering_reverse}
 use Rattle.std.specs.declared.cmp.Ordering.{Ordering}
@@ -16,6 +16,7 @@ use Rattle.std.proofs.lemmas.Map.Keys.{Less-from_sorted}
 use Rattle.std.proofs.lemmas.Map.Lookups.{exact_bytes}
 use Rattle.std.proofs.lemmas.Map.Views.{btree_set_contains_iff}
 use Rattle.sync_record.specs.Records.{FileRecord, Name, is_live}
+use Rattle.folder_calls.specs.Shared.{CallerView, Sees, seeing}
 use Rattle.sync_scan.specs.AllNames.{AddsMissing}
 
 abbrev pub order : Name → Name → Ordering
@@ -149,3 +150,18 @@ adds-on listed xs ys a b c first second = record {
 -- nothing was added of no records
 pub adds-nothing : (listed names : List Name) → AddsMissing listed [] names names
 adds-nothing listed names = record { kept = λ n i. i; added = λ r i live. absurd (let lt = i.1 in omega arith); only = λ n i. inl i }
+
+-- a caller that sees another on, and the other way, has seen as much
+pub sees-both : (a b : CallerView) → Sees a b → Sees b a → b ≡ a
+sees-both a b first second =
+    let one = ap length first.longer.1 in
+    let two = ap length second.longer.1 in
+    let three = length-append a.seen first.longer.0 in
+    let four = length-append b.seen second.longer.0 in
+    let none : first.longer.0 ≡ [] = empty-of first.longer.0 (omega arith) in
+    let same : b.seen ≡ a.seen = sym first.longer.1 ∙ ap (λ z. a.seen ++ z) none ∙ append-nil a.seen in
+    first.same ∙ ap (seeing a) same
+  where
+    empty-of : {X : Type 0} (xs : List X) → length xs ≡ 0 → xs ≡ []
+    empty-of [] e = refl
+    empty-of (x ∷ xs) e = absurd (cc)

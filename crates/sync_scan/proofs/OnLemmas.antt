@@ -65,14 +65,14 @@ asked-goes a c n v moment look.Changing (scanned.Answered x) never = absurd neve
 asked-goes a c n v moment look.Changing scanned.Skipped never = absurd never
 
 -- the scan of one name goes on
-pub one-goes : (first old new : CallerView) (n : Name) (moment : ℕ) (may : Option FileRecord → Look → Type 0) (fails : StoreRefusal → Type 0) (r : Result Scanned StoreRefusal)
+pub one-goes : (first old new : CallerView) (n : Name) (moment : ℕ) (may : CallerView → Look → Type 0) (fails : StoreRefusal → Type 0) (r : Result Scanned StoreRefusal)
     → ScansOne first old n moment may fails r new → GoesOn old new
 one-goes first old new n moment may fails (Ok s) scans =
     goes-then old scans.point new (sees-goes old scans.point scans.sees) (asked-goes scans.point new n _ moment scans.found s scans.asks)
 one-goes first old new n moment may fails (Err e) scans = sees-goes old new scans.0
 
 -- the scan of a name alone is one of several
-pub alone : (first old new : CallerView) (n : Name) (moment : ℕ) (may : Option FileRecord → Look → Type 0) (s : Scanned)
+pub alone : (first old new : CallerView) (n : Name) (moment : ℕ) (may : CallerView → Look → Type 0) (s : Scanned)
     → GoesOn first old → Scans old n moment may s new → ScansSince first old n moment may s new
 alone first old new n moment may s goes scans = record {
   read = scans.read;
@@ -86,25 +86,25 @@ alone first old new n moment may s goes scans = record {
 }
 
 -- so is what it came to
-pub one-alone : (first old new : CallerView) (n : Name) (moment : ℕ) (may : Option FileRecord → Look → Type 0) (fails : StoreRefusal → Type 0) (r : Result Scanned StoreRefusal)
+pub one-alone : (first old new : CallerView) (n : Name) (moment : ℕ) (may : CallerView → Look → Type 0) (fails : StoreRefusal → Type 0) (r : Result Scanned StoreRefusal)
     → GoesOn first old → IfOk r (λ s. Scans old n moment may s new) → IfErr r (λ _. Sees old new) → IfErr r fails → ScansOne first old n moment may fails r new
 one-alone first old new n moment may fails (Ok s) goes scans sees failed = alone first old new n moment may s goes scans
 one-alone first old new n moment may fails (Err e) goes scans sees failed = (sees, failed)
 
 -- out of memory
-pub one-memory : {S : Type 0} (gives : Giving S) (first old new : CallerView) (n : Name) (moment : ℕ) (may : Option FileRecord → Look → Type 0) (r : Result Scanned StoreRefusal)
+pub one-memory : {S : Type 0} (gives : Giving S) (first old new : CallerView) (n : Name) (moment : ℕ) (may : CallerView → Look → Type 0) (r : Result Scanned StoreRefusal)
     → r ≡ Err OutOfMemory → new ≡ old → ScansOne first old n moment may (Fails gives n) r new
 one-memory gives first old new n moment may r is same =
     subst (λ x. ScansOne first old n moment may (Fails gives n) x new) (sym is) (subst (Sees old) (sym same) (sees-itself old), no_memory)
 
 -- the change of a name that was seen ahead of it
-pub since-asked : (first old new : CallerView) (n : Name) (moment : ℕ) (may : Option FileRecord → Look → Type 0) (known : Option FileRecord) (found asked : Look) (version : Option Vector) (result : Scanned)
+pub since-asked : (first old new : CallerView) (n : Name) (moment : ℕ) (may : CallerView → Look → Type 0) (known : Option FileRecord) (found asked : Look) (version : Option Vector) (result : Scanned)
     → Knows first old n may known found → asked ≡ found → version ≡ option_map (λ x. x.version) known → AsksFor old n version moment asked result new → ScansSince first old n moment may result new
 since-asked first old new n moment may known found asked version result knows is over asks = record {
   read = knows.read;
   since = knows.since;
   found = found;
-  may_be = subst (λ l. may l found) knows.is knows.may_be;
+  may_be = knows.may_be;
   point = old;
   until = knows.until;
   sees = sees-itself old;

@@ -43,12 +43,12 @@ module _ (old read : CallerView) (n : Name) (r : At (Option FileRecord)) (reads 
       reads.answer_is ∙ ap (λ s. local (state_after s read.seen) n) (sym opening)
 
   -- the change is over its version
-  pub scans : (new : CallerView) (moment : ℕ) (may : Option FileRecord → Look → Type 0) (look : Look) (result : Scanned) (version : Option Vector)
-      → version ≡ option_map (λ x. x.version) r.value → may r.value look → AsksFor read n version moment look result new → Scans old n moment may result new
+  pub scans : (new : CallerView) (moment : ℕ) (may : CallerView → Look → Type 0) (look : Look) (result : Scanned) (version : Option Vector)
+      → version ≡ option_map (λ x. x.version) r.value → may read look → AsksFor read n version moment look result new → Scans old n moment may result new
   scans new moment may look result version is may_be asks = record {
     read = read;
     sees = reads.sees;
     found = look;
-    may_be = subst (λ l. may l look) read-local may_be;
+    may_be = may_be;
     asks = subst (λ v. AsksFor read n v moment look result new) (is ∙ ap (option_map (λ x. x.version)) read-local) asks;
   }

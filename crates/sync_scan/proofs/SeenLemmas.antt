@@ -41,8 +41,8 @@ sight-weaker has other may can fails Changing first second found = second look.C
 sight-weaker has other may can fails (Failed e) first second fail = fail
 sight-weaker has other may can fails Later first second u = tt
 
-pub seen-weaker : (has other : Part → List ℕ → Type 0) (before first last later : CallerView) (may can : Name → Option FileRecord → Look → Type 0) (fails : Name → StoreRefusal → Type 0) (n : Name) (s : Seen)
-    → ((p : Part) (b : List ℕ) → has p b → other p b) → GoesOn before first → GoesOn last later → ((m : Name) (local : Option FileRecord) (l : Look) → may m local l → can m local l)
+pub seen-weaker : (has other : Part → List ℕ → Type 0) (before first last later : CallerView) (may can : Name → CallerView → Look → Type 0) (fails : Name → StoreRefusal → Type 0) (n : Name) (s : Seen)
+    → ((p : Part) (b : List ℕ) → has p b → other p b) → GoesOn before first → GoesOn last later → ((m : Name) (v : CallerView) (l : Look) → may m v l → can m v l)
     → IsSeen has first last may fails n s → IsSeen other before later can fails n s
 seen-weaker has other before first last later may can fails n s holds back on weaker seen =
     sight-weaker has other (Knows first last n (may n) s.local) (Knows before later n (can n) s.local) (fails n) s.sight holds
@@ -51,7 +51,7 @@ seen-weaker has other before first last later may can fails n s holds back on we
       since = goes-then before first k.read back k.since;
       until = goes-then k.read last later k.until on;
       is = k.is;
-      may_be = weaker n s.local l k.may_be;
+      may_be = weaker n k.read l k.may_be;
     }) seen
 
 pub all-weaker : {X Y : Type 0} (R S : X → Y → Type 0) (xs : List X) (ys : List Y) → ((x : X) (y : Y) → R x y → S x y) → AllZip R xs ys → AllZip S xs ys
@@ -89,7 +89,7 @@ there-long (Some Directory) size modified e = absurd (cc)
 there-long (Some (File bytes at)) size modified e = cc
 
 -- the history went on after it was seen
-pub are-on : (ahead : Ahead) (first last later : CallerView) (may : Name → Option FileRecord → Look → Type 0) (fails : Name → StoreRefusal → Type 0) (names : List Name) → GoesOn last later
+pub are-on : (ahead : Ahead) (first last later : CallerView) (may : Name → CallerView → Look → Type 0) (fails : Name → StoreRefusal → Type 0) (names : List Name) → GoesOn last later
     → AreSeen ahead first last may fails names → AreSeen ahead first later may fails names
 are-on ahead first last later may fails names on (k, all) =
     let has = HasBlocks ahead.blocks.items in (
@@ -104,20 +104,20 @@ empty-of [] e = refl
 empty-of (x ∷ xs) e = absurd (cc)
 
 -- nothing was seen
-pub are-none : (ahead : Ahead) (first last : CallerView) (may : Name → Option FileRecord → Look → Type 0) (fails : Name → StoreRefusal → Type 0) (names : List Name) → ahead.seen.items ≡ []
+pub are-none : (ahead : Ahead) (first last : CallerView) (may : Name → CallerView → Look → Type 0) (fails : Name → StoreRefusal → Type 0) (names : List Name) → ahead.seen.items ≡ []
     → AreSeen ahead first last may fails names
 are-none ahead first last may fails names none = (0, subst (AllZip (IsSeen (HasBlocks ahead.blocks.items) first last may fails) []) (sym none) tt)
 
 -- what was seen of a name, in other words and by the same blocks
-pub turn-seen : (old then : CallerView) (may can : Name → Option FileRecord → Look → Type 0) (fails : Name → StoreRefusal → Type 0) (n : Name) (s : Seen) (blocks other : List Block) → other ≡ blocks
-    → ((m : Name) (local : Option FileRecord) (l : Look) → may m local l → can m local l) → IsSeen (HasBlocks blocks) old then may fails n s → IsSeen (HasBlocks other) old then can fails n s
+pub turn-seen : (old then : CallerView) (may can : Name → CallerView → Look → Type 0) (fails : Name → StoreRefusal → Type 0) (n : Name) (s : Seen) (blocks other : List Block) → other ≡ blocks
+    → ((m : Name) (v : CallerView) (l : Look) → may m v l → can m v l) → IsSeen (HasBlocks blocks) old then may fails n s → IsSeen (HasBlocks other) old then can fails n s
 turn-seen old then may can fails n s blocks other same into seen =
     subst (λ b. IsSeen (HasBlocks b) old then can fails n s) (sym same)
     (seen-weaker (HasBlocks blocks) (HasBlocks blocks) old old then then may can fails n s (λ p b h. h) (goes-itself old) (goes-itself then) into seen)
 
 -- the turn of a name
-pub turn-next : (old v then w : CallerView) (n : Name) (moment : ℕ) (may can : Name → Option FileRecord → Look → Type 0) (fails : Name → StoreRefusal → Type 0) (sum more : ScanSum) (r : Result Scanned StoreRefusal)
-    → Sees v then → ((m : Name) (local : Option FileRecord) (l : Look) → can m local l → may m local l) → ScansOne old then n moment (can n) (fails n) r w → more ≡ counted sum r
+pub turn-next : (old v then w : CallerView) (n : Name) (moment : ℕ) (may can : Name → CallerView → Look → Type 0) (fails : Name → StoreRefusal → Type 0) (sum more : ScanSum) (r : Result Scanned StoreRefusal)
+    → Sees v then → ((m : Name) (v : CallerView) (l : Look) → can m v l → may m v l) → ScansOne old then n moment (can n) (fails n) r w → more ≡ counted sum r
     → Next old v moment may fails n sum more w
 turn-next old v then w n moment may can fails sum more r sees back turned counts =
     (r, after-seen old moment may fails v then w n r sees (one-weaker old then w n moment (can n) (may n) (fails n) r (back n) turned), counts)

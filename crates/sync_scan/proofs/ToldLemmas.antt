@@ -1,18 +1,15 @@
 -- What a store says of a name and gives of a file.
-use Rattle.std.proofs.Common.{◌≡◌, ◌≢◌, ℕ, ◌+◌, List, [], ◌∷◌, ◌++◌, length, Result, Ok, Err, Bool, true, false, ◌⊎◌, inl, inr, refl, sym, ap, subst, ◌∙◌}
-use Rattle.std.specs.Prelude.{bytes_eq, ◌||◌, IfErr, IsNone}
+use Rattle.std.proofs.Common.{◌≡◌, ℕ, ◌+◌, List, [], ◌∷◌, ◌++◌, length, Result, Ok, Err, Bool, true, false, ◌⊎◌, inl, inr, refl, sym, ap, subst, ◌∙◌}
+use Rattle.std.specs.Prelude.{bytes_eq, ◌||◌, IfErr}
 use Rattle.std.proofs.lemmas.Bool.{or_cases}
 use Rattle.std.proofs.lemmas.Slice.Eq.{bytes_eq-Decides}
-use Rattle.file_store.specs.declared.node.Stat.{Stat}
-use Rattle.file_store.specs.declared.node.Stat.TheVariants.{Other}
-use Rattle.sync_names.specs.Refusal.{refusal}
 use Rattle.file_store.specs.Asked.{StatAt}
 use Rattle.file_store.specs.FullReads.{FillsAll, refused}
 use Rattle.file_store.specs.Names.{Name, is_parent}
 use Rattle.file_store.specs.Refusals.{IsPlain}
 use Rattle.file_store.specs.declared.refusal.StoreRefusal.{StoreRefusal}
 use Rattle.file_store.specs.declared.refusal.StoreRefusal.TheVariants.{StoreFault, NotEmpty, BadParent, OutOfMemory}
-use Rattle.sync_scan.specs.Told.{Fails, Giving, ReadsParts, ReadsWhole, Says, no_stat, no_read, no_memory, one_more}
+use Rattle.sync_scan.specs.Told.{Fails, Giving, ReadsParts, ReadsWhole, no_stat, no_read, no_memory, one_more}
 
 module _ {S : Type 0} (gives : Giving S) (n : Name) where
   -- memory is out
@@ -70,11 +67,8 @@ or-right false b e = e
 or-left : (a b : Bool) → a ≡ true → (a || b) ≡ true
 or-left a b e = ap (λ t. t || b) e
 
-module _ {S : Type 0} (gives : Giving S) (n p rest : Name) (parents : (q : Name) → is_parent q rest ≡ (bytes_eq p q || is_parent q p))
+module _ (n p rest : Name) (parents : (q : Name) → is_parent q rest ≡ (bytes_eq p q || is_parent q p))
     (up : (q : Name) → is_parent q rest ≡ true → is_parent q n ≡ true) where
-  abbrev IsLooked : Name → Type 0
-  IsLooked q = IsNone (refusal q) → (said : Stat) × (said ≢ Other) × Says gives q said
-
   -- the parent of what is left is one of the name
   pub parent-is : is_parent p n ≡ true
   parent-is = up p (parents p ∙ or-left (bytes_eq p p) (is_parent p p) ((bytes_eq-Decides p p).1 refl))
@@ -84,9 +78,9 @@ module _ {S : Type 0} (gives : Giving S) (n p rest : Name) (parents : (q : Name)
   parents-up q e = up q (parents q ∙ or-right (bytes_eq p q) (is_parent q p) e)
 
   -- one parent more was asked for
-  pub parents-passed : IsLooked p → ((q : Name) → is_parent q n ≡ true → (is_parent q rest ≡ true) ⊎ IsLooked q)
+  pub parents-passed : (IsLooked : Name → Type 0) → IsLooked p → ((q : Name) → is_parent q n ≡ true → (is_parent q rest ≡ true) ⊎ IsLooked q)
       → (q : Name) → is_parent q n ≡ true → (is_parent q p ≡ true) ⊎ IsLooked q
-  parents-passed looked passed q e = by (passed q e)
+  parents-passed IsLooked looked passed q e = by (passed q e)
     where
       by : (is_parent q rest ≡ true) ⊎ IsLooked q → (is_parent q p ≡ true) ⊎ IsLooked q
       by (inr done) = inr done

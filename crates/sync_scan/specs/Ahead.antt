@@ -52,12 +52,12 @@ abbrev pub HasBlocks : List Block → Part → List ℕ → Type 0
 HasBlocks blocks part bytes = run part.first (block_count part.size (block_size_for part.size)) blocks ≡ block_list bytes (block_size_for part.size)
 
 -- The local record was read between two points, and this may then be found.
-pub record Knows (first last : CallerView) (n : Name) (may : Option FileRecord → Look → Type 0) (known : Option FileRecord) (found : Look) : Type 0 where
+pub record Knows (first last : CallerView) (n : Name) (may : CallerView → Look → Type 0) (known : Option FileRecord) (found : Look) : Type 0 where
   pub read : CallerView
   pub since : GoesOn first read
   pub until : GoesOn read last
   pub is : known ≡ local (now read) n
-  pub may_be : may known found
+  pub may_be : may read found
 
 -- What was seen of a name. What a file that was read has of the bytes or of the blocks of all files is handed in, and what may be
 -- found, and why it may not be looked at to the end.
@@ -69,10 +69,10 @@ SightIs has may fails (Failed refusal) = fails refusal
 SightIs has may fails Later = ⊤
 
 -- what was read of a name between two points
-abbrev pub IsSeen : (Part → List ℕ → Type 0) → CallerView → CallerView → (Name → Option FileRecord → Look → Type 0) → (Name → StoreRefusal → Type 0) → Name → Seen → Type 0
+abbrev pub IsSeen : (Part → List ℕ → Type 0) → CallerView → CallerView → (Name → CallerView → Look → Type 0) → (Name → StoreRefusal → Type 0) → Name → Seen → Type 0
 IsSeen has first last may fails n seen = SightIs has (Knows first last n (may n) seen.local) (fails n) seen.sight
 
 -- what was read of the first ones of names, with the blocks of their files
-abbrev pub AreSeen : Ahead → CallerView → CallerView → (Name → Option FileRecord → Look → Type 0) → (Name → StoreRefusal → Type 0) → List Name → Type 0
+abbrev pub AreSeen : Ahead → CallerView → CallerView → (Name → CallerView → Look → Type 0) → (Name → StoreRefusal → Type 0) → List Name → Type 0
 AreSeen ahead first last may fails names =
     (k : ℕ) × AllZip (IsSeen (HasBlocks ahead.blocks.items) first last may fails) (take k names) ahead.seen.items

@@ -1,11 +1,12 @@
 -- The scan of all names: those of the store, and then those that the folder has and the store has not (own rule).
-use Rattle.std.specs.Prelude.{◌≡◌, ℕ, List, [], ◌∷◌, Contains, ◌⊎◌, Option, Some, None, MatchOption, Result, Ok, Err, IfOk, IsTrue, fold, Bool, true, false, map}
+use Rattle.std.specs.Prelude.{◌≡◌, ℕ, List, [], ◌∷◌, Contains, ◌⊎◌, Option, Some, None, MatchOption, Result, Ok, Err, IfErr, IfOk, IsTrue, fold, Bool, true, false, map}
 use Rattle.std.specs.List.{list_any}
 use Rattle.sync_record.specs.Records.{FileRecord, Name, is_live}
 use Rattle.folder_core.specs.States.{local}
 use Rattle.folder_calls.specs.Shared.{CallerView, Sees, now}
 use Rattle.file_store.specs.Asked.{ListAll}
 use Rattle.file_store.specs.Listings.{AreAscending, IsInOrder, IsListing}
+use Rattle.file_store.specs.Refusals.{IsPlain}
 use Rattle.file_store.specs.Trees.{Tree}
 use Rattle.sync_scan.specs.Told.{Giving}
 use Rattle.file_store.specs.Names.{is_parent}
@@ -25,13 +26,13 @@ abbrev pub Tried : Type 0
 Tried = Name × Result Scanned StoreRefusal
 
 -- the scan of one name of several; or why it was not looked at to the end, and then nothing was asked of the folder
-abbrev pub ScansOne : CallerView → CallerView → Name → ℕ → (Option FileRecord → Look → Type 0) → (StoreRefusal → Type 0) → Result Scanned StoreRefusal → CallerView → Type 0
+abbrev pub ScansOne : CallerView → CallerView → Name → ℕ → (CallerView → Look → Type 0) → (StoreRefusal → Type 0) → Result Scanned StoreRefusal → CallerView → Type 0
 ScansOne first old n moment may fails (Ok scanned) new = ScansSince first old n moment may scanned new
 ScansOne first old n moment may fails (Err refusal) new = Sees old new × fails refusal
 
 -- These names were scanned, their changes one after another. A local record and a content may be read while those of names before it
 -- are still to be changed, but not before the first point.
-abbrev pub ScansEach : CallerView → CallerView → ℕ → (Name → Option FileRecord → Look → Type 0) → (Name → StoreRefusal → Type 0) → List Tried → CallerView → Type 0
+abbrev pub ScansEach : CallerView → CallerView → ℕ → (Name → CallerView → Look → Type 0) → (Name → StoreRefusal → Type 0) → List Tried → CallerView → Type 0
 ScansEach first old moment may fails [] new = Sees old new
 ScansEach first old moment may fails (t ∷ ts) new =
     (next : CallerView) × ScansOne first old t.0 moment (may t.0) (fails t.0) t.1 next × ScansEach first next moment may fails ts new
@@ -68,21 +69,21 @@ abbrev pub is_below_any : List Name → Name → Bool
 is_below_any directories n = list_any (λ d. is_parent d n) directories
 
 -- what is below a directory that could not be read is skipped, and is not looked at
-abbrev pub UnlessBelow : List Name → (Name → Option FileRecord → Look → Type 0) → Name → Option FileRecord → Look → Type 0
-UnlessBelow unread may n local look =
-    (is_below_any unread n ≡ true → look ≡ Skipped) × (is_below_any unread n ≡ false → may n local look)
+abbrev pub UnlessBelow : List Name → (Name → CallerView → Look → Type 0) → Name → CallerView → Look → Type 0
+UnlessBelow unread may n view look =
+    (is_below_any unread n ≡ true → look ≡ Skipped) × (is_below_any unread n ≡ false → may n view look)
 
 abbrev pub names_of : Listing → List Name
 names_of listing = map (λ e. e.name) listing.entries.items
 
--- What the store lists, in order: of a store that keeps what is written, all that is there.
+-- What the store lists, in order: of a store that keeps what is written, all that is there. Or it fails, or memory is out.
 abbrev pub HasListed : {S : Type 0} → Giving S → Type 0 → Tree → S → Result Listing StoreRefusal → Type 0
 HasListed {S} gives keeps tree store listed =
-    (new : S) × gives store ListAll listed new × IfOk listed IsInOrder × (keeps → IfOk listed (IsListing tree.names))
+    (new : S) × gives store ListAll listed new × IfOk listed IsInOrder × IfErr listed IsPlain × (keeps → IfOk listed (IsListing tree.names))
 
--- What the scan of all names comes to. How the store lists its names is handed in, and what may be found at a name by its local
--- record, and why a name may not be looked at to the end.
-pub data ScansAll (lists : Result Listing StoreRefusal → Type 0) (may : Name → Option FileRecord → Look → Type 0) (fails : Name → StoreRefusal → Type 0) (old : CallerView) (moment : ℕ) (sum : ScanSum) (new : CallerView) : Type 0 where
+-- What the scan of all names comes to. How the store lists its names is handed in, and what may be found at a name by what the
+-- caller had seen when its local record was read, and why a name may not be looked at to the end.
+pub data ScansAll (lists : Result Listing StoreRefusal → Type 0) (may : Name → CallerView → Look → Type 0) (fails : Name → StoreRefusal → Type 0) (old : CallerView) (moment : ℕ) (sum : ScanSum) (new : CallerView) : Type 0 where
   -- the names are not listed
   not_listed : (refusal : StoreRefusal) → lists (Err refusal) → new ≡ old → sum ≡ record empty_sum { stopped = Some (stop_by refusal) }
       → ScansAll lists may fails old moment sum new

@@ -9,8 +9,11 @@ use Rattle.sync_blocks.specs.Tiling.{same_block}
 use Rattle.sync_record.specs.Records.{FileRecord, is_live_file}
 use Rattle.folder_core.specs.declared.finding.Finding.{Finding}
 use Rattle.folder_core.specs.declared.finding.FoundContent.TheVariants as content
+use Rattle.folder_core.specs.States.{local}
 use Rattle.folder_core.specs.Steps.{is_recordable}
+use Rattle.folder_calls.specs.Shared.{CallerView, now}
 use Rattle.file_store.specs.Names.{Name}
+use Rattle.file_store.specs.Sequences.{LooksOnly, Since}
 use Rattle.file_store.specs.Trees.{Tree}
 use Rattle.file_store.specs.declared.node.Node.{Node}
 use Rattle.file_store.specs.declared.node.Node.TheVariants.{Directory, File}
@@ -112,3 +115,16 @@ IsRecordable Changing = ⊤
 -- What may be found at a name, by its local record: what the store says, and if it keeps what is written, what is there.
 abbrev pub MayFind : {S : Type 0} → Giving S → Type 0 → Tree → Name → Option FileRecord → Look → Type 0
 MayFind gives keeps tree n local look = IsTold gives n local look × (keeps → look ≡ look_of local (tree.names n))
+
+-- What may be found at a name by the folder as it was read first: at a moment when the store was so, the caller had seen this, and all
+-- that the store said and gave of the name came since then, with nothing but looks in between.
+abbrev pub MayFindAt : {S : Type 0} → Giving S → (S → CallerView → Type 0) → Type 0 → Tree → Name → CallerView → Look → Type 0
+MayFindAt {S} gives shown keeps tree n view look = (s : S) × shown s view × MayFind (Since gives s) keeps tree n (local (now view) n) look
+
+-- at a moment when the store was as at the beginning, before any call of it, a caller of the folder had seen this
+abbrev pub ShownFirst : {S W : Type 0} → (S → W → Type 0) → (W → CallerView) → S → S → CallerView → Type 0
+ShownFirst {S} {W} shown view first s v = (s ≡ first) × ((w : W) × shown s w × (view w ≡ v))
+
+-- the same at a moment since then, with nothing but looks of the store in between
+abbrev pub ShownSince : {S W : Type 0} → Giving S → (S → W → Type 0) → (W → CallerView) → S → S → CallerView → Type 0
+ShownSince {S} {W} gives shown view first s v = LooksOnly gives first s × ((w : W) × shown s w × (view w ≡ v))

@@ -1,8 +1,8 @@
 -- What the scan of a name asks of the folder (own rule).
 use Rattle.std.specs.Prelude.{◌≡◌, ℕ, Option}
 use Rattle.sync_version.specs.Versions.{Vector}
-use Rattle.sync_record.specs.Records.{FileRecord, Name}
-use Rattle.folder_core.specs.States.{local, local_version}
+use Rattle.sync_record.specs.Records.{Name}
+use Rattle.folder_core.specs.States.{local_version}
 use Rattle.folder_core.specs.declared.change.Change.{Change}
 use Rattle.folder_core.specs.declared.change.Change.TheVariants.{ScanFound, ScanGone}
 use Rattle.folder_calls.specs.Calls.{scan_value}
@@ -25,12 +25,12 @@ AsksFor old n expected moment look.Changing scanned.Changing new = new ≡ old
 AsksFor old n expected moment _ _ new = ⊥
 
 -- The local record was read first. Over its version, what was then found was recorded by one change, which got this answer. What
--- may be found, by that record, is handed in.
-pub record Scans (old : CallerView) (n : Name) (moment : ℕ) (may : Option FileRecord → Look → Type 0) (result : Scanned) (new : CallerView) : Type 0 where
+-- may be found, by what the caller had seen when the record was read, is handed in.
+pub record Scans (old : CallerView) (n : Name) (moment : ℕ) (may : CallerView → Look → Type 0) (result : Scanned) (new : CallerView) : Type 0 where
   pub read : CallerView
   pub sees : Sees old read
   pub found : Look
-  pub may_be : may (local (now read) n) found
+  pub may_be : may read found
   pub asks : AsksFor read n (local_version (now read) n) moment found result new
 
 -- the caller saw the history go on, maybe by entries of its own
@@ -40,11 +40,11 @@ pub record GoesOn (old new : CallerView) : Type 0 where
 
 -- The same of one of several names: its local record was read at a point since the first of them was begun with, and changes of the
 -- others may have been made between that and its own.
-pub record ScansSince (first old : CallerView) (n : Name) (moment : ℕ) (may : Option FileRecord → Look → Type 0) (result : Scanned) (new : CallerView) : Type 0 where
+pub record ScansSince (first old : CallerView) (n : Name) (moment : ℕ) (may : CallerView → Look → Type 0) (result : Scanned) (new : CallerView) : Type 0 where
   pub read : CallerView
   pub since : GoesOn first read
   pub found : Look
-  pub may_be : may (local (now read) n) found
+  pub may_be : may read found
   pub point : CallerView
   pub until : GoesOn read point
   pub sees : Sees old point

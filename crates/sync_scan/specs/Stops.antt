@@ -1,5 +1,5 @@
 -- What is counted of the scans of all names, and what stops them (own rule).
-use Rattle.std.specs.Prelude.{ℕ, ◌+◌, ◌-◌, ◌^◌, min, List, codes, Option, Some, None, Result, Ok, Err}
+use Rattle.std.specs.Prelude.{◌≡◌, ◌⊎◌, ℕ, ◌+◌, ◌-◌, ◌^◌, ◌<◌, min, List, codes, Option, Some, None, Result, Ok, Err}
 use Rattle.folder_core.specs.declared.scan.ScanAnswer.TheVariants.{Recorded, Unchanged, Moved, Busy}
 use Rattle.folder_calls.specs.declared.refusal.ScanRefusal.TheVariants.{CounterFull, SequenceFull, HistoryFull}
 use Rattle.file_store.specs.declared.refusal.StoreRefusal.{StoreRefusal}
@@ -64,3 +64,7 @@ counted sum (Ok (Answered (Err refusal))) = counted_other sum (stop_of (Ok (Answ
 counted sum (Ok Skipped) = counted_other sum None
 counted sum (Ok Changing) = counted_other sum None
 counted sum (Err refusal) = counted_other sum (stop_of (Err refusal))
+
+-- a fault was counted: the count of faults rose, or is at its greatest value
+abbrev pub IsFaultCounted : ℕ → ℕ → Type 0
+IsFaultCounted before after = (before < after) ⊎ (after ≡ 2 ^ 64 - 1)

@@ -3,12 +3,13 @@ ghost use Rattle.std.specs.Prelude.{◌≡◌, ◌≢◌, ◌<◌, ◌≤◌, �
 ghost use mathlib.Core.List.{IsPrefix};
 ghost use Rattle.std.specs.List.{AllZip};
 ghost use Rattle.file_store.specs.Calls.{stat_of};
+ghost use Rattle.file_store.specs.Sequences.{LooksOnly, Since};
 ghost use Rattle.file_store.specs.Trees.{Tree, bytes_of};
 ghost use Rattle.folder_calls.specs.Shared.{CallerView, Sees};
 ghost use Rattle.sync_blocks.specs.Sizes.{block_size_for};
 ghost use Rattle.sync_record.specs.Records.{Name};
 ghost use Rattle.sync_scan.specs.Ahead.{AreSeen, HasBlocks, HasBytes, IsSeen, SightIs, cut_block};
-ghost use Rattle.sync_scan.specs.Looks.{MayFind};
+ghost use Rattle.sync_scan.specs.Looks.{MayFind, MayFindAt, ShownSince};
 ghost use Rattle.sync_scan.specs.Scans.{GoesOn};
 ghost use Rattle.sync_scan.specs.declared.scanned.Look.TheVariants.{Changing};
 ghost use Rattle.sync_scan.specs.Told.{Fails, ReadsOther, ReadsWhole, Says};
@@ -97,13 +98,16 @@ pub(crate) fn next_seen<S: FileStore, W: FolderCalls, G: Gate>(
 ) -> Seen
     ensures folder { W.folder calls.new ≡ W.folder calls.old }
     ensures sees { Sees (W.view calls.old) (W.view calls.new) }
-    ensures seen { (first : CallerView) (tree : Tree) (n : Name) (rest : List Name) →
-        GoesOn first (W.view calls.old) → (IsTrue S.keeps → S.tree store.old ≡ tree) →
+    ensures seen { (first : CallerView) (begun : S) (tree : Tree) (n : Name) (rest : List Name) →
+        GoesOn first (W.view calls.old) → LooksOnly S.gives begun store.old → (IsTrue S.keeps → S.tree store.old ≡ tree) →
         map (λ e. e.name) entries.now ≡ n ∷ rest →
-        AreSeen ahead.old first (W.view calls.old) (MayFind S.gives (IsTrue S.keeps) tree) (Fails S.gives) (n ∷ rest) →
+        AreSeen ahead.old first (W.view calls.old)
+        (MayFindAt S.gives (ShownSince S.gives (G.shown gate.now S W) W.view begun) (IsTrue S.keeps) tree) (Fails S.gives) (n ∷ rest) →
         IsSeen (HasBlocks ahead.new.blocks.items) first (W.view calls.new)
-        (MayFind S.gives (IsTrue S.keeps) tree) (Fails S.gives) n result
-        × AreSeen ahead.new first (W.view calls.new) (MayFind S.gives (IsTrue S.keeps) tree) (Fails S.gives) rest }
+        (MayFindAt S.gives (ShownSince S.gives (G.shown gate.now S W) W.view begun) (IsTrue S.keeps) tree) (Fails S.gives) n result
+        × AreSeen ahead.new first (W.view calls.new)
+        (MayFindAt S.gives (ShownSince S.gives (G.shown gate.now S W) W.view begun) (IsTrue S.keeps) tree) (Fails S.gives) rest }
+    ensures looks { LooksOnly S.gives store.old store.new }
     ensures kept { S.keeps ≡ true → S.tree store.new ≡ S.tree store.old }
 {
     fill_ahead(rt, alloc, store, calls, gate, entries, ahead, buffer);
@@ -117,6 +121,7 @@ pub(crate) fn next_seen<S: FileStore, W: FolderCalls, G: Gate>(
 }
 
 // Reads ahead of these names, unless some of them were seen.
+#[tactic(auto, using(crate::proofs::LookLemmas::no_look))]
 fn fill_ahead<S: FileStore, W: FolderCalls, G: Gate>(
     rt: &(impl Threads + Sync),
     alloc: Global,
@@ -129,12 +134,15 @@ fn fill_ahead<S: FileStore, W: FolderCalls, G: Gate>(
 )
     ensures folder { W.folder calls.new ≡ W.folder calls.old }
     ensures sees { Sees (W.view calls.old) (W.view calls.new) }
-    ensures seen { (first : CallerView) (tree : Tree) →
-        GoesOn first (W.view calls.old) → (IsTrue S.keeps → S.tree store.old ≡ tree) →
-        AreSeen ahead.old first (W.view calls.old) (MayFind S.gives (IsTrue S.keeps) tree) (Fails S.gives)
+    ensures seen { (first : CallerView) (begun : S) (tree : Tree) →
+        GoesOn first (W.view calls.old) → LooksOnly S.gives begun store.old → (IsTrue S.keeps → S.tree store.old ≡ tree) →
+        AreSeen ahead.old first (W.view calls.old)
+        (MayFindAt S.gives (ShownSince S.gives (G.shown gate.now S W) W.view begun) (IsTrue S.keeps) tree) (Fails S.gives)
         (map (λ e. e.name) entries.now) →
-        AreSeen ahead.new first (W.view calls.new) (MayFind S.gives (IsTrue S.keeps) tree) (Fails S.gives)
+        AreSeen ahead.new first (W.view calls.new)
+        (MayFindAt S.gives (ShownSince S.gives (G.shown gate.now S W) W.view begun) (IsTrue S.keeps) tree) (Fails S.gives)
         (map (λ e. e.name) entries.now) }
+    ensures looks { LooksOnly S.gives store.old store.new }
     ensures kept { S.keeps ≡ true → S.tree store.new ≡ S.tree store.old }
 {
     if !ahead.seen.is_empty() {
@@ -157,8 +165,10 @@ pub(crate) fn look_ahead<S: FileStore, W: FolderCalls, G: Gate>(
     ensures folder { W.folder calls.new ≡ W.folder calls.old }
     ensures sees { Sees (W.view calls.old) (W.view calls.new) }
     ensures seen { AreSeen result (W.view calls.old) (W.view calls.new)
-        (MayFind S.gives (IsTrue S.keeps) (S.tree store.old)) (Fails S.gives)
+        (MayFindAt S.gives (ShownSince S.gives (G.shown gate.now S W) W.view store.old)
+        (IsTrue S.keeps) (S.tree store.old)) (Fails S.gives)
         (map (λ e. e.name) entries.now) }
+    ensures looks { LooksOnly S.gives store.old store.new }
     ensures kept { S.keeps ≡ true → S.tree store.new ≡ S.tree store.old }
 {
     let mut cuts = Vec::new(alloc);
@@ -215,8 +225,10 @@ fn read_ahead<S: FileStore, W: FolderCalls, G: Gate>(
     ensures within { IfOk result (λ _. filled.new ≤ length buffer.new.items) }
     ensures seen { IfOk result (λ seen. (k : ℕ) × AllZip (IsSeen (HasBytes (take filled.new buffer.new.items) cuts.new.items)
         (W.view calls.old) (W.view calls.new)
-        (MayFind S.gives (IsTrue S.keeps) (S.tree store.old)) (Fails S.gives))
+        (MayFindAt S.gives (ShownSince S.gives (G.shown gate.now S W) W.view store.old)
+        (IsTrue S.keeps) (S.tree store.old)) (Fails S.gives))
         (take k (map (λ e. e.name) entries.now)) seen.items) }
+    ensures looks { LooksOnly S.gives store.old store.new }
     ensures kept { S.keeps ≡ true → S.tree store.new ≡ S.tree store.old }
 {
     let mut seen = VecDeque::with_capacity(alloc, MAX_NAMES)?;
@@ -249,11 +261,14 @@ fn see<S: FileStore, W: FolderCalls, G: Gate>(
     ensures cuts { IfOk result (λ _. IsPrefix cuts.old.items cuts.new.items) }
     ensures seen { IfOk result (IsSeen (HasBytes (take filled.new buffer.new.items) cuts.new.items)
         (W.view calls.old) (W.view calls.new)
-        (MayFind S.gives (IsTrue S.keeps) (S.tree store.old)) (Fails S.gives) name.now) }
+        (MayFindAt S.gives (ShownSince S.gives (G.shown gate.now S W) W.view store.old)
+        (IsTrue S.keeps) (S.tree store.old)) (Fails S.gives) name.now) }
+    ensures looks { LooksOnly S.gives store.old store.new }
     ensures kept { S.keeps ≡ true → S.tree store.new ≡ S.tree store.old }
 {
     gate.at(GatePlace::FolderCall);
     let local = calls.local(name)?.value;
+    gate.show(store, calls);
     let sight = sight_of(store, gate, name, local.as_ref(), buffer, cuts, filled)?;
     Ok(Seen { local, sight })
 }
@@ -273,9 +288,11 @@ fn sight_of<S: FileStore, G: Gate>(
     ensures within { IfOk result (λ _. filled.new ≤ length buffer.new.items) }
     ensures bytes { IfOk result (λ _. IsPrefix (take filled.old buffer.old.items) (take filled.new buffer.new.items)) }
     ensures cuts { IfOk result (λ _. IsPrefix cuts.old.items cuts.new.items) }
-    ensures sight { IfOk result (SightIs (HasBytes (take filled.new buffer.new.items) cuts.new.items)
-        (MayFind S.gives (IsTrue S.keeps) (S.tree store.old) name.now (option_copied local.entry))
+    ensures sight { (first : S) → LooksOnly S.gives first store.old →
+        IfOk result (SightIs (HasBytes (take filled.new buffer.new.items) cuts.new.items)
+        (MayFind (Since S.gives first) (IsTrue S.keeps) (S.tree store.old) name.now (option_copied local.entry))
         (Fails S.gives name.now)) }
+    ensures looks { LooksOnly S.gives store.old store.new }
     ensures kept { S.keeps ≡ true → S.tree store.new ≡ S.tree store.old }
 {
     gate.at(GatePlace::StoreRead);
@@ -286,6 +303,7 @@ fn sight_of<S: FileStore, G: Gate>(
 }
 
 // What was said to be at a name. A file is read if it has up to 8 MiB and is to be cut by the block size of new files.
+#[tactic(auto, using(crate::proofs::LookLemmas::no_look))]
 fn sight_of_file<S: FileStore, G: Gate>(
     store: &mut S,
     gate: &G,
@@ -301,11 +319,12 @@ fn sight_of_file<S: FileStore, G: Gate>(
     ensures within { IfOk result (λ _. filled.new ≤ length buffer.new.items) }
     ensures bytes { IfOk result (λ _. IsPrefix (take filled.old buffer.old.items) (take filled.new buffer.new.items)) }
     ensures cuts { IfOk result (λ _. IsPrefix cuts.old.items cuts.new.items) }
-    ensures sight { Says S.gives name.now stat →
+    ensures sight { (first : S) → LooksOnly S.gives first store.old → Says (Since S.gives first) name.now stat →
         (IsTrue S.keeps → stat ≡ stat_of ((S.tree store.old).names name.now)) →
         IfOk result (SightIs (HasBytes (take filled.new buffer.new.items) cuts.new.items)
-        (MayFind S.gives (IsTrue S.keeps) (S.tree store.old) name.now (option_copied local.entry))
+        (MayFind (Since S.gives first) (IsTrue S.keeps) (S.tree store.old) name.now (option_copied local.entry))
         (Fails S.gives name.now)) }
+    ensures looks { LooksOnly S.gives store.old store.new }
     ensures kept { S.keeps ≡ true → S.tree store.new ≡ S.tree store.old }
 {
     let Stat::File(size, modified) = stat else {
@@ -332,6 +351,7 @@ fn sight_of_file<S: FileStore, G: Gate>(
 }
 
 // Reads a file of this size.
+#[tactic(auto, using(crate::proofs::LookLemmas::no_look))]
 fn read_part<S: FileStore, G: Gate>(
     store: &mut S,
     gate: &G,
@@ -351,13 +371,15 @@ fn read_part<S: FileStore, G: Gate>(
     ensures within { IfOk result (λ _. filled.new ≤ length buffer.new.items) }
     ensures bytes { IfOk result (λ _. IsPrefix (take filled.old buffer.old.items) (take filled.new buffer.new.items)) }
     ensures cuts { IfOk result (λ _. IsPrefix cuts.old.items cuts.new.items) }
-    ensures read { IfOk result (SightIs (λ part bytes. HasBytes (take filled.new buffer.new.items) cuts.new.items part bytes
+    ensures read { (first : S) → LooksOnly S.gives first store.old →
+        IfOk result (SightIs (λ part bytes. HasBytes (take filled.new buffer.new.items) cuts.new.items part bytes
         × (part.size ≡ size) × (part.modified ≡ modified)
-        × ReadsWhole S.gives name.now bytes
+        × ReadsWhole (Since S.gives first) name.now bytes
         × (S.keeps ≡ true → bytes ≡ bytes_of ((S.tree store.old).names name.now)))
-        (λ look. (look ≡ Changing → ReadsOther S.gives name.now size
+        (λ look. (look ≡ Changing → ReadsOther (Since S.gives first) name.now size
         × (S.keeps ≡ true → length (bytes_of ((S.tree store.old).names name.now)) ≢ size)))
         (Fails S.gives name.now)) }
+    ensures looks { LooksOnly S.gives store.old store.new }
     ensures kept { S.keeps ≡ true → S.tree store.new ≡ S.tree store.old }
 {
     let (start, first) = (*filled, cuts.len());
@@ -397,10 +419,13 @@ fn read_whole<S: FileStore, G: Gate>(
     part: &mut [u8],
 ) -> Result<bool, StoreRefusal>
     requires { length part.old < 2 ^ 63 }
-    ensures read { result ≡ Ok true → ReadsWhole S.gives name.now part.new }
+    ensures read { (first : S) → LooksOnly S.gives first store.old →
+        result ≡ Ok true → ReadsWhole (Since S.gives first) name.now part.new }
     ensures there { result ≡ Ok true → S.keeps ≡ true →
         part.new ≡ bytes_of ((S.tree store.old).names name.now) }
-    ensures other { result ≡ Ok false → ReadsOther S.gives name.now (length part.old) }
+    ensures other { (first : S) → LooksOnly S.gives first store.old →
+        result ≡ Ok false → ReadsOther (Since S.gives first) name.now (length part.old) }
+    ensures looks { LooksOnly S.gives store.old store.new }
     ensures not_there { result ≡ Ok false → S.keeps ≡ true →
         length (bytes_of ((S.tree store.old).names name.now)) ≢ length part.old }
     ensures failed { IfErr result (Fails S.gives name.now) }

@@ -1,11 +1,13 @@
 //! The scan of all names.
-ghost use Rattle.std.specs.Prelude.{◌≡◌, [], IsTrue, List, None, Result, false, map, true};
+ghost use Rattle.std.specs.Prelude.{◌≡◌, [], IsTrue, List, None, Result, Some, false, map, true};
 ghost use Rattle.file_store.specs.Listings.{AreAscending, IsListing};
+ghost use Rattle.file_store.specs.Sequences.{LooksOnly};
 ghost use Rattle.file_store.specs.declared.node.Listing.{Listing};
 ghost use Rattle.sync_scan.specs.AllNames.{GoesOver, HasListed, ScansAll, ScansEach, ScansOne, Tried, UnlessBelow, is_below_any, sum_after};
-ghost use Rattle.sync_scan.specs.Looks.{MayFind};
+ghost use Rattle.sync_scan.specs.Looks.{MayFindAt, ShownSince};
 ghost use Rattle.sync_scan.specs.Told.{Fails};
-ghost use Rattle.sync_scan.specs.Stops.{counted, empty_sum};
+ghost use Rattle.sync_scan.specs.Stops.{IsFaultCounted, counted, empty_sum};
+ghost use Rattle.sync_scan.specs.declared.sum.ScanStop.TheVariants.{StoreFault};
 
 use crate::ahead::{Ahead, next_seen};
 use crate::missing::missing_names;
@@ -38,8 +40,12 @@ pub fn scan_all<S: FileStore, W: FolderCalls, G: Gate, P: Progress>(
 ) -> ScanSum
     ensures folder { W.folder calls.new ≡ W.folder calls.old }
     ensures scans { ScansAll (HasListed S.gives (IsTrue S.keeps) (S.tree store.old) store.old)
-        (MayFind S.gives (IsTrue S.keeps) (S.tree store.old)) (Fails S.gives)
+        (MayFindAt S.gives (ShownSince S.gives (G.shown gate.now S W) W.view store.old)
+        (IsTrue S.keeps) (S.tree store.old)) (Fails S.gives)
         (W.view calls.old) moment result (W.view calls.new) }
+    ensures looks { LooksOnly S.gives store.old store.new }
+    ensures faulted { result.stopped ≡ Some StoreFault →
+        IsFaultCounted (S.fault_count store.old) (S.fault_count store.new) }
     ensures kept { S.keeps ≡ true → S.tree store.new ≡ S.tree store.old }
 {
     let listing = match store.list() {
@@ -93,9 +99,11 @@ fn scan_listed<S: FileStore, W: FolderCalls, G: Gate, P: Progress>(
 ) -> ScanSum
     ensures folder { W.folder calls.new ≡ W.folder calls.old }
     ensures scans { (tried : List Tried) × ScansEach (W.view calls.old) (W.view calls.old) moment
-        (MayFind S.gives (IsTrue S.keeps) (S.tree store.old)) (Fails S.gives) tried (W.view calls.new)
+        (MayFindAt S.gives (ShownSince S.gives (G.shown gate.now S W) W.view store.old)
+        (IsTrue S.keeps) (S.tree store.old)) (Fails S.gives) tried (W.view calls.new)
         × GoesOver (map (λ e. e.name) entries.now) tried result.stopped
         × (result ≡ sum_after empty_sum tried) }
+    ensures looks { LooksOnly S.gives store.old store.new }
     ensures kept { S.keeps ≡ true → S.tree store.new ≡ S.tree store.old }
 {
     let mut sum = ScanSum::new();
@@ -152,10 +160,12 @@ fn scan_missing<S: FileStore, W: FolderCalls, G: Gate, P: Progress>(
     requires { sum.stopped ≡ None }
     ensures folder { W.folder calls.new ≡ W.folder calls.old }
     ensures scans { (tried : List Tried) × ScansEach (W.view calls.old) (W.view calls.old) moment
-        (UnlessBelow unread.now (MayFind S.gives (IsTrue S.keeps) (S.tree store.old)))
+        (UnlessBelow unread.now (MayFindAt S.gives (ShownSince S.gives (G.shown gate.now S W) W.view store.old)
+        (IsTrue S.keeps) (S.tree store.old)))
         (Fails S.gives) tried (W.view calls.new)
         × GoesOver names.now tried result.stopped
         × (result ≡ sum_after sum tried) }
+    ensures looks { LooksOnly S.gives store.old store.new }
     ensures kept { S.keeps ≡ true → S.tree store.new ≡ S.tree store.old }
 {
     let mut sum = sum;
@@ -171,6 +181,7 @@ fn scan_missing<S: FileStore, W: FolderCalls, G: Gate, P: Progress>(
 }
 
 // Scans a name that is not listed, unless it is below an unread directory, and counts what that came to.
+#[tactic(auto, using(crate::proofs::LookLemmas::no_look))]
 fn scan_missing_name<S: FileStore, W: FolderCalls, G: Gate, P: Progress>(
     rt: &(impl Threads + Sync),
     alloc: Global,
@@ -186,9 +197,11 @@ fn scan_missing_name<S: FileStore, W: FolderCalls, G: Gate, P: Progress>(
 )
     ensures folder { W.folder calls.new ≡ W.folder calls.old }
     ensures scans { (r : Result Scanned StoreRefusal) × ScansOne (W.view calls.old) (W.view calls.old) name.now moment
-        (UnlessBelow unread.now (MayFind S.gives (IsTrue S.keeps) (S.tree store.old)) name.now)
+        (UnlessBelow unread.now (MayFindAt S.gives (ShownSince S.gives (G.shown gate.now S W) W.view store.old)
+        (IsTrue S.keeps) (S.tree store.old)) name.now)
         (Fails S.gives name.now) r (W.view calls.new)
         × (sum.new ≡ counted sum.old r) }
+    ensures looks { LooksOnly S.gives store.old store.new }
     ensures kept { S.keeps ≡ true → S.tree store.new ≡ S.tree store.old }
 {
     if is_below_any(unread, name) {
@@ -215,9 +228,11 @@ fn scan_next<S: FileStore, W: FolderCalls, G: Gate, P: Progress>(
 )
     ensures folder { W.folder calls.new ≡ W.folder calls.old }
     ensures scans { (r : Result Scanned StoreRefusal) × ScansOne (W.view calls.old) (W.view calls.old) name.now moment
-        (MayFind S.gives (IsTrue S.keeps) (S.tree store.old) name.now)
+        (MayFindAt S.gives (ShownSince S.gives (G.shown gate.now S W) W.view store.old)
+        (IsTrue S.keeps) (S.tree store.old) name.now)
         (Fails S.gives name.now) r (W.view calls.new)
         × (sum.new ≡ counted sum.old r) }
+    ensures looks { LooksOnly S.gives store.old store.new }
     ensures kept { S.keeps ≡ true → S.tree store.new ≡ S.tree store.old }
 {
     let scanned = scan_one(

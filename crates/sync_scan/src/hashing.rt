@@ -2,6 +2,7 @@
 ghost use Rattle.std.specs.Prelude.{◌≡◌, ◌≢◌, ◌^◌, ◌≤◌, ℕ, IfErr, IfOk, IsNone, List, MatchOption, OnOk, [], ◌∷◌, ◌++◌, length, true};
 ghost use Rattle.sha2.specs.Sha256.{sha256};
 ghost use Rattle.file_store.specs.Refusals.{IsPlain, count_after};
+ghost use Rattle.file_store.specs.Sequences.{LooksOnly, Since};
 ghost use Rattle.file_store.specs.Trees.{bytes_of};
 ghost use Rattle.sync_blocks.specs.BlockList.{block_list};
 ghost use Rattle.sync_scan.specs.Told.{Fails, ReadsOther, ReadsWhole};
@@ -36,8 +37,10 @@ pub(crate) fn blocks_of_file<S: FileStore, G: Gate, P: Progress>(
         (λ blocks. (bytes : List ℕ) × (length bytes ≡ size)
         × (blocks.items ≡ block_list bytes block_size)
         × (S.keeps ≡ true → bytes ≡ bytes_of ((S.tree store.old).names name.now))
-        × ReadsWhole S.gives name.now bytes)) }
-    ensures other { IfOk result (λ found. IsNone found → ReadsOther S.gives name.now size) }
+        × ((first : S) → LooksOnly S.gives first store.old → ReadsWhole (Since S.gives first) name.now bytes))) }
+    ensures other { (first : S) → LooksOnly S.gives first store.old →
+        IfOk result (λ found. IsNone found → ReadsOther (Since S.gives first) name.now size) }
+    ensures looks { LooksOnly S.gives store.old store.new }
     ensures failed { IfErr result (Fails S.gives name.now) }
     ensures kept { S.keeps ≡ true → S.tree store.new ≡ S.tree store.old }
     ensures refusals { IfErr result IsPlain }

@@ -1,36 +1,53 @@
 //! The laws of scans. A law is a function that does nothing, whose contract says of the definitions in `specs/` what follows from
 //! them in plainer words.
-ghost use Rattle.std.specs.Prelude.{◌≡◌, ◌⊎◌, [], ◌∷◌, ℕ, Contains, IsTrue, List, Option, true};
-ghost use Rattle.sync_record.specs.Records.{FileRecord, Name};
+ghost use Rattle.std.specs.Prelude.{◌≡◌, ◌≢◌, ◌⊎◌, ◌↔◌, ◌^◌, ◌<◌, ◌≤◌, [], ◌∷◌, ℕ, pos, Contains, IsTrue, List, Option, Some, get_or, length, true};
+ghost use Rattle.std.specs.Cmp.Lexicographic.{slice_cmp};
+ghost use Rattle.std.specs.Ordering.{nat_cmp};
+ghost use Rattle.std.specs.declared.cmp.Ordering.TheVariants.{Less};
+ghost use Rattle.sync_blocks.specs.declared.block.Block.{Block};
+ghost use Rattle.sync_blocks.specs.BlockList.{block_list};
+ghost use Rattle.sync_record.specs.Records.{FileRecord, Name, is_live};
+ghost use Rattle.folder_core.specs.States.{local};
 ghost use Rattle.folder_core.specs.Steps.{is_accepted};
 ghost use Rattle.folder_core.specs.declared.answer.Answer.{Answer};
 ghost use Rattle.folder_core.specs.declared.change.Change.{Change};
+ghost use Rattle.folder_core.specs.declared.finding.Finding.{Finding};
+ghost use Rattle.folder_core.specs.declared.finding.FoundContent.TheVariants as content;
 ghost use Rattle.folder_calls.specs.Adds.{Adds};
-ghost use Rattle.folder_calls.specs.Shared.{CallerView};
+ghost use Rattle.folder_calls.specs.Shared.{CallerView, now};
+ghost use Rattle.file_store.specs.Sequences.{Since};
+ghost use Rattle.file_store.specs.Stores.{mem_gives, mem_tree};
 ghost use Rattle.file_store.specs.Trees.{Tree};
 ghost use Rattle.file_store.specs.Names.{is_parent};
-ghost use Rattle.file_store.specs.declared.node.Stat.TheVariants.{Missing, Other};
-ghost use Rattle.sync_scan.specs.AllNames.{UnlessBelow};
-ghost use Rattle.sync_scan.specs.Looks.{IsTold, LeadsTo, MayFind};
-ghost use Rattle.sync_scan.specs.Told.{HasNoOtherParent, Says};
+ghost use Rattle.file_store.specs.declared.mem.MemStore.{MemStore};
+ghost use Rattle.file_store.specs.declared.node.Stat.TheVariants.{Directory, File, Missing, Other};
+ghost use Rattle.sync_scan.specs.AllNames.{AreMissing, HasListed, ScansAll, UnlessBelow};
+ghost use Rattle.sync_scan.specs.Looks.{IsTold, LeadsTo, MayFindAt, ShownFirst, ShownSince};
+ghost use Rattle.sync_scan.specs.Told.{Fails, HasNoOtherParent, HasOtherParent, ReadsOther, ReadsWhole, Says};
 ghost use Rattle.sync_scan.specs.declared.scanned.Look.{Look};
-ghost use Rattle.sync_scan.specs.declared.scanned.Look.TheVariants.{Gone, Skipped};
+ghost use Rattle.sync_scan.specs.declared.scanned.Look.TheVariants.{Changing, Found, Gone, Skipped};
 ghost use Rattle.sync_scan.specs.Scans.{IsScanOf, Scans, ScansSince};
 ghost use Rattle.sync_scan.specs.declared.scanned.Scanned.{Scanned};
+ghost use Rattle.sync_scan.specs.declared.sum.ScanStop.TheVariants.{StoreFault};
+ghost use Rattle.sync_scan.specs.declared.sum.ScanSum.{ScanSum};
 
-use file_store::FileStore;
+use file_store::{FileStore, Gate};
+use folder_calls::FolderCalls;
 use folder_calls::laws::{changes_are_asked_in_order, entries_add_up};
 
 /// The scan of a name adds at most one entry to those of its caller: that of a scan of this name, with its answer, if it was
 /// accepted.
-pub fn a_scan_adds_one_entry_at_most<S: FileStore>()
-    ensures alone { (old new : CallerView) (n : Name) (moment : ℕ) (tree : Tree)
-        (result : Scanned) → Scans old n moment (MayFind S.gives (IsTrue S.keeps) tree n) result new →
+pub fn a_scan_adds_one_entry_at_most<S: FileStore, W: FolderCalls, G: Gate>()
+    ensures alone { (gate : G) (begun : S) (tree : Tree) (old new : CallerView) (n : Name) (moment : ℕ) (result : Scanned) →
+        Scans old n moment (MayFindAt S.gives (ShownFirst (G.shown gate S W) W.view begun)
+        (IsTrue S.keeps) tree n) result new →
         Adds old [] new
         ⊎ ((c : Change) × (a : Answer) × IsScanOf n moment c × (is_accepted a ≡ true)
         × Adds old ((c, a) ∷ []) new) }
-    ensures of_several { (first old new : CallerView) (n : Name) (moment : ℕ) (tree : Tree)
-        (result : Scanned) → ScansSince first old n moment (MayFind S.gives (IsTrue S.keeps) tree n) result new →
+    ensures of_several { (gate : G) (begun : S) (tree : Tree) (first old new : CallerView) (n : Name) (moment : ℕ)
+        (result : Scanned) →
+        ScansSince first old n moment (MayFindAt S.gives (ShownSince S.gives (G.shown gate S W) W.view begun)
+        (IsTrue S.keeps) tree n) result new →
         Adds old [] new
         ⊎ ((c : Change) × (a : Answer) × IsScanOf n moment c × (is_accepted a ≡ true)
         × Adds old ((c, a) ∷ []) new) }
@@ -42,12 +59,54 @@ pub fn a_scan_adds_one_entry_at_most<S: FileStore>()
 /// Of every store: a deletion is found only where the store said that nothing is at the name, and of no parent of a safe name
 /// that something else is there. What the store says is neither a file nor a directory is skipped. Below a directory that could
 /// not be read no deletion is found.
-pub fn deletions_are_told<S: FileStore>()
-    ensures missing { (n : Name) (local : Option FileRecord) → IsTold S.gives n local Gone →
-        Says S.gives n Missing × HasNoOtherParent S.gives n }
-    ensures other { (n : Name) (local : Option FileRecord) (look : Look) →
-        LeadsTo S.gives n local Other look → look ≡ Skipped }
-    ensures unread { (tree : Tree) (unread : List Name) (d n : Name) (local : Option FileRecord) →
+pub fn deletions_are_told<S: FileStore, W: FolderCalls, G: Gate>()
+    ensures missing { (first : S) (n : Name) (local : Option FileRecord) →
+        IsTold (Since S.gives first) n local Gone → Says (Since S.gives first) n Missing × HasNoOtherParent (Since S.gives first) n }
+    ensures other { (first : S) (n : Name) (local : Option FileRecord) (look : Look) →
+        LeadsTo (Since S.gives first) n local Other look → look ≡ Skipped }
+    ensures unread { (gate : G) (begun : S) (tree : Tree) (unread : List Name) (d n : Name) (view : CallerView) →
         Contains unread d → is_parent d n ≡ true →
-        UnlessBelow unread (MayFind S.gives (IsTrue S.keeps) tree) n local Gone → ⊥ }
+        UnlessBelow unread (MayFindAt S.gives (ShownSince S.gives (G.shown gate S W) W.view begun)
+        (IsTrue S.keeps) tree) n view Gone → ⊥ }
+{}
+
+/// Of every store: what is found is what the store said and gave. A name is skipped only where something else is there, or in a
+/// parent's place while nothing is there, or where a file has more than 64 TiB. A directory is found only where one is, and a file
+/// only where one is that has as many bytes, which were all read, and of which are its blocks.
+pub fn what_is_found_is_told<S: FileStore>()
+    ensures skipped { (first : S) (n : Name) (local : Option FileRecord) →
+        IsTold (Since S.gives first) n local Skipped →
+        Says (Since S.gives first) n Other
+        ⊎ (Says (Since S.gives first) n Missing × HasOtherParent (Since S.gives first) n)
+        ⊎ ((size modified : ℕ) × Says (Since S.gives first) n (File size modified) × (2 ^ 46 < size)) }
+    ensures changing { (first : S) (n : Name) (local : Option FileRecord) →
+        IsTold (Since S.gives first) n local Changing →
+        (size modified : ℕ) × Says (Since S.gives first) n (File size modified) × ReadsOther (Since S.gives first) n size }
+    ensures directory { (first : S) (n : Name) (local : Option FileRecord) (found : Finding) →
+        IsTold (Since S.gives first) n local (Found found) → found.content ≡ content.Directory → Says (Since S.gives first) n Directory }
+    ensures file { (first : S) (n : Name) (local : Option FileRecord) (found : Finding)
+        (size block_size : ℕ) (blocks : List Block) →
+        IsTold (Since S.gives first) n local (Found found) → found.content ≡ content.File size block_size blocks →
+        (modified : ℕ) × (bytes : List ℕ) × Says (Since S.gives first) n (File size modified) × (found.modified_s ≡ pos modified)
+        × (size ≤ 2 ^ 46) × (length bytes ≡ size) × ReadsWhole (Since S.gives first) n bytes
+        × (blocks ≡ block_list bytes block_size) }
+{}
+
+/// A store in memory does not fail, so no scan of all its names stops for that.
+pub fn scans_of_memory_stop_for_no_fault<W: FolderCalls, G: Gate>()
+    ensures { (gate : G) (store : MemStore) (old new : CallerView) (moment : ℕ) (sum : ScanSum) →
+        ScansAll (HasListed mem_gives (IsTrue true) (mem_tree store) store)
+        (MayFindAt mem_gives (ShownSince mem_gives (G.shown gate MemStore W) W.view store) (IsTrue true) (mem_tree store))
+        (Fails mem_gives) old moment sum new → sum.stopped ≢ Some StoreFault }
+{}
+
+/// The names that are scanned after the listed ones ascend by their bytes, so each is there once. Where the folder did not go on
+/// meanwhile, they are exactly those that are not listed and of which it has a live local record.
+pub fn missing_names_are_not_listed()
+    ensures order { (old point : CallerView) (listed names : List Name) → AreMissing old point listed names →
+        (i j : ℕ) (none : Name) → i < j → j < length names →
+        slice_cmp nat_cmp (get_or names i none) (get_or names j none) ≡ Less }
+    ensures exactly { (point : CallerView) (listed names : List Name) → AreMissing point point listed names →
+        (n : Name) → Contains names n
+        ↔ ((Contains listed n → ⊥) × ((r : FileRecord) × (local (now point) n ≡ Some r) × IsTrue (is_live r))) }
 {}

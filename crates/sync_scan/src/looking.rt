@@ -1,6 +1,7 @@
 //! What is found at a name of a store.
 ghost use Rattle.std.specs.Prelude.{◌≡◌, ◌≢◌, ◌≤◌, ◌<◌, ◌^◌, false, IfErr, IfOk, IfSome, IsNone, Ok, Err, length, option_copied, true, List, ℕ};
 ghost use Rattle.file_store.specs.Refusals.{IsPlain, count_after};
+ghost use Rattle.file_store.specs.Sequences.{LooksOnly, Since};
 ghost use Rattle.file_store.specs.Trees.{bytes_of};
 ghost use Rattle.sync_blocks.specs.BlockList.{block_list};
 ghost use Rattle.sync_blocks.specs.Sizes.{is_block_size};
@@ -40,9 +41,11 @@ pub(crate) fn look_at<S: FileStore, G: Gate, P: Progress>(
     buffer: &mut Vec<u8>,
     progress: &mut P,
 ) -> Result<Look, StoreRefusal>
-    ensures looks { S.keeps ≡ true → IfOk result (λ look.
+    ensures there { S.keeps ≡ true → IfOk result (λ look.
         look ≡ look_of (option_copied local.entry) ((S.tree store.old).names name.now)) }
-    ensures told { IfOk result (IsTold S.gives name.now (option_copied local.entry)) }
+    ensures told { (first : S) → LooksOnly S.gives first store.old →
+        IfOk result (IsTold (Since S.gives first) name.now (option_copied local.entry)) }
+    ensures looks { LooksOnly S.gives store.old store.new }
     ensures failed { IfErr result (Fails S.gives name.now) }
     ensures kept { S.keeps ≡ true → S.tree store.new ≡ S.tree store.old }
     ensures refusals { IfErr result IsPlain }
@@ -82,11 +85,12 @@ fn look_at_file<S: FileStore, G: Gate, P: Progress>(
     buffer: &mut Vec<u8>,
     progress: &mut P,
 ) -> Result<Look, StoreRefusal>
-    ensures looks { S.keeps ≡ true → length (bytes_of ((S.tree store.old).names name.now)) ≡ size →
+    ensures there { S.keeps ≡ true → length (bytes_of ((S.tree store.old).names name.now)) ≡ size →
         IfOk result (λ look. look ≡ look_of_file (option_copied local.entry)
         (bytes_of ((S.tree store.old).names name.now)) modified) }
-    ensures told { IfOk result (LeadsTo S.gives name.now (option_copied local.entry)
-        (Stat.File size modified)) }
+    ensures told { (first : S) → LooksOnly S.gives first store.old →
+        IfOk result (LeadsTo (Since S.gives first) name.now (option_copied local.entry) (Stat.File size modified)) }
+    ensures looks { LooksOnly S.gives store.old store.new }
     ensures failed { IfErr result (Fails S.gives name.now) }
     ensures kept { S.keeps ≡ true → S.tree store.new ≡ S.tree store.old }
     ensures refusals { IfErr result IsPlain }
@@ -159,6 +163,7 @@ fn are_recorded(local: Option<&Record>, size: u64, blocks: &[Block]) -> bool
 
 // Whether something that is neither a directory nor a file is in the place of a parent of the name. A parent of which no name is
 // safe is not asked for.
+#[tactic(auto, using(crate::proofs::LookLemmas::no_look))]
 fn is_below_other<S: FileStore, G: Gate>(
     alloc: Global,
     store: &mut S,
@@ -166,8 +171,11 @@ fn is_below_other<S: FileStore, G: Gate>(
     name: &SafeName,
 ) -> Result<bool, StoreRefusal>
     ensures none { S.keeps ≡ true → result ≢ Ok true }
-    ensures other { result ≡ Ok true → HasOtherParent S.gives name.now }
-    ensures no_other { result ≡ Ok false → HasNoOtherParent S.gives name.now }
+    ensures other { (first : S) → LooksOnly S.gives first store.old →
+        result ≡ Ok true → HasOtherParent (Since S.gives first) name.now }
+    ensures no_other { (first : S) → LooksOnly S.gives first store.old →
+        result ≡ Ok false → HasNoOtherParent (Since S.gives first) name.now }
+    ensures looks { LooksOnly S.gives store.old store.new }
     ensures failed { IfErr result (Fails S.gives name.now) }
     ensures kept { S.keeps ≡ true → S.tree store.new ≡ S.tree store.old }
     ensures refusals { IfErr result IsPlain }
@@ -184,6 +192,7 @@ fn is_below_other<S: FileStore, G: Gate>(
 }
 
 // Whether something that is neither a directory nor a file is at the name with this text, if there is such a safe name.
+#[tactic(auto, using(crate::proofs::LookLemmas::no_look))]
 fn is_other<S: FileStore, G: Gate>(
     alloc: Global,
     store: &mut S,
@@ -191,9 +200,12 @@ fn is_other<S: FileStore, G: Gate>(
     text: &str,
 ) -> Result<bool, StoreRefusal>
     ensures none { S.keeps ≡ true → result ≢ Ok true }
-    ensures other { result ≡ Ok true → Says S.gives text.now Stat.Other }
-    ensures no_other { result ≡ Ok false → IsNone (refusal text.now) →
-        (said : Stat) × (said ≢ Stat.Other) × Says S.gives text.now said }
+    ensures other { (first : S) → LooksOnly S.gives first store.old →
+        result ≡ Ok true → Says (Since S.gives first) text.now Stat.Other }
+    ensures no_other { (first : S) → LooksOnly S.gives first store.old →
+        result ≡ Ok false → IsNone (refusal text.now) →
+        (said : Stat) × (said ≢ Stat.Other) × Says (Since S.gives first) text.now said }
+    ensures looks { LooksOnly S.gives store.old store.new }
     ensures failed { result ≡ Err StoreRefusal.StoreFault →
         (asked : S) × (new : S) × S.gives asked (StatAt text.now) (Err StoreRefusal.StoreFault) new }
     ensures kept { S.keeps ≡ true → S.tree store.new ≡ S.tree store.old }

@@ -2,10 +2,11 @@
 ghost use Rattle.std.specs.Prelude.{◌≡◌, ℕ, IfErr, IfOk, IsTrue, List, length, true};
 ghost use Rattle.sync_blocks.specs.Sizes.{block_size_for};
 ghost use Rattle.file_store.specs.Refusals.{IsPlain, count_after};
+ghost use Rattle.file_store.specs.Sequences.{LooksOnly};
 ghost use Rattle.folder_calls.specs.Shared.{CallerView, Sees};
 ghost use Rattle.sync_scan.specs.Ahead.{HasBlocks, IsSeen};
 ghost use Rattle.sync_scan.specs.AllNames.{ScansOne};
-ghost use Rattle.sync_scan.specs.Looks.{MayFind, file_finding};
+ghost use Rattle.sync_scan.specs.Looks.{MayFindAt, ShownFirst, ShownSince, file_finding};
 ghost use Rattle.sync_scan.specs.Scans.{GoesOn, Scans};
 ghost use Rattle.sync_scan.specs.Told.{Fails};
 
@@ -38,7 +39,9 @@ pub fn scan_name<S: FileStore, W: FolderCalls, G: Gate>(
 ) -> Result<Scanned, StoreRefusal>
     ensures folder { W.folder calls.new ≡ W.folder calls.old }
     ensures scans { IfOk result (λ scanned. Scans (W.view calls.old) name.now moment
-        (MayFind S.gives (IsTrue S.keeps) (S.tree store.old) name.now) scanned (W.view calls.new)) }
+        (MayFindAt S.gives (ShownFirst (G.shown gate.now S W) W.view store.old)
+        (IsTrue S.keeps) (S.tree store.old) name.now) scanned (W.view calls.new)) }
+    ensures looks { LooksOnly S.gives store.old store.new }
     ensures refused { IfErr result (λ _. Sees (W.view calls.old) (W.view calls.new)) }
     ensures failed { IfErr result (Fails S.gives name.now) }
     ensures kept { S.keeps ≡ true → S.tree store.new ≡ S.tree store.old }
@@ -73,7 +76,9 @@ pub(crate) fn scan_one<S: FileStore, W: FolderCalls, G: Gate, P: Progress>(
 ) -> Result<Scanned, StoreRefusal>
     ensures folder { W.folder calls.new ≡ W.folder calls.old }
     ensures scans { IfOk result (λ scanned. Scans (W.view calls.old) name.now moment
-        (MayFind S.gives (IsTrue S.keeps) (S.tree store.old) name.now) scanned (W.view calls.new)) }
+        (MayFindAt S.gives (ShownFirst (G.shown gate.now S W) W.view store.old)
+        (IsTrue S.keeps) (S.tree store.old) name.now) scanned (W.view calls.new)) }
+    ensures looks { LooksOnly S.gives store.old store.new }
     ensures refused { IfErr result (λ _. Sees (W.view calls.old) (W.view calls.new)) }
     ensures failed { IfErr result (Fails S.gives name.now) }
     ensures kept { S.keeps ≡ true → S.tree store.new ≡ S.tree store.old }
@@ -83,6 +88,7 @@ pub(crate) fn scan_one<S: FileStore, W: FolderCalls, G: Gate, P: Progress>(
     block_list_tiles();
     gate.at(GatePlace::FolderCall);
     let local = calls.local(name)?.value;
+    gate.show(store, calls);
     let look = look_at(
         rt,
         alloc,
@@ -98,6 +104,7 @@ pub(crate) fn scan_one<S: FileStore, W: FolderCalls, G: Gate, P: Progress>(
 }
 
 /// As [`scan_one`], of a name that was seen ahead of its turn, with the blocks of the files that were read then.
+#[tactic(auto, using(crate::proofs::LookLemmas::no_look))]
 pub(crate) fn scan_seen<S: FileStore, W: FolderCalls, G: Gate, P: Progress>(
     rt: &(impl Threads + Sync),
     alloc: Global,
@@ -111,14 +118,20 @@ pub(crate) fn scan_seen<S: FileStore, W: FolderCalls, G: Gate, P: Progress>(
     buffer: &mut Vec<u8>,
     progress: &mut P,
 ) -> Result<Scanned, StoreRefusal>
-    requires seen { (first : CallerView) × IsSeen (HasBlocks blocks.now) first (W.view calls.old)
-        (MayFind S.gives (IsTrue S.keeps) (S.tree store.old)) (Fails S.gives) name.now seen }
+    requires seen { (first : CallerView) × (begun : S) × IsSeen (HasBlocks blocks.now) first (W.view calls.old)
+        (MayFindAt S.gives (ShownSince S.gives (G.shown gate.now S W) W.view begun)
+        (IsTrue S.keeps) (S.tree store.old)) (Fails S.gives) name.now seen }
     ensures folder { W.folder calls.new ≡ W.folder calls.old }
-    ensures scans { (first : CallerView) → GoesOn first (W.view calls.old) → IsSeen (HasBlocks blocks.now) first (W.view calls.old)
-        (MayFind S.gives (IsTrue S.keeps) (S.tree store.old)) (Fails S.gives) name.now seen →
+    ensures scans { (first : CallerView) (begun : S) →
+        GoesOn first (W.view calls.old) → LooksOnly S.gives begun store.old →
+        IsSeen (HasBlocks blocks.now) first (W.view calls.old)
+        (MayFindAt S.gives (ShownSince S.gives (G.shown gate.now S W) W.view begun)
+        (IsTrue S.keeps) (S.tree store.old)) (Fails S.gives) name.now seen →
         ScansOne first (W.view calls.old) name.now moment
-        (MayFind S.gives (IsTrue S.keeps) (S.tree store.old) name.now) (Fails S.gives name.now)
+        (MayFindAt S.gives (ShownSince S.gives (G.shown gate.now S W) W.view begun)
+        (IsTrue S.keeps) (S.tree store.old) name.now) (Fails S.gives name.now)
         result (W.view calls.new) }
+    ensures looks { LooksOnly S.gives store.old store.new }
     ensures kept { S.keeps ≡ true → S.tree store.new ≡ S.tree store.old }
 {
     block_list_tiles();

@@ -53,6 +53,8 @@ impl Devices {
 impl BlockSource for Devices {
     ghost may_ask = { λ _. ⊤ };
 
+    ghost gives = { λ _ _ _ _ _ _ _. ⊤ };
+
     fn fetch(
         &mut self,
         device: DeviceId,

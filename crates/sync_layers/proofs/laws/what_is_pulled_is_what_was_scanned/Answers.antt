@@ -5,7 +5,7 @@ use Rattle.sync_layers.proofs.ScanLemmas.{FolderLaws, ScanLaws, deleted-by, dire
 use Rattle.sync_layers.proofs.laws.what_is_pulled_is_what_was_scanned.Goals as goal
 
 pub returns-clause-scanned : goal.returns-clause-scanned
-returns-clause-scanned g c old new n moment tree result keeps scans is =
+returns-clause-scanned g c gate begun old new n moment tree result keeps scans is =
     let calls : FolderLaws = record {
       opened = λ v w change a gets. (c.calls_share_one_history.ensures.grows v w change (record { at = length w.seen; value = a }) gets).1;
       accepted = c.answers_are_those_of_the_folder.ensures.accepted;
@@ -25,7 +25,7 @@ returns-clause-scanned g c old new n moment tree result keeps scans is =
           file-by size blocks _ h.0 h.1 h.2 h.3 h.4 (drop-size h.5);
       deletion = λ s m expected at k r folder here recorded. deleted-by _ _ (c.scans_record_what_is_gone.ensures.deletion s m expected at k r folder here recorded) refl;
     } in
-    scan-stands calls laws g.S.FileStore.gives (IsTrue g.S.FileStore.keeps) tree old new n moment result keeps scans is
+    scan-stands calls laws g.S.FileStore.gives _ (IsTrue g.S.FileStore.keeps) tree old new n moment result keeps scans is
 
 pub returns-clause-alike : goal.returns-clause-alike
 returns-clause-alike g c r q one other a b same =

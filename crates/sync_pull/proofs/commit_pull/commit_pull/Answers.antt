@@ -1,4 +1,4 @@
-use Rattle.std.proofs.Common.{◌≡◌, true, Err, None, Some, ap, inl, subst, ◌∙◌}
+use Rattle.std.proofs.Common.{rules, ◌≡◌, true, Err, None, Some, ap, inl, refl, subst, ◌∙◌}
 use Rattle.std.specs.Prelude.{IfErr}
 use Rattle.folder_core.specs.declared.answer.Answer.TheVariants.{Entered}
 use Rattle.folder_core.specs.declared.change.Change.TheVariants.{EnterCommit}
@@ -7,11 +7,14 @@ use Rattle.sync_pull.proofs.ChainLemmas.{gets}
 use Rattle.sync_pull.proofs.EndsLemmas.{entered-ends, entered-first, memory-ends, refused-ends}
 use Rattle.folder_core.specs.declared.pull_info.PullInfo.{PullInfo}
 use Rattle.sync_record.specs.Records.{FileRecord}
-use Rattle.sync_pull.specs.Pulled.{IfFile, IsDropped, IsTakenOrDropped}
+use Rattle.sync_pull.specs.Pulled.{IfDone, IfFile, IsDropped, IsTakenOrDropped}
 use Rattle.sync_pull.specs.Putting.{standing_of}
 use Rattle.sync_pull.specs.Replacing.{IsOverBase}
 use Rattle.sync_pull.proofs.FailLemmas.{temp-ended, temps-itself}
 use Rattle.sync_pull.proofs.PulledLemmas.{entered-over, refused-undone, temp-alone, temp-copy-alone, temp-saved}
+use Rattle.file_store.specs.Sequences.{not_called}
+use Rattle.sync_pull.specs.Moments.{ChecksFirst, IsOfPlace, copy_of, entered, not_entered}
+use Rattle.sync_pull.proofs.MomentLemmas.{entered_asks}
 use Rattle.sync_pull.proofs.commit_pull.commit_pull.Goals as goal
 
 pub returns-in-Ok-entered-clause-ends : goal.returns-in-Ok-entered-clause-ends
@@ -86,3 +89,21 @@ returns-in-Ok-entered-clause-entered g c = λ keeps.
     let is = c.tickets_are_those_that_were_asked_for.ensures.entered _ _ t commit entered in
     entered-over c.args.name.now t (g.W.FolderCalls.view c.args.calls.now) (g.S.FileStore.tree c.args.store.now) (g.W.FolderCalls.view c.replace_and_finish.new.calls) (g.S.FileStore.tree c.replace_and_finish.new.store) (entered-first _ _ _ t commit entered is c.replace_and_finish.result c.replace_and_finish.ensures.ends)
     (subst (λ (x : PullInfo). IsOverBase x.base c.args.name.now (g.S.FileStore.tree c.args.store.now) (g.S.FileStore.tree c.replace_and_finish.new.store)) is (c.replace_and_finish.ensures.over_base keeps))
+
+pub returns-in-Err-clause-checks : goal.returns-in-Err-clause-checks
+returns-in-Err-clause-checks g c = not_entered (search rules) c.drop_temp.ensures.calls
+
+pub returns-in-Err-entered-clause-checks : goal.returns-in-Err-entered-clause-checks
+returns-in-Err-entered-clause-checks g c =
+    not_entered (refused-undone ⊥ _ _ c.in-Err-entered.refusal c.refused.result c.refused.ensures.refused) c.drop_temp-in-Err-entered.ensures.calls
+
+pub returns-in-Ok-entered-clause-checks : goal.returns-in-Ok-entered-clause-checks
+returns-in-Ok-entered-clause-checks g c =
+    let t = c.args.ticket in
+    let n = c.args.name.now in
+    let commit = c.in-Ok-entered.commit in
+    let got = gets _ _ (EnterCommit t) _ (Entered commit) c.in-Ok.ensures.changes (ap enter_value c.in-Ok-entered.is) in
+    let is = c.tickets_are_those_that_were_asked_for.ensures.entered _ _ t commit got in
+    entered _ c.args.store.now not_called (entered_asks _ _ t commit got is) (c.enter_commit.new.self, c.show.ensures.shown, refl)
+    (subst (λ (x : PullInfo). ChecksFirst g.S.FileStore.gives n x.base (IsOfPlace n (copy_of c.args.plan.now)) (IfDone c.replace_and_finish.result ⊥) c.args.store.now c.replace_and_finish.new.store) is
+    c.replace_and_finish.ensures.checks)

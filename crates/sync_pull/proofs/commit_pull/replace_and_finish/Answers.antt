@@ -1,14 +1,17 @@
-use Rattle.std.proofs.Common.{◌≡◌, true, Option, Some, ap, subst, sym}
+use Rattle.std.proofs.Common.{◌≡◌, true, None, Option, Some, ap, subst, sym}
 use Rattle.folder_core.specs.declared.change.Change.TheVariants.{Abort}
 use Rattle.sync_record.specs.Records.{FileRecord}
 use Rattle.sync_pull.specs.Copies.{IsRefused}
 use Rattle.sync_pull.specs.Ends.{Closes}
 use Rattle.sync_pull.specs.Faults.{StopsFor}
-use Rattle.sync_pull.specs.Pulled.{IfFile, IsDropped}
+use Rattle.sync_pull.specs.Pulled.{IfDone, IfFile, IsDropped}
 use Rattle.sync_pull.specs.Putting.{AreTempsKept, IsLeft, standing_of}
 use Rattle.sync_pull.specs.Replacing.{IsOverBase, MayEmpty, ReplaceFails}
 use Rattle.sync_pull.proofs.FailLemmas.{closed-fails, left-on, of-both, replace-dropped, stop-weaker, temp-ended}
-use Rattle.sync_pull.proofs.PulledLemmas.{aborted-ends, copy-alone-temp, finished-ends, kept-saved, over-base-temp, saved-temp, stop-undone}
+use Rattle.sync_pull.proofs.PulledLemmas.{aborted-ends, aborted-kept, copy-alone-temp, finished-ends, kept-saved, over-base-temp, saved-temp, stop-undone}
+use Rattle.file_store.proofs.SequenceLemmas.{called_wider}
+use Rattle.sync_pull.specs.Moments.{ChecksFirst, IsOfPlace, copy_of}
+use Rattle.sync_pull.proofs.MomentLemmas.{checks_so, checks_then, place_copy}
 use Rattle.sync_pull.proofs.commit_pull.replace_and_finish.Goals as goal
 
 pub returns-in-Ok-clause-ends : goal.returns-in-Ok-clause-ends
@@ -40,7 +43,7 @@ returns-in-Err-clause-reasons g c =
 
 pub returns-in-Err-clause-left : goal.returns-in-Err-clause-left
 returns-in-Err-clause-left g c = λ keeps.
-    let left = λ (b : Option FileRecord) (t : FileRecord). IsLeft (MayEmpty (IsRefused g.S.FileStore.gives) c.args.name.now c.args.plan.now (standing_of b) (standing_of (Some t))) (standing_of (Some t)) (g.S.FileStore.tree c.args.store.now) c.args.name.now in
+    let left = λ (b : Option FileRecord) (t : FileRecord). IsLeft (MayEmpty (IsRefused g.S.FileStore.gives g.S.FileStore.tree) ((g.S.FileStore.tree c.args.store.now).names c.args.name.now) c.args.name.now c.args.plan.now (standing_of b) (standing_of (Some t))) (standing_of (Some t)) (g.S.FileStore.tree c.args.store.now) c.args.name.now in
     left-on _ _ _ c.args.name.now (g.S.FileStore.tree c.replace.new.store) _ (ap (λ f. f c.args.name.now) (c.drop_temp.ensures.temp keeps).names)
     (of-both (λ b t. left b t (g.S.FileStore.tree c.replace.new.store)) _ c.args.commit.base _ c.args.commit.target (sym c.base-base.ensures) (sym c.target.ensures) (c.in-Err.ensures.left keeps))
 
@@ -65,3 +68,27 @@ returns-in-Err-clause-over_base g c = λ keeps.
     let mid = g.S.FileStore.tree c.replace.new.store in
     over-base-temp c.args.commit.base c.args.name.now old mid (g.S.FileStore.tree c.drop_temp.new.store)
     (subst (λ (b : Option FileRecord). IsOverBase b c.args.name.now old mid) c.base-base.ensures (c.replace.ensures.over_base keeps)) (c.drop_temp.ensures.temp keeps)
+
+pub returns-in-Ok-clause-checks : goal.returns-in-Ok-clause-checks
+returns-in-Ok-clause-checks g c =
+    let kind = IsOfPlace c.args.name.now (copy_of c.args.plan.now) in
+    let undone = IfDone c.finish.result ⊥ in
+    subst (λ (b : Option FileRecord). ChecksFirst g.S.FileStore.gives c.args.name.now b kind undone c.args.store.now c.replace.new.store) c.base-base.ensures
+    (checks_so g.S.FileStore.gives c.args.name.now _ kind ⊥ undone c.args.store.now c.replace.new.store (λ no. absurd no) c.in-Ok.ensures.checks)
+
+pub returns-in-Err-clause-checks : goal.returns-in-Err-clause-checks
+returns-in-Err-clause-checks g c =
+    let n = c.args.name.now in
+    let kind = IsOfPlace n (copy_of c.args.plan.now) in
+    let is = stop-undone ⊥ _ _ (Abort c.args.commit) c.in-Err.stop c.abort.result
+    (subst (λ a. Closes (g.W.FolderCalls.view c.args.calls.now) (Abort c.args.commit) a c.abort.result (g.W.FolderCalls.view c.abort.new.calls)) c.answer_of.ensures c.abort.ensures.closes) in
+    subst (λ (b : Option FileRecord). ChecksFirst g.S.FileStore.gives n b kind (IfDone c.abort.result ⊥) c.args.store.now c.drop_temp.new.store) c.base-base.ensures
+    (checks_then g.S.FileStore.gives n _ kind _ (IfDone c.abort.result ⊥) c.args.store.now c.replace.new.store c.drop_temp.new.store (λ _. is) c.in-Err.ensures.checks
+    c.drop_temp.ensures.calls
+    (called_wider g.S.FileStore.gives (IsOfPlace n None) kind (place_copy n (copy_of c.args.plan.now)) _ _ c.drop_temp.ensures.drops))
+
+pub returns-in-Err-clause-kept : goal.returns-in-Err-clause-kept
+returns-in-Err-clause-kept g c = λ keeps.
+    aborted-kept c.args.name.now (g.S.FileStore.tree c.args.store.now) (g.S.FileStore.tree c.replace.new.store) (g.S.FileStore.tree c.drop_temp.new.store) c.in-Err.stop
+    (c.in-Err.ensures.untouched keeps) (c.drop_temp.ensures.temp keeps) _ _ (Abort c.args.commit) c.abort.result
+    (subst (λ a. Closes (g.W.FolderCalls.view c.args.calls.now) (Abort c.args.commit) a c.abort.result (g.W.FolderCalls.view c.abort.new.calls)) c.answer_of.ensures c.abort.ensures.closes)

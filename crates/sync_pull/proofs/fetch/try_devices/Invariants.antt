@@ -1,6 +1,12 @@
--- Nothing was put yet.
-use Rattle.std.proofs.Common.{◌≡◌}
+-- Nothing was put yet, and the devices so far have no bytes of the block.
+use Rattle.std.proofs.Common.{◌≡◌, take}
+use Rattle.std.specs.Prelude.{IfSome, slice_get}
+use Rattle.sync_pull.specs.Sources.{AsksOnly, HasNoBytes}
 use Rattle.sync_pull.proofs.fetch.try_devices.Given as goal
 
-abbrev pub invariant-loop-device : goal.invariant-loop-device
-invariant-loop-device g l = l.assembly ≡ l.initial.assembly
+abbrev pub invariant-loop-i : goal.invariant-loop-i
+invariant-loop-i g l = record {
+  same : l.assembly ≡ l.initial.assembly;
+  asks : AsksOnly g.B.BlockSource.gives l.from.name.now l.initial.source l.source;
+  none : HasNoBytes g.B.BlockSource.gives l.from.me l.from.name.now (take l.i l.from.devices.now) l.source l.block;
+}

@@ -3,7 +3,7 @@ use Rattle.std.specs.Prelude.{IsTrue}
 use Rattle.sync_record.specs.Records.{Name}
 use Rattle.file_store.specs.declared.node.Listed.{Listed}
 use Rattle.sync_scan.specs.Ahead.{HasBlocks, HasBytes, IsSeen, cut_block}
-use Rattle.sync_scan.specs.Looks.{MayFind}
+use Rattle.sync_scan.specs.Looks.{MayFindAt, ShownSince}
 use Rattle.sync_scan.specs.Told.{Fails}
 use Rattle.sync_scan.specs.declared.ahead.Seen.{Seen}
 use Rattle.sync_scan.proofs.CutLemmas.{has-blocks}
@@ -16,7 +16,9 @@ returns-in-Ok-hash_read-clause-seen g c =
     let gives = g.S.FileStore.gives in
     let old = g.W.FolderCalls.view c.args.calls.now in
     let new = g.W.FolderCalls.view c.read_ahead.new.calls in
-    let may = MayFind gives (IsTrue g.S.FileStore.keeps) (g.S.FileStore.tree c.args.store.now) in
+    let view = g.W.FolderCalls.view in
+    let shown = g.G.Gate.shown c.args.gate.now g.row.S.Denot g.row.W.Denot in
+    let may = MayFindAt gives (ShownSince gives shown view c.args.store.now) (IsTrue g.S.FileStore.keeps) (g.S.FileStore.tree c.args.store.now) in
     let known = take c.read_ahead.new.filled c.read_ahead.new.buffer.items in
     let cuts = c.read_ahead.new.cuts.items in
     let blocks = c.in-Ok-hash_read.blocks.items in

@@ -4,13 +4,15 @@ use Rattle.std.specs.List.{AllZip}
 use Rattle.std.proofs.lemmas.List.{get_or-map, length-map, take_more}
 use Rattle.std.proofs.lemmas.Slice.Zip.{all_zipped_more}
 use Rattle.sync_record.specs.Records.{Name}
+use Rattle.file_store.specs.Sequences.{IsLook, not_called}
 use Rattle.file_store.specs.declared.node.Listed.{Listed}
+use Rattle.file_store.proofs.SequenceLemmas.{called_on}
 use Rattle.sync_scan.specs.Ahead.{HasBytes, IsSeen}
-use Rattle.sync_scan.specs.Looks.{MayFind}
+use Rattle.sync_scan.specs.Looks.{MayFindAt, ShownSince}
 use Rattle.sync_scan.specs.Told.{Fails}
 use Rattle.sync_scan.specs.declared.ahead.Seen.{Seen}
 use Rattle.sync_scan.proofs.CutLemmas.{has-more}
-use Rattle.sync_scan.proofs.EachLemmas.{may-moved}
+use Rattle.sync_scan.proofs.EachLemmas.{at-moved, shown-earlier}
 use Rattle.sync_scan.proofs.OnLemmas.{goes-itself, sees-goes}
 use Rattle.sync_scan.proofs.ScanLemmas.{sees-itself, sees-on}
 use Rattle.sync_scan.proofs.SeenLemmas.{all-weaker, seen-weaker}
@@ -22,7 +24,8 @@ loop-entry-init g c = record {
   sees = sees-itself (g.W.FolderCalls.view c.args.calls.now);
   within = omega arith;
   seen = subst (AllZip (IsSeen (HasBytes (take c.args.filled.now c.args.buffer.now.items) c.args.cuts.now.items) (g.W.FolderCalls.view c.args.calls.now) (g.W.FolderCalls.view c.args.calls.now)
-      (MayFind g.S.FileStore.gives (IsTrue g.S.FileStore.keeps) (g.S.FileStore.tree c.args.store.now)) (Fails g.S.FileStore.gives)) []) (sym c.in_ok-seen.ensures.items) tt;
+      (MayFindAt g.S.FileStore.gives (ShownSince g.S.FileStore.gives (g.G.Gate.shown c.args.gate.now g.row.S.Denot g.row.W.Denot) g.W.FolderCalls.view c.args.store.now) (IsTrue g.S.FileStore.keeps) (g.S.FileStore.tree c.args.store.now)) (Fails g.S.FileStore.gives)) []) (sym c.in_ok-seen.ensures.items) tt;
+  looks = not_called;
   kept = λ k. refl;
 }
 
@@ -36,7 +39,11 @@ loop-entry-preserved g c =
     let new = g.W.FolderCalls.view c.see.new.calls in
     let tree = g.S.FileStore.tree c.args.store.now in
     let then = g.S.FileStore.tree c.loop-entry.store in
-    let may = MayFind gives keeps tree in
+    let view = g.W.FolderCalls.view in
+    let shown = g.G.Gate.shown c.args.gate.now g.row.S.Denot g.row.W.Denot in
+    let start = c.args.store.now in
+    let mid = c.loop-entry.store in
+    let may = MayFindAt gives (ShownSince gives shown view start) keeps tree in
     let entries = c.args.entries.now in
     let i = c.loop-entry.entry-index in
     let x = c.entry-item.result in
@@ -61,7 +68,18 @@ loop-entry-preserved g c =
           (λ (n : Name) (s : Seen). seen-weaker (HasBytes known cuts) (HasBytes known' cuts') old old before new may may fails n s
           (λ p b h. has-more known cuts p b h known' cuts' c.in_ok-next.ensures.bytes c.in_ok-next.ensures.cuts) (goes-itself old) on (λ m l f u. u))
           c.loop-entry.invariant.seen)
-          (seen-weaker (HasBytes known' cuts') (HasBytes known' cuts') old before new new (MayFind gives keeps then) may fails x.name c.in_ok-next.next
-          (λ p b h. h) (sees-goes old before c.loop-entry.invariant.sees) (goes-itself new) (may-moved gives keeps then tree c.loop-entry.invariant.kept) c.in_ok-next.ensures.seen)));
+          (seen-weaker (HasBytes known' cuts') (HasBytes known' cuts') old before new new (MayFindAt gives (ShownSince gives shown view mid) keeps then) may fails x.name c.in_ok-next.next
+          (λ p b h. h) (sees-goes old before c.loop-entry.invariant.sees) (goes-itself new)
+          (at-moved gives (ShownSince gives shown view mid) (ShownSince gives shown view start) keeps then tree (shown-earlier gives shown view start mid c.loop-entry.invariant.looks) c.loop-entry.invariant.kept) c.in_ok-next.ensures.seen)));
+      looks = called_on gives IsLook start mid c.see.new.store c.loop-entry.invariant.looks c.see.ensures.looks;
       kept = λ k. c.see.ensures.kept k ∙ c.loop-entry.invariant.kept k;
     }
+
+pub returns-in_err-next-clause-looks : goal.returns-in_err-next-clause-looks
+returns-in_err-next-clause-looks g c = called_on g.S.FileStore.gives IsLook c.args.store.now c.loop-entry.store c.see.new.store c.loop-entry.invariant.looks c.in_err-next.ensures.looks
+
+pub returns-in_err-push_back-clause-looks : goal.returns-in_err-push_back-clause-looks
+returns-in_err-push_back-clause-looks g c = called_on g.S.FileStore.gives IsLook c.args.store.now c.loop-entry.store c.see.new.store c.loop-entry.invariant.looks c.see.ensures.looks
+
+pub returns-in_err-seen-clause-looks : goal.returns-in_err-seen-clause-looks
+returns-in_err-seen-clause-looks g c = not_called

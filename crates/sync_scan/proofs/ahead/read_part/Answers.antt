@@ -1,5 +1,6 @@
 use Rattle.std.proofs.Common.{◌≡◌, ◌∙◌, ◌+◌, ◌-◌, ◌++◌, rules, length, take, arith, refl, sym, ap, subst, length-take-le}
 use Rattle.std.specs.Prelude.{Ok}
+use Rattle.file_store.specs.Sequences.{Since}
 use Rattle.sync_scan.specs.Ahead.{file_cuts}
 use Rattle.sync_scan.specs.Told.{ReadsOther}
 use Rattle.sync_scan.specs.declared.ahead.Part.{Part}
@@ -7,14 +8,14 @@ use Rattle.sync_scan.proofs.CutLemmas.{has-new, part-all, part-before, part-long
 use Rattle.sync_scan.proofs.ahead.read_part.Goals as goal
 
 pub returns-in-Ok-false-clause-read : goal.returns-in-Ok-false-clause-read
-returns-in-Ok-false-clause-read g c = λ e.
+returns-in-Ok-false-clause-read g c = λ first looks e.
     let f = c.args.filled.now in
     let size = c.args.size in
     let s = c.deref_mut.result.now in
     let same = ap length c.deref_mut.ensures.value in
     let grown = c.in_ok-grow.ensures.grown in
     let long = part-long f size s (omega arith) in (
-      subst (ReadsOther g.S.FileStore.gives c.args.name.now) long (c.in-Ok-false.ensures.other (ap Ok c.in-Ok-false.field-0-test)),
+      subst (ReadsOther (Since g.S.FileStore.gives first) c.args.name.now) long (c.in-Ok-false.ensures.other first looks (ap Ok c.in-Ok-false.field-0-test)),
       λ k at. c.in-Ok-false.ensures.not_there (ap Ok c.in-Ok-false.field-0-test) k (at ∙ sym long),
     )
 
@@ -66,7 +67,7 @@ returns-clause-bytes g c =
     (part, sym after)
 
 pub returns-clause-read : goal.returns-clause-read
-returns-clause-read g c =
+returns-clause-read g c = λ start looks.
     let f = c.args.filled.now in
     let size = c.args.size in
     let s = c.deref_mut.result.now in
@@ -90,7 +91,7 @@ returns-clause-read g c =
             (c.in_ok-push_cuts.ensures ∙ ap (λ b. c.args.cuts.now.items ++ file_cuts c.args.filled.now c.args.size b) c.requires.own) first,
         refl,
         refl,
-        c.in-Ok-true.ensures.read (ap Ok c.in-Ok-true.field-0-test),
+        c.in-Ok-true.ensures.read start looks (ap Ok c.in-Ok-true.field-0-test),
         λ keeps. c.in-Ok-true.ensures.there (ap Ok c.in-Ok-true.field-0-test) keeps,
       ),
       λ e. absurd (cc),

@@ -1,10 +1,12 @@
 use Rattle.std.proofs.Common.{◌≡◌, ◌∙◌, ◌++◌, ◌∷◌, [], None, take, drop, suc, refl, sym, ap, subst}
 use Rattle.std.specs.Prelude.{IsTrue}
 use Rattle.std.proofs.lemmas.List.{take_more}
+use Rattle.file_store.specs.Sequences.{IsLook, not_called}
+use Rattle.file_store.proofs.SequenceLemmas.{called_on}
 use Rattle.sync_scan.specs.AllNames.{UnlessBelow}
 use Rattle.sync_scan.specs.Told.{Fails}
-use Rattle.sync_scan.specs.Looks.{MayFind}
-use Rattle.sync_scan.proofs.EachLemmas.{Ends, Goes, divided-at, ends, goes-nowhere, goes-on, is-none, below-moved, next-earlier, each-goes, next-weaker}
+use Rattle.sync_scan.specs.Looks.{MayFindAt, ShownSince}
+use Rattle.sync_scan.proofs.EachLemmas.{Ends, Goes, divided-at, ends, goes-nowhere, goes-on, is-none, below-moved, next-earlier, each-goes, next-weaker, shown-earlier}
 use Rattle.sync_scan.proofs.all.scan_missing.Goals as goal
 
 pub returns-then-is_some-clause-scans : goal.returns-then-is_some-clause-scans
@@ -16,7 +18,13 @@ returns-then-is_some-clause-scans g c =
     let new = g.W.FolderCalls.view c.scan_missing_name.new.calls in
     let tree = g.S.FileStore.tree c.args.store.now in
     let unread = c.args.unread.now in
-    let may = UnlessBelow unread (MayFind gives keeps tree) in
+    let view = g.W.FolderCalls.view in
+    let shown = g.G.Gate.shown c.args.gate.now g.row.S.Denot g.row.W.Denot in
+    let start = c.args.store.now in
+    let mid = c.loop-name.store in
+    let since = ShownSince gives shown view start in
+    let later = ShownSince gives shown view mid in
+    let may = UnlessBelow unread (MayFindAt gives since keeps tree) in
     let then = g.S.FileStore.tree c.loop-name.store in
     let names = c.args.names.now in
     let i = c.loop-name.name-index in
@@ -25,7 +33,7 @@ returns-then-is_some-clause-scans g c =
     subst (λ ns. Ends old c.args.moment may fails ns c.args.sum c.scan_missing_name.new.sum new) (sym whole)
     (ends _ _ _ c.args.moment may fails (take i names) n c.args.sum c.loop-name.sum c.scan_missing_name.new.sum c.loop-name.invariant.scans
     (next-earlier old _ _ n c.args.moment may fails c.loop-name.sum c.scan_missing_name.new.sum (each-goes _ c.args.moment may fails _ old _ c.loop-name.invariant.scans.1)
-    (next-weaker _ _ _ n c.args.moment (UnlessBelow unread (MayFind gives keeps then)) may fails c.loop-name.sum c.scan_missing_name.new.sum (below-moved gives keeps then tree unread c.loop-name.invariant.kept n) c.scan_missing_name.ensures.scans))
+    (next-weaker _ _ _ n c.args.moment (UnlessBelow unread (MayFindAt gives later keeps then)) may fails c.loop-name.sum c.scan_missing_name.new.sum (below-moved gives later since keeps then tree unread (shown-earlier gives shown view start mid c.loop-name.invariant.looks) c.loop-name.invariant.kept n) c.scan_missing_name.ensures.scans))
     c.loop-name.invariant.stopped (drop (suc i) names) (sym c.is_some.ensures ∙ c.if-is_some.true))
 
 pub loop-name-preserved : goal.loop-name-preserved
@@ -37,7 +45,13 @@ loop-name-preserved g c =
     let new = g.W.FolderCalls.view c.scan_missing_name.new.calls in
     let tree = g.S.FileStore.tree c.args.store.now in
     let unread = c.args.unread.now in
-    let may = UnlessBelow unread (MayFind gives keeps tree) in
+    let view = g.W.FolderCalls.view in
+    let shown = g.G.Gate.shown c.args.gate.now g.row.S.Denot g.row.W.Denot in
+    let start = c.args.store.now in
+    let mid = c.loop-name.store in
+    let since = ShownSince gives shown view start in
+    let later = ShownSince gives shown view mid in
+    let may = UnlessBelow unread (MayFindAt gives since keeps tree) in
     let then = g.S.FileStore.tree c.loop-name.store in
     let names = c.args.names.now in
     let i = c.loop-name.name-index in
@@ -49,19 +63,26 @@ loop-name-preserved g c =
       scans = subst (λ ns. Goes old c.args.moment may fails ns c.args.sum c.scan_missing_name.new.sum new) (sym more)
           (goes-on _ _ _ c.args.moment may fails (take i names) n c.args.sum c.loop-name.sum c.scan_missing_name.new.sum c.loop-name.invariant.scans
           (next-earlier old _ _ n c.args.moment may fails c.loop-name.sum c.scan_missing_name.new.sum (each-goes _ c.args.moment may fails _ old _ c.loop-name.invariant.scans.1)
-          (next-weaker _ _ _ n c.args.moment (UnlessBelow unread (MayFind gives keeps then)) may fails c.loop-name.sum c.scan_missing_name.new.sum (below-moved gives keeps then tree unread c.loop-name.invariant.kept n) c.scan_missing_name.ensures.scans))
+          (next-weaker _ _ _ n c.args.moment (UnlessBelow unread (MayFindAt gives later keeps then)) may fails c.loop-name.sum c.scan_missing_name.new.sum (below-moved gives later since keeps then tree unread (shown-earlier gives shown view start mid c.loop-name.invariant.looks) c.loop-name.invariant.kept n) c.scan_missing_name.ensures.scans))
           c.loop-name.invariant.stopped off);
       stopped = off;
+      looks = called_on gives IsLook start mid c.scan_missing_name.new.store c.loop-name.invariant.looks c.scan_missing_name.ensures.looks;
       kept = λ k. c.scan_missing_name.ensures.kept k ∙ c.loop-name.invariant.kept k;
     }
 
 pub loop-name-init : goal.loop-name-init
 loop-name-init g c =
     let gives = g.S.FileStore.gives in
-    let may = UnlessBelow c.args.unread.now (MayFind gives (IsTrue g.S.FileStore.keeps) (g.S.FileStore.tree c.args.store.now)) in
+    let view = g.W.FolderCalls.view in
+    let shown = g.G.Gate.shown c.args.gate.now g.row.S.Denot g.row.W.Denot in
+    let may = UnlessBelow c.args.unread.now (MayFindAt gives (ShownSince gives shown view c.args.store.now) (IsTrue g.S.FileStore.keeps) (g.S.FileStore.tree c.args.store.now)) in
     record {
       folder = refl;
       scans = goes-nowhere (g.W.FolderCalls.view c.args.calls.now) c.args.moment may (Fails gives) c.args.sum;
       stopped = c.requires;
+      looks = not_called;
       kept = λ k. refl;
     }
+
+pub returns-then-is_some-clause-looks : goal.returns-then-is_some-clause-looks
+returns-then-is_some-clause-looks g c = called_on g.S.FileStore.gives IsLook c.args.store.now c.loop-name.store c.scan_missing_name.new.store c.loop-name.invariant.looks c.scan_missing_name.ensures.looks

@@ -1,6 +1,8 @@
 use Rattle.std.proofs.Common.{◌≡◌, ◌+◌, ◌++◌, ◌∙◌, Global, Vec, [], length, take, refl, sym, ap, inr, rules, arith, length-take-le}
 use Rattle.std.proofs.lemmas.List.{length-append}
+use Rattle.file_store.specs.Sequences.{IsLook, Since, not_called}
 use Rattle.file_store.specs.Trees.{bytes_of}
+use Rattle.file_store.proofs.SequenceLemmas.{called_on, fills_all_since}
 use Rattle.sync_scan.proofs.PartsLemmas.{is-part, is-shorter, is-whole, list-of-none, more-blocks, more-bytes, stays-whole}
 use Rattle.sync_scan.specs.Told.{less, more, no_part}
 use Rattle.sync_scan.proofs.ToldLemmas.{fails-memory, fails-read, parts-all, parts-more, told-refusal}
@@ -40,9 +42,12 @@ loop-done-preserved g c =
         λ keeps. more-bytes _ read.0 part done next (read.3 keeps)
             (is-part _ _ part (take next whole) c.in_ok-read_full.field-0 done next (c.in_ok-read_full.ensures.reads keeps)
             (ap (λ t. bytes_of (t.names c.args.name.now)) (c.loop-done.invariant.kept keeps)) kept room c.if-branch-next.false),
-        parts-more g.S.FileStore.gives c.args.name.now read.0 (take next whole) part done c.in_ok-read_full.field-0 c.loop-done.store c.read_full.new.store read.4 long
-            (let most = c.in_ok-read_full.ensures.bound in omega (arith, kept, room)) c.in_ok-read_full.ensures.given,
+        λ first looks. parts-more (Since g.S.FileStore.gives first) c.args.name.now read.0 (take next whole) part done c.in_ok-read_full.field-0 c.loop-done.store c.read_full.new.store (read.4 first looks) long
+            (let most = c.in_ok-read_full.ensures.bound in omega (arith, kept, room))
+            (fills_all_since g.S.FileStore.gives c.args.name.now done c.loop-done.store (take next whole) first
+            (called_on g.S.FileStore.gives IsLook first c.args.store.now c.loop-done.store looks c.loop-done.invariant.looks) _ _ _ c.in_ok-read_full.ensures.given),
       );
+      looks = called_on g.S.FileStore.gives IsLook c.args.store.now c.loop-done.store c.read_full.new.store c.loop-done.invariant.looks c.in_ok-read_full.ensures.looks;
       kept = λ keeps. c.in_ok-read_full.ensures.kept keeps ∙ c.loop-done.invariant.kept keeps;
       counted = c.in_ok-read_full.ensures.counted ∙ c.loop-done.invariant.counted;
       room = search rules;
@@ -67,15 +72,18 @@ returns-clause-read g c =
       ],
       λ keeps. is-whole _ _ read.0 c.read_full-2.new.buffer c.in_ok-read_full-2.field-0 c.loop-done.done size (read.3 keeps) read.1 all
           (c.in_ok-read_full-2.ensures.reads keeps) (ap (λ t. bytes_of (t.names c.args.name.now)) (c.loop-done.invariant.kept keeps)) c.if-branch-gt0.false,
-      parts-all g.S.FileStore.gives c.args.name.now read.0 c.read_full-2.new.buffer size c.in_ok-read_full-2.field-0 c.loop-done.store c.read_full-2.new.store read.4 long
-          (omega arith) c.in_ok-read_full-2.ensures.given,
+      λ first looks. parts-all (Since g.S.FileStore.gives first) c.args.name.now read.0 c.read_full-2.new.buffer size c.in_ok-read_full-2.field-0 c.loop-done.store c.read_full-2.new.store (read.4 first looks) long
+          (omega arith)
+          (fills_all_since g.S.FileStore.gives c.args.name.now size c.loop-done.store _ first
+          (called_on g.S.FileStore.gives IsLook first c.args.store.now c.loop-done.store looks c.loop-done.invariant.looks) _ _ _ c.in_ok-read_full-2.ensures.given),
     )
 
 pub loop-done-init : goal.loop-done-init
 loop-done-init g c = record {
   within = omega arith;
   whole = inr (0, search rules);
-  read = ([], refl, c.new-blocks.ensures.items ∙ sym (c.parts_make_the_block_list.ensures.none 0 c.args.block_size c.requires.some), λ k. refl, no_part);
+  read = ([], refl, c.new-blocks.ensures.items ∙ sym (c.parts_make_the_block_list.ensures.none 0 c.args.block_size c.requires.some), λ k. refl, λ first looks. no_part);
+  looks = not_called;
   kept = λ k. refl;
   counted = refl;
   room = search rules;
@@ -90,11 +98,13 @@ returns-in_err-read_full-clause-failed g c =
     (fails-read g.S.FileStore.gives c.args.name.now c.loop-done.done c.loop-done.store c.read_full.new.store _ c.read_full.new.buffer c.in_err-read_full.field-0.0 c.in_err-read_full.ensures.refusals c.in_err-read_full.ensures.given)
 
 pub returns-then-branch-next-clause-other : goal.returns-then-branch-next-clause-other
-returns-then-branch-next-clause-other g c = λ none.
+returns-then-branch-next-clause-other g c = λ first looks none.
     let next = c.min-next.result in
     let room : length (take next c.loop-done.bytes) ≡ next = length-take-le next c.loop-done.bytes (omega arith) in
     less c.loop-done.done c.in_ok-read_full.field-0 (take next c.loop-done.bytes) c.read_full.new.buffer c.loop-done.store c.read_full.new.store
-    c.in_ok-read_full.ensures.given (omega arith) (omega arith)
+    (fills_all_since g.S.FileStore.gives c.args.name.now c.loop-done.done c.loop-done.store (take next c.loop-done.bytes) first
+    (called_on g.S.FileStore.gives IsLook first c.args.store.now c.loop-done.store looks c.loop-done.invariant.looks) _ _ _ c.in_ok-read_full.ensures.given)
+    (omega arith) (omega arith)
 
 pub returns-in_err-push_blocks-clause-failed : goal.returns-in_err-push_blocks-clause-failed
 returns-in_err-push_blocks-clause-failed g c = fails-memory g.S.FileStore.gives c.args.name.now c.from_residual-in_err-push_blocks.result (search rules)
@@ -105,8 +115,35 @@ returns-in_err-read_full-2-clause-failed g c =
     (fails-read g.S.FileStore.gives c.args.name.now c.args.size c.loop-done.store c.read_full-2.new.store _ c.read_full-2.new.buffer c.in_err-read_full-2.field-0.0 c.in_err-read_full-2.ensures.refusals c.in_err-read_full-2.ensures.given)
 
 pub returns-then-branch-gt0-clause-other : goal.returns-then-branch-gt0-clause-other
-returns-then-branch-gt0-clause-other g c = λ none.
-    more c.in_ok-read_full-2.field-0 c.read_full-2.new.buffer c.loop-done.store c.read_full-2.new.store c.in_ok-read_full-2.ensures.given (omega arith)
+returns-then-branch-gt0-clause-other g c = λ first looks none.
+    more c.in_ok-read_full-2.field-0 c.read_full-2.new.buffer c.loop-done.store c.read_full-2.new.store
+    (fills_all_since g.S.FileStore.gives c.args.name.now c.args.size c.loop-done.store _ first
+    (called_on g.S.FileStore.gives IsLook first c.args.store.now c.loop-done.store looks c.loop-done.invariant.looks) _ _ _ c.in_ok-read_full-2.ensures.given)
+    (omega arith)
 
 pub returns-in_err-push_empty_block-clause-failed : goal.returns-in_err-push_empty_block-clause-failed
 returns-in_err-push_empty_block-clause-failed g c = fails-memory g.S.FileStore.gives c.args.name.now c.from_residual-in_err-push_empty_block.result (search rules)
+
+pub returns-in_err-resize-clause-looks : goal.returns-in_err-resize-clause-looks
+returns-in_err-resize-clause-looks g c = not_called
+
+pub returns-in_err-read_full-clause-looks : goal.returns-in_err-read_full-clause-looks
+returns-in_err-read_full-clause-looks g c = called_on g.S.FileStore.gives IsLook c.args.store.now c.loop-done.store c.read_full.new.store c.loop-done.invariant.looks c.in_err-read_full.ensures.looks
+
+pub returns-then-branch-next-clause-looks : goal.returns-then-branch-next-clause-looks
+returns-then-branch-next-clause-looks g c = called_on g.S.FileStore.gives IsLook c.args.store.now c.loop-done.store c.read_full.new.store c.loop-done.invariant.looks c.in_ok-read_full.ensures.looks
+
+pub returns-in_err-push_blocks-clause-looks : goal.returns-in_err-push_blocks-clause-looks
+returns-in_err-push_blocks-clause-looks g c = called_on g.S.FileStore.gives IsLook c.args.store.now c.loop-done.store c.read_full.new.store c.loop-done.invariant.looks c.in_ok-read_full.ensures.looks
+
+pub returns-in_err-read_full-2-clause-looks : goal.returns-in_err-read_full-2-clause-looks
+returns-in_err-read_full-2-clause-looks g c = called_on g.S.FileStore.gives IsLook c.args.store.now c.loop-done.store c.read_full-2.new.store c.loop-done.invariant.looks c.in_err-read_full-2.ensures.looks
+
+pub returns-then-branch-gt0-clause-looks : goal.returns-then-branch-gt0-clause-looks
+returns-then-branch-gt0-clause-looks g c = called_on g.S.FileStore.gives IsLook c.args.store.now c.loop-done.store c.read_full-2.new.store c.loop-done.invariant.looks c.in_ok-read_full-2.ensures.looks
+
+pub returns-in_err-push_empty_block-clause-looks : goal.returns-in_err-push_empty_block-clause-looks
+returns-in_err-push_empty_block-clause-looks g c = called_on g.S.FileStore.gives IsLook c.args.store.now c.loop-done.store c.read_full-2.new.store c.loop-done.invariant.looks c.in_ok-read_full-2.ensures.looks
+
+pub returns-clause-looks : goal.returns-clause-looks
+returns-clause-looks g c = called_on g.S.FileStore.gives IsLook c.args.store.now c.loop-done.store c.read_full-2.new.store c.loop-done.invariant.looks c.in_ok-read_full-2.ensures.looks

@@ -48,11 +48,11 @@ module _ (adds : (asked : List Asked) (old new : CallerView) → Asks old asked 
   asked old read new n v moment look.Changing scanned.Skipped sees never = absurd never
 
 pub returns-clause-alone : goal.returns-clause-alone
-returns-clause-alone g c old new n moment tree result scans =
+returns-clause-alone g c gate begun tree old new n moment result scans =
     asked c.changes_are_asked_in_order.ensures.adds (λ o w. (c.entries_add_up.ensures.seen o w).0) c.entries_add_up.ensures.together old scans.read new n
     (local_version (now scans.read) n) moment scans.found result scans.sees scans.asks
 
 pub returns-clause-of_several : goal.returns-clause-of_several
-returns-clause-of_several g c first old new n moment tree result scans =
+returns-clause-of_several g c gate begun tree first old new n moment result scans =
     asked c.changes_are_asked_in_order.ensures.adds (λ o w. (c.entries_add_up.ensures.seen o w).0) c.entries_add_up.ensures.together old scans.point new n
     (local_version (now scans.read) n) moment scans.found result scans.sees scans.asks
