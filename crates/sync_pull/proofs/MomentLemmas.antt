@@ -1,10 +1,10 @@
 -- What a store is called for in a pull, one call after another.
-use Rattle.std.proofs.Common.{◌≡◌, inl, inr, refl, subst, sym, List, ℕ, Option, None, Some, Result}
+use Rattle.std.proofs.Common.{◌≡◌, inl, subst, sym, List, ℕ, Option, None, Some, Result}
 use Rattle.file_store.specs.Asked.{Call, Value, ListAll, StatAt, ReadAt, MakeTemp, WriteAt, CommitTemp, DropTemp, Rename, Remove, MakeDir, RemoveDir}
 use Rattle.file_store.specs.Names.{Name}
 use Rattle.file_store.specs.Sequences.{CallsOnly, IsLook, IsOfTemp, LooksOnly, called, not_called}
 use Rattle.file_store.specs.declared.refusal.StoreRefusal.{StoreRefusal}
-use Rattle.file_store.proofs.SequenceLemmas.{called_on, called_once, called_wider}
+use Rattle.file_store.proofs.SequenceLemmas.{called_on, called_wider}
 use Rattle.std.specs.Prelude.{◌+◌, ◌≤◌, ◌<◌, ◌∷◌, ◌++◌, [], Ok, drop, length, take}
 use Rattle.std.proofs.Common.{arith, get_or, ap, ◌∙◌, suc}
 use Rattle.std.proofs.Math.Seq.{drop-cons, take-suc}

@@ -1,5 +1,5 @@
 -- Why a pull fails, by what its parts failed for.
-use Rattle.std.proofs.Common.{◌≡◌, ℕ, ◌+◌, ◌-◌, ◌^◌, ◌<◌, min, Bool, true, false, ◌&&◌, ◌==◌, [], ◌∷◌, length, Some, None, inl, inr, refl, sym, ap, subst, ◌∙◌, arith}
+use Rattle.std.proofs.Common.{◌≡◌, ℕ, ◌+◌, ◌-◌, ◌^◌, ◌<◌, min, Bool, true, false, ◌&&◌, ◌==◌, [], ◌∷◌, length, Option, Some, None, inl, inr, refl, sym, ap, subst, ◌∙◌, arith}
 use Rattle.std.specs.Prelude.{bytes_eq, ◌⊎◌, ⊤, IsSome, ℤ}
 use Rattle.std.proofs.lemmas.Bool.{false≢true}
 use Rattle.std.proofs.lemmas.Slice.Eq.{bytes_eq-Decides}
@@ -139,11 +139,11 @@ stops-before most moment n keeps sourceless t old new a b c (stop.Failed BadPare
 
 -- ---- what is left
 
-emptied-by : (most : ℤ) (moment : ℕ) (n : Name) (refused : Tree → Call → Type 0) (t : PullInfo) (plan : CopyPlan) (node : Option Node) → IsPlanned most moment n t.base t.target plan
-    → MayEmpty refused node n plan (standing_of t.base) (standing_of (Some t.target)) → MayBeEmpty most moment n refused t node
-emptied-by most moment n refused t NotDue node planned m = inr m
-emptied-by most moment n refused t (Due None) node planned m = absurd m
-emptied-by most moment n refused t (Due (Some copy)) node planned m = inl (planned.0, subst (IsMoveRefused refused node n) planned.1 m)
+emptied-by : (most : ℤ) (moment : ℕ) (n : Name) (refused : Tree → Call → Type 0) (t : PullInfo) (plan : CopyPlan) (was : Option Node) → IsPlanned most moment n t.base t.target plan
+    → MayEmpty refused was n plan (standing_of t.base) (standing_of (Some t.target)) → MayBeEmpty most moment n refused t was
+emptied-by most moment n refused t NotDue was planned m = inr m
+emptied-by most moment n refused t (Due None) was planned m = absurd m
+emptied-by most moment n refused t (Due (Some copy)) was planned m = inl (planned.0, subst (IsMoveRefused refused was n) planned.1 m)
 
 pub left-pulled : (most : ℤ) (moment : ℕ) (n : Name) (refused : Tree → Call → Type 0) (t : PullInfo) (plan : CopyPlan) (old mid new : Tree) → IsPlanned most moment n t.base t.target plan
     → mid.names n ≡ old.names n → IsReadyAs t.target.deleted t.target n mid

@@ -57,10 +57,10 @@ module _ {B : Type 0} (gives : Gives B) (n : Name) where
           | inl more ↦ asked-each b ds now v d more apart
           | inr same ↦ absurd (apart (sym same))
         ]
-    asked-each b _ _ (in_vain ds before now x given bytes v gave use) d has apart =
+    asked-each b _ _ (in_vain ds before now x given bytes v gave vain) d has apart =
         elim (Contains-push_cases ds x d has) [
           | inl more ↦ asked-each b ds before v d more apart
-          | inr same ↦ (before, now, given, bytes, subst (λ (y : Identity). gives before y n b given bytes now) same gave, use)
+          | inr same ↦ (before, now, given, bytes, subst (λ (y : Identity). gives before y n b given bytes now) same gave, vain)
         ]
     asked-each b _ _ (meanwhile ds before now v only) d has apart = asked-each b ds before v d has apart
 

@@ -1,5 +1,5 @@
 -- What stands at a name.
-use Rattle.std.proofs.Common.{◌≡◌, ℕ, Bool, false, List, length, Option, Some, None, Result, refl, sym, ap, subst, ◌∙◌}
+use Rattle.std.proofs.Common.{◌≡◌, ℕ, Bool, false, List, length, Option, Some, None, Result, sym, ap, subst, ◌∙◌}
 use Rattle.std.specs.Prelude.{◌↔◌, IfOk, IsTrue}
 use Rattle.std.proofs.lemmas.Result.{IfOk-weaker}
 use Rattle.file_store.specs.Calls.{stat_of}
@@ -17,12 +17,6 @@ pub said-file : (there : Option Node) (size modified : ℕ) → stat_of there �
 said-file None size modified e = absurd (cc)
 said-file (Some Directory) size modified e = absurd (cc)
 said-file (Some (File bytes m)) size modified e = (bytes, cc, cc)
-
--- nothing is where that is said
-pub said-missing : (there : Option Node) → stat_of there ≡ stat.Missing → there ≡ None
-said-missing None e = refl
-said-missing (Some Directory) e = absurd (cc)
-said-missing (Some (File bytes m)) e = absurd (cc)
 
 -- a live file is there as its record says exactly where its bytes are those of the record
 pub file-stands : (r : FileRecord) (there : Option Node) (bytes : List ℕ) (modified : ℕ) → r.deleted ≡ false → kind_of r ≡ kind.File

@@ -1,11 +1,11 @@
 -- What a pull is begun for.
-use Rattle.std.proofs.Common.{◌≡◌, ℕ, ℤ, pos, ◌++◌, Bool, true, false, not, ◌&&◌, ◌||◌, List, [], ◌∷◌, Option, Some, None, Result, Ok, Err, inl, inr, refl, sym, ap, subst, ◌∙◌}
+use Rattle.std.proofs.Common.{◌≡◌, ℕ, ℤ, pos, Bool, true, false, not, ◌&&◌, ◌||◌, List, [], ◌∷◌, Option, Some, None, Result, Ok, Err, inl, inr, refl, sym, ap, subst}
 use Rattle.std.specs.Prelude.{if◌then◌else◌, IsOk, IsTrue, find, filter, is_some}
 use Rattle.std.specs.FinMap.{entries, get}
 use Rattle.std.specs.Ordering.{int_eq}
 use Rattle.std.proofs.lemmas.Bool.{false≢true}
 use mathlib.Core.List.{IsPrefix}
-use Rattle.folder_core.specs.Announced.{KeyedRecord, best, bests, is_best, is_candidate, is_of}
+use Rattle.folder_core.specs.Announced.{KeyedRecord, best, is_best, is_candidate, is_of}
 use Rattle.folder_core.specs.States.{FolderState, is_needed}
 use Rattle.folder_core.specs.Steps.{begin_pull, next_ticket, step, with_pull}
 use Rattle.folder_core.specs.declared.pull_stage.PullStage.TheVariants.{Pulling}
@@ -14,7 +14,7 @@ use Rattle.folder_core.specs.declared.answer.Answer.TheVariants.{Begun, Busy, Cl
 use Rattle.folder_core.specs.declared.change.Change.{Change}
 use Rattle.folder_core.specs.declared.change.Change.TheVariants.{BeginPull}
 use Rattle.folder_core.specs.declared.pull_info.PullInfo.{PullInfo}
-use Rattle.folder_calls.specs.Histories.{is_over, state_after}
+use Rattle.folder_calls.specs.Histories.{state_after}
 use Rattle.folder_calls.specs.Shared.{CallerView, Gets, own_entry}
 use Rattle.folder_calls.specs.declared.entry.Entry.{Entry}
 use Rattle.sync_record.specs.Assemblies.{is_plain}

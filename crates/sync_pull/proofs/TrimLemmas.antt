@@ -1,6 +1,6 @@
 -- What the removal of older conflict copies leaves as it was.
 use Rattle.std.proofs.Common.{◌≡◌, ◌≢◌, ◌⊎◌, ◌∷◌, ℕ, Bool, true, false, List, Option, Some, None, inl, inr, refl, sym, ap, subst, ◌∙◌}
-use Rattle.std.specs.Prelude.{bytes_eq, ⊤, Contains, ℤ, pos, negsuc}
+use Rattle.std.specs.Prelude.{bytes_eq, ⊤, ℤ, pos, negsuc}
 use Rattle.file_store.specs.Asked.{Call}
 use Rattle.file_store.specs.Calls.{ChangesTemp}
 use Rattle.file_store.specs.Names.{Name}

@@ -42,13 +42,13 @@ IsCopyRefused refused t n (Some copy) = (t.names copy ≡ None) × refused t (Re
 
 -- that, when this was at the name; or to move it back, when it was at the name of the copy and nothing at the name
 abbrev pub IsMoveRefused : (Tree → Call → Type 0) → Option Node → Name → Name → Type 0
-IsMoveRefused refused node n copy =
-    ((t : Tree) × (t.names n ≡ node) × IsCopyRefused refused t n (Some copy))
-    ⊎ ((t : Tree) × (t.names copy ≡ node) × (t.names n ≡ None) × refused t (Rename copy n))
+IsMoveRefused refused was n copy =
+    ((t : Tree) × (t.names n ≡ was) × IsCopyRefused refused t n (Some copy))
+    ⊎ ((t : Tree) × (t.names copy ≡ was) × (t.names n ≡ None) × refused t (Rename copy n))
 
 -- the store refused to remove what was at the name
 abbrev pub IsRemoveRefused : (Tree → Call → Type 0) → Option Node → Name → Type 0
-IsRemoveRefused refused node n = (t : Tree) × (t.names n ≡ node) × refused t (Remove n)
+IsRemoveRefused refused was n = (t : Tree) × (t.names n ≡ was) × refused t (Remove n)
 
 -- Nothing changes but that what is at these names is gone; the store may have refused to remove it, as it was.
 pub record RemovesFiles (refused : Tree → Call → Type 0) (names : List Name) (old new : Tree) : Type 0 where

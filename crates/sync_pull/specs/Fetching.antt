@@ -1,5 +1,5 @@
 -- Blocks that are fetched and put into the temporary file (own rule).
-use Rattle.std.specs.Prelude.{◌≡◌, ◌≢◌, ℕ, ◌<◌, Bool, true, false, List, [], ◌∷◌, length, take, drop, get_or, IfSome, MatchOption, Option, Some, slice_get}
+use Rattle.std.specs.Prelude.{◌≡◌, ◌≢◌, ℕ, ◌<◌, true, false, List, [], ◌∷◌, length, take, drop, get_or, IfSome, MatchOption, Option, Some, slice_get}
 use Rattle.file_store.specs.Calls.{temp_written}
 use Rattle.file_store.specs.Names.{Name}
 use Rattle.file_store.specs.Trees.{Tree}

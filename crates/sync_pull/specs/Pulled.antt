@@ -119,8 +119,8 @@ TrimsIfDue false result trims still = still
 
 -- nothing may be at the name: the store refused to move a due copy there or back, a file becomes a directory, or a directory a file
 abbrev pub MayBeEmpty : ℤ → ℕ → Name → (Tree → Call → Type 0) → PullInfo → Option Node → Type 0
-MayBeEmpty most moment n refused t node =
-    ((is_copy_due most t.base t.target ≡ true) × IsMoveRefused refused node n (copy_name n moment t.base))
+MayBeEmpty most moment n refused t was =
+    ((is_copy_due most t.base t.target ≡ true) × IsMoveRefused refused was n (copy_name n moment t.base))
     ⊎ AreUnlike (standing_of t.base) (standing_of (Some t.target))
 
 -- What is at the name, whatever the answer: what was there, what the target says, or, only where that may be, nothing.

@@ -115,6 +115,6 @@ CopiedFails keeps copy old new before after BadParent = keeps → HasBadCopyPare
 -- where nothing may be left at the name: a kept file was moved away, and the store refused that or to move it back, or what was there
 -- is of another kind than what is wanted
 abbrev pub MayEmpty : (Tree → Call → Type 0) → Option Node → Name → CopyPlan → Standing → Standing → Type 0
-MayEmpty refused node n NotDue there wanted = AreUnlike there wanted
-MayEmpty refused node n (Due None) there wanted = ⊥
-MayEmpty refused node n (Due (Some copy)) there wanted = IsMoveRefused refused node n copy
+MayEmpty refused was n NotDue there wanted = AreUnlike there wanted
+MayEmpty refused was n (Due None) there wanted = ⊥
+MayEmpty refused was n (Due (Some copy)) there wanted = IsMoveRefused refused was n copy

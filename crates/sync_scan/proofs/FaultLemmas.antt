@@ -1,5 +1,5 @@
 -- A scan of all names stops for a fault only where the names are not listed.
-use Rattle.std.proofs.Common.{◌≡◌, ℕ, ◌-◌, ◌<◌, ◌≤◌, List, [], ◌∷◌, Option, Some, None, ◌⊎◌, inl, inr, ⊎_elim, arith, refl, sym, ap, ◌∙◌}
+use Rattle.std.proofs.Common.{◌≡◌, ℕ, ◌-◌, ◌<◌, ◌≤◌, List, [], ◌∷◌, Option, Some, None, inl, inr, ⊎_elim, arith, refl, sym, ap, ◌∙◌}
 use Rattle.std.specs.Prelude.{◌^◌, Result, Ok, Err}
 use Rattle.std.proofs.lemmas.Bool.{cases_lt}
 use Rattle.sync_record.specs.Records.{Name}

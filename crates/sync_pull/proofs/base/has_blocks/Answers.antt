@@ -1,5 +1,5 @@
-use Rattle.std.proofs.Common.{◌≡◌, ◌+◌, ◌∷◌, [], ap, arith, drop, refl, rules, sym, take}
-use Rattle.std.specs.Prelude.{◌↔◌, IfOk, IsTrue, Ok, true}
+use Rattle.std.proofs.Common.{◌≡◌, ◌+◌, [], ap, arith, drop, refl, rules, sym, take}
+use Rattle.std.specs.Prelude.{◌↔◌, IsTrue, Ok, true}
 use Rattle.std.proofs.lemmas.List.{drop_all, take_all}
 use Rattle.file_store.specs.Trees.{Tree, bytes_of}
 use Rattle.sync_pull.specs.Bytes.{AreOf}

@@ -1,4 +1,4 @@
-use Rattle.std.proofs.Common.{ap, inl, inr, refl, subst, sym}
+use Rattle.std.proofs.Common.{ap, inl, inr, refl, rules, subst, sym}
 use Rattle.std.specs.Prelude.{option_copied}
 use Rattle.file_store.specs.Asked.{Rename}
 use Rattle.file_store.specs.Sequences.{CallsOnly, called, not_called}
@@ -14,7 +14,7 @@ returns-in_err-rename-clause-asked g c = λ keeps.
     let refused = IsRefused g.S.FileStore.gives g.S.FileStore.tree in
     let given = subst (λ r. g.S.FileStore.gives c.stat.new.self (Rename n c.in-Some.copy.now) r c.rename.new.self) c.in_err-rename.was c.rename.ensures.gives in
     if-err c.from_residual-in_err-rename.result why _ c.from_residual-in_err-rename.ensures.1
-    (inr (subst (IsCopyRefused refused (g.S.FileStore.tree c.args.store.now) n) (sym (ap option_copied c.in-Some.is)) (?free, c.stat.new.self, (c.stat.ensures.stats keeps).kept, why, c.rename.new.self, given)))
+    (inr (subst (IsCopyRefused refused (g.S.FileStore.tree c.args.store.now) n) (sym (ap option_copied c.in-Some.is)) ((search rules), (c.stat.new.self, (c.stat.ensures.stats keeps).kept, why, c.rename.new.self, given))))
 
 pub returns-in_err-stat-clause-calls : goal.returns-in_err-stat-clause-calls
 returns-in_err-stat-clause-calls g c = called _ _ _ _ not_called tt c.stat.ensures.gives

@@ -1,7 +1,7 @@
-use Rattle.std.proofs.Common.{List, ◌≡◌, ◌+◌, ◌-◌, ap, subst, sym, ◌∙◌}
+use Rattle.std.proofs.Common.{List, ap, subst, ◌∙◌}
 use Rattle.sync_blocks.specs.declared.block.Block.{Block}
 use Rattle.sync_record.specs.Records.{FileRecord}
-use Rattle.sync_pull.specs.Fetching.{AreFound, IsFound}
+use Rattle.sync_pull.specs.Fetching.{IsFound}
 use Rattle.sync_pull.specs.Sources.{Lacks}
 use Rattle.sync_pull.proofs.FailLemmas.{err-counts}
 use Rattle.sync_pull.proofs.SourceLemmas.{found-part, lacks-part, stop-source}

@@ -1,6 +1,6 @@
 use Rattle.std.proofs.Common.{refl}
 use Rattle.file_store.proofs.SequenceLemmas.{called_on}
-use Rattle.std.proofs.Common.{◌∙◌, ◌+◌, ◌++◌, ◌∷◌, [], ℕ, List, ap, arith, get_or, length, rules, subst, sym, take}
+use Rattle.std.proofs.Common.{◌∙◌, ◌+◌, ◌++◌, ◌∷◌, [], ℕ, List, ap, arith, get_or, rules, subst, sym, take}
 use Rattle.sync_blocks.specs.declared.block.Block.{Block}
 use Rattle.sync_pull.specs.Fetching.{AreFound, Finds, IsFound}
 use Rattle.sync_pull.proofs.ChainLemmas.{sees-itself, sees-together}

@@ -1,4 +1,4 @@
-use Rattle.std.proofs.Common.{◌≡◌, ap, sym, subst, take, ◌∙◌}
+use Rattle.std.proofs.Common.{ap, sym, subst, take, ◌∙◌}
 use Rattle.std.specs.Prelude.{IfSome, slice_get}
 use Rattle.sync_record.specs.Assemblies.{Assembling}
 use Rattle.sync_record.specs.Records.{FileRecord}

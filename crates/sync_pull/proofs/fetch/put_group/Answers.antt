@@ -11,7 +11,7 @@ use Rattle.sync_pull.specs.Sources.{HasNoBytes, Lacks}
 use Rattle.sync_pull.proofs.FailLemmas.{err-counts}
 use Rattle.sync_pull.proofs.FetchLemmas.{held-next}
 use Rattle.sync_pull.proofs.PuttingLemmas.{temps-then}
-use Rattle.sync_pull.proofs.SourceLemmas.{found-as, found-here, found-on, lacks-at, of-place, own-front, put-next, stop-source}
+use Rattle.sync_pull.proofs.SourceLemmas.{found-as, found-here, found-on, lacks-at, of-place, put-next, stop-source}
 use Rattle.sync_pull.proofs.fetch.put_group.Goals as goal
 
 abbrev none : Block

@@ -1,10 +1,9 @@
-use Rattle.std.proofs.Common.{◌≡◌, ap, arith, length, refl, subst, sym, ◌∙◌}
-use Rattle.sync_blocks.specs.declared.block.Block.{Block}
+use Rattle.std.proofs.Common.{ap, arith, refl, subst, sym, ◌∙◌}
 use Rattle.std.specs.Prelude.{◌≢◌, IfSome, slice_get}
 use Rattle.sync_record.specs.Assemblies.{Assembling, put_answer}
 use Rattle.sync_record.specs.declared.put.Put.TheVariants.{Ok}
 use Rattle.sync_record.specs.Records.{FileRecord}
-use Rattle.sync_pull.specs.Sources.{HasNoBytes, not_asked}
+use Rattle.sync_pull.specs.Sources.{not_asked}
 use Rattle.sync_pull.proofs.SourceLemmas.{asks-on, at-place, no-bytes-all, no-bytes-me, no-bytes-next, none-given, of-place, refused-at}
 use Rattle.sync_pull.proofs.fetch.try_devices.Goals as goal
 use Rattle.sync_pull.proofs.fetch.try_devices.Goals.{else-branch-via-then-branch+else-try_bytes, else-branch-via-else-branch}

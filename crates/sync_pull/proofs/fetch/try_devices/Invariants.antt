@@ -1,6 +1,5 @@
 -- Nothing was put yet, and the devices so far have no bytes of the block.
 use Rattle.std.proofs.Common.{◌≡◌, take}
-use Rattle.std.specs.Prelude.{IfSome, slice_get}
 use Rattle.sync_pull.specs.Sources.{AsksOnly, HasNoBytes}
 use Rattle.sync_pull.proofs.fetch.try_devices.Given as goal
 

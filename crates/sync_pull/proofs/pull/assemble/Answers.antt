@@ -6,7 +6,7 @@ use Rattle.sync_record.specs.Validity.{is_valid}
 use Rattle.sync_pull.specs.Fetching.{HoldsBlocks}
 use Rattle.sync_pull.specs.Standing.{IsReadyAs}
 use Rattle.sync_pull.proofs.FetchLemmas.{ready-file}
-use Rattle.sync_pull.proofs.TargetLemmas.{first, pullable-file, pullable-other}
+use Rattle.sync_pull.proofs.TargetLemmas.{first, pullable-file}
 use Rattle.sync_pull.proofs.pull.assemble.Goals as goal
 
 pub returns-in_ok-file-in-File-clause-ready : goal.returns-in_ok-file-in-File-clause-ready

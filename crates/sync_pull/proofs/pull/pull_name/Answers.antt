@@ -1,9 +1,9 @@
-use Rattle.std.proofs.Common.{Ok, ap, inr, refl, rules, ◌∙◌}
+use Rattle.std.proofs.Common.{Ok, ap, inr, ◌∙◌}
 use Rattle.folder_core.specs.declared.answer.Answer.TheVariants.{Begun}
 use Rattle.folder_core.specs.declared.change.Change.TheVariants.{BeginPull}
 use Rattle.folder_calls.specs.Calls.{begin_value}
 use Rattle.sync_pull.proofs.ChainLemmas.{gets}
-use Rattle.sync_pull.specs.Moments.{begun, not_begun}
+use Rattle.sync_pull.specs.Moments.{begun}
 use Rattle.sync_pull.proofs.TargetLemmas.{begun-pullable}
 use Rattle.sync_pull.proofs.pull.pull_name.Goals as goal
 

@@ -1,5 +1,5 @@
-use Rattle.std.proofs.Common.{Ok, ap, rules, subst, sym, true, ◌≡◌}
-use Rattle.sync_pull.specs.Moments.{ChecksFirst, IsOfPlace, checked, copy_of, unchanged}
+use Rattle.std.proofs.Common.{Ok, rules, subst, sym, true, ◌≡◌}
+use Rattle.sync_pull.specs.Moments.{IsOfPlace, checked, copy_of, unchanged}
 use Rattle.file_store.specs.Sequences.{CallsOnly}
 use Rattle.sync_pull.specs.declared.replace.CopyPlan.{CopyPlan}
 use Rattle.sync_pull.proofs.MomentLemmas.{looks_temp}

@@ -1,5 +1,4 @@
-use Rattle.std.proofs.Common.{Option, Some, ap, subst, sym}
-use Rattle.std.specs.Prelude.{option_copied}
+use Rattle.std.proofs.Common.{Option, Some, subst, sym}
 use Rattle.file_store.specs.Names.{Name}
 use Rattle.file_store.specs.Sequences.{CallsOnly}
 use Rattle.file_store.proofs.SequenceLemmas.{called_on}

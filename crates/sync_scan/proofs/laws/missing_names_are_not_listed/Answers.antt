@@ -1,6 +1,5 @@
-use Rattle.std.proofs.Common.{◌≡◌, ◌++◌, [], Some, ⊎_elim, refl, sym, ap, subst, ◌∙◌}
+use Rattle.std.proofs.Common.{◌≡◌, Some, ⊎_elim, subst}
 use Rattle.std.proofs.lemmas.Map.Keys.{Less-from_sorted}
-use Rattle.sync_record.specs.Records.{FileRecord}
 use Rattle.folder_core.specs.States.{local}
 use Rattle.folder_calls.specs.Shared.{CallerView, now}
 use Rattle.sync_scan.proofs.MissingLemmas.{order, sees-both}
