@@ -150,8 +150,11 @@ pub left-pulled : (most : ℤ) (moment : ℕ) (n : Name) (refused : Tree → Cal
     → IsLeft (MayEmpty refused (mid.names n) n plan (standing_of t.base) (standing_of (Some t.target))) (standing_of (Some t.target)) mid n new → IsOldOrTarget most moment n refused t old new
 left-pulled most moment n refused t plan old mid new planned same ready (inl e) = inl (e ∙ same)
 left-pulled most moment n refused t plan old mid new planned same ready (inr (inl p)) = inr (inl (there-is t.target n mid new ready p))
-left-pulled most moment n refused t plan old mid new planned same ready (inr (inr e)) = inr (inr (emptied-by most moment n refused t plan (old.names n) planned
-    (subst (λ (o : Option Node). MayEmpty refused o n plan (standing_of t.base) (standing_of (Some t.target))) same e.0), e.1))
+left-pulled most moment n refused t plan old mid new planned same ready (inr (inr e)) = inr (inr (
+  emptied-by most moment n refused t plan (old.names n) planned
+      (subst (λ (o : Option Node). MayEmpty refused o n plan (standing_of t.base) (standing_of (Some t.target))) same e.0),
+  e.1,
+))
 
 -- ---- the temporary file
 
