@@ -57,7 +57,7 @@ not-done old n k new (inr x) = never x.0
     never e = cc
 
 -- a pull that is done was begun
-pub pulled : AnswerLaws → (most : ℤ) (moment : ℕ) (n : Name) (keeps counted : Type 0) (sourceless : FileRecord → CallerView → Type 0) (dropped : Type 0) (refused : Call → Type 0) (result : PullAnswer)
+pub pulled : AnswerLaws → (most : ℤ) (moment : ℕ) (n : Name) (keeps counted : Type 0) (sourceless : FileRecord → CallerView → Type 0) (dropped : Type 0) (refused : Tree → Call → Type 0) (result : PullAnswer)
     (old : CallerView) (before : Tree) (new : CallerView) (after : Tree)
     → Comes most moment n keeps counted sourceless dropped refused result old before new after → keeps → IfDone result (PullsTarget old n (after.names n) new)
 pulled laws most moment n keeps counted sourceless dropped refused (Done k) old before new after (inl x) kept = absurd (not-done old n k new x.0)
@@ -77,7 +77,7 @@ pulled laws most moment n keeps counted sourceless dropped refused (Refused r) o
 pulled laws most moment n keeps counted sourceless dropped refused (Failed f) old before new after x kept = tt
 
 -- whatever it came to, the folder was asked for it
-pub asks-to-pull : (most : ℤ) (moment : ℕ) (n : Name) (keeps counted : Type 0) (sourceless : FileRecord → CallerView → Type 0) (dropped : Type 0) (refused : Call → Type 0) (result : PullAnswer)
+pub asks-to-pull : (most : ℤ) (moment : ℕ) (n : Name) (keeps counted : Type 0) (sourceless : FileRecord → CallerView → Type 0) (dropped : Type 0) (refused : Tree → Call → Type 0) (result : PullAnswer)
     (old : CallerView) (before : Tree) (new : CallerView) (after : Tree)
     → Comes most moment n keeps counted sourceless dropped refused result old before new after → AsksToPull old n result new
 asks-to-pull most moment n keeps counted sourceless dropped refused result old before new after (inl x) = inl x.0
