@@ -1,8 +1,11 @@
 """Messages of the Block Exchange Protocol v1 as bytes, and from bytes, for the scripts that play a peer. Written from the protocol's tables and the
 Protocol Buffers encoding, and not by the library."""
+import hashlib
 
 HELLO = b"\x2E\xA7\xD9\x0B\x00\x03\x0A\x01\x61"
 TYPES = ("ClusterConfig", "Index", "IndexUpdate", "Request", "Response", "DownloadProgress", "Ping", "Close")
+# The block size of a file whose record names none.
+BLOCK = 131_072
 
 
 def varint(number):
@@ -104,6 +107,24 @@ def fields(body):
 
 def first(found, number, default=0):
     return found[number][0] if number in found else default
+
+
+def blocks_of(data, size=BLOCK):
+    return [(at, len(data[at:at + size]), hashlib.sha256(data[at:at + size]).digest()) for at in range(0, len(data), size)] or [(0, 0, hashlib.sha256(b"").digest())]
+
+
+def file_of(name, data, *counters, size=BLOCK):
+    """A file of blocks of this size."""
+    return info(name, *counters, size=len(data), blocks=blocks_of(data, size)) + field(13, 0 if size == BLOCK else size)
+
+
+def told_files(found):
+    """Of each FileInfo of a message the name, type, size, whether it is deleted, the sequence, and the blocks."""
+    rows = []
+    for it in map(fields, found.get(2, [])):
+        blocks = [(first(block, 1), first(block, 2), first(block, 3, b"")) for block in map(fields, it.get(16, []))]
+        rows.append((first(it, 1).decode(), first(it, 2), first(it, 3), first(it, 6), first(it, 10), blocks))
+    return rows
 
 
 class Messages:

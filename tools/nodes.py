@@ -8,7 +8,7 @@ import sys
 import tempfile
 import time
 
-from bep import field, rep
+from bep import HELLO, Messages, config, field, rep
 from program import bepd
 
 ROOT = os.path.dirname(os.path.dirname(os.path.realpath(__file__)))
@@ -16,7 +16,9 @@ PROGRAM = bepd()
 work = tempfile.mkdtemp(prefix="node-runs-")
 passed, failed = 0, 0
 # How long a run waits for what is to come, in seconds.
-PATIENCE = 60
+PATIENCE = int(os.environ.get("PATIENCE", 60))
+# The identities of the node whose peers are played, and of the first of these.
+ME, PEER = bytes([9]) * 32, bytes([1]) * 32
 
 
 class Differs(Exception):
@@ -164,6 +166,92 @@ class Node:
         """The most memory that it had, in bytes."""
         with open(f"/proc/{self.ran.pid}/status") as it:
             return next(int(line.split()[1]) * 1024 for line in it if line.startswith("VmHWM"))
+
+
+class Played(Node):
+    """A node of which a peer is played, or more of them."""
+
+    def __init__(self, *folders, peers=1, put=None, told=False, **settings):
+        self.ports = [free_port() for _ in range(peers)]
+        folders = folders or ("f",)
+        super().__init__(9, [(it, "listen", port) for it, port in enumerate(self.ports, 1)], folders, starts=False, **settings)
+        self.socks = []
+        for name, data in (put or {}).items():
+            self.put(name, data)
+        self.start(tells=told)
+        # (the scan at the start is over)
+        holds_all(self, len(put or ()))
+
+    def __exit__(self, *_):
+        for it in self.socks:
+            it.close()
+        super().__exit__()
+
+    def peer(self, number=1):
+        """A new connection of a peer, once none is up."""
+        self.is_down(number)
+        return self.connected(number)
+
+    def connected(self, number=1):
+        sock = socket.create_connection(("127.0.0.1", self.ports[number - 1]))
+        sock.settimeout(PATIENCE)
+        sock.setsockopt(socket.IPPROTO_TCP, socket.TCP_NODELAY, 1)
+        self.socks.append(sock)
+        return sock
+
+    def greeted(self, number=1, **told):
+        """The same, with what a connection begins with."""
+        messages = Messages(self.peer(number))
+        messages.sock.sendall(greeting(number, **told))
+        return messages
+
+    def is_down(self, number=1, seconds=PATIENCE):
+        end = time.monotonic() + seconds
+        while self.ask("peers")[number - 1] != f"peer {identity(number)} down":
+            if time.monotonic() > end:
+                raise Differs(f"{self.ask('peers')}")
+            time.sleep(0.005)
+
+    def bests(self, folder="f"):
+        return [it.removeprefix("best ") for it in self.ask(f"best {folder}")]
+
+
+def holds_all(node, count):
+    end = time.monotonic() + PATIENCE
+    while len(node.ask(f"local {node.folders[0]}")) < count:
+        if time.monotonic() > end:
+            raise Differs(f"{node.ask(f'local {node.folders[0]}')}")
+        time.sleep(0.01)
+
+
+def becomes(found, wanted):
+    """Waits until this is found."""
+    end = time.monotonic() + PATIENCE
+    while found() != wanted:
+        if time.monotonic() > end:
+            raise Differs(f"{found()!r}, not {wanted!r}")
+        time.sleep(0.01)
+
+
+def greeting(number=1, folder="f", index_id=5, mine=(0, 0)):
+    """What the connection of a peer begins with, who says what it has of the node's index: its number and the greatest sequence."""
+    return HELLO + config((folder, (bytes([number]) * 32, index_id, 0), (ME, *mine)))
+
+
+def leave(sock):
+    """Says that nothing comes any more, and waits until the node hangs up."""
+    sock.shutdown(socket.SHUT_WR)
+    hung_up(sock)
+
+
+def hung_up(sock):
+    """Takes what comes until the node hangs up."""
+    try:
+        while sock.recv(1 << 16):
+            pass
+    except ConnectionError:
+        pass
+    sock.close()
 
 
 def pair(starts=True):
