@@ -171,16 +171,17 @@ class Node:
 class Played(Node):
     """A node of which a peer is played, or more of them."""
 
-    def __init__(self, *folders, peers=1, put=None, told=False, **settings):
+    def __init__(self, *folders, peers=1, put=None, told=False, starts=True, **settings):
         self.ports = [free_port() for _ in range(peers)]
         folders = folders or ("f",)
         super().__init__(9, [(it, "listen", port) for it, port in enumerate(self.ports, 1)], folders, starts=False, **settings)
         self.socks = []
         for name, data in (put or {}).items():
             self.put(name, data)
-        self.start(tells=told)
-        # (the scan at the start is over)
-        holds_all(self, len(put or ()))
+        if starts:
+            self.start(tells=told)
+            # (the scan at the start is over)
+            holds_all(self, len(put or ()))
 
     def __exit__(self, *_):
         for it in self.socks:
