@@ -6,9 +6,12 @@ HELLO = b"\x2E\xA7\xD9\x0B\x00\x03\x0A\x01\x61"
 TYPES = ("ClusterConfig", "Index", "IndexUpdate", "Request", "Response", "DownloadProgress", "Ping", "Close")
 # The block size of a file whose record names none.
 BLOCK = 131_072
+BYTES = [bytes([it]) for it in range(128)]
 
 
 def varint(number):
+    if 0 <= number < 128:
+        return BYTES[number]
     number &= 2**64 - 1
     out = b""
     while number > 127:
@@ -86,6 +89,8 @@ def fields(body):
         while True:
             byte = body[at]
             at += 1
+            if byte < 128 and not shift:
+                return byte
             value |= (byte & 127) << shift
             shift += 7
             if byte < 128:
