@@ -171,10 +171,15 @@ class Node:
 class Played(Node):
     """A node of which a peer is played, or more of them."""
 
-    def __init__(self, *folders, peers=1, put=None, told=False, starts=True, **settings):
+    def __init__(self, *folders, peers=1, put=None, told=False, starts=True, more="", **settings):
+        """Of each folder the configuration has these lines more."""
         self.ports = [free_port() for _ in range(peers)]
         folders = folders or ("f",)
         super().__init__(9, [(it, "listen", port) for it, port in enumerate(self.ports, 1)], folders, starts=False, **settings)
+        if more:
+            with open(f"{self.path}/config") as it:
+                text = re.sub("(?m)^(path = .*\n)", rf"\1{more}", it.read())
+            self.configure((), folders, text)
         self.socks = []
         for name, data in (put or {}).items():
             self.put(name, data)
