@@ -1,7 +1,7 @@
 //! What a writer writes in one call, that it flushes that, and that it stops at a message over the limit.
 use bep_frames::{Message, WriteFault};
 use bep_messages::{Hello, Octets, Ping, Response, Text};
-use peer_conn::{OutQueue, Seat, Taker, WriterFault, run_writer};
+use peer_conn::{Bell, OutQueue, Seat, Taker, WriterFault, run_writer};
 use std::io::{self, Write};
 use std::process::Abort;
 use std::sync::Wait;
@@ -47,12 +47,12 @@ fn writes_what_stands_in_the_queue_together(rt: HostRuntime) {
 /// How many bytes each call wrote of a writer for which there are a Ping, a Response with so many data, and one more Ping.
 fn written<R: AllocGlobal + Abort + Wait>(rt: &R, size: usize) -> Vec<usize> {
     let data = vec![in rt.alloc(); 7u8; size].expect(rt, "data");
-    let mut taker = filled(rt, data);
+    let (mut taker, mut bell) = filled(rt, data);
     let mut calls = Calls {
         sizes: Vec::new(rt.alloc()),
         is_flushed: true,
     };
-    match run_writer(rt, rt.alloc(), &hello(rt), &mut taker, &mut calls) {
+    match run_writer(rt, rt.alloc(), &hello(rt), &mut taker, &mut bell, &mut calls) {
         Ok(()) => assert!(rt; calls.is_flushed),
         Err(fault) => panic!(rt; "{fault:?}"),
     }
@@ -61,9 +61,9 @@ fn written<R: AllocGlobal + Abort + Wait>(rt: &R, size: usize) -> Vec<usize> {
 
 #[test]
 fn stops_at_a_message_over_the_limit(rt: HostRuntime) {
-    let mut taker = filled(&rt, too_long(&rt));
+    let (mut taker, mut bell) = filled(&rt, too_long(&rt));
     let mut out = Vec::new(rt.alloc());
-    match run_writer(&rt, rt.alloc(), &hello(&rt), &mut taker, &mut out) {
+    match run_writer(&rt, rt.alloc(), &hello(&rt), &mut taker, &mut bell, &mut out) {
         Err(WriterFault::Frame(WriteFault::TooLong)) => {}
         end => panic!(&rt; "{end:?}"),
     }
@@ -83,9 +83,9 @@ fn too_long(rt: &(impl AllocGlobal + Abort)) -> Vec<u8> {
     data
 }
 
-/// The taker of a queue with a Ping, a Response with these data and one more Ping, whose seats have ended.
-fn filled<R: AllocGlobal + Abort + Wait>(rt: &R, data: Vec<u8>) -> Taker<Message> {
-    let (mut seat, _, _, taker) = OutQueue::open::<Message>(rt.alloc(), 3).expect(rt, "a queue");
+/// The taker and the bell of a queue with a Ping, a Response with these data and one more Ping, whose seats have ended.
+fn filled<R: AllocGlobal + Abort + Wait>(rt: &R, data: Vec<u8>) -> (Taker<Message>, Bell) {
+    let (mut seat, _, _, taker, bell) = OutQueue::open::<Message>(rt.alloc(), 3).expect(rt, "a queue");
     let response = Response {
         id: 0,
         payload: Octets::from_vec(data),
@@ -94,7 +94,7 @@ fn filled<R: AllocGlobal + Abort + Wait>(rt: &R, data: Vec<u8>) -> Taker<Message
     puts(rt, &mut seat, Message::Ping(Ping {}));
     puts(rt, &mut seat, Message::Response(response));
     puts(rt, &mut seat, Message::Ping(Ping {}));
-    taker
+    (taker, bell)
 }
 
 fn puts<R: Abort + Wait>(rt: &R, seat: &mut Seat<Message>, message: Message) {

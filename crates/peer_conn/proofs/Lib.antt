@@ -3,5 +3,6 @@ pub mod Names
 pub mod Moves
 pub mod Told
 pub mod Sending
-pub mod Adding
 pub mod Seeing
+pub mod Telling
+pub mod Slices

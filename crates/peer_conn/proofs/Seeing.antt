@@ -16,7 +16,7 @@ sees_itself v = record { longer = ([], append-nil v.seen); own = refl; same = re
 longer : (a b c : List Entry) → IsPrefix a b → IsPrefix b c → IsPrefix a c
 longer a b c x y = (x.0 ++ y.0, sym (append_assoc a x.0 y.0) ∙ ap (λ l. l ++ y.0) x.1 ∙ y.1)
 
-sees_together : (a b c : CallerView) → Sees a b → Sees b c → Sees a c
+pub sees_together : (a b c : CallerView) → Sees a b → Sees b c → Sees a c
 sees_together a b c x y =
     let pass : b.pass ≡ a.pass = ap (λ (v : CallerView). v.pass) x.same in
     record {

@@ -1,6 +1,6 @@
 -- The ClusterConfigs of both devices (Block Exchange Protocol v1, "Cluster Config"; which entry counts where one is repeated, and
 -- from where a peer is told an index, are own rules).
-use Rattle.std.specs.Prelude.{ℕ, ℤ, pos, negsuc, ◌-◌, ◌^◌, ◌==◌, ◌&&◌, min, nat_le, bytes_eq, Bool, true, false, if◌then◌else◌, List, [], ◌∷◌, map, find, reverse, Option, Some, None, option_and_then}
+use Rattle.std.specs.Prelude.{ℕ, ℤ, pos, negsuc, ◌-◌, ◌^◌, ◌==◌, ◌&&◌, min, nat_le, bytes_eq, Bool, false, if◌then◌else◌, List, [], ◌∷◌, map, find, reverse, Option, Some, None, option_and_then}
 use Rattle.bep_messages.specs.declared.cluster_config.ClusterConfig.{ClusterConfig}
 use Rattle.bep_messages.specs.declared.device.Device.{Device}
 use Rattle.bep_messages.specs.declared.folder.Folder.{Folder}

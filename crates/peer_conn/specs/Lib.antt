@@ -3,3 +3,4 @@ pub mod Words
 pub mod Sending
 pub mod Configs
 pub mod Turns
+pub mod Indexing

@@ -2,7 +2,6 @@
 use Rattle.std.specs.Prelude.{◌≡◌, ◌⊎◌, ℕ, List, [], ◌∷◌, ◌++◌, map, Option, Some, None}
 use Rattle.bep_frames.specs.declared.frame.Message.{Message}
 use Rattle.bep_frames.specs.declared.frame.Message.TheVariants as message
-use Rattle.bep_messages.specs.declared.cluster_config.ClusterConfig.{ClusterConfig}
 use Rattle.sync_record.specs.Infos.{info_of}
 use Rattle.folder_calls.specs.Shared.{CallerView, IsLegalView, Sees, now}
 use Rattle.index_sender.specs.Pages.{Gives, Progress}
@@ -33,14 +32,6 @@ Turns folder v old new before after Put = (m : Message) × GivesMessage folder v
 Turns folder v old new before after Nothing = GivesMessage folder v old new None × (after ≡ before)
 Turns folder v old new before after (Ended Gone) = (m : Message) × GivesMessage folder v old new (Some m) × (after ≡ before)
 Turns folder v old new before after (Ended OutOfMemory) = MayGiveMessage folder v old new × (after ≡ before)
-
--- more was put
-abbrev pub Adds : List Message → List Message → Type 0
-Adds before after = (more : List Message) × (after ≡ before ++ more)
-
--- nothing was put, or the ClusterConfig and then more
-abbrev pub BeginsWith : ClusterConfig → List Message → List Message → Type 0
-BeginsWith config before after = (after ≡ before) ⊎ ((more : List Message) × (after ≡ before ++ message.ClusterConfig config ∷ more))
 
 module _ {W F : Type 0} (folder : W → F) (view : W → CallerView) where
   -- It is the same folder: its history went on without an entry of this caller.

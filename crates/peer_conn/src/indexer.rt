@@ -1,7 +1,12 @@
 //! The indexer of a connection.
-ghost use Rattle.std.specs.Prelude.{◌≡◌};
+ghost use Rattle.std.specs.Prelude.{◌≡◌, ◌≢◌, ◌++◌, ◌∷◌, [], IfErr, IfOk, List, None, Option, true};
 ghost use Rattle.std.specs.List.{AllZip};
-ghost use Rattle.peer_conn.specs.Turns.{Adds, BeginsWith, OnlySees};
+ghost use Rattle.bep_frames.specs.declared.frame.Message.{Message};
+ghost use Rattle.bep_messages.specs.declared.cluster_config.ClusterConfig.{ClusterConfig};
+ghost use Rattle.index_sender.specs.Pages.{Progress};
+ghost use Rattle.peer_conn.specs.Indexing.{BeginsAt, EndsFor, Indexes, IsPing, Tells, TellsPeer};
+ghost use Rattle.peer_conn.specs.declared.indexer.IndexerEnd.TheVariants.{Closed, Gone};
+ghost use Rattle.peer_conn.specs.Turns.{OnlySees};
 ghost use Rattle.peer_conn.specs.Words.{IsSameEnded, IsSameSeat, all_of, put_of};
 
 use crate::config::{folder_of, start_of};
@@ -32,24 +37,47 @@ pub struct IndexedFolder<W> {
     pub calls: W,
 }
 
+/// Where the peer's ClusterConfigs come from, one after the other.
+pub trait PeerConfigs {
+    /// What was given: what there was before, a ClusterConfig, or none where no more will come, and what there is after it.
+    ghost gives: { Self → Option ClusterConfig → Self → Type 0 };
+
+    /// Waits for the next one, and returns it; `None` where no more will come.
+    fn next<R: Wait>(&mut self, rt: &R) -> Option<ClusterConfig>
+        ensures { gives self.old result self.new };
+
+    /// Waits until no more will come, or one comes, which is passed over, or this time has passed. Returns whether no more will come.
+    fn is_over_within<R: Wait + Clock>(&mut self, rt: &R, time: Duration) -> bool
+        ensures { result ≡ true → gives self.old None self.new };
+}
+
+impl PeerConfigs for Receiver<ClusterConfig> {
+    ghost use Rattle.std.specs.Prelude.{⊤};
+
+    ghost gives = { λ _ _ _. ⊤ };
+
+    /// `None` once the other end of the channel was dropped.
+    fn next<R: Wait>(&mut self, rt: &R) -> Option<ClusterConfig> {
+        self.recv(rt).ok()
+    }
+
+    fn is_over_within<R: Wait + Clock>(&mut self, rt: &R, time: Duration) -> bool {
+        match self.recv_timeout(rt, time) {
+            Err(RecvTimeoutError::Disconnected) => true,
+            _ => false,
+        }
+    }
+}
+
 /// Why an indexer ended.
 #[derive(Clone, Copy, Debug, PartialEq, Eq)]
 pub enum IndexerEnd {
-    /// The other end of the channel of ClusterConfigs was dropped.
+    /// No ClusterConfig will come any more.
     Closed,
     /// The taker was dropped.
     Gone,
     /// Memory is out.
     OutOfMemory,
-}
-
-impl From<TurnEnd> for IndexerEnd {
-    fn from(end: TurnEnd) -> IndexerEnd {
-        match end {
-            TurnEnd::OutOfMemory => IndexerEnd::OutOfMemory,
-            TurnEnd::Gone => IndexerEnd::Gone,
-        }
-    }
 }
 
 impl From<AllocError> for IndexerEnd {
@@ -63,17 +91,18 @@ impl From<AllocError> for IndexerEnd {
 /// sequence. Later ClusterConfigs of the peer are passed over.
 ///
 /// After a round in which there was nothing to tell it sleeps for a second, and puts a Ping if it has put nothing for 90 seconds. It
-/// ends once the other end of the channel is dropped, at once if it sleeps.
-pub fn run_indexer<R: Wait + Clock, W: FolderCalls>(
+/// ends once no ClusterConfig will come any more, at once if it sleeps.
+pub fn run_indexer<R: Wait + Clock, C: PeerConfigs, W: FolderCalls>(
     rt: &R,
     alloc: Global,
     config: ClusterConfig,
-    configs: &Receiver<ClusterConfig>,
+    configs: &mut C,
     folders: &mut [IndexedFolder<W>],
     seat: Seat<Message>,
 ) -> (Ended<Message>, IndexerEnd)
     ensures same { IsSameEnded seat result.0 }
-    ensures put { BeginsWith config (put_of seat) (all_of result.0) }
+    ensures tells { Indexes W.view C.gives config configs.old configs.new folders.old (put_of seat)
+        (all_of result.0) result.1 }
     ensures stays { AllZip (OnlySees W.folder W.view) folders.old folders.new }
 {
     let mut seat = seat;
@@ -85,18 +114,19 @@ pub fn run_indexer<R: Wait + Clock, W: FolderCalls>(
 }
 
 // Waits for the peer's ClusterConfig, and puts pages until it ends.
-fn index_all<R: Wait + Clock, W: FolderCalls>(
+fn index_all<R: Wait + Clock, C: PeerConfigs, W: FolderCalls>(
     rt: &R,
     alloc: Global,
-    configs: &Receiver<ClusterConfig>,
+    configs: &mut C,
     folders: &mut [IndexedFolder<W>],
     seat: &mut Seat<Message>,
 ) -> IndexerEnd
     ensures same { IsSameSeat seat.old seat.new }
-    ensures put { Adds (put_of seat.old) (put_of seat.new) }
+    ensures tells { (more : List Message) × (put_of seat.new ≡ put_of seat.old ++ more)
+        × TellsPeer W.view C.gives configs.old configs.new folders.old more result }
     ensures stays { AllZip (OnlySees W.folder W.view) folders.old folders.new }
 {
-    let Ok(config) = configs.recv(rt) else {
+    let Some(config) = configs.next(rt) else {
         return IndexerEnd::Closed;
     };
     let mut senders = match senders_of(alloc, &config, folders) {
@@ -122,18 +152,19 @@ fn index_all<R: Wait + Clock, W: FolderCalls>(
 }
 
 // A round, and where there was nothing to tell a pause. Returns the moment of the last put.
-#[tactic(auto, using(crate::proofs::Adding::adds_then))]
-fn index_once<R: Wait + Clock, W: FolderCalls>(
+fn index_once<R: Wait + Clock, C: PeerConfigs, W: FolderCalls>(
     rt: &R,
     alloc: Global,
-    configs: &Receiver<ClusterConfig>,
+    configs: &mut C,
     folders: &mut [IndexedFolder<W>],
     senders: &mut [Option<IndexSender>],
     seat: &mut Seat<Message>,
     last_put: Moment,
 ) -> Result<Moment, IndexerEnd>
     ensures same { IsSameSeat seat.old seat.new }
-    ensures put { Adds (put_of seat.old) (put_of seat.new) }
+    ensures tells { (end : List (Option Progress)) × (more : List Message) × (put_of seat.new ≡ put_of seat.old ++ more)
+        × Tells W.view folders.old senders.old end more × IfOk result (λ _. end ≡ senders.new) }
+    ensures over { IfErr result (λ why. EndsFor W.view C.gives why configs.new) }
     ensures stays { AllZip (OnlySees W.folder W.view) folders.old folders.new }
 {
     let moment = moment_of(rt, last_put);
@@ -143,7 +174,7 @@ fn index_once<R: Wait + Clock, W: FolderCalls>(
         put_ping(rt, seat)?;
     }
     let pause = if is_put { 0 } else { PAUSE_SECONDS };
-    if is_closed_within(rt, configs, Duration::from_secs(pause)) {
+    if configs.is_over_within(rt, Duration::from_secs(pause)) {
         return Err(IndexerEnd::Closed);
     }
     Ok(if is_put || is_ping { moment } else { last_put })
@@ -151,23 +182,12 @@ fn index_once<R: Wait + Clock, W: FolderCalls>(
 
 fn put_ping<R: Wait>(rt: &R, seat: &mut Seat<Message>) -> Result<(), IndexerEnd>
     ensures same { IsSameSeat seat.old seat.new }
-    ensures put { Adds (put_of seat.old) (put_of seat.new) }
+    ensures put { (m : Message) × IsPing m × IfOk result (λ _. put_of seat.new ≡ put_of seat.old ++ m ∷ []) }
+    ensures gone { IfErr result (λ why. (why ≡ Gone) × (put_of seat.new ≡ put_of seat.old)) }
 {
     match seat.put_wait(rt, Message::Ping(Ping {})) {
         Ok(()) => Ok(()),
         Err(_) => Err(IndexerEnd::Gone),
-    }
-}
-
-// Waits until the other end of the channel is dropped, or something comes by it, or this time has passed. Returns whether it was dropped.
-fn is_closed_within<R: Wait + Clock>(
-    rt: &R,
-    configs: &Receiver<ClusterConfig>,
-    time: Duration,
-) -> bool {
-    match configs.recv_timeout(rt, time) {
-        Err(RecvTimeoutError::Disconnected) => true,
-        _ => false,
     }
 }
 
@@ -177,7 +197,8 @@ fn senders_of<W: FolderCalls>(
     config: &ClusterConfig,
     folders: &mut [IndexedFolder<W>],
 ) -> Result<Vec<Option<IndexSender>>, AllocError>
-    ensures { AllZip (OnlySees W.folder W.view) folders.old folders.new }
+    ensures stays { AllZip (OnlySees W.folder W.view) folders.old folders.new }
+    ensures begins { IfOk result (λ senders. AllZip (BeginsAt W.view config.now) folders.old senders.items) }
 {
     let mut senders = Vec::with_capacity(alloc, folders.len())?;
     for folder in folders {
@@ -190,7 +211,8 @@ fn sender_of<W: FolderCalls>(
     config: &ClusterConfig,
     folder: &mut IndexedFolder<W>,
 ) -> Option<IndexSender>
-    ensures { OnlySees W.folder W.view folder.old folder.new }
+    ensures stays { OnlySees W.folder W.view folder.old folder.new }
+    ensures begins { BeginsAt W.view config.now folder.old result }
 {
     let _ = folder_of(config, folder.id.as_str())?;
     let me = folder.calls.me();
@@ -208,7 +230,9 @@ fn index_round<R: Wait, W: FolderCalls>(
     seat: &mut Seat<Message>,
 ) -> Result<bool, IndexerEnd>
     ensures same { IsSameSeat seat.old seat.new }
-    ensures put { Adds (put_of seat.old) (put_of seat.new) }
+    ensures tells { (end : List (Option Progress)) × (more : List Message) × (put_of seat.new ≡ put_of seat.old ++ more)
+        × Tells W.view folders.old senders.old end more × IfOk result (λ _. end ≡ senders.new) }
+    ensures open { IfErr result (λ why. why ≢ Closed) }
     ensures stays { AllZip (OnlySees W.folder W.view) folders.old folders.new }
 {
     let mut is_put = false;
@@ -224,7 +248,8 @@ fn index_round<R: Wait, W: FolderCalls>(
         match index_turn(rt, alloc, sender, id.as_str(), calls, seat) {
             Turn::Put => is_put = true,
             Turn::Nothing => {}
-            Turn::Ended(end) => return Err(IndexerEnd::from(end)),
+            Turn::Ended(TurnEnd::OutOfMemory) => return Err(IndexerEnd::OutOfMemory),
+            Turn::Ended(TurnEnd::Gone) => return Err(IndexerEnd::Gone),
         }
     }
     Ok(is_put)

@@ -17,8 +17,8 @@ mod turn;
 mod writer;
 
 pub use config::{FolderTold, cluster_config, entry_of, start_of};
-pub use ends::{Ended, NotPut, Seat, Taker};
-pub use indexer::{IndexedFolder, IndexerEnd, run_indexer};
+pub use ends::{Bell, Ended, NotPut, Rings, Seat, Taker};
+pub use indexer::{IndexedFolder, IndexerEnd, PeerConfigs, run_indexer};
 pub use known::{Account, Known, SeatName, Sent};
 pub use queue::OutQueue;
 pub use rule::{InOrder, law};

@@ -3,7 +3,7 @@ ghost use Rattle.std.specs.Prelude.{◌≡◌, ◌<◌, [], IfOk};
 ghost use Rattle.peer_conn.specs.declared.known.SeatName.TheVariants.{Indexer, Server, Requester};
 ghost use Rattle.peer_conn.specs.Words.{IsNew, IsNewTaker};
 
-use crate::ends::{Seat, Taker};
+use crate::ends::{Bell, Seat, Taker};
 use crate::known::{Known, SeatName, Sent};
 use crate::rule::{Cuts, InOrder};
 use crossbeam_channel::{bounded, bounded_with};
@@ -13,12 +13,12 @@ use std::alloc::{AllocError, Global};
 pub struct OutQueue;
 
 impl OutQueue {
-    /// The seats of the indexer, the server and the requester, and the taker, of a queue that holds up to `capacity`
+    /// The seats of the indexer, the server and the requester, the taker, and the bell that each put rings, of a queue that holds up to `capacity`
     /// messages. Fails only if out of memory.
     pub fn open<T: Drop>(
         alloc: Global,
         capacity: usize,
-    ) -> Result<(Seat<T>, Seat<T>, Seat<T>, Taker<T>), AllocError>
+    ) -> Result<(Seat<T>, Seat<T>, Seat<T>, Taker<T>, Bell), AllocError>
         requires { 0 < capacity }
         ensures indexer { IfOk result (λ r. IsNew capacity r.3 Indexer r.0) }
         ensures server { IfOk result (λ r. IsNew capacity r.3 Server r.1) }
@@ -54,11 +54,7 @@ impl OutQueue {
             token: third,
             bell: third_bell,
         };
-        let taker = Taker {
-            receiver,
-            token,
-            bell: rings,
-        };
-        Ok((indexer, server, requester, taker))
+        let taker = Taker { receiver, token };
+        Ok((indexer, server, requester, taker, Bell { rings }))
     }
 }

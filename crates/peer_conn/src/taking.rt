@@ -35,12 +35,6 @@ impl<T: Drop> Taker<T> {
         }
     }
 
-    /// Sleeps until a message was put, and then returns true; false once each seat has ended or was dropped. It may
-    /// return true where the messages that were put have been taken already. Takes no processor time while it sleeps.
-    pub fn wait<R: Wait>(&self, rt: &R) -> bool {
-        self.bell.recv(rt).is_ok()
-    }
-
     /// Takes in what the three seats put in all. The next take that finds the queue empty has taken all of it.
     pub fn last(&mut self, indexer: Ended<T>, server: Ended<T>, requester: Ended<T>)
         requires indexer { IsEndedOf self.old Indexer indexer }

@@ -1,5 +1,5 @@
 //! The writer of a connection.
-ghost use Rattle.std.specs.Prelude.{◌≡◌, ◌<◌, ◌++◌, [], pos, true, Some, IfErr, IfOk, IsErrOf, OnErr, OnOk, length};
+ghost use Rattle.std.specs.Prelude.{◌≡◌, ◌<◌, ◌++◌, [], false, pos, true, Some, IfErr, IfOk, IsErrOf, OnErr, OnOk, length};
 ghost use Rattle.std.specs.Io.KnownBytes.{Appends};
 ghost use Rattle.bep_frames.specs.Grammar.{max_message_bytes};
 ghost use Rattle.bep_frames.specs.Written.{body_of, hello_frame, message_frame};
@@ -9,7 +9,7 @@ ghost use Rattle.peer_conn.specs.declared.writer.WriterFault.TheVariants.{Frame,
 ghost use Rattle.peer_conn.specs.Words.{all_of, taken_of, IsEndedOf, IsSameQueue, IsSameTaker, IsWhole};
 ghost use Rattle.peer_conn.specs.Sending.{HasWritten, IsAll, Stops, StopsAt, StopsOrBegins, data_if, data_of, given_of, lent_of};
 
-use crate::ends::{Ended, Taker};
+use crate::ends::{Ended, Rings, Taker};
 use crate::known::Sent;
 use bep_frames::{Message, WriteFault, write_frame, write_hello, write_response_front};
 use bep_messages::{Hello, Response};
@@ -64,17 +64,19 @@ impl From<io::Error> for WriterFault {
 ///
 /// Frames of messages that stand in the queue together go out in one write, up to 64 KiB and the frame that passes it. The data of a
 /// Response, from 16 KiB on, go out in a write of their own, from where they lie.
-/// Sleeps while the queue is empty. Stops with `TooLong` at a message over the limit, or with `OutOfMemory`, once the
+/// Sleeps by the bell while the queue is empty, and ends only where that says that nothing more will be put. Stops with `TooLong` at a message over the limit, or with `OutOfMemory`, once the
 /// frames of the messages before it were written; or with the failure of a write. The caller then drops the taker, so that
 /// no seat waits for it. O(n) for n bytes written; memory for the greatest frame
 /// but a Response's, and 64 KiB.
-pub fn run_writer<R: Wait, W: Write>(
+pub fn run_writer<R: Wait, B: Rings, W: Write>(
     rt: &R,
     alloc: Global,
     hello: &Hello,
     taker: &mut Taker<Message>,
+    bell: &mut B,
     writer: &mut W,
 ) -> Result<(), WriterFault>
+    ensures over { OnOk result ((before : B) × B.says before false bell.new) }
     ensures same { IsSameTaker taker.old taker.new }
     ensures written { OnOk result (HasWritten (taken_of taker.old) (taken_of taker.new) (hello_frame hello.now)
         (W.contents writer.old) (W.contents writer.new)) }
@@ -86,7 +88,7 @@ pub fn run_writer<R: Wait, W: Write>(
     write_out(&mut buffer, writer)?;
     for _ in rt.forever() {
         drain(rt, alloc, taker, &mut buffer, writer)?;
-        if !taker.wait(rt) {
+        if !bell.wait(rt) {
             return Ok(());
         }
     }

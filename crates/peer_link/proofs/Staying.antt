@@ -8,7 +8,7 @@ use Rattle.peer_conn.specs.Turns.{OnlySees}
 use Rattle.peer_conn.specs.declared.indexer.IndexedFolder.{IndexedFolder}
 use Rattle.peer_server.specs.Answered.{Stays}
 use Rattle.peer_server.specs.declared.request.ServedFolder.{ServedFolder}
-use Rattle.peer_link.proofs.Slices.{written_back}
+use Rattle.peer_conn.proofs.Slices.{written_back}
 
 sees_itself : (v : CallerView) → Sees v v
 sees_itself v = record { longer = ([], append-nil v.seen); own = refl; same = refl }

@@ -17,7 +17,7 @@ use file_store::{FileStore, Gate};
 use folder_calls::FolderCalls;
 use peer_asks::{RequesterEnd, run_requester};
 use peer_conn::{
-    Ended, IndexedFolder, IndexerEnd, Seat, Taker, WriterFault, run_indexer, run_writer,
+    Bell, Ended, IndexedFolder, IndexerEnd, Seat, Taker, WriterFault, run_indexer, run_writer,
 };
 use peer_reader::{PeerFolder, ReaderEnd, run_reader};
 use peer_server::{PeerRequest, ServedFolder, ServerEnd, run_server};
@@ -110,7 +110,7 @@ pub(crate) fn index<R: Clock + Wait, W: FolderCalls + Drop, L: Line>(
 {
     let IndexJob {
         config,
-        configs,
+        mut configs,
         mut folders,
         seat,
     } = job;
@@ -121,7 +121,7 @@ pub(crate) fn index<R: Clock + Wait, W: FolderCalls + Drop, L: Line>(
             folders,
         };
     }
-    let (seat, end) = run_indexer(rt, alloc, config, &configs, folders.as_mut_slice(), seat);
+    let (seat, end) = run_indexer(rt, alloc, config, &mut configs, folders.as_mut_slice(), seat);
     line.hang_up();
     HasIndexed { seat, end, folders }
 }
@@ -212,6 +212,7 @@ pub(crate) fn write<R: Clock + Wait, O: Write + Drop, L: Line>(
     start: &Start,
     hello: &Hello,
     taker: Taker<Message>,
+    bell: Bell,
     writer: O,
     line: &L,
 ) -> HasWritten<O>
@@ -222,8 +223,9 @@ pub(crate) fn write<R: Clock + Wait, O: Write + Drop, L: Line>(
         return Err(WriterFault::Frame(WriteFault::OutOfMemory));
     }
     let mut taker = taker;
+    let mut bell = bell;
     let mut writer = writer;
-    match run_writer(rt, alloc, hello, &mut taker, &mut writer) {
+    match run_writer(rt, alloc, hello, &mut taker, &mut bell, &mut writer) {
         Ok(()) => Ok((taker, writer)),
         Err(fault) => {
             line.hang_up();

@@ -69,7 +69,7 @@ where
         end.folders.served.items) }
     ensures given_back { IfErr result (λ left. left ≡ folders) }
 {
-    let Ok((indexer, server, requester, taker)) = OutQueue::open::<Message>(alloc, QUEUE_MESSAGES)
+    let Ok((indexer, server, requester, taker, bell)) = OutQueue::open::<Message>(alloc, QUEUE_MESSAGES)
     else {
         return Err(folders);
     };
@@ -112,7 +112,7 @@ where
         rt,
         || -> HasWritten<O>
             ensures { IfOk result (λ written. IsSameQueue taker written.0) }
-        { write(rt, alloc, &start, hello, taker, writer, line) },
+        { write(rt, alloc, &start, hello, taker, bell, writer, line) },
         || -> Workers<S, W>
             requires { All (IsApart W.view reading.peer) reading.folders.items }
             ensures read { HasReadAll W.view W.folder reading.entry.peer (I.remaining reading.entry.reader)

@@ -6,6 +6,8 @@ use Rattle.std.proofs.lemmas.List.{map-append}
 use Rattle.bep_session.specs.declared.event.Event.{Event}
 use Rattle.bep_session.specs.Runs.{Act, Feeds, run}
 use Rattle.bep_session.specs.Sessions.{View, begun, fed}
+use Rattle.bep_session.specs.Times.{tick_at}
+use Rattle.bep_session.specs.declared.times.Tick.TheVariants.{TimedOut}
 use Rattle.folder_calls.specs.Shared.{CallerView}
 use Rattle.peer_reader.proofs.EachLemmas.{GoTogether}
 use Rattle.peer_reader.proofs.ReadingLemmas.{each_together, heard_no_event}
@@ -17,7 +19,7 @@ use Rattle.peer_reader.specs.declared.stop.ReaderStop.{ReaderStop}
 use Rattle.peer_reader.specs.declared.stop.ReaderStop.TheVariants as stop
 use Rattle.peer_reader.specs.Effects.{Heard, after_event}
 use Rattle.peer_reader.specs.Hears.{AsksEach, applied, heard_of}
-use Rattle.peer_reader.specs.Reading.{HasHeardAll, HearsPiece, OnlyOpens, ReadsAll, ReadsTo, ReadsUpTo, StopsIn, StopsInPiece, after_events, fed_of}
+use Rattle.peer_reader.specs.Reading.{HasHeardAll, HearsPiece, OnlyOpens, ReadsAll, ReadsTo, ReadsUpTo, StopsIn, StopsInPiece, TimesOut, after_events, fed_of}
 use Rattle.sync_record.specs.Devices.{Identity}
 
 folders-append : (peer : Identity) (fs : List Heard) (xs ys : List Event)
@@ -150,6 +152,17 @@ module _ {W F : Type 0} (view : W → CallerView) (folder : W → F) where
       → IsSoFar peer given left session olds news counts → ReadsAll view folder peer given left [] olds news counts
   reads_all peer given left session olds news counts a =
       record { moment = a.moment; acts = a.acts; taken = subst (λ l. Consumes given left l) (sym (append-nil (fed_of a.acts))) a.taken; heard = a.heard }
+
+  pub times_out : (peer : Identity) (given left : Option (List ℕ)) (session : View) (olds news : List (PeerFolder W)) (counts : ReaderCounts) (now : ℕ)
+      → IsSoFar peer given left session olds news counts → tick_at session.conversation.received session.conversation.said now ≡ TimedOut → TimesOut view folder peer given left olds news counts
+  times_out peer given left session olds news counts now a late =
+      record {
+        moment = a.moment;
+        acts = a.acts;
+        taken = a.taken;
+        heard = a.heard;
+        late = (now, subst (λ (v : View). tick_at v.conversation.received v.conversation.said now ≡ TimedOut) a.session_is late);
+      }
 
   lost_piece : (peer : Identity) (given left now : Option (List ℕ)) (session : View) (olds news : List (PeerFolder W)) (counts : ReaderCounts) (piece : List ℕ)
       → IsSoFar peer given left session olds news counts → Consumes left now piece → ReadsAll view folder peer given now piece olds news counts

@@ -1,9 +1,13 @@
 -- What a reader makes of the bytes that it reads (own rule).
-use Rattle.std.specs.Prelude.{◌≡◌, ◌⊎◌, ℕ, List, [], ◌∷◌, ◌++◌, map, Option}
+use Rattle.std.specs.Prelude.{◌≡◌, ◌⊎◌, ℕ, Bool, true, false, List, [], ◌∷◌, ◌++◌, map, Option}
+use Rattle.std.specs.declared.io.ErrorKind.{ErrorKind}
+use Rattle.std.specs.declared.io.ErrorKind.TheVariants as kind
 use Rattle.std.specs.Io.KnownBytes.{Consumes, IsAtEnd}
 use Rattle.bep_session.specs.declared.event.Event.{Event}
 use Rattle.bep_session.specs.Runs.{Act, Feeds, Opens, Says, Ticks, run}
 use Rattle.bep_session.specs.Sessions.{View, begun, fed}
+use Rattle.bep_session.specs.Times.{tick_at}
+use Rattle.bep_session.specs.declared.times.Tick.TheVariants.{TimedOut}
 use Rattle.folder_calls.specs.Shared.{CallerView}
 use Rattle.peer_reader.specs.Counts.{no_counts}
 use Rattle.peer_reader.specs.Effects.{Effect, Heard, after_event, no_effect}
@@ -13,6 +17,13 @@ use Rattle.peer_reader.specs.declared.folder.PeerFolder.{PeerFolder}
 use Rattle.peer_reader.specs.declared.stop.ReaderStop.{ReaderStop}
 use Rattle.peer_reader.specs.declared.stop.ReaderStop.TheVariants as stop
 use Rattle.sync_record.specs.Devices.{Identity}
+
+-- a read that failed so may give something if it is made again
+abbrev pub is_for_now : ErrorKind → Bool
+is_for_now kind.Interrupted = true
+is_for_now kind.WouldBlock = true
+is_for_now kind.TimedOut = true
+is_for_now _ = false
 
 abbrev pub then_effect : Effect → Effect → Effect
 then_effect first later =
@@ -76,6 +87,14 @@ module _ {W F : Type 0} (view : W → CallerView) (folder : W → F) where
     pub taken : Consumes given left (fed_of acts ++ lost)
     pub heard : HasHeardAll peer (run (begun moment) acts).events olds no_counts news counts
 
+  -- The same; and at some moment the session says that no whole message came for too long.
+  pub record TimesOut (peer : Identity) (given left : Option (List ℕ)) (olds : List (PeerFolder W)) (news : List (PeerFolder W)) (counts : ReaderCounts) : Type 0 where
+    pub moment : ℕ
+    pub acts : List Act
+    pub taken : Consumes given left (fed_of acts)
+    pub heard : HasHeardAll peer (run (begun moment) acts).events olds no_counts news counts
+    pub late : (now : ℕ) × (tick_at (run (begun moment) acts).session.conversation.received (run (begun moment) acts).session.conversation.said now ≡ TimedOut)
+
   pub record ReadsUpTo (peer : Identity) (given left : Option (List ℕ)) (olds : List (PeerFolder W)) (why : ReaderStop) (news : List (PeerFolder W)) (counts : ReaderCounts) : Type 0 where
     pub moment : ℕ
     pub acts : List Act
@@ -86,8 +105,8 @@ module _ {W F : Type 0} (view : W → CallerView) (folder : W → F) where
   -- the last piece.
   abbrev pub ReadsTo : Identity → Option (List ℕ) → Option (List ℕ) → List (PeerFolder W) → ReaderStop → List (PeerFolder W) → ReaderCounts → Type 0
   ReadsTo peer given left olds stop.InputEnded news counts = ReadsAll peer given left [] olds news counts × IsAtEnd left
-  ReadsTo peer given left olds (stop.Read kind) news counts = ReadsAll peer given left [] olds news counts
-  ReadsTo peer given left olds stop.TimedOut news counts = ReadsAll peer given left [] olds news counts
+  ReadsTo peer given left olds (stop.Read kind) news counts = ReadsAll peer given left [] olds news counts × (is_for_now kind ≡ false)
+  ReadsTo peer given left olds stop.TimedOut news counts = TimesOut peer given left olds news counts
   ReadsTo peer given left olds (stop.Closed reason) news counts = ReadsUpTo peer given left olds (stop.Closed reason) news counts
   ReadsTo peer given left olds (stop.Fault fault) news counts = ReadsUpTo peer given left olds (stop.Fault fault) news counts
   ReadsTo peer given left olds stop.HistoryFull news counts = ReadsUpTo peer given left olds stop.HistoryFull news counts

@@ -2,7 +2,7 @@
 ghost use Rattle.std.specs.Prelude.{◌≡◌, ◌⊎◌, [], All, IfErr, IfOk, OnErr, OnOk, length};
 ghost use Rattle.peer_reader.specs.Counts.{no_counts};
 ghost use Rattle.peer_reader.specs.Hears.{IsApart};
-ghost use Rattle.peer_reader.specs.Reading.{HasHeardAll, HearsPiece, OnlyOpens, ReadsTo, StopsIn, StopsInPiece};
+ghost use Rattle.peer_reader.specs.Reading.{HasHeardAll, HearsPiece, OnlyOpens, ReadsTo, StopsIn, StopsInPiece, is_for_now};
 
 use crate::counts::ReaderCounts;
 use crate::folder::PeerFolder;
@@ -15,6 +15,7 @@ use folder_calls::FolderCalls;
 use folder_calls::laws::changes_are_asked_in_order;
 use std::alloc::{AllocError, Global};
 use std::io::{ErrorKind, Read};
+use std::sync::Wait;
 use std::time::Clock;
 use sync_record::DeviceId;
 use sync_version::Moment;
@@ -32,7 +33,7 @@ pub struct ReaderEnd {
 }
 
 /// Reads the peer's bytes until its stream, or the reading of it, ends, makes the changes of the shared folders that they are, and
-/// passes on what else they say.
+/// passes on what else they say. Waits in reads alone.
 ///
 /// The folders are called by [`hear`] alone. Before each piece is fed the ids that `inbox` tells are opened. A read that gives nothing
 /// for now (`Interrupted`, `WouldBlock` or `TimedOut`) is made again; after each read the reader ends with `TimedOut` if no whole
@@ -40,7 +41,7 @@ pub struct ReaderEnd {
 /// side, it is shut down. Where memory runs out, the messages of the last piece may be lost.
 ///
 /// O(n) for n bytes read. Memory: 64 KiB, and that of the session and of one piece's messages.
-pub fn run_reader<R: Clock, I: Read, W: FolderCalls, G: Gate, B: Inbox>(
+pub fn run_reader<R: Wait + Clock, I: Read, W: FolderCalls, G: Gate, B: Inbox>(
     rt: &R,
     alloc: Global,
     reader: &mut I,
@@ -62,7 +63,7 @@ pub fn run_reader<R: Clock, I: Read, W: FolderCalls, G: Gate, B: Inbox>(
 }
 
 // Reads until there is a reason to end.
-fn read_all<R: Clock, I: Read, W: FolderCalls, G: Gate, B: Inbox>(
+fn read_all<R: Wait + Clock, I: Read, W: FolderCalls, G: Gate, B: Inbox>(
     rt: &R,
     alloc: Global,
     reader: &mut I,
@@ -84,7 +85,7 @@ fn read_all<R: Clock, I: Read, W: FolderCalls, G: Gate, B: Inbox>(
     let buffer = bytes.as_mut_slice();
     let mut moment = moment_of(rt, Moment::new(0).unwrap());
     let mut session = Session::new(alloc, moment);
-    for _ in 0..u64::MAX {
+    for _ in rt.forever() {
         match reader.read(buffer) {
             Ok(0) => return Ok(ReaderStop::InputEnded),
             Ok(count) => {
@@ -114,7 +115,7 @@ fn read_all<R: Clock, I: Read, W: FolderCalls, G: Gate, B: Inbox>(
             return Ok(ReaderStop::TimedOut);
         }
     }
-    Ok(ReaderStop::TimedOut)
+    unreachable!()
 }
 
 fn make_buffer(alloc: Global) -> Result<Vec<u8>, AllocError>
@@ -124,7 +125,9 @@ fn make_buffer(alloc: Global) -> Result<Vec<u8>, AllocError>
 }
 
 // Whether a read may give something if it is made again.
-fn is_for_now(kind: ErrorKind) -> bool {
+fn is_for_now(kind: ErrorKind) -> bool
+    ensures { result ≡ is_for_now kind }
+{
     match kind {
         ErrorKind::Interrupted | ErrorKind::WouldBlock | ErrorKind::TimedOut => true,
         _ => false,

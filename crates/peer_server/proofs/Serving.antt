@@ -1,6 +1,6 @@
 -- Requests that are answered one after the other.
 use Rattle.std.proofs.Common.{◌≡◌, ℕ, zero, suc, ◌<◌, Bool, List, [], ◌∷◌, ◌++◌, length, get_or, set, map, refl, sym, ap, subst, ◌∙◌, append_assoc, append-nil, inl, inr, arith}
-use Rattle.std.specs.Prelude.{IfErr, IfOk, Some, Result, Ok, Err}
+use Rattle.std.specs.Prelude.{IfErr, IfOk, Option, Some, Result, Ok, Err}
 use Rattle.std.specs.List.{AllZip}
 use mathlib.Core.List.{IsPrefix}
 use Rattle.bep_frames.specs.declared.frame.Message.{Message}
@@ -13,7 +13,7 @@ use Rattle.file_store.specs.Asked.{Call, Value}
 use Rattle.file_store.specs.Trees.{Tree}
 use Rattle.file_store.specs.declared.refusal.StoreRefusal.{StoreRefusal}
 use Rattle.peer_server.specs.Answered.{Answers, OneGoesOn, Responds, RunsOut, Stays}
-use Rattle.peer_server.specs.Served.{AnswersEach, HasServed, Leaves, PutsAnswer, ServesPeer, message_of}
+use Rattle.peer_server.specs.Served.{AnswersEach, ComeEach, HasServed, Leaves, PutsAnswer, ServesPeer, message_of}
 use Rattle.peer_server.specs.declared.request.PeerRequest.{PeerRequest}
 use Rattle.peer_server.specs.declared.request.ServedFolder.{ServedFolder}
 use Rattle.peer_server.specs.declared.server.ServerEnd.{ServerEnd}
@@ -138,15 +138,22 @@ module _ {S W F : Type 0} (keeps : Bool) (tree : S → Tree) (folder : W → F) 
     stays-each old [] new h = stays-all old new h
     stays-each old (x ∷ xs) new h = stays-on old h.0 new (stays-answer old x.0 x.1 h.0 h.1) (stays-each h.0 xs new h.2)
 
-    stays-left : (end : ServerEnd) (old new : List (ServedFolder S W)) → Leaves keeps tree folder view faults gives end old new → AllZip Kept old new
-    stays-left Closed old new h = stays-all old new h
-    stays-left Gone old new h = stays-answer old h.0 h.1.0 new h.1.1
-    stays-left OutOfMemory old new h = stays-one (RunsOut keeps tree folder view faults h.0.request) (λ x y g. g.stays) old h.0 new h.1
+    module _ {Q : Type 0} (comes : Q → Option PeerRequest → Q → Type 0) where
+      stays-left : (from to : Q) (end : ServerEnd) (old new : List (ServedFolder S W)) → Leaves keeps tree folder view faults gives comes from to end old new → AllZip Kept old new
+      stays-left from to Closed old new h = stays-all old new h.1
+      stays-left from to Gone old new h = stays-answer old h.0 h.2.0 new h.2.1
+      stays-left from to OutOfMemory old new h = stays-one (RunsOut keeps tree folder view faults h.0.request) (λ x y g. g.stays) old h.0 new h.2
 
-    -- whatever a server did, each folder stays
-    pub stays-served : (old : List (ServedFolder S W)) (before after : List Message) (end : ServerEnd) (new : List (ServedFolder S W))
-        → ServesPeer keeps tree folder view faults gives old before after end new → AllZip Kept old new
-    stays-served old before after end new h = stays-on old h.point new (stays-each old h.has_served.served h.point h.has_served.answered) (stays-left end h.point new h.leaves)
+      -- whatever a server did, each folder stays
+      pub stays-served : (from to : Q) (old : List (ServedFolder S W)) (before after : List Message) (end : ServerEnd) (new : List (ServedFolder S W))
+          → ServesPeer keeps tree folder view faults gives comes from to old before after end new → AllZip Kept old new
+      stays-served from to old before after end new h =
+          stays-on old h.point new (stays-each old h.has_served.served h.point h.has_served.answered) (stays-left h.source to end h.point new h.leaves)
+
+      come-more : (from : Q) (served : List (PeerRequest × Response)) (point : Q) (x : PeerRequest × Response) (to : Q)
+          → ComeEach keeps tree folder view faults gives comes from served point → comes point (Some x.0) to → ComeEach keeps tree folder view faults gives comes from (served ++ x ∷ []) to
+      come-more from [] point x to h c = (to, subst (λ q. comes q (Some x.0) to) h c, refl)
+      come-more from (y ∷ ys) point x to h c = (h.0, h.1, come-more h.0 ys point x to h.2 c)
 
     each-more : (old : List (ServedFolder S W)) (served : List (PeerRequest × Response)) (point : List (ServedFolder S W)) (asked : PeerRequest) (response : Response) (new : List (ServedFolder S W))
         → AnswersEach keeps tree folder view faults gives old served point → Answer point asked response new → AnswersEach keeps tree folder view faults gives old (served ++ (asked, response) ∷ []) new
@@ -157,14 +164,18 @@ module _ {S W F : Type 0} (keeps : Bool) (tree : S → Tree) (folder : W → F) 
     map-more [] x = refl
     map-more (y ∷ ys) x = ap (λ l. message_of y ∷ l) (map-more ys x)
 
-    pub none-served : (old : List (ServedFolder S W)) (before : List Message) → HasServed keeps tree folder view faults gives old before before old
-    none-served old before = record { served = []; put = sym (append-nil before); answered = refl }
+    module _ {Q : Type 0} (comes : Q → Option PeerRequest → Q → Type 0) where
+      pub none-served : (from : Q) (old : List (ServedFolder S W)) (before : List Message) → HasServed keeps tree folder view faults gives comes from from old before before old
+      none-served from old before = record { served = []; came = refl; put = sym (append-nil before); answered = refl }
 
-    pub one-more : (old : List (ServedFolder S W)) (before then after : List Message) (point new : List (ServedFolder S W)) → HasServed keeps tree folder view faults gives old before then point
-        → (asked : PeerRequest) × PutsAnswer keeps tree folder view faults gives asked point then after new → HasServed keeps tree folder view faults gives old before after new
-    one-more old before then after point new h n = record {
-      served = h.served ++ (n.0, n.1.response) ∷ [];
-      put = n.1.put ∙ ap (λ l. l ++ message.Response n.1.response ∷ []) h.put ∙ append_assoc before (map message_of h.served) (message.Response n.1.response ∷ [])
-          ∙ ap (λ l. before ++ l) (sym (map-more h.served (n.0, n.1.response)));
-      answered = each-more old h.served point n.0 n.1.response new h.answered n.1.answers;
-    }
+      pub one-more : (from source to : Q) (old : List (ServedFolder S W)) (before then after : List Message) (point new : List (ServedFolder S W))
+          → HasServed keeps tree folder view faults gives comes from source old before then point
+          → (asked : PeerRequest) × comes source (Some asked) to × PutsAnswer keeps tree folder view faults gives asked point then after new
+          → HasServed keeps tree folder view faults gives comes from to old before after new
+      one-more from source to old before then after point new h n = record {
+        served = h.served ++ (n.0, n.2.response) ∷ [];
+        came = come-more comes from h.served source (n.0, n.2.response) to h.came n.1;
+        put = n.2.put ∙ ap (λ l. l ++ message.Response n.2.response ∷ []) h.put ∙ append_assoc before (map message_of h.served) (message.Response n.2.response ∷ [])
+            ∙ ap (λ l. before ++ l) (sym (map-more h.served (n.0, n.2.response)));
+        answered = each-more old h.served point n.0 n.2.response new h.answered n.2.answers;
+      }

@@ -1,5 +1,5 @@
 -- What the server of a connection puts: just the answers to requests, one after the other (own rule).
-use Rattle.std.specs.Prelude.{◌≡◌, ℕ, Bool, List, [], ◌∷◌, ◌++◌, map, Result}
+use Rattle.std.specs.Prelude.{◌≡◌, ℕ, Bool, List, [], ◌∷◌, ◌++◌, map, Option, Some, None, Result}
 use Rattle.bep_messages.specs.declared.request.Request.{Request}
 use Rattle.bep_frames.specs.declared.frame.Message.{Message}
 use Rattle.bep_frames.specs.declared.frame.Message.TheVariants as message
@@ -27,11 +27,18 @@ module _ {S W F : Type 0} (keeps : Bool) (tree : S → Tree) (folder : W → F) 
   AnswersEach old [] new = new ≡ old
   AnswersEach old (x ∷ xs) new = (middle : List (ServedFolder S W)) × Answers keeps tree folder view faults gives old x.0 x.1 middle × AnswersEach middle xs new
 
-  -- and just these answers were put, in this order
-  pub record HasServed (old : List (ServedFolder S W)) (before after : List Message) (new : List (ServedFolder S W)) : Type 0 where
-    pub served : List (PeerRequest × Response)
-    pub put : after ≡ before ++ map message_of served
-    pub answered : AnswersEach old served new
+  module _ {Q : Type 0} (comes : Q → Option PeerRequest → Q → Type 0) where
+    -- the requests came one after the other
+    abbrev pub ComeEach : Q → List (PeerRequest × Response) → Q → Type 0
+    ComeEach from [] to = to ≡ from
+    ComeEach from (x ∷ xs) to = (next : Q) × comes from (Some x.0) next × ComeEach next xs to
+
+    -- each of those that came was answered, in this order, and just these answers were put
+    pub record HasServed (from to : Q) (old : List (ServedFolder S W)) (before after : List Message) (new : List (ServedFolder S W)) : Type 0 where
+      pub served : List (PeerRequest × Response)
+      pub came : ComeEach from served to
+      pub put : after ≡ before ++ map message_of served
+      pub answered : AnswersEach old served new
 
   -- the request was answered, and its answer put
   pub record PutsAnswer (asked : PeerRequest) (old : List (ServedFolder S W)) (before after : List Message) (new : List (ServedFolder S W)) : Type 0 where
@@ -45,17 +52,19 @@ module _ {S W F : Type 0} (keeps : Bool) (tree : S → Tree) (folder : W → F) 
   LeavesOff asked Gone old new = (response : Response) × Answers keeps tree folder view faults gives old asked response new
   LeavesOff asked OutOfMemory old new = OneGoesOn (RunsOut keeps tree folder view faults asked.request) old asked new
 
-  -- what a server leaves, by its end: nothing, or the last request
-  abbrev pub Leaves : ServerEnd → List (ServedFolder S W) → List (ServedFolder S W) → Type 0
-  Leaves Closed old new = new ≡ old
-  Leaves Gone old new = (asked : PeerRequest) × LeavesOff asked Gone old new
-  Leaves OutOfMemory old new = (asked : PeerRequest) × LeavesOff asked OutOfMemory old new
+  module _ {Q : Type 0} (comes : Q → Option PeerRequest → Q → Type 0) where
+    -- what a server leaves, by its end: nothing, since no more will come, or the last request
+    abbrev pub Leaves : Q → Q → ServerEnd → List (ServedFolder S W) → List (ServedFolder S W) → Type 0
+    Leaves from to Closed old new = comes from None to × (new ≡ old)
+    Leaves from to Gone old new = (asked : PeerRequest) × comes from (Some asked) to × LeavesOff asked Gone old new
+    Leaves from to OutOfMemory old new = (asked : PeerRequest) × comes from (Some asked) to × LeavesOff asked OutOfMemory old new
 
-  -- all that a server did
-  pub record ServesPeer (old : List (ServedFolder S W)) (before after : List Message) (end : ServerEnd) (new : List (ServedFolder S W)) : Type 0 where
-    pub point : List (ServedFolder S W)
-    pub has_served : HasServed old before after point
-    pub leaves : Leaves end point new
+    -- all that a server did
+    pub record ServesPeer (from to : Q) (old : List (ServedFolder S W)) (before after : List Message) (end : ServerEnd) (new : List (ServedFolder S W)) : Type 0 where
+      pub source : Q
+      pub point : List (ServedFolder S W)
+      pub has_served : HasServed comes from source old before after point
+      pub leaves : Leaves source to end point new
 
   -- The response to a request of this folder, between what it was and what it came to: over the local record of the name at a point that
   -- its caller then knew, and over what its store then gave, which of a store that keeps what is written is what the file has.

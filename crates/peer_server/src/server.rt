@@ -1,5 +1,5 @@
 //! The server of a connection.
-ghost use Rattle.std.specs.Prelude.{◌≡◌, MatchResult};
+ghost use Rattle.std.specs.Prelude.{◌≡◌, MatchResult, Some};
 ghost use Rattle.peer_conn.specs.Words.{IsSameEnded, IsSameSeat, all_of, put_of};
 ghost use Rattle.peer_server.specs.Served.{Leaves, LeavesOff, PutsAnswer, ServesPeer};
 ghost use Rattle.std.specs.List.{AllZip};
@@ -7,9 +7,8 @@ ghost use Rattle.peer_server.specs.Answered.{Stays};
 ghost use Rattle.peer_server.specs.declared.request.PeerRequest.{PeerRequest};
 
 use crate::answering::respond;
-use crate::request::{PeerRequest, ServedFolder};
+use crate::request::{PeerRequest, PeerRequests, ServedFolder};
 use bep_frames::Message;
-use crossbeam_channel::Receiver;
 use file_store::{FileStore, Gate};
 use folder_calls::FolderCalls;
 use peer_conn::{Ended, Seat};
@@ -31,7 +30,7 @@ pub enum ServerEnd {
 /// place, or with code 2 and no bytes where no folder is there, and puts each Response by the seat. Sleeps while there is no Request,
 /// and while the queue is full.
 ///
-/// The caller makes the channel of Requests, and with room for some number of them: so a peer that asks faster than it reads is slowed
+/// The caller makes the channel of Requests, or another source of them, and with room for some number of them: so a peer that asks faster than it reads is slowed
 /// down, since who receives its Requests then waits for room in the channel. Beside the Responses in the queue and the Requests in the
 /// channel one of each is held, a Response of up to 16 MiB.
 ///
@@ -39,39 +38,39 @@ pub enum ServerEnd {
 /// `Gone` at the first Response that cannot be put, which is dropped; and with `OutOfMemory` where memory runs out, which may be for a
 /// Request of a shared folder alone, whose name has the shape of a safe one. The Requests that the channel then holds are dropped.
 ///
-/// Which Requests came by the channel no clause can say. So a body that answered one of them twice, or passed one over, would meet the
-/// contract too; one that puts a wrong answer, that of another folder, or one with another id, would not. O(n) for each Request with n
-/// bytes of its name and its part.
-pub fn run_server<R: Wait, S: FileStore, W: FolderCalls, G: Gate>(
+/// Each Request that came is answered once, in the order in which they came, but for the last one where it ends otherwise. O(n) for
+/// each Request with n bytes of its name and its part.
+pub fn run_server<R: Wait, Q: PeerRequests + Drop, S: FileStore, W: FolderCalls, G: Gate>(
     rt: &R,
     alloc: Global,
-    requests: Receiver<PeerRequest>,
+    requests: Q,
     folders: &mut [ServedFolder<S, W>],
     gate: &G,
     seat: Seat<Message>,
 ) -> (Ended<Message>, ServerEnd)
     ensures same { IsSameEnded seat result.0 }
-    ensures serves { ServesPeer S.keeps S.tree W.folder W.view S.fault_count S.gives folders.old
-        (put_of seat) (all_of result.0) result.1 folders.new }
+    ensures serves { (left : Q) × ServesPeer S.keeps S.tree W.folder W.view S.fault_count S.gives Q.gives requests
+        left folders.old (put_of seat) (all_of result.0) result.1 folders.new }
     ensures stays { AllZip (Stays S.keeps S.tree W.folder W.view) folders.old folders.new }
 {
     let mut seat = seat;
-    let end = serve_all(rt, alloc, &requests, folders, gate, &mut seat);
+    let mut requests = requests;
+    let end = serve_all(rt, alloc, &mut requests, folders, gate, &mut seat);
     (seat.end(), end)
 }
 
 // Answers one Request after the other.
-fn serve_all<R: Wait, S: FileStore, W: FolderCalls, G: Gate>(
+fn serve_all<R: Wait, Q: PeerRequests, S: FileStore, W: FolderCalls, G: Gate>(
     rt: &R,
     alloc: Global,
-    requests: &Receiver<PeerRequest>,
+    requests: &mut Q,
     folders: &mut [ServedFolder<S, W>],
     gate: &G,
     seat: &mut Seat<Message>,
 ) -> ServerEnd
     ensures same { IsSameSeat seat.old seat.new }
-    ensures serves { ServesPeer S.keeps S.tree W.folder W.view S.fault_count S.gives folders.old
-        (put_of seat.old) (put_of seat.new) result folders.new }
+    ensures serves { ServesPeer S.keeps S.tree W.folder W.view S.fault_count S.gives Q.gives requests.old requests.new
+        folders.old (put_of seat.old) (put_of seat.new) result folders.new }
 {
     for _ in rt.forever() {
         if let Err(end) = serve_next(rt, alloc, requests, folders, gate, seat) {
@@ -82,24 +81,25 @@ fn serve_all<R: Wait, S: FileStore, W: FolderCalls, G: Gate>(
 }
 
 // Waits for the next Request, and puts its Response.
-fn serve_next<R: Wait, S: FileStore, W: FolderCalls, G: Gate>(
+fn serve_next<R: Wait, Q: PeerRequests, S: FileStore, W: FolderCalls, G: Gate>(
     rt: &R,
     alloc: Global,
-    requests: &Receiver<PeerRequest>,
+    requests: &mut Q,
     folders: &mut [ServedFolder<S, W>],
     gate: &G,
     seat: &mut Seat<Message>,
 ) -> Result<(), ServerEnd>
     ensures same { IsSameSeat seat.old seat.new }
     ensures serves { MatchResult result
-        (λ _. (asked : PeerRequest) × PutsAnswer S.keeps S.tree W.folder W.view S.fault_count S.gives
-        asked folders.old (put_of seat.old) (put_of seat.new) folders.new)
+        (λ _. (asked : PeerRequest) × Q.gives requests.old (Some asked) requests.new
+        × PutsAnswer S.keeps S.tree W.folder W.view S.fault_count S.gives asked folders.old
+        (put_of seat.old) (put_of seat.new) folders.new)
         (λ end. (put_of seat.new ≡ put_of seat.old) × Leaves S.keeps S.tree W.folder W.view
-        S.fault_count S.gives end folders.old folders.new) }
+        S.fault_count S.gives Q.gives requests.old requests.new end folders.old folders.new) }
 {
-    match requests.recv(rt) {
-        Ok(asked) => serve_request(rt, alloc, folders, gate, seat, &asked),
-        Err(_) => Err(ServerEnd::Closed),
+    match requests.next(rt) {
+        Some(asked) => serve_request(rt, alloc, folders, gate, seat, &asked),
+        None => Err(ServerEnd::Closed),
     }
 }
 

@@ -24,6 +24,7 @@ use folder_core::{FolderCore, PlainFolder};
 use passed::Printed;
 use peer_reader::{PeerFolder, ReaderEnd, are_apart, run_reader};
 use std::alloc::Global;
+use std::sync::Wait;
 use std::{env, io};
 use steps::Steps;
 use sync_record::DeviceId;
@@ -36,7 +37,7 @@ fn main(rt: HostRuntime) -> io::Result<()> {
     let limit = number(&words, 1).unwrap_or(HISTORY_LIMIT);
     let piece = number(&words, 2).unwrap_or(0);
     let fails = number(&words, 3).unwrap_or(0);
-    let clock = Steps::new(number(&words, 4).unwrap_or(0));
+    let clock = Steps::new(&rt, number(&words, 4).unwrap_or(0));
     let mut folders = Vec::new(rt.alloc());
     let mut asks = Vec::new(rt.alloc());
     for word in words.iter().skip(5) {
@@ -79,9 +80,9 @@ fn folder_of(
 }
 
 /// Reads for the folders that are not the peer's own, and prints what came of it.
-fn read<R: AllocGlobal + Print, I: io::Read>(
+fn read<R: AllocGlobal + Print + Wait, I: io::Read>(
     rt: &R,
-    clock: &Steps,
+    clock: &Steps<R>,
     reader: &mut I,
     folders: Vec<PeerFolder<Lone<PlainFolder>>>,
     asks: Vec<i32>,
@@ -110,9 +111,9 @@ fn read<R: AllocGlobal + Print, I: io::Read>(
 }
 
 /// Reads, if the peer is another device than that of each folder.
-fn read_by<R: Print, I: io::Read, W: FolderCalls>(
+fn read_by<R: Print + Wait, I: io::Read, W: FolderCalls>(
     alloc: Global,
-    clock: &Steps,
+    clock: &Steps<R>,
     reader: &mut I,
     peer: DeviceId,
     folders: &mut [PeerFolder<W>],

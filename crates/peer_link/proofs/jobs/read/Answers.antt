@@ -1,5 +1,5 @@
 use Rattle.std.proofs.Common.{◌≡◌, ◌∙◌, List, length, ap, sym, subst}
-use Rattle.peer_link.proofs.Slices.{written_back}
+use Rattle.peer_conn.proofs.Slices.{written_back}
 use Rattle.peer_reader.specs.Reading.{ReadsTo}
 use Rattle.peer_link.proofs.jobs.read.Goals as goal
 

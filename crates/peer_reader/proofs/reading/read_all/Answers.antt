@@ -5,7 +5,7 @@ use Rattle.std.proofs.lemmas.Result.{err_from_is_err_and}
 use Rattle.bep_session.specs.Sessions.{begun}
 use Rattle.peer_reader.proofs.EachLemmas.{each_apart}
 use Rattle.peer_reader.proofs.ReadingLemmas.{openings}
-use Rattle.peer_reader.proofs.SoFarLemmas.{at_end, at_first, no_more, one_piece, piece_stops, reads_all, same_so_far}
+use Rattle.peer_reader.proofs.SoFarLemmas.{at_end, at_first, no_more, one_piece, piece_stops, reads_all, same_so_far, times_out}
 use Rattle.peer_reader.proofs.reading.read_all.Goals as goal
 use Rattle.peer_reader.proofs.reading.read_all.Goals.{in-Ok+in_ok-hear_piece-in-Ok, in-Err+else-not-is_for_now}
 
@@ -40,12 +40,12 @@ returns-in_err-hear_piece-in-Ok-clause-stopped g c =
 
 pub returns-then-not-is_for_now-clause-ended : goal.returns-then-not-is_for_now-clause-ended
 returns-then-not-is_for_now-clause-ended g c =
-    reads_all g.W.FolderCalls.view g.W.FolderCalls.folder c.args.peer (g.I.Read.remaining c.args.reader.now) (g.I.Read.remaining c.read.new.self) c.loop.session c.args.folders.now c.loop.folders c.loop.counts
-    (no_more g.W.FolderCalls.view g.W.FolderCalls.folder c.args.peer (g.I.Read.remaining c.args.reader.now) (g.I.Read.remaining c.loop.reader) (g.I.Read.remaining c.read.new.self) c.loop.session c.args.folders.now c.loop.folders c.loop.counts c.loop.invariant c.in-Err.ensures.bytes)
+    (reads_all g.W.FolderCalls.view g.W.FolderCalls.folder c.args.peer (g.I.Read.remaining c.args.reader.now) (g.I.Read.remaining c.read.new.self) c.loop.session c.args.folders.now c.loop.folders c.loop.counts
+    (no_more g.W.FolderCalls.view g.W.FolderCalls.folder c.args.peer (g.I.Read.remaining c.args.reader.now) (g.I.Read.remaining c.loop.reader) (g.I.Read.remaining c.read.new.self) c.loop.session c.args.folders.now c.loop.folders c.loop.counts c.loop.invariant c.in-Err.ensures.bytes), search rules)
 
 pub returns-then-eq-clause-ended : goal.returns-then-eq-clause-ended
 returns-then-eq-clause-ended g c =
-    reads_all g.W.FolderCalls.view g.W.FolderCalls.folder c.args.peer (g.I.Read.remaining c.args.reader.now) (g.I.Read.remaining c.read.new.self) c.match-read.session c.args.folders.now c.match-read.folders c.match-read.counts
+    times_out g.W.FolderCalls.view g.W.FolderCalls.folder c.args.peer (g.I.Read.remaining c.args.reader.now) (g.I.Read.remaining c.read.new.self) c.match-read.session c.args.folders.now c.match-read.folders c.match-read.counts c.match-read.moment
     (elim c.match-read.branch [
       | in-Ok+in_ok-hear_piece-in-Ok w ↦
           same_so_far g.W.FolderCalls.view g.W.FolderCalls.folder c.args.peer (g.I.Read.remaining c.args.reader.now) (g.I.Read.remaining c.read.new.self) w.hear_piece.new.session c.match-read.session c.args.folders.now
@@ -58,6 +58,7 @@ returns-then-eq-clause-ended g c =
           (no_more g.W.FolderCalls.view g.W.FolderCalls.folder c.args.peer (g.I.Read.remaining c.args.reader.now) (g.I.Read.remaining c.loop.reader) (g.I.Read.remaining c.read.new.self) c.loop.session c.args.folders.now c.loop.folders c.loop.counts
           c.loop.invariant w.in-Err.ensures.bytes)
     ])
+    (search rules)
 
 pub loop-preserved : goal.loop-preserved
 loop-preserved g c = elim c.match-read.branch [
