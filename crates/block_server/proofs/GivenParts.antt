@@ -25,7 +25,7 @@ module _ {S : Type 0} (gives : S → (call : Call) → Result (Value call) Store
       → buffer ≡ replicate size 0 → FillsAll gives n offset asked buffer (Ok count) new bytes → length bytes ≡ size → count ≤ length bytes
       → MatchOption read (count ≢ length bytes) (λ all. (count ≡ length bytes) × (all ≡ bytes)) → GivesPart gives n offset size old read new
   part-given None said buffer bytes count told there zeros fills long fits other =
-      ended said asked new bytes count told there (subst (λ b. FillsAll gives n offset asked b (Ok count) new bytes) zeros fills) (omega arith)
+      ended said asked new bytes count told there (subst (λ b. FillsAll gives n offset asked b (Ok count) new bytes) zeros fills) long (omega arith)
   part-given (Some all) said buffer bytes count told there zeros fills long fits (full, same) =
       let size_is : count ≡ size = full ∙ long in
       let from_zeros = subst (λ b. FillsAll gives n offset asked b (Ok count) new bytes) zeros fills in

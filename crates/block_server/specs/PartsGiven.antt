@@ -25,7 +25,7 @@ pub data GivesPart {S : Type 0} (gives : S → (call : Call) → Result (Value c
   whole : (said : Stat) (asked new : S) (bytes : List ℕ) → gives old (StatAt n) (Ok said) asked → size ≤ size_said said - offset
       → FillsAll gives n offset asked (replicate size 0) (Ok size) new bytes → length bytes ≡ size → GivesPart gives n offset size old (Some bytes) new
   ended : (said : Stat) (asked new : S) (bytes : List ℕ) (count : ℕ) → gives old (StatAt n) (Ok said) asked → size ≤ size_said said - offset
-      → FillsAll gives n offset asked (replicate size 0) (Ok count) new bytes → count < size → GivesPart gives n offset size old None new
+      → FillsAll gives n offset asked (replicate size 0) (Ok count) new bytes → length bytes ≡ size → count < size → GivesPart gives n offset size old None new
   failed : (said : Stat) (asked new : S) (bytes : List ℕ) → gives old (StatAt n) (Ok said) asked → size ≤ size_said said - offset
       → FillsAll gives n offset asked (replicate size 0) (Err StoreFault) new bytes → GivesPart gives n offset size old None new
   not_there : (said : Stat) (new : S) → gives old (StatAt n) (Ok said) new → size_said said - offset < size → GivesPart gives n offset size old None new
