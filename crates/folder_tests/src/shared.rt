@@ -1,4 +1,4 @@
-//! A folder that two threads share; and that `verify` looks at it.
+//! A folder that four threads share; and that `verify` looks at it.
 ghost use Rattle.std.specs.Prelude.{◌≡◌, ◌<◌, ℕ, length};
 ghost use mathlib.Core.Option.{some};
 ghost use lib.ListN.{get_elem?};
@@ -19,33 +19,60 @@ use std::thread::{Threads, join};
 const EACH: u32 = 100;
 
 #[test]
-fn two_threads_make_one_history(rt: HostRuntime) {
+fn four_threads_make_one_history(rt: HostRuntime) {
     let folder = shared(&rt);
     let (one, other) = (given(&rt, &folder), given(&rt, &folder));
-    let (one, other) = both_record(&rt, &folder, one, other);
-    assert_eq!(rt; last(&rt, folder, one, other), (200, 2));
+    let (third, fourth) = (given(&rt, &folder), given(&rt, &folder));
+    let (first, second) = four_record(&rt, &folder, (one, other), (third, fourth));
+    assert_eq!(rt; last(&rt, folder, first, second), (400, 4));
 }
 
-/// Two threads record directories, each by its pass.
+/// Four threads record directories, each by its pass.
+fn four_record<C: FolderCore + Drop + Send, R: AllocGlobal + Abort + Threads + Wait + Sync>(
+    rt: &R,
+    folder: &SharedFolder<C>,
+    first: (Pass<C>, Pass<C>),
+    second: (Pass<C>, Pass<C>),
+) -> ((Pass<C>, Pass<C>), (Pass<C>, Pass<C>))
+    requires first { IsPassOf folder.now.locked first.0 × IsPassOf folder.now.locked first.1 }
+    requires second { IsPassOf folder.now.locked second.0 × IsPassOf folder.now.locked second.1 }
+    ensures first { IsPassOf folder.now.locked result.0.0 × IsPassOf folder.now.locked result.0.1 }
+    ensures second { IsPassOf folder.now.locked result.1.0 × IsPassOf folder.now.locked result.1.1 }
+{
+    join(
+        rt,
+        || -> (Pass<C>, Pass<C>)
+            requires { IsPassOf folder.now.locked first.0 × IsPassOf folder.now.locked first.1 }
+            ensures { IsPassOf folder.entry.now.locked result.0 × IsPassOf folder.entry.now.locked result.1 }
+        { both_record(rt, folder, first, ("a", "b")) },
+        || -> (Pass<C>, Pass<C>)
+            requires { IsPassOf folder.now.locked second.0 × IsPassOf folder.now.locked second.1 }
+            ensures { IsPassOf folder.entry.now.locked result.0 × IsPassOf folder.entry.now.locked result.1 }
+        { both_record(rt, folder, second, ("c", "d")) },
+    )
+}
+
+/// Two threads record directories whose names begin so, each by its pass.
 fn both_record<C: FolderCore + Drop + Send, R: AllocGlobal + Abort + Threads + Wait + Sync>(
     rt: &R,
     folder: &SharedFolder<C>,
-    one: Pass<C>,
-    other: Pass<C>,
+    passes: (Pass<C>, Pass<C>),
+    fronts: (&str, &str),
 ) -> (Pass<C>, Pass<C>)
-    requires { IsPassOf folder.now.locked one × IsPassOf folder.now.locked other }
+    requires { IsPassOf folder.now.locked passes.0 × IsPassOf folder.now.locked passes.1 }
     ensures { IsPassOf folder.now.locked result.0 × IsPassOf folder.now.locked result.1 }
 {
+    let (one, other) = passes;
     join(
         rt,
         || -> Pass<C>
             requires { IsPassOf folder.now.locked one }
             ensures { IsPassOf folder.entry.now.locked result }
-        { records_by(rt, folder, one, "a") },
+        { records_by(rt, folder, one, fronts.0) },
         || -> Pass<C>
             requires { IsPassOf folder.now.locked other }
             ensures { IsPassOf folder.entry.now.locked result }
-        { records_by(rt, folder, other, "b") },
+        { records_by(rt, folder, other, fronts.1) },
     )
 }
 
@@ -84,18 +111,21 @@ fn records<W: FolderCalls>(rt: &(impl AllocGlobal + Abort), calls: &mut W, front
     }
 }
 
-/// The last sequence of the folder, which is closed with two passes, and how many were given out.
+/// The last sequence of the folder, which is closed with four passes, and how many were given out.
 fn last(
     rt: &(impl AllocGlobal + Abort + Wait),
     folder: SharedFolder<PlainFolder>,
-    one: Pass<PlainFolder>,
-    other: Pass<PlainFolder>,
+    first: (Pass<PlainFolder>, Pass<PlainFolder>),
+    second: (Pass<PlainFolder>, Pass<PlainFolder>),
 ) -> (u64, u64)
-    requires { IsPassOf folder.locked one × IsPassOf folder.locked other }
+    requires first { IsPassOf folder.locked first.0 × IsPassOf folder.locked first.1 }
+    requires second { IsPassOf folder.locked second.0 × IsPassOf folder.locked second.1 }
 {
     let mut passes = Vec::new(rt.alloc());
-    passes.push(one).expect(rt, "a list");
-    passes.push(other).expect(rt, "a list");
+    passes.push(first.0).expect(rt, "a list");
+    passes.push(first.1).expect(rt, "a list");
+    passes.push(second.0).expect(rt, "a list");
+    passes.push(second.1).expect(rt, "a list");
     let (core, given) = folder.close(rt, passes);
     (core.counts().last, given.get())
 }

@@ -1,10 +1,11 @@
 -- Requests that were put, and one more.
-use Rattle.std.proofs.Common.{◌≡◌, ◌++◌, ◌∷◌, [], List, map, sym, ◌∙◌, ap}
-use Rattle.std.proofs.lemmas.List.{append_assoc, map-append}
+use Rattle.std.proofs.Common.{◌≡◌, ◌++◌, ◌∷◌, [], List, map, refl, sym, subst, ◌∙◌, ap}
+use Rattle.std.proofs.lemmas.List.{append_assoc, append-nil, map-append}
+use Rattle.std.specs.Prelude.{Option, Some}
 use Rattle.bep_frames.specs.declared.frame.Message.{Message}
 use Rattle.bep_frames.specs.declared.frame.Message.TheVariants as message
 use Rattle.bep_messages.specs.declared.request.Request.{Request}
-use Rattle.peer_asks.specs.Requests.{PutsOne, PutsRequests}
+use Rattle.peer_asks.specs.Requests.{ComeEach, PutsEach, PutsOne}
 
 joined : (before between after : List Message) (requests : List Request) (request : Request)
     → between ≡ before ++ map message.Request requests → after ≡ between ++ message.Request request ∷ []
@@ -15,7 +16,19 @@ joined before between after requests request e f =
     ∙ append_assoc before (map message.Request requests) (message.Request request ∷ [])
     ∙ ap (λ (xs : List Message). before ++ xs) (sym (map-append message.Request requests (request ∷ [])))
 
-pub one-more : (before between after : List Message) → PutsRequests before between → PutsOne between after → PutsRequests before after
-one-more before between after puts puts_one =
-    let both = puts.0 ++ puts_one.0 ∷ [] in
-    (both, joined before between after puts.0 puts_one.0 puts.1 puts_one.1)
+module _ {Q : Type 0} (comes : Q → Option Request → Q → Type 0) where
+  come-more : (from : Q) (requests : List Request) (point : Q) (request : Request) (to : Q)
+      → ComeEach comes from requests point → comes point (Some request) to → ComeEach comes from (requests ++ request ∷ []) to
+  come-more from [] point request to h c = (to, subst (λ q. comes q (Some request) to) h c, refl)
+  come-more from (y ∷ ys) point request to h c = (h.0, h.1, come-more h.0 ys point request to h.2 c)
+
+  pub none-put : (from : Q) (before : List Message) → PutsEach comes from from before before
+  none-put from before = record { requests = []; came = refl; put = sym (append-nil before) }
+
+  pub one-more : (from point to : Q) (before between after : List Message) → PutsEach comes from point before between → PutsOne comes point to between after
+      → PutsEach comes from to before after
+  one-more from point to before between after puts one = record {
+    requests = puts.requests ++ one.0 ∷ [];
+    came = come-more from puts.requests point one.0 to puts.came one.1;
+    put = joined before between after puts.requests one.0 puts.put one.2;
+  }

@@ -1,8 +1,11 @@
 -- What is known of the Requests of one connection (own rule).
-use Rattle.std.specs.Prelude.{◌≡◌, ◌≢◌, ◌⊎◌, ℕ, suc, ◌<◌, ◌≤◌, ℤ, pos, Bool, true, false, List, [], ◌∷◌, Some, None, ◌++◌, length, get_or, slice_set, ⊤}
+use Rattle.std.specs.Prelude.{◌≡◌, ◌≢◌, ◌⊎◌, ℕ, suc, ◌<◌, ◌≤◌, ℤ, pos, Bool, true, false, List, [], ◌∷◌, Option, Some, None, ◌++◌, length, get_or, slice_set, ⊤}
 use Rattle.std.specs.List.{position}
+use Rattle.std.specs.Vec.{Vec}
 use Rattle.bep_messages.specs.declared.response.Response.{Response}
 use Rattle.bep_session.specs.Ids.{max_asks}
+use Rattle.peer_asks.specs.declared.fault.AskFault.{AskFault}
+use Rattle.peer_asks.specs.declared.fault.AskFault.TheVariants.{NotConnected, TooManyAsks, TooLarge, OutOfMemory}
 use Rattle.peer_asks.specs.declared.table.AskState.{AskState}
 use Rattle.peer_asks.specs.declared.table.AskState.TheVariants.{Free, Waits, LetGo, Came, NoneCame}
 use Rattle.peer_asks.specs.declared.table.Arrival.{Arrival}
@@ -22,6 +25,10 @@ IsAt id k = id ≡ pos (suc k)
 abbrev pub is_free : AskState → Bool
 is_free Free = true
 is_free _ = false
+
+-- there was no Request with the id
+abbrev pub IsFreeAt : List AskState → ℤ → Type 0
+IsFreeAt old id = (k : ℕ) → IsAt id k → state_at old k ≡ Free
 
 -- a Request is at the least place at which there was none, or at the end where there was one at each
 abbrev pub HasOpened : List AskState → ℤ → AskState → List AskState → Type 0
@@ -74,3 +81,20 @@ after_let_go _ = Free
 -- without the id that came last, if there is one
 abbrev pub IsWithoutLast : List ℤ → List ℤ → Type 0
 IsWithoutLast old new = ((id : ℤ) × (old ≡ new ++ id ∷ [])) ⊎ ((old ≡ []) × (new ≡ []))
+
+-- what is there for an id was looked at: its bytes came, none will, or there is nothing yet
+abbrev pub HasLooked : List AskState → ℤ → List AskState → List ℕ → Option Bool → List ℕ → Type 0
+HasLooked old id new before (Some true) after = (bytes : Vec ℕ) × HasTaken old id new (Bytes bytes) × (after ≡ bytes.items)
+HasLooked old id new before (Some false) after = HasTaken old id new Nothing × (after ≡ before)
+HasLooked old id new before None after = HasTaken old id new NotYet × (after ≡ before)
+
+-- The states as they were, or with one more at a place where there is no Request: it was opened, and taken back.
+abbrev pub IsTakenBack : List AskState → List AskState → Type 0
+IsTakenBack old new = (id : ℤ) × (size : ℕ) × (between : List AskState) × HasOpened old id (Waits size) between × IsSetAt between id (λ _. Free) new
+
+-- why a Request was not sent
+abbrev pub HasRefused : {S : Type 0} → AskFault → Option S → List AskState → List AskState → Type 0
+HasRefused NotConnected requests old new = (requests ≡ None) × (new ≡ old)
+HasRefused TooManyAsks requests old new = (AreAllTaken old × (new ≡ old)) ⊎ IsTakenBack old new
+HasRefused TooLarge requests old new = ⊥
+HasRefused OutOfMemory requests old new = new ≡ old

@@ -1,3 +1,4 @@
 pub mod Asks
 pub mod Counts
 pub mod Requests
+pub mod Given

@@ -1,14 +1,15 @@
 //! The Requests under way over the connection with a peer.
-ghost use Rattle.std.specs.Prelude.{◌≡◌, ◌≢◌, ◌⊎◌, IfErr, IfOk, OnOk};
-ghost use Rattle.peer_asks.specs.Asks.{HasOpened, HasTaken, IsSetAt, after_let_go};
+ghost use Rattle.std.specs.Prelude.{◌≡◌, ◌≢◌, ◌⊎◌, ◌+◌, ◌%◌, ◌^◌, ◌∷◌, ◌++◌, [], IfErr, IfOk, MatchResult, OnOk, Some, false, true};
+ghost use Rattle.peer_asks.specs.Asks.{HasLooked, HasOpened, HasRefused, HasTaken, IsSetAt, after_let_go};
 ghost use Rattle.peer_asks.specs.Counts.{HasCounted};
-ghost use Rattle.peer_asks.specs.Requests.{IsNamed, IsTooLarge, request_of};
+ghost use Rattle.peer_asks.specs.Requests.{IsNamed, IsTooLarge, TakesNone, TakesOne, request_of, under};
 ghost use Rattle.peer_asks.specs.declared.fault.AskFault.TheVariants.{OutOfMemory, TooLarge};
 ghost use Rattle.peer_asks.specs.declared.table.AskState.TheVariants.{Waits};
 ghost use Rattle.peer_asks.specs.declared.table.Taken.TheVariants.{Nothing};
 
 use crate::counts::AskCounts;
 use crate::fault::AskFault;
+use crate::sink::RequestSink;
 use crate::table::{Arrival, AskTable, Taken};
 use bep_messages::{Request, Response, ShortOctets, Text};
 use crossbeam_channel::Sender;
@@ -36,16 +37,16 @@ pub struct AskId {
 /// way, and a peer is asked no more while they are.
 #[derive(Drop)]
 pub struct AskBook {
-    shared: Mutex<Shared>,
+    shared: Mutex<Shared<Sender<Request>>>,
     // Rung where something came, or the connection ended.
     arrived: Condvar,
 }
 
 // What stands under the lock.
 #[derive(Drop)]
-struct Shared {
+struct Shared<S> {
     // Where Requests go, while there is a connection.
-    requests: Option<Sender<Request>>,
+    requests: Option<S>,
     // How many connections there were.
     connection: u64,
     table: AskTable,
@@ -71,21 +72,13 @@ impl AskBook {
 
     /// A connection begins, whose requester takes Requests from the other end of this channel.
     pub fn begin<R: Wait>(&self, rt: &R, requests: Sender<Request>) {
-        let mut shared = self.shared.lock(rt);
-        shared.table.clear();
-        shared.connection = shared.connection.wrapping_add(1);
-        shared.requests = Some(requests);
-        drop(shared);
+        self.shared.lock(rt).change_to(Some(requests));
         self.arrived.notify_all();
     }
 
     /// The connection ends: its channel is dropped, and whoever waits for a Response gets none.
     pub fn end<R: Wait>(&self, rt: &R) {
-        let mut shared = self.shared.lock(rt);
-        shared.requests = None;
-        shared.table.clear();
-        shared.connection = shared.connection.wrapping_add(1);
-        drop(shared);
+        self.shared.lock(rt).change_to(None);
         self.arrived.notify_all();
     }
 
@@ -113,13 +106,8 @@ impl AskBook {
         let mut shared = self.shared.lock(rt);
         for _ in rt.forever() {
             let seen = shared.arrivals;
-            match shared.take(ask) {
-                Taken::Bytes(came) => {
-                    *bytes = came;
-                    return true;
-                }
-                Taken::Nothing => return false,
-                Taken::NotYet => {}
+            if let Some(is_there) = shared.look(ask, bytes) {
+                return is_there;
             }
             let (guard, waited) = self.arrived.wait_timeout_while(
                 rt,
@@ -167,21 +155,41 @@ impl AskBook {
     }
 }
 
-impl Shared {
+impl<S: RequestSink + Drop> Shared<S> {
+    // Requests go there from now on, or nowhere. None is under way.
+    fn change_to(&mut self, requests: Option<S>)
+        ensures to { self.new.requests ≡ requests }
+        ensures states { self.new.table.states.items ≡ [] }
+        ensures untold { self.new.table.untold.items ≡ [] }
+        ensures connection { self.new.connection ≡ (self.old.connection + 1) % 2 ^ 64 }
+        ensures counts { self.new.counts ≡ self.old.counts }
+    {
+        self.requests = requests;
+        self.table.clear();
+        self.connection = self.connection.wrapping_add(1);
+    }
+
     // Gives the Request an id, and sends it.
     fn send<R: Wait>(&mut self, rt: &R, request: Request, size: u32) -> Result<AskId, AskFault>
         ensures opened { IfOk result (λ ask.
             HasOpened self.old.table.states.items ask.id (Waits size) self.new.table.states.items) }
+        ensures untold { IfOk result (λ ask. self.new.table.untold.items ≡ self.old.table.untold.items ++ ask.id ∷ []) }
         ensures connection { IfOk result (λ ask. ask.connection ≡ self.old.connection) }
+        ensures sent { MatchResult result
+            (λ ask. TakesOne S.takes (under ask.id request) true self.old.requests self.new.requests)
+            (λ _. TakesNone S.takes request self.old.requests self.new.requests) }
+        ensures same { (self.new.connection ≡ self.old.connection) × (self.new.counts ≡ self.old.counts) }
+        ensures not_sent { IfErr result (λ fault.
+            HasRefused fault self.old.requests self.old.table.states.items self.new.table.states.items) }
     {
-        let Some(requests) = &self.requests else {
+        let Some(requests) = &mut self.requests else {
             return Err(AskFault::NotConnected);
         };
         let id = self.table.open(size)?;
         let mut request = request;
         request.id = id;
         // (the channel has room for as many Requests as may be under way, so this never waits)
-        if requests.try_send(rt, request).is_err() {
+        if !requests.take(rt, request) {
             self.table.take_back(id);
             return Err(AskFault::TooManyAsks);
         }
@@ -189,6 +197,25 @@ impl Shared {
             connection: self.connection,
             id,
         })
+    }
+
+    // What is there for who asked: whether its bytes came, which are left in `bytes` in place of what is there; nothing while its Response
+    // may still come.
+    fn look(&mut self, ask: AskId, bytes: &mut Vec<u8>) -> Option<bool>
+        ensures same { ask.connection ≡ self.old.connection →
+            HasLooked self.old.table.states.items ask.id self.new.table.states.items bytes.old.items result bytes.new.items }
+        ensures other { ask.connection ≢ self.old.connection →
+            (self.new.table.states.items ≡ self.old.table.states.items) × (result ≡ Some false)
+            × (bytes.new ≡ bytes.old) }
+    {
+        match self.take(ask) {
+            Taken::Bytes(came) => {
+                *bytes = came;
+                Some(true)
+            }
+            Taken::Nothing => Some(false),
+            Taken::NotYet => None,
+        }
     }
 
     fn take(&mut self, ask: AskId) -> Taken

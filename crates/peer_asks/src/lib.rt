@@ -4,15 +4,21 @@
 //! the connection hands each Response to the book, and a [`PeerSource`] gives a puller the blocks, of which it asks for many ahead.
 #![tactic(auto)]
 
+mod ask;
 mod book;
 mod counts;
 mod fault;
+mod lane;
+mod peer;
 mod requester;
+mod sink;
 mod source;
 mod table;
 
+pub use ask::Ask;
 pub use book::{AskBook, AskId};
 pub use counts::AskCounts;
 pub use fault::AskFault;
-pub use requester::{RequesterEnd, run_requester};
-pub use source::{PeerBook, PeerSource};
+pub use peer::{FolderPeer, PeerAsks, PeerBook};
+pub use requester::{RequestSource, RequesterEnd, run_requester};
+pub use source::PeerSource;

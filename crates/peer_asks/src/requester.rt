@@ -1,7 +1,8 @@
 //! The requester of a connection.
-ghost use Rattle.std.specs.Prelude.{◌≡◌, OnErr, OnOk};
+ghost use Rattle.std.specs.Prelude.{◌≡◌, MatchResult, Option};
+ghost use Rattle.bep_messages.specs.declared.request.Request.{Request};
 ghost use Rattle.peer_conn.specs.Words.{IsSameEnded, IsSameSeat, all_of, put_of};
-ghost use Rattle.peer_asks.specs.Requests.{PutsOne, PutsRequests};
+ghost use Rattle.peer_asks.specs.Requests.{Leaves, PutsOne, PutsRequests};
 
 use bep_frames::Message;
 use bep_messages::Request;
@@ -18,27 +19,53 @@ pub enum RequesterEnd {
     Gone,
 }
 
-/// Puts each Request that comes by the channel, in the order in which they come. Sleeps while there is none, and while the queue is full.
+/// Where the Requests to a peer come from, one after the other.
+pub trait RequestSource {
+    /// What each call gives: what there was before it, the Request, or none where no more will come, and what there is after it.
+    ghost gives: { Self → Option Request → Self → Type 0 };
+
+    /// Waits for the next Request, and returns it; `None` where no more will come.
+    fn next<R: Wait>(&mut self, rt: &R) -> Option<Request>
+        ensures { gives self.old result self.new };
+}
+
+impl RequestSource for Receiver<Request> {
+    ghost use Rattle.std.specs.Prelude.{⊤};
+
+    ghost gives = { λ _ _ _. ⊤ };
+
+    /// `None` once the other end of the channel was dropped and the channel is empty.
+    fn next<R: Wait>(&mut self, rt: &R) -> Option<Request> {
+        self.recv(rt).ok()
+    }
+}
+
+/// Puts each Request that comes, once, in the order in which they come. Sleeps while there is none, and while the queue is full.
 /// Does not allocate.
 ///
-/// Which Requests came by the channel no clause can say.
-pub fn run_requester<R: Wait>(
+/// It ends with `Closed` where no more will come; with `Gone` at the first Request that cannot be put, which is dropped.
+pub fn run_requester<R: Wait, Q: RequestSource + Drop>(
     rt: &R,
-    requests: Receiver<Request>,
+    requests: Q,
     seat: Seat<Message>,
 ) -> (Ended<Message>, RequesterEnd)
     ensures same { IsSameEnded seat result.0 }
-    ensures put { PutsRequests (put_of seat) (all_of result.0) }
+    ensures put { (left : Q) × PutsRequests Q.gives result.1 requests left (put_of seat) (all_of result.0) }
 {
     let mut seat = seat;
-    let end = put_all(rt, &requests, &mut seat);
+    let mut requests = requests;
+    let end = put_all(rt, &mut requests, &mut seat);
     (seat.end(), end)
 }
 
 // Puts each Request until there is a reason to end.
-fn put_all<R: Wait>(rt: &R, requests: &Receiver<Request>, seat: &mut Seat<Message>) -> RequesterEnd
+fn put_all<R: Wait, Q: RequestSource>(
+    rt: &R,
+    requests: &mut Q,
+    seat: &mut Seat<Message>,
+) -> RequesterEnd
     ensures same { IsSameSeat seat.old seat.new }
-    ensures put { PutsRequests (put_of seat.old) (put_of seat.new) }
+    ensures put { PutsRequests Q.gives result requests.old requests.new (put_of seat.old) (put_of seat.new) }
 {
     for _ in rt.forever() {
         if let Err(end) = put_next(rt, requests, seat) {
@@ -49,16 +76,17 @@ fn put_all<R: Wait>(rt: &R, requests: &Receiver<Request>, seat: &mut Seat<Messag
 }
 
 // Waits for the next Request, and puts it.
-fn put_next<R: Wait>(
+fn put_next<R: Wait, Q: RequestSource>(
     rt: &R,
-    requests: &Receiver<Request>,
+    requests: &mut Q,
     seat: &mut Seat<Message>,
 ) -> Result<(), RequesterEnd>
     ensures same { IsSameSeat seat.old seat.new }
-    ensures put { OnOk result (PutsOne (put_of seat.old) (put_of seat.new)) }
-    ensures none { OnErr result (put_of seat.new ≡ put_of seat.old) }
+    ensures put { MatchResult result
+        (λ _. PutsOne Q.gives requests.old requests.new (put_of seat.old) (put_of seat.new))
+        (λ end. Leaves Q.gives end requests.old requests.new × (put_of seat.new ≡ put_of seat.old)) }
 {
-    let Ok(request) = requests.recv(rt) else {
+    let Some(request) = requests.next(rt) else {
         return Err(RequesterEnd::Closed);
     };
     match seat.put_wait(rt, Message::Request(request)) {

@@ -1,8 +1,8 @@
 //! The Requests of one connection that wait for their Response, or whose answer waits for who asked.
-ghost use Rattle.std.specs.Prelude.{◌≡◌, ◌<◌, ◌∷◌, ◌++◌, [], ℕ, IfErr, IfNone, IfOk, IfSome, None, OnErr, length, option_to_list};
+ghost use Rattle.std.specs.Prelude.{◌≡◌, ◌<◌, ◌∷◌, ◌++◌, ◌⊎◌, [], ℕ, IfErr, IfNone, IfOk, IfSome, None, OnErr, length, option_to_list};
 ghost use Rattle.std.specs.List.{position};
-ghost use Rattle.peer_asks.specs.Asks.{AreAllTaken, HasAnswered, HasOpened, HasTaken, IsAt, IsSetAt, IsWithoutLast, after_let_go, is_free};
-ghost use Rattle.peer_asks.specs.declared.fault.AskFault.TheVariants.{TooManyAsks};
+ghost use Rattle.peer_asks.specs.Asks.{AreAllTaken, HasAnswered, HasOpened, HasTaken, IsAt, IsFreeAt, IsSetAt, IsWithoutLast, after_let_go, is_free};
+ghost use Rattle.peer_asks.specs.declared.fault.AskFault.TheVariants.{OutOfMemory, TooManyAsks};
 ghost use Rattle.peer_asks.specs.declared.table.AskState.TheVariants.{Free, Waits};
 
 use crate::fault::AskFault;
@@ -85,10 +85,11 @@ impl AskTable {
     /// that there may be has one. O(n) for n ids.
     pub(crate) fn open(&mut self, size: u32) -> Result<i32, AskFault>
         ensures opened { IfOk result (λ id. HasOpened self.old.states.items id (Waits size) self.new.states.items) }
+        ensures free { IfOk result (IsFreeAt self.old.states.items) }
         ensures err { OnErr result (self.new.states.items ≡ self.old.states.items) }
         ensures untold { IfOk result (λ id. self.new.untold.items ≡ self.old.untold.items ++ id ∷ []) }
         ensures told { OnErr result (self.new.untold.items ≡ self.old.untold.items) }
-        ensures full { IfErr result (λ fault. fault ≡ TooManyAsks → AreAllTaken self.old.states.items) }
+        ensures full { IfErr result (λ fault. ((fault ≡ TooManyAsks) × AreAllTaken self.old.states.items) ⊎ (fault ≡ OutOfMemory)) }
     {
         let place = match self.free_place() {
             Some(place) => place,
@@ -107,10 +108,11 @@ impl AskTable {
     fn add(&mut self, size: u32) -> Result<i32, AskFault>
         requires { position is_free self.old.states.items ≡ None }
         ensures opened { IfOk result (λ id. HasOpened self.old.states.items id (Waits size) self.new.states.items) }
+        ensures free { IfOk result (IsFreeAt self.old.states.items) }
         ensures err { OnErr result (self.new.states.items ≡ self.old.states.items) }
         ensures untold { IfOk result (λ id. self.new.untold.items ≡ self.old.untold.items ++ id ∷ []) }
         ensures told { OnErr result (self.new.untold.items ≡ self.old.untold.items) }
-        ensures full { IfErr result (λ fault. fault ≡ TooManyAsks → AreAllTaken self.old.states.items) }
+        ensures full { IfErr result (λ fault. ((fault ≡ TooManyAsks) × AreAllTaken self.old.states.items) ⊎ (fault ≡ OutOfMemory)) }
     {
         let place = self.states.len();
         if place >= MAX_ASKS {

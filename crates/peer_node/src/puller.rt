@@ -7,7 +7,7 @@ use crate::moments::{ScanTimes, moment};
 use crate::ways::pull_past;
 use file_store::{FileStore, Gate, GatePlace};
 use folder_calls::FolderCalls;
-use peer_asks::{PeerBook, PeerSource};
+use peer_asks::{FolderPeer, PeerBook, PeerSource};
 use std::alloc::{AllocError, Global};
 use sync_names::SafeName;
 use sync_pull::{MaxConflicts, PullAnswer, PullFailure, pull_name};
@@ -33,7 +33,7 @@ pub(crate) struct Puller<'p, 'x, R, S, W, G> {
     pub(crate) by: &'p Pulling<'x, R, G>,
     pub(crate) store: &'p mut S,
     pub(crate) calls: &'p mut W,
-    pub(crate) source: PeerSource<'x, R>,
+    pub(crate) source: PeerSource<'x, R, FolderPeer<'x>>,
 }
 
 impl<'p, 'x, R: Host, S: FileStore + Marked, W: FolderCalls, G: Gate> Puller<'p, 'x, R, S, W, G> {

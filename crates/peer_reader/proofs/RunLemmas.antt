@@ -1,8 +1,9 @@
 -- What happens on a connection, one thing after another.
+use Rattle.std.specs.Prelude.{All}
 use Rattle.std.proofs.Common.{◌≡◌, ◌++◌, ◌∷◌, [], ℤ, Bool, true, false, cond, List, refl, sym, ◌∙◌, ap, append_assoc}
 use Rattle.bep_session.specs.Runs.{Act, Feeds, Opens, Says, Ticks, acted, run}
 use Rattle.bep_session.specs.Sessions.{View, with_open}
-use Rattle.peer_reader.specs.Reading.{OnlyOpens, fed_of}
+use Rattle.peer_reader.specs.Reading.{IsOpening, OnlyOpens, fed_of}
 
 pub run_session-append : (v : View) (xs ys : List Act) → (run v (xs ++ ys)).session ≡ (run (run v xs).session ys).session
 unfolding run
@@ -26,7 +27,7 @@ fed_of-append (Ticks moment ∷ xs) ys = fed_of-append xs ys
 
 pub opens_none : (v : View) → OnlyOpens v v
 unfolding run
-opens_none v = record { acts = []; session = refl; events = refl; bytes = refl }
+opens_none v = record { acts = []; only = tt; session = refl; events = refl; bytes = refl }
 
 one_open : (v : View) (id : ℤ) → (run v (Opens id ∷ [])).session ≡ with_open v id
 unfolding run
@@ -36,14 +37,19 @@ no_event : (v : View) (id : ℤ) → (run v (Opens id ∷ [])).events ≡ []
 unfolding run
 no_event v id = refl
 
+only-append : (acts : List Act) → All IsOpening acts → (id : ℤ) → All IsOpening (acts ++ Opens id ∷ [])
+only-append [] only id = (tt, tt)
+only-append (x ∷ xs) only id = (only.0, only-append xs only.1 id)
+
 -- one id more was opened, or none
 pub opens_more : (a b c : View) (booked : Bool) (id : ℤ) → OnlyOpens a b → c ≡ cond booked (with_open b id) b → OnlyOpens a c
 opens_more a b c true id o e =
     let more = Opens id ∷ [] in
     record {
       acts = o.acts ++ more;
+      only = only-append o.acts o.only id;
       session = e ∙ ap (λ v. with_open v id) o.session ∙ sym (run_session-append a o.acts more ∙ one_open (run a o.acts).session id);
       events = run_events-append a o.acts more ∙ ap (λ l. l ++ (run (run a o.acts).session more).events) o.events ∙ no_event (run a o.acts).session id;
       bytes = fed_of-append o.acts more ∙ ap (λ l. l ++ []) o.bytes;
     }
-opens_more a b c false id o e = record { acts = o.acts; session = e ∙ o.session; events = o.events; bytes = o.bytes }
+opens_more a b c false id o e = record { acts = o.acts; only = o.only; session = e ∙ o.session; events = o.events; bytes = o.bytes }

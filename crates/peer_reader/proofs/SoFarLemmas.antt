@@ -1,10 +1,11 @@
 -- How far a reader has come.
 use Rattle.std.proofs.Common.{◌≡◌, ◌++◌, ◌∷◌, [], ℕ, List, Option, map, refl, sym, ◌∙◌, ap, subst, inl, inr, append_assoc, append-nil}
 use Rattle.std.specs.Io.KnownBytes.{Consumes, Keeps}
+use Rattle.std.specs.Prelude.{All}
 use Rattle.std.proofs.KnownBytes.{Consumes-kept, Consumes-trans}
 use Rattle.std.proofs.lemmas.List.{map-append}
 use Rattle.bep_session.specs.declared.event.Event.{Event}
-use Rattle.bep_session.specs.Runs.{Act, Feeds, run}
+use Rattle.bep_session.specs.Runs.{Act, Feeds, Opens, Says, Ticks, run}
 use Rattle.bep_session.specs.Sessions.{View, begun, fed}
 use Rattle.bep_session.specs.Times.{tick_at}
 use Rattle.bep_session.specs.declared.times.Tick.TheVariants.{TimedOut}
@@ -19,7 +20,7 @@ use Rattle.peer_reader.specs.declared.stop.ReaderStop.{ReaderStop}
 use Rattle.peer_reader.specs.declared.stop.ReaderStop.TheVariants as stop
 use Rattle.peer_reader.specs.Effects.{Heard, after_event}
 use Rattle.peer_reader.specs.Hears.{AsksEach, applied, heard_of}
-use Rattle.peer_reader.specs.Reading.{HasHeardAll, HearsPiece, OnlyOpens, ReadsAll, ReadsTo, ReadsUpTo, StopsIn, StopsInPiece, TimesOut, after_events, fed_of}
+use Rattle.peer_reader.specs.Reading.{HasHeardAll, HasShown, HasTimedOut, HearsPiece, IsOfEvents, IsOpening, IsTimed, OnlyOpens, ReadsAll, ReadsTo, ReadsUpTo, StopsIn, StopsInPiece, after_events, fed_of, first, later}
 use Rattle.sync_record.specs.Devices.{Identity}
 
 folders-append : (peer : Identity) (fs : List Heard) (xs ys : List Event)
@@ -58,6 +59,18 @@ feed_events v opened o piece moment =
 feed_bytes : (v opened : View) (o : OnlyOpens v opened) (piece : List ℕ) (moment : ℕ) → fed_of (o.acts ++ Feeds piece moment ∷ []) ≡ piece
 feed_bytes v opened o piece moment = fed_of-append o.acts (Feeds piece moment ∷ []) ∙ ap (λ l. l ++ (piece ++ [])) o.bytes ∙ append-nil piece
 
+module _ (shows : ℕ → ℕ → Type 0) where
+  timed-append : (xs ys : List Act) → All (IsTimed shows) xs → All (IsTimed shows) ys → All (IsTimed shows) (xs ++ ys)
+  timed-append [] ys a b = b
+  timed-append (x ∷ xs) ys a b = (a.0, timed-append xs ys a.1 b)
+
+  timed-opening : (acts : List Act) → All IsOpening acts → All (IsTimed shows) acts
+  timed-opening [] only = tt
+  timed-opening (Opens id ∷ xs) only = (tt, timed-opening xs only.1)
+  timed-opening (Feeds piece moment ∷ xs) only = absurd only.0
+  timed-opening (Says moment ∷ xs) only = absurd only.0
+  timed-opening (Ticks moment ∷ xs) only = absurd only.0
+
 module _ {W F : Type 0} (view : W → CallerView) (folder : W → F) where
   heard_together : GoTogether → (peer : Identity) (xs ys : List Event) (olds mids news : List (PeerFolder W)) (counts before later : ReaderCounts)
       → HasHeardAll view folder peer xs olds counts mids before → HasHeardAll view folder peer ys mids before news later
@@ -90,47 +103,83 @@ module _ {W F : Type 0} (view : W → CallerView) (folder : W → F) where
         stops = s.stops;
       }
 
-  -- all that was read was heard
-  pub record IsSoFar (peer : Identity) (given left : Option (List ℕ)) (session : View) (olds news : List (PeerFolder W)) (counts : ReaderCounts) : Type 0 where
+  -- all that was read was heard, when the clock showed the moments of it, this one last
+  pub record IsSoFar (shows : ℕ → ℕ → Type 0) (peer : Identity) (given left : Option (List ℕ)) (session : View) (olds news : List (PeerFolder W)) (counts : ReaderCounts) (now : ℕ) : Type 0 where
     pub moment : ℕ
     pub acts : List Act
     pub taken : Consumes given left (fed_of acts)
     pub session_is : session ≡ (run (begun moment) acts).session
     pub heard : HasHeardAll view folder peer (run (begun moment) acts).events olds no_counts news counts
+    pub begun_then : HasShown shows moment
+    pub timed : All (IsTimed shows) acts
+    pub now_then : HasShown shows now
 
-  pub at_first : (peer : Identity) (given : Option (List ℕ)) (moment : ℕ) (session : View) (olds : List (PeerFolder W)) (counts : ReaderCounts)
-      → Consumes given given [] → session ≡ begun moment → counts ≡ no_counts → IsSoFar peer given given session olds olds counts
+  pub at_first : (shows : ℕ → ℕ → Type 0) (peer : Identity) (given : Option (List ℕ)) (moment : ℕ) (session : View) (olds : List (PeerFolder W)) (counts : ReaderCounts)
+      → Consumes given given [] → session ≡ begun moment → counts ≡ no_counts → shows 0 moment → IsSoFar shows peer given given session olds olds counts moment
   unfolding run
-  at_first peer given moment session olds counts none e c =
+  at_first shows peer given moment session olds counts none e c shown =
       record {
         moment = moment;
         acts = [];
         taken = none;
         session_is = e;
         heard = subst (λ (x : ReaderCounts). HasHeardAll view folder peer [] olds no_counts olds x) (sym c) (heard_no_event view folder peer olds no_counts);
+        begun_then = first moment shown;
+        timed = tt;
+        now_then = first moment shown;
+      }
+
+  -- nothing was read
+  pub nothing_read : (peer : Identity) (given : Option (List ℕ)) (olds : List (PeerFolder W)) (counts : ReaderCounts)
+      → Consumes given given [] → counts ≡ no_counts → ReadsAll view folder peer given given [] olds olds counts
+  unfolding run
+  nothing_read peer given olds counts none c =
+      record {
+        moment = 0;
+        acts = [];
+        taken = none;
+        heard = subst (λ (x : ReaderCounts). HasHeardAll view folder peer [] olds no_counts olds x) (sym c) (heard_no_event view folder peer olds no_counts);
       }
 
   -- nothing more was read
-  pub no_more : (peer : Identity) (given left now : Option (List ℕ)) (session : View) (olds news : List (PeerFolder W)) (counts : ReaderCounts)
-      → IsSoFar peer given left session olds news counts → Keeps left now → IsSoFar peer given now session olds news counts
-  no_more peer given left now session olds news counts a kept =
+  pub no_more : (shows : ℕ → ℕ → Type 0) (peer : Identity) (given left after : Option (List ℕ)) (session : View) (olds news : List (PeerFolder W)) (counts : ReaderCounts) (now : ℕ)
+      → IsSoFar shows peer given left session olds news counts now → Keeps left after → IsSoFar shows peer given after session olds news counts now
+  no_more shows peer given left after session olds news counts now a kept =
       record {
         moment = a.moment;
         acts = a.acts;
-        taken = Consumes-kept given left now (fed_of a.acts) a.taken kept;
+        taken = Consumes-kept given left after (fed_of a.acts) a.taken kept;
         session_is = a.session_is;
         heard = a.heard;
+        begun_then = a.begun_then;
+        timed = a.timed;
+        now_then = a.now_then;
       }
 
-  pub at_end : (peer : Identity) (given left now : Option (List ℕ)) (session : View) (olds news : List (PeerFolder W)) (counts : ReaderCounts)
-      → IsSoFar peer given left session olds news counts → Consumes left now [] → ReadsAll view folder peer given now [] olds news counts
-  at_end peer given left now session olds news counts a none =
-      record { moment = a.moment; acts = a.acts; taken = Consumes-trans given left now (fed_of a.acts) [] a.taken none; heard = a.heard }
+  -- the clock was looked at once more
+  pub looked : (shows : ℕ → ℕ → Type 0) (peer : Identity) (given left : Option (List ℕ)) (session : View) (olds news : List (PeerFolder W)) (counts : ReaderCounts) (last now : ℕ)
+      → IsSoFar shows peer given left session olds news counts last → shows last now → IsSoFar shows peer given left session olds news counts now
+  looked shows peer given left session olds news counts last now a shown =
+      record {
+        moment = a.moment;
+        acts = a.acts;
+        taken = a.taken;
+        session_is = a.session_is;
+        heard = a.heard;
+        begun_then = a.begun_then;
+        timed = a.timed;
+        now_then = later last now a.now_then shown;
+      }
 
-  pub one_piece : GoTogether → (peer : Identity) (given left now : Option (List ℕ)) (session after : View) (olds mids news : List (PeerFolder W)) (counts later : ReaderCounts) (piece : List ℕ) (moment : ℕ)
-      → IsSoFar peer given left session olds mids counts → Consumes left now piece → HearsPiece view folder peer session mids counts piece moment after news later
-      → IsSoFar peer given now after olds news later
-  one_piece together peer given left now session after olds mids news counts later piece moment a taken h =
+  pub at_end : (shows : ℕ → ℕ → Type 0) (peer : Identity) (given left after : Option (List ℕ)) (session : View) (olds news : List (PeerFolder W)) (counts : ReaderCounts) (now : ℕ)
+      → IsSoFar shows peer given left session olds news counts now → Consumes left after [] → ReadsAll view folder peer given after [] olds news counts
+  at_end shows peer given left after session olds news counts now a none =
+      record { moment = a.moment; acts = a.acts; taken = Consumes-trans given left after (fed_of a.acts) [] a.taken none; heard = a.heard }
+
+  pub one_piece : (shows : ℕ → ℕ → Type 0) → GoTogether → (peer : Identity) (given left next : Option (List ℕ)) (session after : View) (olds mids news : List (PeerFolder W)) (counts later : ReaderCounts) (piece : List ℕ) (moment : ℕ)
+      → IsSoFar shows peer given left session olds mids counts moment → Consumes left next piece → HearsPiece view folder peer session mids counts piece moment after news later
+      → IsSoFar shows peer given next after olds news later moment
+  one_piece shows together peer given left next session after olds mids news counts later piece moment a taken h =
       let more = h.opens.acts ++ Feeds piece moment ∷ [] in
       let start = begun a.moment in
       let events : (run start (a.acts ++ more)).events ≡ (run start a.acts).events ++ (fed h.opened piece moment).events
@@ -139,40 +188,46 @@ module _ {W F : Type 0} (view : W → CallerView) (folder : W → F) where
       record {
         moment = a.moment;
         acts = a.acts ++ more;
-        taken = subst (λ l. Consumes given now l) (sym (fed_of-append a.acts more ∙ ap (λ l. fed_of a.acts ++ l) (feed_bytes session h.opened h.opens piece moment)))
-            (Consumes-trans given left now (fed_of a.acts) piece a.taken taken);
+        taken = subst (λ l. Consumes given next l) (sym (fed_of-append a.acts more ∙ ap (λ l. fed_of a.acts ++ l) (feed_bytes session h.opened h.opens piece moment)))
+            (Consumes-trans given left next (fed_of a.acts) piece a.taken taken);
         session_is = h.after_is ∙ sym (run_session-append start a.acts more ∙ ap (λ (v : View). (run v more).session) (sym a.session_is) ∙ feed_session session h.opened h.opens piece moment);
         heard = subst (λ l. HasHeardAll view folder peer l olds no_counts news later) (sym events)
             (heard_together together peer (run start a.acts).events (fed h.opened piece moment).events olds mids news no_counts counts later a.heard h.heard);
+        begun_then = a.begun_then;
+        timed = timed-append shows a.acts more a.timed (timed-append shows h.opens.acts (Feeds piece moment ∷ []) (timed-opening shows h.opens.acts h.opens.only) (a.now_then, tt));
+        now_then = a.now_then;
       }
 
   -- ---- how it ends
 
-  pub reads_all : (peer : Identity) (given left : Option (List ℕ)) (session : View) (olds news : List (PeerFolder W)) (counts : ReaderCounts)
-      → IsSoFar peer given left session olds news counts → ReadsAll view folder peer given left [] olds news counts
-  reads_all peer given left session olds news counts a =
+  pub reads_all : (shows : ℕ → ℕ → Type 0) (peer : Identity) (given left : Option (List ℕ)) (session : View) (olds news : List (PeerFolder W)) (counts : ReaderCounts) (now : ℕ)
+      → IsSoFar shows peer given left session olds news counts now → ReadsAll view folder peer given left [] olds news counts
+  reads_all shows peer given left session olds news counts now a =
       record { moment = a.moment; acts = a.acts; taken = subst (λ l. Consumes given left l) (sym (append-nil (fed_of a.acts))) a.taken; heard = a.heard }
 
-  pub times_out : (peer : Identity) (given left : Option (List ℕ)) (session : View) (olds news : List (PeerFolder W)) (counts : ReaderCounts) (now : ℕ)
-      → IsSoFar peer given left session olds news counts → tick_at session.conversation.received session.conversation.said now ≡ TimedOut → TimesOut view folder peer given left olds news counts
-  times_out peer given left session olds news counts now a late =
+  pub times_out : (shows : ℕ → ℕ → Type 0) (peer : Identity) (given left : Option (List ℕ)) (session : View) (olds news : List (PeerFolder W)) (counts : ReaderCounts) (now : ℕ)
+      → IsSoFar shows peer given left session olds news counts now → tick_at session.conversation.received session.conversation.said now ≡ TimedOut → HasTimedOut shows given left
+  times_out shows peer given left session olds news counts now a late =
       record {
         moment = a.moment;
         acts = a.acts;
+        now = now;
         taken = a.taken;
-        heard = a.heard;
-        late = (now, subst (λ (v : View). tick_at v.conversation.received v.conversation.said now ≡ TimedOut) a.session_is late);
+        begun_then = a.begun_then;
+        timed = a.timed;
+        now_then = a.now_then;
+        late = subst (λ (v : View). tick_at v.conversation.received v.conversation.said now ≡ TimedOut) a.session_is late;
       }
 
-  lost_piece : (peer : Identity) (given left now : Option (List ℕ)) (session : View) (olds news : List (PeerFolder W)) (counts : ReaderCounts) (piece : List ℕ)
-      → IsSoFar peer given left session olds news counts → Consumes left now piece → ReadsAll view folder peer given now piece olds news counts
-  lost_piece peer given left now session olds news counts piece a taken =
-      record { moment = a.moment; acts = a.acts; taken = Consumes-trans given left now (fed_of a.acts) piece a.taken taken; heard = a.heard }
+  lost_piece : (shows : ℕ → ℕ → Type 0) (peer : Identity) (given left next : Option (List ℕ)) (session : View) (olds news : List (PeerFolder W)) (counts : ReaderCounts) (piece : List ℕ) (now : ℕ)
+      → IsSoFar shows peer given left session olds news counts now → Consumes left next piece → ReadsAll view folder peer given next piece olds news counts
+  lost_piece shows peer given left next session olds news counts piece now a taken =
+      record { moment = a.moment; acts = a.acts; taken = Consumes-trans given left next (fed_of a.acts) piece a.taken taken; heard = a.heard }
 
-  up_to : GoTogether → (peer : Identity) (given left now : Option (List ℕ)) (session opened : View) (olds mids news : List (PeerFolder W)) (counts later : ReaderCounts) (piece : List ℕ) (moment : ℕ) (why : ReaderStop)
-      → IsSoFar peer given left session olds mids counts → Consumes left now piece → OnlyOpens session opened → StopsIn view folder peer (fed opened piece moment).events mids counts why news later
-      → ReadsUpTo view folder peer given now olds why news later
-  up_to together peer given left now session opened olds mids news counts later piece moment why a taken o s =
+  up_to : (shows : ℕ → ℕ → Type 0) → GoTogether → (peer : Identity) (given left next : Option (List ℕ)) (session opened : View) (olds mids news : List (PeerFolder W)) (counts later : ReaderCounts) (piece : List ℕ) (moment : ℕ) (why : ReaderStop)
+      → IsSoFar shows peer given left session olds mids counts moment → Consumes left next piece → OnlyOpens session opened → StopsIn view folder peer (fed opened piece moment).events mids counts why news later
+      → ReadsUpTo view folder peer given next olds why news later
+  up_to shows together peer given left next session opened olds mids news counts later piece moment why a taken o s =
       let more = o.acts ++ Feeds piece moment ∷ [] in
       let start = begun a.moment in
       let events : (run start (a.acts ++ more)).events ≡ (run start a.acts).events ++ (fed opened piece moment).events
@@ -181,8 +236,8 @@ module _ {W F : Type 0} (view : W → CallerView) (folder : W → F) where
       record {
         moment = a.moment;
         acts = a.acts ++ more;
-        taken = subst (λ l. Consumes given now l) (sym (fed_of-append a.acts more ∙ ap (λ l. fed_of a.acts ++ l) (feed_bytes session opened o piece moment)))
-            (Consumes-trans given left now (fed_of a.acts) piece a.taken taken);
+        taken = subst (λ l. Consumes given next l) (sym (fed_of-append a.acts more ∙ ap (λ l. fed_of a.acts ++ l) (feed_bytes session opened o piece moment)))
+            (Consumes-trans given left next (fed_of a.acts) piece a.taken taken);
         stops = subst (λ l. StopsIn view folder peer l olds no_counts why news later) (sym events)
             (stops_together together peer (run start a.acts).events (fed opened piece moment).events olds mids news no_counts counts later why a.heard s);
       }
@@ -197,22 +252,40 @@ module _ {W F : Type 0} (view : W → CallerView) (folder : W → F) where
   stops_to peer given now olds news later stop.HistoryFull u = u
   stops_to peer given now olds news later stop.OutOfMemory u = inr u
 
-  pub piece_stops : GoTogether → (peer : Identity) (given left now : Option (List ℕ)) (session : View) (olds mids news : List (PeerFolder W)) (counts later : ReaderCounts) (piece : List ℕ) (moment : ℕ) (why : ReaderStop)
-      → IsSoFar peer given left session olds mids counts → Consumes left now piece → StopsInPiece view folder peer session mids counts piece moment why news later
-      → ReadsTo view folder peer given now olds why news later
-  piece_stops together peer given left now session olds mids news counts later piece moment why a taken (inl s) =
-      stops_to peer given now olds news later why (up_to together peer given left now session s.0 olds mids news counts later piece moment why a taken s.1 s.2)
-  piece_stops together peer given left now session olds mids news counts later piece moment why a taken (inr s) =
-      subst (λ (w : ReaderStop). ReadsTo view folder peer given now olds w news later) (sym s.0)
+  pub piece_stops : (shows : ℕ → ℕ → Type 0) → GoTogether → (peer : Identity) (given left next : Option (List ℕ)) (session : View) (olds mids news : List (PeerFolder W)) (counts later : ReaderCounts) (piece : List ℕ) (moment : ℕ) (why : ReaderStop)
+      → IsSoFar shows peer given left session olds mids counts moment → Consumes left next piece → StopsInPiece view folder peer session mids counts piece moment why news later
+      → ReadsTo view folder peer given next olds why news later
+  piece_stops shows together peer given left next session olds mids news counts later piece moment why a taken (inl s) =
+      stops_to peer given next olds news later why (up_to shows together peer given left next session s.0 olds mids news counts later piece moment why a taken s.1 s.2)
+  piece_stops shows together peer given left next session olds mids news counts later piece moment why a taken (inr s) =
+      subst (λ (w : ReaderStop). ReadsTo view folder peer given next olds w news later) (sym s.0)
       (inl (
         piece,
-        subst (λ (x : List (PeerFolder W) × ReaderCounts). ReadsAll view folder peer given now piece olds x.0 x.1) (λ i. (sym s.1 i, sym s.2 i))
-            (lost_piece peer given left now session olds mids counts piece a taken),
+        subst (λ (x : List (PeerFolder W) × ReaderCounts). ReadsAll view folder peer given next piece olds x.0 x.1) (λ i. (sym s.1 i, sym s.2 i))
+            (lost_piece shows peer given left next session olds mids counts piece moment a taken),
       ))
 
+  -- such an end is none of a read or a clock
+  of_events : (peer : Identity) (events : List Event) (olds news : List (PeerFolder W)) (counts later : ReaderCounts) (why : ReaderStop)
+      → StopsIn view folder peer events olds counts why news later → IsOfEvents why
+  of_events peer events olds news counts later stop.InputEnded s = absurd s.stops
+  of_events peer events olds news counts later (stop.Read kind) s = absurd s.stops
+  of_events peer events olds news counts later stop.TimedOut s = absurd s.stops
+  of_events peer events olds news counts later (stop.Closed reason) s = tt
+  of_events peer events olds news counts later (stop.Fault fault) s = tt
+  of_events peer events olds news counts later stop.HistoryFull s = tt
+  of_events peer events olds news counts later stop.OutOfMemory s = tt
+
+  pub of_piece : (peer : Identity) (session : View) (olds news : List (PeerFolder W)) (counts later : ReaderCounts) (piece : List ℕ) (moment : ℕ) (why : ReaderStop)
+      → StopsInPiece view folder peer session olds counts piece moment why news later → IsOfEvents why
+  of_piece peer session olds news counts later piece moment why (inl s) = of_events peer (fed s.0 piece moment).events olds news counts later why s.2
+  of_piece peer session olds news counts later piece moment why (inr s) = subst IsOfEvents (sym s.0) tt
+
   -- the same of values that are equal
-  pub same_so_far : (peer : Identity) (given left : Option (List ℕ)) (v w : View) (olds ms ns : List (PeerFolder W)) (c d : ReaderCounts)
-      → w ≡ v → ns ≡ ms → d ≡ c → IsSoFar peer given left v olds ms c → IsSoFar peer given left w olds ns d
-  same_so_far peer given left v w olds ms ns c d e f h a =
-      subst (λ (x : View). IsSoFar peer given left x olds ns d) (sym e)
-      (subst (λ (x : List (PeerFolder W)). IsSoFar peer given left v olds x d) (sym f) (subst (λ (x : ReaderCounts). IsSoFar peer given left v olds ms x) (sym h) a))
+  pub same_so_far : (shows : ℕ → ℕ → Type 0) (peer : Identity) (given left : Option (List ℕ)) (v w : View) (olds ms ns : List (PeerFolder W)) (c d : ReaderCounts) (m n : ℕ)
+      → w ≡ v → ns ≡ ms → d ≡ c → n ≡ m → IsSoFar shows peer given left v olds ms c m → IsSoFar shows peer given left w olds ns d n
+  same_so_far shows peer given left v w olds ms ns c d m n e f h k a =
+      subst (λ (x : View). IsSoFar shows peer given left x olds ns d n) (sym e)
+      (subst (λ (x : List (PeerFolder W)). IsSoFar shows peer given left v olds x d n) (sym f)
+      (subst (λ (x : ReaderCounts). IsSoFar shows peer given left v olds ms x n) (sym h)
+      (subst (λ (x : ℕ). IsSoFar shows peer given left v olds ms c x) (sym k) a)))

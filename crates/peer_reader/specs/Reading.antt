@@ -1,5 +1,5 @@
 -- What a reader makes of the bytes that it reads (own rule).
-use Rattle.std.specs.Prelude.{◌≡◌, ◌⊎◌, ℕ, Bool, true, false, List, [], ◌∷◌, ◌++◌, map, Option}
+use Rattle.std.specs.Prelude.{◌≡◌, ◌⊎◌, ⊤, All, ℕ, Bool, true, false, List, [], ◌∷◌, ◌++◌, map, Option}
 use Rattle.std.specs.declared.io.ErrorKind.{ErrorKind}
 use Rattle.std.specs.declared.io.ErrorKind.TheVariants as kind
 use Rattle.std.specs.Io.KnownBytes.{Consumes, IsAtEnd}
@@ -42,9 +42,15 @@ fed_of (Opens id ∷ acts) = fed_of acts
 fed_of (Says moment ∷ acts) = fed_of acts
 fed_of (Ticks moment ∷ acts) = fed_of acts
 
+-- an id is opened
+abbrev pub IsOpening : Act → Type 0
+IsOpening (Opens id) = ⊤
+IsOpening _ = ⊥
+
 -- ids were opened, and nothing was fed
 pub record OnlyOpens (old new : View) : Type 0 where
   pub acts : List Act
+  pub only : All IsOpening acts
   pub session : new ≡ (run old acts).session
   pub events : (run old acts).events ≡ []
   pub bytes : fed_of acts ≡ []
@@ -87,14 +93,6 @@ module _ {W F : Type 0} (view : W → CallerView) (folder : W → F) where
     pub taken : Consumes given left (fed_of acts ++ lost)
     pub heard : HasHeardAll peer (run (begun moment) acts).events olds no_counts news counts
 
-  -- The same; and at some moment the session says that no whole message came for too long.
-  pub record TimesOut (peer : Identity) (given left : Option (List ℕ)) (olds : List (PeerFolder W)) (news : List (PeerFolder W)) (counts : ReaderCounts) : Type 0 where
-    pub moment : ℕ
-    pub acts : List Act
-    pub taken : Consumes given left (fed_of acts)
-    pub heard : HasHeardAll peer (run (begun moment) acts).events olds no_counts news counts
-    pub late : (now : ℕ) × (tick_at (run (begun moment) acts).session.conversation.received (run (begun moment) acts).session.conversation.said now ≡ TimedOut)
-
   pub record ReadsUpTo (peer : Identity) (given left : Option (List ℕ)) (olds : List (PeerFolder W)) (why : ReaderStop) (news : List (PeerFolder W)) (counts : ReaderCounts) : Type 0 where
     pub moment : ℕ
     pub acts : List Act
@@ -106,9 +104,48 @@ module _ {W F : Type 0} (view : W → CallerView) (folder : W → F) where
   abbrev pub ReadsTo : Identity → Option (List ℕ) → Option (List ℕ) → List (PeerFolder W) → ReaderStop → List (PeerFolder W) → ReaderCounts → Type 0
   ReadsTo peer given left olds stop.InputEnded news counts = ReadsAll peer given left [] olds news counts × IsAtEnd left
   ReadsTo peer given left olds (stop.Read kind) news counts = ReadsAll peer given left [] olds news counts × (is_for_now kind ≡ false)
-  ReadsTo peer given left olds stop.TimedOut news counts = TimesOut peer given left olds news counts
+  ReadsTo peer given left olds stop.TimedOut news counts = ReadsAll peer given left [] olds news counts
   ReadsTo peer given left olds (stop.Closed reason) news counts = ReadsUpTo peer given left olds (stop.Closed reason) news counts
   ReadsTo peer given left olds (stop.Fault fault) news counts = ReadsUpTo peer given left olds (stop.Fault fault) news counts
   ReadsTo peer given left olds stop.HistoryFull news counts = ReadsUpTo peer given left olds stop.HistoryFull news counts
   ReadsTo peer given left olds stop.OutOfMemory news counts =
       ((lost : List ℕ) × ReadsAll peer given left lost olds news counts) ⊎ ReadsUpTo peer given left olds stop.OutOfMemory news counts
+
+-- it ends at an event, or out of memory
+abbrev pub IsOfEvents : ReaderStop → Type 0
+IsOfEvents stop.InputEnded = ⊥
+IsOfEvents (stop.Read kind) = ⊥
+IsOfEvents stop.TimedOut = ⊥
+IsOfEvents _ = ⊤
+
+-- the last read failed so
+abbrev pub HasFailed : {I : Type 0} → (I → ErrorKind → I → Type 0) → ReaderStop → I → Type 0
+HasFailed {I} fails (stop.Read kind) left = (before : I) × fails before kind left
+HasFailed fails _ left = ⊤
+
+-- a clock showed this, at the first look or at one after others
+pub data HasShown (shows : ℕ → ℕ → Type 0) : ℕ → Type 0 where
+  first : (now : ℕ) → shows 0 now → HasShown shows now
+  later : (last now : ℕ) → HasShown shows last → shows last now → HasShown shows now
+
+-- a piece is fed at a moment that the clock showed, or an id is opened
+abbrev pub IsTimed : (ℕ → ℕ → Type 0) → Act → Type 0
+IsTimed shows (Feeds piece moment) = HasShown shows moment
+IsTimed shows (Opens id) = ⊤
+IsTimed shows _ = ⊥
+
+-- A session that was begun, and was fed just the bytes that were taken, at moments that the clock showed, says at one more of them
+-- that no whole message came for too long.
+pub record HasTimedOut (shows : ℕ → ℕ → Type 0) (given left : Option (List ℕ)) : Type 0 where
+  pub moment : ℕ
+  pub acts : List Act
+  pub now : ℕ
+  pub taken : Consumes given left (fed_of acts)
+  pub begun_then : HasShown shows moment
+  pub timed : All (IsTimed shows) acts
+  pub now_then : HasShown shows now
+  pub late : tick_at (run (begun moment) acts).session.conversation.received (run (begun moment) acts).session.conversation.said now ≡ TimedOut
+
+abbrev pub TimesOut : (ℕ → ℕ → Type 0) → Option (List ℕ) → Option (List ℕ) → ReaderStop → Type 0
+TimesOut shows given left stop.TimedOut = HasTimedOut shows given left
+TimesOut shows given left _ = ⊤

@@ -2,21 +2,21 @@
 ghost use Rattle.std.specs.Prelude.{◌≡◌, ◌⊎◌, [], All, IfErr, IfOk, OnErr, OnOk, length};
 ghost use Rattle.peer_reader.specs.Counts.{no_counts};
 ghost use Rattle.peer_reader.specs.Hears.{IsApart};
-ghost use Rattle.peer_reader.specs.Reading.{HasHeardAll, HearsPiece, OnlyOpens, ReadsTo, StopsIn, StopsInPiece, is_for_now};
+ghost use Rattle.peer_reader.specs.Reading.{HasFailed, HasHeardAll, HearsPiece, IsOfEvents, OnlyOpens, ReadsTo, StopsIn, StopsInPiece, TimesOut, is_for_now};
 
 use crate::counts::ReaderCounts;
 use crate::folder::PeerFolder;
 use crate::hearing::hear;
 use crate::inbox::Inbox;
+use crate::input::{PeerStream, ReaderClock};
 use crate::stop::ReaderStop;
 use bep_session::{Event, Session, Tick};
 use file_store::Gate;
 use folder_calls::FolderCalls;
 use folder_calls::laws::changes_are_asked_in_order;
 use std::alloc::{AllocError, Global};
-use std::io::{ErrorKind, Read};
+use std::io::ErrorKind;
 use std::sync::Wait;
-use std::time::Clock;
 use sync_record::DeviceId;
 use sync_version::Moment;
 
@@ -41,7 +41,7 @@ pub struct ReaderEnd {
 /// side, it is shut down. Where memory runs out, the messages of the last piece may be lost.
 ///
 /// O(n) for n bytes read. Memory: 64 KiB, and that of the session and of one piece's messages.
-pub fn run_reader<R: Wait + Clock, I: Read, W: FolderCalls, G: Gate, B: Inbox>(
+pub fn run_reader<R: Wait + ReaderClock, I: PeerStream, W: FolderCalls, G: Gate, B: Inbox>(
     rt: &R,
     alloc: Global,
     reader: &mut I,
@@ -51,8 +51,10 @@ pub fn run_reader<R: Wait + Clock, I: Read, W: FolderCalls, G: Gate, B: Inbox>(
     inbox: &mut B,
 ) -> ReaderEnd
     requires { All (IsApart W.view peer) folders.old }
-    ensures { ReadsTo W.view W.folder peer (I.remaining reader.old) (I.remaining reader.new)
+    ensures reads { ReadsTo W.view W.folder peer (I.remaining reader.old) (I.remaining reader.new)
         folders.old result.why folders.new result.counts }
+    ensures failed { HasFailed I.fails result.why reader.new }
+    ensures timed { TimesOut (R.shows rt.now) (I.remaining reader.old) (I.remaining reader.new) result.why }
 {
     let mut counts = ReaderCounts::new();
     let why = match read_all(rt, alloc, reader, peer, folders, gate, inbox, &mut counts) {
@@ -63,7 +65,7 @@ pub fn run_reader<R: Wait + Clock, I: Read, W: FolderCalls, G: Gate, B: Inbox>(
 }
 
 // Reads until there is a reason to end.
-fn read_all<R: Wait + Clock, I: Read, W: FolderCalls, G: Gate, B: Inbox>(
+fn read_all<R: Wait + ReaderClock, I: PeerStream, W: FolderCalls, G: Gate, B: Inbox>(
     rt: &R,
     alloc: Global,
     reader: &mut I,
@@ -79,17 +81,20 @@ fn read_all<R: Wait + Clock, I: Read, W: FolderCalls, G: Gate, B: Inbox>(
         folders.old why folders.new counts.new) }
     ensures stopped { IfErr result (λ why. ReadsTo W.view W.folder peer (I.remaining reader.old) (I.remaining reader.new)
         folders.old why folders.new counts.new) }
+    ensures failed { IfOk result (λ why. HasFailed I.fails why reader.new) }
+    ensures timed { IfOk result (TimesOut (R.shows rt.now) (I.remaining reader.old) (I.remaining reader.new)) }
+    ensures untimed { IfErr result IsOfEvents }
 {
     changes_are_asked_in_order();
     let mut bytes = make_buffer(alloc)?;
     let buffer = bytes.as_mut_slice();
-    let mut moment = moment_of(rt, Moment::new(0).unwrap());
+    let mut moment = rt.moment_after(Moment::new(0).unwrap());
     let mut session = Session::new(alloc, moment);
     for _ in rt.forever() {
-        match reader.read(buffer) {
+        match reader.read_some(buffer) {
             Ok(0) => return Ok(ReaderStop::InputEnded),
             Ok(count) => {
-                moment = moment_of(rt, moment);
+                moment = rt.moment_after(moment);
                 let piece = &buffer[..count];
                 hear_piece(
                     alloc,
@@ -108,7 +113,7 @@ fn read_all<R: Wait + Clock, I: Read, W: FolderCalls, G: Gate, B: Inbox>(
                 if !is_for_now(kind) {
                     return Ok(ReaderStop::Read(kind));
                 }
-                moment = moment_of(rt, moment);
+                moment = rt.moment_after(moment);
             }
         }
         if session.tick(moment) == Tick::TimedOut {
@@ -131,14 +136,6 @@ fn is_for_now(kind: ErrorKind) -> bool
     match kind {
         ErrorKind::Interrupted | ErrorKind::WouldBlock | ErrorKind::TimedOut => true,
         _ => false,
-    }
-}
-
-// The seconds of a clock that never goes back, or those before where it can't be read.
-fn moment_of<R: Clock>(rt: &R, last: Moment) -> Moment {
-    match rt.monotonic() {
-        Ok(time) => Moment::new(time.as_secs()).unwrap_or(last),
-        Err(_) => last,
     }
 }
 

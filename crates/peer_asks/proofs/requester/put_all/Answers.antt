@@ -1,6 +1,6 @@
 use Rattle.std.proofs.Common.{◌∙◌}
 use Rattle.peer_conn.specs.Words.{put_of}
-use Rattle.peer_asks.proofs.Putting.{one-more}
+use Rattle.peer_asks.proofs.Putting.{none-put, one-more}
 use Rattle.peer_asks.proofs.requester.put_all.Goals as goal
 
 pub loop-preserved : goal.loop-preserved
@@ -11,5 +11,6 @@ loop-preserved g c =
       next = tt;
       finite = tt;
       same = (now.0 ∙ same.0, now.1 ∙ same.1);
-      puts = one-more (put_of c.args.seat.now) (put_of c.loop.seat) (put_of c.put_next.new.seat) c.loop.invariant.puts c.in_default.ensures.put;
+      puts = one-more g.Q.RequestSource.gives c.args.requests.now c.loop.requests c.put_next.new.requests (put_of c.args.seat.now) (put_of c.loop.seat)
+          (put_of c.put_next.new.seat) c.loop.invariant.puts c.in_default.ensures.put;
     }
