@@ -1,7 +1,7 @@
 -- What is known of the Requests of one connection (own rule).
 use Rattle.std.specs.Prelude.{◌≡◌, ◌≢◌, ◌⊎◌, ℕ, suc, ◌<◌, ◌≤◌, ℤ, pos, Bool, true, false, List, [], ◌∷◌, Option, Some, None, ◌++◌, length, get_or, slice_set, ⊤}
 use Rattle.std.specs.List.{position}
-use Rattle.std.specs.Vec.{Vec}
+use Rattle.std.specs.Global.{Vec}
 use Rattle.bep_messages.specs.declared.response.Response.{Response}
 use Rattle.bep_session.specs.Ids.{max_asks}
 use Rattle.peer_asks.specs.declared.fault.AskFault.{AskFault}

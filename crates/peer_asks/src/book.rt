@@ -102,7 +102,9 @@ impl AskBook {
     /// Waits until the Response of the Request came, and leaves its bytes in `bytes`, in place of what is there. Returns `false`, and
     /// leaves `bytes` as it is, where the Response had an error or another number of bytes than were asked for, where the connection ended,
     /// and where no Response at all came for 300 seconds. The Request is then over; what comes later for it is counted as late.
-    pub fn wait_for<R: Wait + Clock>(&self, rt: &R, ask: AskId, bytes: &mut Vec<u8>) -> bool {
+    pub fn wait_for<R: Wait + Clock>(&self, rt: &R, ask: AskId, bytes: &mut Vec<u8>) -> bool
+        ensures { result ≡ false → bytes.new.items ≡ bytes.old.items }
+    {
         let mut shared = self.shared.lock(rt);
         for _ in rt.forever() {
             let seen = shared.arrivals;
@@ -206,7 +208,8 @@ impl<S: RequestSink + Drop> Shared<S> {
             HasLooked self.old.table.states.items ask.id self.new.table.states.items bytes.old.items result bytes.new.items }
         ensures other { ask.connection ≢ self.old.connection →
             (self.new.table.states.items ≡ self.old.table.states.items) × (result ≡ Some false)
-            × (bytes.new ≡ bytes.old) }
+            × (bytes.new.items ≡ bytes.old.items) }
+        ensures kept { result ≢ Some true → bytes.new.items ≡ bytes.old.items }
     {
         match self.take(ask) {
             Taken::Bytes(came) => {

@@ -47,7 +47,7 @@ pub trait PeerAsks {
     /// is, where none come. The Request is then over.
     fn wait_for<R: Wait + Clock>(&self, rt: &R, ask: Ask, bytes: &mut Vec<u8>) -> bool
         ensures { MatchBool result (brings self.now ask (Some bytes.new.items))
-            ((bytes.new ≡ bytes.old) × brings self.now ask None) };
+            ((bytes.new.items ≡ bytes.old.items) × brings self.now ask None) };
 
     /// Nobody will wait for the bytes of a Request.
     fn let_go<R: Wait>(&self, rt: &R, ask: Ask);

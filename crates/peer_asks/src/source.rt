@@ -41,11 +41,11 @@ impl<'a, R: Wait + Clock> PeerSource<'a, R, FolderPeer<'a>> {
         let mut of_folder = Vec::with_capacity(alloc, peers.len())?;
         let mut lanes = Vec::with_capacity(alloc, peers.len())?;
         for peer in peers {
-            of_folder.push(FolderPeer {
+            of_folder.extend_from_slice(&[FolderPeer {
                 device: peer.device,
                 book: peer.book,
                 folder,
-            })?;
+            }])?;
             lanes.push(Lane::new(alloc))?;
         }
         Ok(PeerSource {
@@ -92,7 +92,14 @@ impl<R: Wait + Clock, P: PeerAsks + Drop> BlockSource for PeerSource<'_, R, P> {
         };
         let peer = &self.peers[at];
         let asked = match self.lanes.get_mut(at) {
-            Some(lane) => lane.ask(self.rt, self.alloc, peer, name, block, self.blocks.as_slice()),
+            Some(lane) => lane.ask(
+                self.rt,
+                self.alloc,
+                peer,
+                name,
+                block,
+                self.blocks.as_slice(),
+            ),
             None => peer.ask(self.rt, self.alloc, name, block),
         };
         match asked {

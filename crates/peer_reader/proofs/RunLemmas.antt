@@ -1,9 +1,8 @@
 -- What happens on a connection, one thing after another.
-use Rattle.std.specs.Prelude.{All}
 use Rattle.std.proofs.Common.{◌≡◌, ◌++◌, ◌∷◌, [], ℤ, Bool, true, false, cond, List, refl, sym, ◌∙◌, ap, append_assoc}
 use Rattle.bep_session.specs.Runs.{Act, Feeds, Opens, Says, Ticks, acted, run}
 use Rattle.bep_session.specs.Sessions.{View, with_open}
-use Rattle.peer_reader.specs.Reading.{IsOpening, OnlyOpens, fed_of}
+use Rattle.peer_reader.specs.Reading.{AreOpenings, OnlyOpens, fed_of}
 
 pub run_session-append : (v : View) (xs ys : List Act) → (run v (xs ++ ys)).session ≡ (run (run v xs).session ys).session
 unfolding run
@@ -37,9 +36,12 @@ no_event : (v : View) (id : ℤ) → (run v (Opens id ∷ [])).events ≡ []
 unfolding run
 no_event v id = refl
 
-only-append : (acts : List Act) → All IsOpening acts → (id : ℤ) → All IsOpening (acts ++ Opens id ∷ [])
-only-append [] only id = (tt, tt)
-only-append (x ∷ xs) only id = (only.0, only-append xs only.1 id)
+only-append : (acts : List Act) → AreOpenings acts → (id : ℤ) → AreOpenings (acts ++ Opens id ∷ [])
+only-append [] only id = tt
+only-append (Opens other ∷ xs) only id = only-append xs only id
+only-append (Feeds piece moment ∷ xs) only id = absurd only
+only-append (Says moment ∷ xs) only id = absurd only
+only-append (Ticks moment ∷ xs) only id = absurd only
 
 -- one id more was opened, or none
 pub opens_more : (a b c : View) (booked : Bool) (id : ℤ) → OnlyOpens a b → c ≡ cond booked (with_open b id) b → OnlyOpens a c

@@ -1,7 +1,6 @@
 -- How far a reader has come.
 use Rattle.std.proofs.Common.{◌≡◌, ◌++◌, ◌∷◌, [], ℕ, List, Option, map, refl, sym, ◌∙◌, ap, subst, inl, inr, append_assoc, append-nil}
 use Rattle.std.specs.Io.KnownBytes.{Consumes, Keeps}
-use Rattle.std.specs.Prelude.{All}
 use Rattle.std.proofs.KnownBytes.{Consumes-kept, Consumes-trans}
 use Rattle.std.proofs.lemmas.List.{map-append}
 use Rattle.bep_session.specs.declared.event.Event.{Event}
@@ -20,7 +19,7 @@ use Rattle.peer_reader.specs.declared.stop.ReaderStop.{ReaderStop}
 use Rattle.peer_reader.specs.declared.stop.ReaderStop.TheVariants as stop
 use Rattle.peer_reader.specs.Effects.{Heard, after_event}
 use Rattle.peer_reader.specs.Hears.{AsksEach, applied, heard_of}
-use Rattle.peer_reader.specs.Reading.{HasHeardAll, HasShown, HasTimedOut, HearsPiece, IsOfEvents, IsOpening, IsTimed, OnlyOpens, ReadsAll, ReadsTo, ReadsUpTo, StopsIn, StopsInPiece, after_events, fed_of, first, later}
+use Rattle.peer_reader.specs.Reading.{HasHeardAll, HasShown, HasTimedOut, HearsPiece, AreOpenings, AreTimed, IsOfEvents, OnlyOpens, ReadsAll, ReadsTo, ReadsUpTo, StopsIn, StopsInPiece, after_events, fed_of, at_the_first_look, at_a_later_look}
 use Rattle.sync_record.specs.Devices.{Identity}
 
 folders-append : (peer : Identity) (fs : List Heard) (xs ys : List Event)
@@ -60,16 +59,19 @@ feed_bytes : (v opened : View) (o : OnlyOpens v opened) (piece : List ℕ) (mome
 feed_bytes v opened o piece moment = fed_of-append o.acts (Feeds piece moment ∷ []) ∙ ap (λ l. l ++ (piece ++ [])) o.bytes ∙ append-nil piece
 
 module _ (shows : ℕ → ℕ → Type 0) where
-  timed-append : (xs ys : List Act) → All (IsTimed shows) xs → All (IsTimed shows) ys → All (IsTimed shows) (xs ++ ys)
+  timed-append : (xs ys : List Act) → AreTimed shows xs → AreTimed shows ys → AreTimed shows (xs ++ ys)
   timed-append [] ys a b = b
-  timed-append (x ∷ xs) ys a b = (a.0, timed-append xs ys a.1 b)
+  timed-append (Feeds piece moment ∷ xs) ys a b = (a.0, timed-append xs ys a.1 b)
+  timed-append (Opens id ∷ xs) ys a b = timed-append xs ys a b
+  timed-append (Says moment ∷ xs) ys a b = absurd a
+  timed-append (Ticks moment ∷ xs) ys a b = absurd a
 
-  timed-opening : (acts : List Act) → All IsOpening acts → All (IsTimed shows) acts
+  timed-opening : (acts : List Act) → AreOpenings acts → AreTimed shows acts
   timed-opening [] only = tt
-  timed-opening (Opens id ∷ xs) only = (tt, timed-opening xs only.1)
-  timed-opening (Feeds piece moment ∷ xs) only = absurd only.0
-  timed-opening (Says moment ∷ xs) only = absurd only.0
-  timed-opening (Ticks moment ∷ xs) only = absurd only.0
+  timed-opening (Opens id ∷ xs) only = timed-opening xs only
+  timed-opening (Feeds piece moment ∷ xs) only = absurd only
+  timed-opening (Says moment ∷ xs) only = absurd only
+  timed-opening (Ticks moment ∷ xs) only = absurd only
 
 module _ {W F : Type 0} (view : W → CallerView) (folder : W → F) where
   heard_together : GoTogether → (peer : Identity) (xs ys : List Event) (olds mids news : List (PeerFolder W)) (counts before later : ReaderCounts)
@@ -111,7 +113,7 @@ module _ {W F : Type 0} (view : W → CallerView) (folder : W → F) where
     pub session_is : session ≡ (run (begun moment) acts).session
     pub heard : HasHeardAll view folder peer (run (begun moment) acts).events olds no_counts news counts
     pub begun_then : HasShown shows moment
-    pub timed : All (IsTimed shows) acts
+    pub timed : AreTimed shows acts
     pub now_then : HasShown shows now
 
   pub at_first : (shows : ℕ → ℕ → Type 0) (peer : Identity) (given : Option (List ℕ)) (moment : ℕ) (session : View) (olds : List (PeerFolder W)) (counts : ReaderCounts)
@@ -124,9 +126,9 @@ module _ {W F : Type 0} (view : W → CallerView) (folder : W → F) where
         taken = none;
         session_is = e;
         heard = subst (λ (x : ReaderCounts). HasHeardAll view folder peer [] olds no_counts olds x) (sym c) (heard_no_event view folder peer olds no_counts);
-        begun_then = first moment shown;
+        begun_then = at_the_first_look moment shown;
         timed = tt;
-        now_then = first moment shown;
+        now_then = at_the_first_look moment shown;
       }
 
   -- nothing was read
@@ -168,7 +170,7 @@ module _ {W F : Type 0} (view : W → CallerView) (folder : W → F) where
         heard = a.heard;
         begun_then = a.begun_then;
         timed = a.timed;
-        now_then = later last now a.now_then shown;
+        now_then = at_a_later_look last now a.now_then shown;
       }
 
   pub at_end : (shows : ℕ → ℕ → Type 0) (peer : Identity) (given left after : Option (List ℕ)) (session : View) (olds news : List (PeerFolder W)) (counts : ReaderCounts) (now : ℕ)

@@ -1,5 +1,5 @@
 -- What a reader makes of the bytes that it reads (own rule).
-use Rattle.std.specs.Prelude.{◌≡◌, ◌⊎◌, ⊤, All, ℕ, Bool, true, false, List, [], ◌∷◌, ◌++◌, map, Option}
+use Rattle.std.specs.Prelude.{◌≡◌, ◌⊎◌, ⊤, ℕ, Bool, true, false, List, [], ◌∷◌, ◌++◌, map, Option}
 use Rattle.std.specs.declared.io.ErrorKind.{ErrorKind}
 use Rattle.std.specs.declared.io.ErrorKind.TheVariants as kind
 use Rattle.std.specs.Io.KnownBytes.{Consumes, IsAtEnd}
@@ -42,15 +42,16 @@ fed_of (Opens id ∷ acts) = fed_of acts
 fed_of (Says moment ∷ acts) = fed_of acts
 fed_of (Ticks moment ∷ acts) = fed_of acts
 
--- an id is opened
-abbrev pub IsOpening : Act → Type 0
-IsOpening (Opens id) = ⊤
-IsOpening _ = ⊥
+-- ids are opened
+abbrev pub AreOpenings : List Act → Type 0
+AreOpenings [] = ⊤
+AreOpenings (Opens id ∷ acts) = AreOpenings acts
+AreOpenings (_ ∷ acts) = ⊥
 
 -- ids were opened, and nothing was fed
 pub record OnlyOpens (old new : View) : Type 0 where
   pub acts : List Act
-  pub only : All IsOpening acts
+  pub only : AreOpenings acts
   pub session : new ≡ (run old acts).session
   pub events : (run old acts).events ≡ []
   pub bytes : fed_of acts ≡ []
@@ -125,14 +126,15 @@ HasFailed fails _ left = ⊤
 
 -- a clock showed this, at the first look or at one after others
 pub data HasShown (shows : ℕ → ℕ → Type 0) : ℕ → Type 0 where
-  first : (now : ℕ) → shows 0 now → HasShown shows now
-  later : (last now : ℕ) → HasShown shows last → shows last now → HasShown shows now
+  at_the_first_look : (now : ℕ) → shows 0 now → HasShown shows now
+  at_a_later_look : (last now : ℕ) → HasShown shows last → shows last now → HasShown shows now
 
--- a piece is fed at a moment that the clock showed, or an id is opened
-abbrev pub IsTimed : (ℕ → ℕ → Type 0) → Act → Type 0
-IsTimed shows (Feeds piece moment) = HasShown shows moment
-IsTimed shows (Opens id) = ⊤
-IsTimed shows _ = ⊥
+-- pieces are fed at moments that the clock showed, and ids are opened
+abbrev pub AreTimed : (ℕ → ℕ → Type 0) → List Act → Type 0
+AreTimed shows [] = ⊤
+AreTimed shows (Feeds piece moment ∷ acts) = HasShown shows moment × AreTimed shows acts
+AreTimed shows (Opens id ∷ acts) = AreTimed shows acts
+AreTimed shows (_ ∷ acts) = ⊥
 
 -- A session that was begun, and was fed just the bytes that were taken, at moments that the clock showed, says at one more of them
 -- that no whole message came for too long.
@@ -142,7 +144,7 @@ pub record HasTimedOut (shows : ℕ → ℕ → Type 0) (given left : Option (Li
   pub now : ℕ
   pub taken : Consumes given left (fed_of acts)
   pub begun_then : HasShown shows moment
-  pub timed : All (IsTimed shows) acts
+  pub timed : AreTimed shows acts
   pub now_then : HasShown shows now
   pub late : tick_at (run (begun moment) acts).session.conversation.received (run (begun moment) acts).session.conversation.said now ≡ TimedOut
 

@@ -1,6 +1,6 @@
 use Rattle.std.proofs.Common.{◌∙◌}
 use Rattle.peer_conn.specs.Words.{put_of}
-use Rattle.peer_asks.proofs.Putting.{none-put, one-more}
+use Rattle.peer_asks.proofs.Putting.{one-more}
 use Rattle.peer_asks.proofs.requester.put_all.Goals as goal
 
 pub loop-preserved : goal.loop-preserved
