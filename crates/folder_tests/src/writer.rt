@@ -52,7 +52,14 @@ fn written<R: AllocGlobal + Abort + Wait>(rt: &R, size: usize) -> Vec<usize> {
         sizes: Vec::new(rt.alloc()),
         is_flushed: true,
     };
-    match run_writer(rt, rt.alloc(), &hello(rt), &mut taker, &mut bell, &mut calls) {
+    match run_writer(
+        rt,
+        rt.alloc(),
+        &hello(rt),
+        &mut taker,
+        &mut bell,
+        &mut calls,
+    ) {
         Ok(()) => assert!(rt; calls.is_flushed),
         Err(fault) => panic!(rt; "{fault:?}"),
     }
@@ -63,7 +70,14 @@ fn written<R: AllocGlobal + Abort + Wait>(rt: &R, size: usize) -> Vec<usize> {
 fn stops_at_a_message_over_the_limit(rt: HostRuntime) {
     let (mut taker, mut bell) = filled(&rt, too_long(&rt));
     let mut out = Vec::new(rt.alloc());
-    match run_writer(&rt, rt.alloc(), &hello(&rt), &mut taker, &mut bell, &mut out) {
+    match run_writer(
+        &rt,
+        rt.alloc(),
+        &hello(&rt),
+        &mut taker,
+        &mut bell,
+        &mut out,
+    ) {
         Err(WriterFault::Frame(WriteFault::TooLong)) => {}
         end => panic!(&rt; "{end:?}"),
     }
@@ -85,7 +99,9 @@ fn too_long(rt: &(impl AllocGlobal + Abort)) -> Vec<u8> {
 
 /// The taker and the bell of a queue with a Ping, a Response with these data and one more Ping, whose seats have ended.
 fn filled<R: AllocGlobal + Abort + Wait>(rt: &R, data: Vec<u8>) -> (Taker<Message>, Bell) {
-    let (mut seat, _, _, taker, bell) = OutQueue::open::<Message>(rt.alloc(), 3).expect(rt, "a queue");
+    let (mut seat, _, _, taker, bell) = OutQueue::open::<Message>(rt.alloc(), 3).expect(
+        rt, "a queue",
+    );
     let response = Response {
         id: 0,
         payload: Octets::from_vec(data),

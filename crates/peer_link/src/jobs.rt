@@ -121,7 +121,14 @@ pub(crate) fn index<R: Clock + Wait, W: FolderCalls + Drop, L: Line>(
             folders,
         };
     }
-    let (seat, end) = run_indexer(rt, alloc, config, &mut configs, folders.as_mut_slice(), seat);
+    let (seat, end) = run_indexer(
+        rt,
+        alloc,
+        config,
+        &mut configs,
+        folders.as_mut_slice(),
+        seat,
+    );
     line.hang_up();
     HasIndexed { seat, end, folders }
 }

@@ -69,8 +69,10 @@ where
         end.folders.served.items) }
     ensures given_back { IfErr result (λ left. left ≡ folders) }
 {
-    let Ok((indexer, server, requester, taker, bell)) = OutQueue::open::<Message>(alloc, QUEUE_MESSAGES)
-    else {
+    let Ok((indexer, server, requester, taker, bell)) = OutQueue::open::<Message>(
+        alloc,
+        QUEUE_MESSAGES,
+    ) else {
         return Err(folders);
     };
     let Ok(channels) = Channels::open(alloc) else {
