@@ -11,7 +11,7 @@ mod playing;
 mod received;
 mod run;
 
-use bepd_run::{Disks, ProgressStyle};
+use bepd_run::{Disks, Progress};
 use run::run;
 use std::env::{self, Env};
 use std::io::{self, IsTerminal};
@@ -21,9 +21,9 @@ fn main(rt: HostRuntime) -> ExitCode {
     let words = words(&rt);
     let (mut input, mut output, mut errors) = (rt.reader(), rt.stdout(), rt.stderr());
     let progress = if errors.is_terminal() {
-        ProgressStyle::InPlace
+        Progress::InPlace
     } else {
-        ProgressStyle::ByLines
+        Progress::ByLines
     };
     let outcome = run(
         &rt,

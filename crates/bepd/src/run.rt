@@ -13,7 +13,7 @@ use crate::playing::ending_of;
 use crate::received::own_device;
 use bepd_pair::pair;
 use bepd_run::{
-    ProgressStyle, RunFailure, StateFiles, Stores, check_config, new_config, run_config,
+    Progress, RunFailure, StateFiles, Stores, check_config, new_config, run_and_tell, run_config,
 };
 use folder_db::IndexedFolder;
 use std::alloc::Global;
@@ -46,14 +46,13 @@ pub(crate) fn run<T, S, R, W, E>(
     alloc: Global,
     stores: &S,
     words: &io::Result<Vec<String>>,
-    progress: ProgressStyle,
+    progress: Progress,
     input: &mut R,
     output: &mut W,
     errors: &mut E,
 ) -> Outcome
 where
-    T: AllocGlobal
-        + Clock
+    T: Clock
         + Files<File = File>
         + Net<Listener = TcpListener, Stream = TcpStream>
         + StateFiles
@@ -98,12 +97,11 @@ where
         }
         Request::Pair => end(ending_of(pair(rt, alloc, input, output)), errors),
         Request::Run(path) => {
-            let told = Some(progress);
-            end_run(run_config(rt, stores, path, told, input, output, errors), errors)
+            let ran = run_and_tell(rt, alloc, stores, path, progress, input, output, errors);
+            end_run(ran, errors)
         }
         Request::QuietRun(path) => {
-            let ran = run_config(rt, stores, path, None, input, output, errors);
-            end_run(ran, errors)
+            end_run(run_config(rt, alloc, stores, path, input, output), errors)
         }
         Request::Check(path) => end_run(check_config(rt, alloc, path, output), errors),
         Request::New(directory) => end_run(new_config(rt, alloc, directory, output), errors),

@@ -9,9 +9,9 @@ use Rattle.node_config.specs.Lines.{fault_text}
 use Rattle.node_state.specs.declared.fault.StateFault.{StateFault}
 use Rattle.node_state.specs.declared.fault.StateFault.TheVariants as state
 use Rattle.node_state.specs.FaultNames.{state_fault_name, state_fault_number}
-use Rattle.node_context.specs.declared.fault.NodeFault.{NodeFault}
-use Rattle.node_context.specs.declared.fault.NodeFault.TheVariants as node
-use Rattle.node_context.specs.Faults.{node_fault_name, node_fault_number}
+use Rattle.peer_node.specs.declared.fault.NodeFault.{NodeFault}
+use Rattle.peer_node.specs.declared.fault.NodeFault.TheVariants as node
+use Rattle.peer_node.specs.Faults.{node_fault_name, node_fault_number}
 use Rattle.bepd_run.specs.declared.failure.RunFailure.{RunFailure}
 use Rattle.bepd_run.specs.declared.failure.RunFailure.TheVariants.{Config, ConfigExists, FolderInUse, Node, OutOfMemory, ReadOrWrite, State, StateInUse}
 

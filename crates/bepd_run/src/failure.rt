@@ -6,7 +6,7 @@ ghost use Rattle.bepd_run.specs.declared.failure.RunFailure.TheVariants as failu
 use bep_messages::Text;
 use node_config::ConfigFault;
 use node_state::StateFault;
-use node_context::NodeFault;
+use peer_node::NodeFault;
 use std::alloc::{AllocError, AllocFailed};
 use std::fmt::{self, Display, Formatter};
 use std::io;

@@ -5,8 +5,7 @@ use folder_core::{Announcement, FolderCore, PlainFolder};
 use folder_db::IndexedFolder;
 use node_config::{Config, FolderConfig, PeerConfig};
 use node_state::{KeptIndexes, State, StoredFolder};
-use node_folder::FolderSettings;
-use node_threads::{Share, StartFolder};
+use peer_node::{NodeFolder, Share};
 use std::alloc::{AllocError, Global};
 use sync_pull::MaxConflicts;
 use sync_record::DeviceId;
@@ -16,8 +15,8 @@ pub(crate) type Core = IndexedFolder;
 
 /// A folder as a run begins with it.
 #[derive(Drop)]
-pub(crate) struct BegunFolder {
-    pub(crate) folder: StartFolder<Core>,
+pub(crate) struct Begun {
+    pub(crate) folder: NodeFolder<Core>,
     /// The numbers of the peers' indexes that its records are of.
     pub(crate) kept: KeptIndexes,
 }
@@ -30,7 +29,7 @@ pub(crate) fn begin_all(
     state: State,
     new_index_id: u64,
     is_left: bool,
-) -> Result<Vec<BegunFolder>, RunFailure> {
+) -> Result<Vec<Begun>, RunFailure> {
     let mut stored = state.folders.into_vec();
     let mut begun = Vec::new(alloc);
     for (place, folder) in config.folders.as_slice().iter().enumerate() {
@@ -55,32 +54,30 @@ pub(crate) fn begin_all(
             ),
         };
         forget_others(alloc, config, place, &mut core)?;
-        begun.push(BegunFolder {
-            folder: start_folder(alloc, folder, index_id, core)?,
+        begun.push(Begun {
+            folder: node_folder(alloc, folder, index_id, core)?,
             kept,
         })?;
     }
     Ok(begun)
 }
 
-fn start_folder(
+fn node_folder(
     alloc: Global,
     folder: &FolderConfig,
     index_id: u64,
     core: PlainFolder,
-) -> Result<StartFolder<Core>, RunFailure> {
-    let Some(max_conflicts) = MaxConflicts::new(folder.max_conflicts) else {
+) -> Result<NodeFolder<Core>, RunFailure> {
+    let Some(most) = MaxConflicts::new(folder.max_conflicts) else {
         return Err(RunFailure::OutOfMemory);
     };
-    Ok(StartFolder {
-        settings: FolderSettings {
-            id: Text::from_str(alloc, folder.id.as_str())?,
-            path: Text::from_str(alloc, folder.path.as_str())?,
-            index_id,
-            history_limit: folder.history_limit,
-            max_conflicts,
-            rescan: folder.rescan,
-        },
+    Ok(NodeFolder {
+        id: Text::from_str(alloc, folder.id.as_str())?,
+        path: Text::from_str(alloc, folder.path.as_str())?,
+        index_id,
+        history_limit: folder.history_limit,
+        most,
+        rescan: folder.rescan,
         core: indexed(alloc, &core)?,
     })
 }
