@@ -13,7 +13,8 @@ use clap::error::ErrorKind;
 use clap::{Arg, ArgAction, ArgMatches, Command, Error};
 use new_help::{NEW_ABOUT, NEW_DIRECTORY, NEW_LONG_ABOUT, NEW_STATUSES};
 use pair_help::{PAIR_ABOUT, PAIR_LONG_ABOUT, PAIR_STATUSES};
-use run_help::{RUN_ABOUT, RUN_CHECK, RUN_CONFIG, RUN_LONG_ABOUT, RUN_QUIET, RUN_STATUSES};
+pub(crate) use run_help::run_about;
+use run_help::{RUN_ABOUT, RUN_CHECK, RUN_CONFIG, RUN_QUIET, RUN_STATUSES};
 use std::alloc::{AllocError, Global};
 use std::io;
 
@@ -96,17 +97,21 @@ pub(crate) enum Request<'a> {
 }
 
 /// What the words of a command line ask for, of which the first is the program's name. Words that could not be read are
-/// refused.
-pub(crate) fn request_of<'a>(alloc: Global, words: &'a io::Result<Vec<String>>) -> Request<'a>
+/// refused. `about` is what the help of `run` says first.
+pub(crate) fn request_of<'a>(
+    alloc: Global,
+    words: &'a io::Result<Vec<String>>,
+    about: &'a Result<String, AllocError>,
+) -> Request<'a>
     ensures { IsRequested words.now result }
 {
     match words {
-        Ok(words) => match command_of(alloc, words.as_slice()) {
+        Ok(words) => match command_of(alloc, words.as_slice(), about) {
             Ok(command) => command,
             Err(error) => request_at(alloc, &error),
         },
         Err(error) if error.kind() == io::ErrorKind::OutOfMemory => Request::OutOfMemory,
-        Err(_) => request_at(alloc, &not_text(alloc)),
+        Err(_) => request_at(alloc, &not_text(alloc, about)),
     }
 }
 
@@ -126,11 +131,15 @@ fn request_at<'a>(alloc: Global, error: &Error) -> Request<'a>
 
 /// The command in the words: `PROGRAM best FOLDER`, `PROGRAM pair`, `PROGRAM run --config FILE`, with `--check`, with `--quiet` or
 /// without, or `PROGRAM new DIRECTORY`.
-fn command_of<'a>(alloc: Global, words: &'a [String]) -> Result<Request<'a>, Error>
+fn command_of<'a>(
+    alloc: Global,
+    words: &'a [String],
+    about: &'a Result<String, AllocError>,
+) -> Result<Request<'a>, Error>
     ensures named { IfOk result (λ command. IsNamed (map string_bytes words.now) command) }
     ensures error { IfErr result (λ e. IsErrorAt (map string_bytes words.now) (kind_of e)) }
 {
-    let mut command = program(alloc)?;
+    let mut command = program(alloc, about)?;
     let matches = command.try_get_matches_from_mut(words)?;
     if is_pair(&matches) {
         return Ok(Request::Pair);
@@ -224,10 +233,10 @@ fn directory_in<'a>(matches: &ArgMatches<'a>) -> Option<&'a str>
 }
 
 /// The error for words that are not UTF-8.
-fn not_text(alloc: Global) -> Error
+fn not_text(alloc: Global, about: &Result<String, AllocError>) -> Error
     ensures { (kind_of result ≡ ErrorKind.InvalidValue) ⊎ (kind_of result ≡ ErrorKind.OutOfMemory) }
 {
-    match program(alloc) {
+    match program(alloc, about) {
         Ok(mut command) => error_in(
             &mut command,
             ErrorKind::InvalidValue,
@@ -306,16 +315,22 @@ fn quiet_arg<'a>(alloc: Global) -> Arg<'a>
 }
 
 /// The command `run`, and what it takes.
-fn run_command<'a>(alloc: Global) -> Result<Command<'a>, AllocError>
+fn run_command<'a>(
+    alloc: Global,
+    about: &'a Result<String, AllocError>,
+) -> Result<Command<'a>, AllocError>
     ensures { IfOk result (λ command.
         (app_of command ≡ run_app) × ((out-Command command).has_globals ≡ false)) }
 {
+    let Ok(about) = about else {
+        return Err(AllocError);
+    };
     let config = config_arg(alloc);
     let check = check_arg(alloc);
     let quiet = quiet_arg(alloc);
     Command::new(alloc, "run")
         .about(RUN_ABOUT)
-        .long_about(RUN_LONG_ABOUT)
+        .long_about(about.as_str())
         .after_help(RUN_STATUSES)
         .arg(config)?
         .arg(check)?
@@ -338,12 +353,15 @@ fn fresh_command<'a>(alloc: Global) -> Result<Command<'a>, AllocError>
 }
 
 /// The program with its commands.
-fn program<'a>(alloc: Global) -> Result<Command<'a>, AllocError>
+fn program<'a>(
+    alloc: Global,
+    about: &'a Result<String, AllocError>,
+) -> Result<Command<'a>, AllocError>
     ensures { IfOk result (λ command. app_of command ≡ bepd_app) }
 {
     let best = best_command(alloc)?;
     let pair = pair_command(alloc);
-    let run = run_command(alloc)?;
+    let run = run_command(alloc, about)?;
     let fresh = fresh_command(alloc)?;
     Command::new(alloc, "bepd")
         .bin_name("bepd")?

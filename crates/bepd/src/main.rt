@@ -11,7 +11,7 @@ mod playing;
 mod received;
 mod run;
 
-use bepd_run::{Disks, Progress};
+use bepd_run::{Disks, ProgressStyle};
 use run::run;
 use std::env::{self, Env};
 use std::io::{self, IsTerminal};
@@ -21,9 +21,9 @@ fn main(rt: HostRuntime) -> ExitCode {
     let words = words(&rt);
     let (mut input, mut output, mut errors) = (rt.reader(), rt.stdout(), rt.stderr());
     let progress = if errors.is_terminal() {
-        Progress::InPlace
+        ProgressStyle::InPlace
     } else {
-        Progress::ByLines
+        ProgressStyle::ByLines
     };
     let outcome = run(
         &rt,

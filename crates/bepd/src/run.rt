@@ -7,13 +7,13 @@ ghost use Rattle.bepd.specs.declared.command.Request.{Request as AnyRequest};
 ghost use Rattle.bepd.specs.declared.ending.Ending.TheVariants.{Done};
 
 use crate::best::best;
-use crate::command::{Request, request_of};
+use crate::command::{Request, request_of, run_about};
 use crate::ending::{Ending, Failure};
 use crate::playing::ending_of;
 use crate::received::own_device;
 use bepd_pair::pair;
 use bepd_run::{
-    Progress, RunFailure, StateFiles, Stores, check_config, new_config, run_and_tell, run_config,
+    ProgressStyle, RunFailure, StateFiles, Stores, check_config, new_config, run_config,
 };
 use folder_db::IndexedFolder;
 use std::alloc::Global;
@@ -46,13 +46,14 @@ pub(crate) fn run<T, S, R, W, E>(
     alloc: Global,
     stores: &S,
     words: &io::Result<Vec<String>>,
-    progress: Progress,
+    progress: ProgressStyle,
     input: &mut R,
     output: &mut W,
     errors: &mut E,
 ) -> Outcome
 where
-    T: Clock
+    T: AllocGlobal
+        + Clock
         + Files<File = File>
         + Net<Listener = TcpListener, Stream = TcpStream>
         + StateFiles
@@ -89,7 +90,8 @@ where
     // Standard error stays as it was where the status is 0, unless a node tells what happens.
     ensures quiet { AreForTelling words.now ⊎ (result.status ≡ 0 → errors.new ≡ errors.old) }
 {
-    match request_of(alloc, words) {
+    let about = run_about(alloc);
+    match request_of(alloc, words, &about) {
         Request::Best(folder) => {
             let empty = IndexedFolder::new(alloc, own_device());
             let ending = best(alloc, folder, empty, input, output);
@@ -97,11 +99,15 @@ where
         }
         Request::Pair => end(ending_of(pair(rt, alloc, input, output)), errors),
         Request::Run(path) => {
-            let ran = run_and_tell(rt, alloc, stores, path, progress, input, output, errors);
-            end_run(ran, errors)
+            let told = Some(progress);
+            end_run(
+                run_config(rt, stores, path, told, input, output, errors),
+                errors,
+            )
         }
         Request::QuietRun(path) => {
-            end_run(run_config(rt, alloc, stores, path, input, output), errors)
+            let ran = run_config(rt, stores, path, None, input, output, errors);
+            end_run(ran, errors)
         }
         Request::Check(path) => end_run(check_config(rt, alloc, path, output), errors),
         Request::New(directory) => end_run(new_config(rt, alloc, directory, output), errors),

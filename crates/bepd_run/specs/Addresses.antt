@@ -6,8 +6,8 @@ use Rattle.std.specs.declared.net.socket_addr.SocketAddrV4.{SocketAddrV4}
 use Rattle.node_config.specs.Addresses.{IsAddressText}
 use Rattle.node_config.specs.declared.config.PeerAddress.{PeerAddress}
 use Rattle.node_config.specs.declared.config.PeerAddress.TheVariants as told
-use Rattle.peer_node.specs.declared.node.NodeAddress.{NodeAddress}
-use Rattle.peer_node.specs.declared.node.NodeAddress.TheVariants.{Dial, Listen}
+use Rattle.node_threads.specs.declared.peers.NodeAddress.{NodeAddress}
+use Rattle.node_threads.specs.declared.peers.NodeAddress.TheVariants.{Dial, Listen}
 
 -- the text is that of the address
 abbrev pub IsOneAddress : List ℕ → SocketAddr → Type 0

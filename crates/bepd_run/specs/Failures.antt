@@ -2,16 +2,19 @@
 use Rattle.std.specs.Prelude.{ℕ, List, ◌++◌, codes, decimal}
 use Rattle.std.specs.declared.io.ErrorKind.{ErrorKind}
 use Rattle.std.specs.declared.io.ErrorKind.TheVariants as io
+use Rattle.folder_core.specs.declared.restore_fault.RestoreFault.{RestoreFault}
+use Rattle.folder_core.specs.declared.restore_fault.RestoreFault.TheVariants as restore
 use Rattle.node_config.specs.declared.fault.ConfigFault.{ConfigFault}
 use Rattle.node_config.specs.declared.fault.ConfigFault.TheVariants as config
 use Rattle.node_config.specs.Faults.{fault_name, number_of}
 use Rattle.node_config.specs.Lines.{fault_text}
 use Rattle.node_state.specs.declared.fault.StateFault.{StateFault}
 use Rattle.node_state.specs.declared.fault.StateFault.TheVariants as state
+use Rattle.node_state.specs.declared.fault.Problem.TheVariants.{Records}
 use Rattle.node_state.specs.FaultNames.{state_fault_name, state_fault_number}
-use Rattle.peer_node.specs.declared.fault.NodeFault.{NodeFault}
-use Rattle.peer_node.specs.declared.fault.NodeFault.TheVariants as node
-use Rattle.peer_node.specs.Faults.{node_fault_name, node_fault_number}
+use Rattle.node_context.specs.declared.fault.NodeFault.{NodeFault}
+use Rattle.node_context.specs.declared.fault.NodeFault.TheVariants as node
+use Rattle.node_context.specs.Faults.{node_fault_name, node_fault_number}
 use Rattle.bepd_run.specs.declared.failure.RunFailure.{RunFailure}
 use Rattle.bepd_run.specs.declared.failure.RunFailure.TheVariants.{Config, ConfigExists, FolderInUse, Node, OutOfMemory, ReadOrWrite, State, StateInUse}
 
@@ -27,6 +30,8 @@ state_status state.OutOfMemory = 4
 abbrev pub node_status : NodeFault → ℕ
 node_status node.OutOfMemory = 4
 node_status node.OpenPulls = 5
+node_status node.PassesFull = 4
+node_status node.NoFolder = 1
 node_status node.StoreFault = 5
 node_status (node.FolderInUse place) = 6
 node_status node.BadAddress = 7
@@ -46,6 +51,11 @@ run_failure_status ReadOrWrite = 5
 abbrev pub io_failure : ErrorKind → RunFailure
 io_failure io.OutOfMemory = OutOfMemory
 io_failure _ = ReadOrWrite
+
+-- records that no folder has, or no memory for them
+abbrev pub restore_failure : RestoreFault → RunFailure
+restore_failure restore.BadRecords = State (state.BadState Records)
+restore_failure restore.OutOfMemory = OutOfMemory
 
 -- `fault NUMBER NAME`
 abbrev pub numbered : ℕ → List ℕ → List ℕ

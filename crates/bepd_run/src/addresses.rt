@@ -1,10 +1,11 @@
 //! The addresses of a configuration.
 ghost use Rattle.std.specs.Prelude.{◌≡◌, IfErr, IfOk, OnErr};
-ghost use Rattle.peer_node.specs.declared.fault.NodeFault.TheVariants.{BadAddress};
+ghost use Rattle.node_context.specs.declared.fault.NodeFault.TheVariants.{BadAddress};
 ghost use Rattle.bepd_run.specs.Addresses.{IsNoAddress, IsOneAddress, IsReadAs, IsUnread};
 
 use node_config::{PeerAddress, read_address};
-use peer_node::{NodeAddress, NodeFault};
+use node_context::NodeFault;
+use node_threads::NodeAddress;
 use std::net::SocketAddr;
 
 /// How a connection with a peer comes about. Fails with `BadAddress` where the text is no address. O(n).

@@ -3,7 +3,7 @@ use crate::addresses::address_of;
 use crate::failure::RunFailure;
 use crate::files::read_config_file;
 use crate::paths::require_apart;
-use node_config::{Config, FolderConfig, PeerAddress, PeerConfig, read_config};
+use node_config::{Config, FolderConfig, FolderNumber, PeerAddress, PeerConfig, read_config};
 use std::alloc::Global;
 use std::fs::Files;
 use std::io::Write;
@@ -45,15 +45,14 @@ fn tell<O: Write>(alloc: Global, config: &Config, output: &mut O) -> Result<(), 
 }
 
 fn tell_folder<O: Write>(folder: &FolderConfig, output: &mut O) -> Result<(), RunFailure> {
-    writeln!(
-        output,
-        "folder {:?} path {:?} history_limit {} max_conflicts {} rescan {}",
-        folder.id.as_str(),
-        folder.path.as_str(),
-        folder.history_limit,
-        folder.max_conflicts,
-        folder.rescan
-    )?;
+    let (id, path) = (folder.id.as_str(), folder.path.as_str());
+    write!(output, "folder {id:?} path {path:?}")?;
+    for number in FolderNumber::ALL {
+        let key = number.rule().key;
+        let value = folder.number(number);
+        write!(output, " {key} {value}")?;
+    }
+    writeln!(output)?;
     Ok(())
 }
 

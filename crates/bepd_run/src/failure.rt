@@ -1,12 +1,13 @@
 ghost use Rattle.std.specs.Prelude.{◌≡◌, Some};
 ghost use Rattle.std.specs.IoError.{error_kind};
-ghost use Rattle.bepd_run.specs.Failures.{io_failure, run_failure_status, run_failure_text};
+ghost use Rattle.bepd_run.specs.Failures.{io_failure, restore_failure, run_failure_status, run_failure_text};
 ghost use Rattle.bepd_run.specs.declared.failure.RunFailure.TheVariants as failure;
 
 use bep_messages::Text;
+use folder_core::RestoreFault;
 use node_config::ConfigFault;
-use node_state::StateFault;
-use peer_node::NodeFault;
+use node_context::NodeFault;
+use node_state::{Problem, StateFault};
 use std::alloc::{AllocError, AllocFailed};
 use std::fmt::{self, Display, Formatter};
 use std::io;
@@ -48,7 +49,8 @@ impl RunFailure {
             RunFailure::StateInUse => 6,
             RunFailure::FolderInUse(_) => 6,
             RunFailure::Node(NodeFault::FolderInUse(_)) => 6,
-            RunFailure::Node(NodeFault::OutOfMemory) => 4,
+            RunFailure::Node(NodeFault::OutOfMemory | NodeFault::PassesFull) => 4,
+            RunFailure::Node(NodeFault::NoFolder) => 1,
             RunFailure::Node(NodeFault::BadAddress) => 7,
             RunFailure::Node(NodeFault::OpenPulls | NodeFault::StoreFault) => 5,
             RunFailure::OutOfMemory => 4,
@@ -94,6 +96,19 @@ impl From<StateFault> for RunFailure {
 
     fn from(fault: StateFault) -> RunFailure {
         RunFailure::State(fault)
+    }
+}
+
+impl From<RestoreFault> for RunFailure {
+    ghost from_gives = { λ fault failed. failed ≡ restore_failure fault };
+
+    fn from(fault: RestoreFault) -> RunFailure {
+        match fault {
+            RestoreFault::BadRecords => {
+                RunFailure::State(StateFault::BadState(Problem::Records))
+            }
+            RestoreFault::OutOfMemory => RunFailure::OutOfMemory,
+        }
     }
 }
 

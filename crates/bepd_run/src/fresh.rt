@@ -1,11 +1,12 @@
 //! A first configuration.
 use crate::failure::RunFailure;
+use node_config::{FolderNumber, NumberRange, NumberRule};
 use std::alloc::Global;
 use std::fs::{self, File, Files, OpenOptions};
 use std::io::{ErrorKind, Read, Write};
 
-/// What a first configuration has after its identity.
-const REST: &str = "\
+/// What a first configuration has after its identity, up to the numbers of a folder.
+const FOLDER: &str = "\
 # The name that peers see.
 name = \"device\"
 # Where what was recorded is kept between two runs.
@@ -15,11 +16,10 @@ state = STATE
 #[[folder]]
 #id = \"docs\"
 #path = \"/home/me/docs\"
-# The most changes that are kept in memory, the most conflict copies of a name (-1: any number), and how many seconds lie between two scans (0: none).
-#history_limit = 1000000
-#max_conflicts = -1
-#rescan = 3600
+";
 
+/// What it has after these.
+const PEER: &str = "
 # A peer; as many as you like. One of the two devices has `listen`, an address of its own, and the other one `dial`, that address.
 #[[peer]]
 #device = \"THE IDENTITY OF THE PEER\"
@@ -46,9 +46,10 @@ pub fn new_config<R: Files, O: Write>(
     let path = format!(in alloc; "{directory}/config.toml")?;
     let state = format!(in alloc; "{directory}/state")?;
     let state = format!(in alloc; "{state:?}")?;
-    let rest = REST.replace(alloc, "STATE", state.as_str())?;
+    let folder = FOLDER.replace(alloc, "STATE", state.as_str())?;
+    let numbers = numbers_text(alloc)?;
     let text = format!(in alloc;
-        "# The identity of this device. Tell it to its peers.\ndevice = \"{device}\"\n{rest}"
+        "# The identity of this device. Tell it to its peers.\ndevice = \"{device}\"\n{folder}{numbers}{PEER}"
     )?;
     let mut options = OpenOptions::new();
     options.write(true).create_new(true);
@@ -63,6 +64,22 @@ pub fn new_config<R: Files, O: Write>(
     writeln!(output, "device {device}\nconfiguration {path}")?;
     output.flush()?;
     Ok(())
+}
+
+// The numbers of a folder, as they are where they are left out.
+fn numbers_text(alloc: Global) -> Result<String, RunFailure> {
+    let mut text = String::new(alloc);
+    for number in FolderNumber::ALL {
+        let NumberRule {
+            key,
+            range,
+            sentence,
+        } = number.rule();
+        let NumberRange { low, high, default } = range;
+        let lines = format!(in alloc; "# {sentence} {low} to {high}.\n#{key} = {default}\n")?;
+        text.push_str(lines.as_str())?;
+    }
+    Ok(text)
 }
 
 // 64 hexadecimal digits that no other device has, from the system's source of random numbers.

@@ -3,9 +3,12 @@ use crate::failure::RunFailure;
 use bep_messages::{Items, Text};
 use folder_core::{Announcement, FolderCore, PlainFolder};
 use folder_db::IndexedFolder;
-use node_config::{Config, FolderConfig, PeerConfig};
+use node_config::{
+    Config, ConfigFault, FolderConfig, FolderNumber, NumberRule, PeerConfig, Place, Problem,
+};
+use node_folder::FolderSettings;
 use node_state::{KeptIndexes, State, StoredFolder};
-use peer_node::{NodeFolder, Share};
+use node_threads::{Share, StartFolder};
 use std::alloc::{AllocError, Global};
 use sync_pull::MaxConflicts;
 use sync_record::DeviceId;
@@ -15,8 +18,8 @@ pub(crate) type Core = IndexedFolder;
 
 /// A folder as a run begins with it.
 #[derive(Drop)]
-pub(crate) struct Begun {
-    pub(crate) folder: NodeFolder<Core>,
+pub(crate) struct BegunFolder {
+    pub(crate) folder: StartFolder<Core>,
     /// The numbers of the peers' indexes that its records are of.
     pub(crate) kept: KeptIndexes,
 }
@@ -29,7 +32,7 @@ pub(crate) fn begin_all(
     state: State,
     new_index_id: u64,
     is_left: bool,
-) -> Result<Vec<Begun>, RunFailure> {
+) -> Result<Vec<BegunFolder>, RunFailure> {
     let mut stored = state.folders.into_vec();
     let mut begun = Vec::new(alloc);
     for (place, folder) in config.folders.as_slice().iter().enumerate() {
@@ -54,31 +57,47 @@ pub(crate) fn begin_all(
             ),
         };
         forget_others(alloc, config, place, &mut core)?;
-        begun.push(Begun {
-            folder: node_folder(alloc, folder, index_id, core)?,
+        begun.push(BegunFolder {
+            folder: start_folder(alloc, place, folder, index_id, core)?,
             kept,
         })?;
     }
     Ok(begun)
 }
 
-fn node_folder(
+fn start_folder(
     alloc: Global,
+    place: usize,
     folder: &FolderConfig,
     index_id: u64,
     core: PlainFolder,
-) -> Result<NodeFolder<Core>, RunFailure> {
-    let Some(most) = MaxConflicts::new(folder.max_conflicts) else {
-        return Err(RunFailure::OutOfMemory);
+) -> Result<StartFolder<Core>, RunFailure> {
+    let Some(max_conflicts) = MaxConflicts::new(folder.max_conflicts) else {
+        return Err(out_of_range(place, FolderNumber::MaxConflicts));
     };
-    Ok(NodeFolder {
-        id: Text::from_str(alloc, folder.id.as_str())?,
-        path: Text::from_str(alloc, folder.path.as_str())?,
-        index_id,
-        history_limit: folder.history_limit,
-        most,
-        rescan: folder.rescan,
+    Ok(StartFolder {
+        settings: FolderSettings {
+            id: Text::from_str(alloc, folder.id.as_str())?,
+            path: Text::from_str(alloc, folder.path.as_str())?,
+            index_id,
+            history_limit: folder.history_limit,
+            max_conflicts,
+            rescan: folder.rescan,
+        },
         core: indexed(alloc, &core)?,
+    })
+}
+
+// A number of the folder at the place is out of its range.
+fn out_of_range(place: usize, number: FolderNumber) -> RunFailure {
+    let NumberRule { key, range, .. } = number.rule();
+    RunFailure::Config(ConfigFault::BadKey {
+        place: Place::Folder(place.saturating_add(1)),
+        key,
+        problem: Problem::OutOfRange {
+            low: range.low,
+            high: range.high,
+        },
     })
 }
 
@@ -95,7 +114,7 @@ fn indexed(alloc: Global, core: &PlainFolder) -> Result<Core, RunFailure> {
     let last = i64::try_from(core.known(me)).unwrap_or(-1);
     match IndexedFolder::restore(alloc, me, Items::from_vec(announcements), last) {
         Ok(core) => Ok(core),
-        Err(_) => Err(RunFailure::OutOfMemory),
+        Err(fault) => Err(RunFailure::from(fault)),
     }
 }
 

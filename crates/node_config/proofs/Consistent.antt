@@ -13,6 +13,7 @@ use Rattle.toml.specs.Data.{Data, Items, no_items, item, Members, get_member, as
 use Rattle.sync_record.specs.Devices.{short_id}
 use Rattle.node_config.specs.Documents.{config_of}
 use Rattle.node_config.specs.Folders.{has_id, checked_id, folder_of, folders_after, folders_at}
+use Rattle.node_config.specs.FolderNumbers.{IsIn, key_of, range_of}
 use Rattle.node_config.specs.Keys.{key_name}
 use Rattle.node_config.specs.Peers.{is_taken, is_short_id_taken, checked_device, place_of, places_after, places_at, listens_at, checked_listen, address_of, address_at, peer_of, peers_after, peers_at}
 use Rattle.node_config.specs.Rules.{IsFolder, AreFolders, ArePeers, IsConsistent}
@@ -23,8 +24,9 @@ use Rattle.node_config.specs.declared.config.PeerConfig.{PeerConfig}
 use Rattle.node_config.specs.declared.config.PeerAddress.{PeerAddress}
 use Rattle.node_config.specs.declared.config.PeerAddress.TheVariants.{Dial, Listen}
 use Rattle.node_config.specs.declared.fault.ConfigFault.TheVariants.{BadKey}
-use Rattle.node_config.specs.declared.key.Key.{Key}
-use Rattle.node_config.specs.declared.key.Key.TheVariants.{Name, State, Folder as FolderKey, Peer as PeerKey, Id, Path, HistoryLimit, MaxConflicts, Rescan, Folders, Dial as DialKey, Listen as ListenKey}
+use Rattle.node_config.specs.declared.folder_numbers.FolderNumber.{FolderNumber}
+use Rattle.node_config.specs.declared.folder_numbers.FolderNumber.TheVariants.{HistoryLimit, MaxConflicts, Rescan}
+use Rattle.node_config.specs.declared.key.Key.TheVariants.{Name, State, Folder as FolderKey, Peer as PeerKey, Id, Path, Folders, Dial as DialKey, Listen as ListenKey}
 use Rattle.node_config.specs.declared.key.Place.{Place}
 use Rattle.node_config.specs.declared.key.Place.TheVariants.{Node, Folder, Peer}
 use Rattle.node_config.specs.declared.key.Problem.TheVariants.{NotInteger, NotStrings}
@@ -37,22 +39,28 @@ within low high n h =
     let (a, b) = and_parts (int_le low n) (int_le n high) h in
     (grind (arith, ints), grind (arith, ints))
 
-number_found : (place : Place) (key : Key) (low high default n : ℤ) (o : Option Data) → low ≤ℤ default → default ≤ℤ high → number_or_default place key low high default o ≡ Ok n → (low ≤ℤ n) × (n ≤ℤ high)
-number_found place key low high default n None l g h =
-    let same : default ≡ n = cc h in
-    subst (λ (z : ℤ). (low ≤ℤ z) × (z ≤ℤ high)) same (l, g)
-number_found place key low high default n (Some value) l g h =
-    let (x, found, rest) = both (ok_or (as_integer value) (BadKey place key NotInteger)) _ n h in
-    let (test, same) = tested (int_le low x && int_le x high) x _ n rest in
-    subst (λ (z : ℤ). (low ≤ℤ z) × (z ≤ℤ high)) same (within low high x test)
+default_in : (number : FolderNumber) → IsIn (range_of number) (range_of number).default
+default_in HistoryLimit = (omega (arith, ints), omega (arith, ints))
+default_in MaxConflicts = (omega (arith, ints), omega (arith, ints))
+default_in Rescan = (omega (arith, ints), omega (arith, ints))
 
-limit_range : (z : ℤ) → pos 1 ≤ℤ z → z ≤ℤ pos 100000000 → (1 ≤ unsigned_abs z) × (unsigned_abs z ≤ 100000000)
-limit_range (pos n) l g = (omega (arith, ints), omega (arith, ints))
-limit_range (negsuc n) l g = absurd (omega (arith, ints))
+number_found : (place : Place) (number : FolderNumber) (n : ℤ) (o : Option Data) → number_or_default place (key_of number) (range_of number) o ≡ Ok n → IsIn (range_of number) n
+number_found place number n None h =
+    let same : (range_of number).default ≡ n = cc h in
+    subst (IsIn (range_of number)) same (default_in number)
+number_found place number n (Some value) h =
+    let range = range_of number in
+    let (x, found, rest) = both (ok_or (as_integer value) (BadKey place (key_of number) NotInteger)) _ n h in
+    let (test, same) = tested (int_le range.low x && int_le x range.high) x _ n rest in
+    subst (IsIn range) same (within range.low range.high x test)
 
-rescan_range : (z : ℤ) → pos 0 ≤ℤ z → z ≤ℤ pos 31536000 → unsigned_abs z ≤ 31536000
-rescan_range (pos n) l g = omega (arith, ints)
-rescan_range (negsuc n) l g = absurd (omega (arith, ints))
+limit_range : (z : ℤ) → IsIn (range_of HistoryLimit) z → (1 ≤ unsigned_abs z) × (unsigned_abs z ≤ 100000000)
+limit_range (pos n) (l, g) = (omega (arith, ints), omega (arith, ints))
+limit_range (negsuc n) (l, g) = absurd (omega (arith, ints))
+
+rescan_range : (z : ℤ) → IsIn (range_of Rescan) z → unsigned_abs z ≤ 31536000
+rescan_range (pos n) (l, g) = omega (arith, ints)
+rescan_range (negsuc n) (l, g) = absurd (omega (arith, ints))
 
 not_empty : (id : List ℕ) → (length id == 0) ≡ false → id ≢ []
 not_empty [] h = cc h
@@ -71,17 +79,17 @@ folder_found earlier value folder h =
     let (text, x, h2) = both (text_at table (Folder (length earlier + 1)) Id) _ folder h1 in
     let (id, i, h3) = both (checked_id earlier (Folder (length earlier + 1)) text) _ folder h2 in
     let (path, p, h4) = both (text_at table (Folder (length earlier + 1)) Path) _ folder h3 in
-    let (limit, l, h5) = both (number_at table (Folder (length earlier + 1)) HistoryLimit (pos 1) (pos 100000000) (pos 1000000)) _ folder h4 in
-    let (most, m, h6) = both (number_at table (Folder (length earlier + 1)) MaxConflicts (negsuc 0) (pos 1000) (negsuc 0)) _ folder h5 in
-    let (seconds, r, h7) = both (number_at table (Folder (length earlier + 1)) Rescan (pos 0) (pos 31536000) (pos 3600)) _ folder h6 in
+    let (limit, l, h5) = both (number_at table (Folder (length earlier + 1)) HistoryLimit) _ folder h4 in
+    let (most, m, h6) = both (number_at table (Folder (length earlier + 1)) MaxConflicts) _ folder h5 in
+    let (seconds, r, h7) = both (number_at table (Folder (length earlier + 1)) Rescan) _ folder h6 in
     let made : FolderConfig = record { id = id; path = path; history_limit = unsigned_abs limit; max_conflicts = most; rescan = unsigned_abs seconds } in
     let same : made ≡ folder = cc h7 in
     let is = id_found earlier (Folder (length earlier + 1)) text id i in
-    let a = number_found (Folder (length earlier + 1)) HistoryLimit (pos 1) (pos 100000000) (pos 1000000) limit (get_member (key_name HistoryLimit) table) (omega (arith, ints)) (omega (arith, ints)) l in
-    let b = number_found (Folder (length earlier + 1)) MaxConflicts (negsuc 0) (pos 1000) (negsuc 0) most (get_member (key_name MaxConflicts) table) (omega (arith, ints)) (omega (arith, ints)) m in
-    let c = number_found (Folder (length earlier + 1)) Rescan (pos 0) (pos 31536000) (pos 3600) seconds (get_member (key_name Rescan) table) (omega (arith, ints)) (omega (arith, ints)) r in
+    let a = number_found (Folder (length earlier + 1)) HistoryLimit limit (get_member (key_name (key_of HistoryLimit)) table) l in
+    let b = number_found (Folder (length earlier + 1)) MaxConflicts most (get_member (key_name (key_of MaxConflicts)) table) m in
+    let c = number_found (Folder (length earlier + 1)) Rescan seconds (get_member (key_name (key_of Rescan)) table) r in
     subst (λ (f : FolderConfig). IsFolder f × (list_any (has_id f.id) earlier ≡ false)) same
-    (record { id = is.0; history_limit = limit_range limit a.0 a.1; max_conflicts = b; rescan = rescan_range seconds c.0 c.1 }, is.1)
+    (record { id = is.0; history_limit = limit_range limit a; max_conflicts = b; rescan = rescan_range seconds c }, is.1)
 
 more_folders : (earlier : List FolderConfig) (folder : FolderConfig) → AreFolders earlier → IsFolder folder × (list_any (has_id folder.id) earlier ≡ false) → AreFolders (earlier ++ folder ∷ [])
 more_folders earlier folder e h = (

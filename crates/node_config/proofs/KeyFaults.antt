@@ -1,5 +1,5 @@
 -- What a document has in place of a configuration is a fault of a key.
-use Rattle.std.proofs.Common.{ℕ, ℤ, ◌+◌, Bool, true, false, cond, List, [], ◌∷◌, ◌++◌, length, Option, Some, None, Result, Ok, Err, IfErr}
+use Rattle.std.proofs.Common.{ℕ, ◌+◌, Bool, true, false, cond, List, [], ◌∷◌, ◌++◌, length, Option, Some, None, Result, Ok, Err, IfErr}
 use Rattle.std.specs.Bool.{⊤}
 use Rattle.std.specs.Option.{ok_or}
 use Rattle.toml.specs.Data.{Data, Items, no_items, item, Members, get_member, as_array}
@@ -12,6 +12,9 @@ use Rattle.node_config.specs.declared.config.FolderConfig.{FolderConfig}
 use Rattle.node_config.specs.declared.config.PeerConfig.{PeerConfig}
 use Rattle.node_config.specs.declared.fault.ConfigFault.{ConfigFault}
 use Rattle.node_config.specs.declared.fault.ConfigFault.TheVariants.{NotToml, BadKey, OutOfMemory}
+use Rattle.node_config.specs.FolderNumbers.{key_of, range_of}
+use Rattle.node_config.specs.declared.folder_numbers.FolderNumber.{FolderNumber}
+use Rattle.node_config.specs.declared.folder_numbers.NumberRange.{NumberRange}
 use Rattle.node_config.specs.declared.key.Key.{Key}
 use Rattle.node_config.specs.declared.key.Key.TheVariants.{Dial as DialKey, Listen as ListenKey}
 use Rattle.node_config.specs.declared.key.Place.{Place}
@@ -41,15 +44,15 @@ cond_fails false x y h g = g
 text_fails : (table : Members) (place : Place) (key : Key) → FailsAtKey (text_at table place key)
 text_fails table place key = search (or_fails, then_fails)
 
-default_fails : (place : Place) (key : Key) (low high default : ℤ) (o : Option Data) → FailsAtKey (number_or_default place key low high default o)
-default_fails place key low high default None = tt
-default_fails place key low high default (Some value) = search (or_fails, then_fails, cond_fails)
+default_fails : (place : Place) (key : Key) (range : NumberRange) (o : Option Data) → FailsAtKey (number_or_default place key range o)
+default_fails place key range None = tt
+default_fails place key range (Some value) = search (or_fails, then_fails, cond_fails)
 
 checked_id_fails : (earlier : List FolderConfig) (place : Place) (id : List ℕ) → FailsAtKey (checked_id earlier place id)
 checked_id_fails earlier place id = search cond_fails
 
-number_fails : (table : Members) (place : Place) (key : Key) (low high default : ℤ) → FailsAtKey (number_at table place key low high default)
-number_fails table place key low high default = default_fails place key low high default _
+number_fails : (table : Members) (place : Place) (number : FolderNumber) → FailsAtKey (number_at table place number)
+number_fails table place number = default_fails place (key_of number) (range_of number) _
 
 pub device_fails : (table : Members) (place : Place) → FailsAtKey (device_at table place)
 device_fails table place = search (or_fails, then_fails, text_fails)

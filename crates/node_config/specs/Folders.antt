@@ -1,5 +1,5 @@
 -- The folders of a document.
-use Rattle.std.specs.Prelude.{ℕ, ◌+◌, pos, negsuc, Bool, List, [], ◌∷◌, ◌++◌, length, bytes_eq, ◌==◌, if◌then◌else◌, unsigned_abs, Result, Ok, Err}
+use Rattle.std.specs.Prelude.{ℕ, ◌+◌, Bool, List, [], ◌∷◌, ◌++◌, length, bytes_eq, ◌==◌, if◌then◌else◌, unsigned_abs, Result, Ok, Err}
 use Rattle.std.specs.List.{list_any}
 use Rattle.toml.specs.Data.{Data, Items, no_items, item, Members, get_member}
 use Rattle.node_config.specs.Keys.{key_name}
@@ -7,7 +7,8 @@ use Rattle.node_config.specs.Values.{◌>>=◌, text_at, number_at, table_of, ta
 use Rattle.node_config.specs.declared.config.FolderConfig.{FolderConfig}
 use Rattle.node_config.specs.declared.fault.ConfigFault.{ConfigFault}
 use Rattle.node_config.specs.declared.fault.ConfigFault.TheVariants.{BadKey}
-use Rattle.node_config.specs.declared.key.Key.TheVariants.{Folder as FolderKey, Id, Path, HistoryLimit, MaxConflicts, Rescan}
+use Rattle.node_config.specs.declared.folder_numbers.FolderNumber.TheVariants.{HistoryLimit, MaxConflicts, Rescan}
+use Rattle.node_config.specs.declared.key.Key.TheVariants.{Folder as FolderKey, Id, Path}
 use Rattle.node_config.specs.declared.key.Place.{Place}
 use Rattle.node_config.specs.declared.key.Place.TheVariants.{Folder}
 use Rattle.node_config.specs.declared.key.Problem.TheVariants.{Empty, Repeats}
@@ -30,9 +31,9 @@ folder_of earlier value = do
   text ← text_at table (Folder (length earlier + 1)) Id
   id ← checked_id earlier (Folder (length earlier + 1)) text
   path ← text_at table (Folder (length earlier + 1)) Path
-  history_limit ← number_at table (Folder (length earlier + 1)) HistoryLimit (pos 1) (pos 100000000) (pos 1000000)
-  max_conflicts ← number_at table (Folder (length earlier + 1)) MaxConflicts (negsuc 0) (pos 1000) (negsuc 0)
-  rescan ← number_at table (Folder (length earlier + 1)) Rescan (pos 0) (pos 31536000) (pos 3600)
+  history_limit ← number_at table (Folder (length earlier + 1)) HistoryLimit
+  max_conflicts ← number_at table (Folder (length earlier + 1)) MaxConflicts
+  rescan ← number_at table (Folder (length earlier + 1)) Rescan
   Ok (record { id = id; path = path; history_limit = unsigned_abs history_limit; max_conflicts = max_conflicts; rescan = unsigned_abs rescan })
 
 -- the earlier folders, and those of the tables

@@ -1,6 +1,7 @@
 pub mod Keys
 pub mod Faults
 pub mod Values
+pub mod FolderNumbers
 pub mod Folders
 pub mod Peers
 pub mod Documents

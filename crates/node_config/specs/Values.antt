@@ -4,9 +4,12 @@ use Rattle.std.specs.Option.{ok_or}
 use Rattle.std.specs.Result.{result_ok}
 use Rattle.hex.specs.Hex.{decode_of}
 use Rattle.toml.specs.Data.{Data, Items, no_items, Members, get_member, as_str, as_integer, as_array, as_table}
+use Rattle.node_config.specs.FolderNumbers.{key_of, range_of}
 use Rattle.node_config.specs.Keys.{key_name}
 use Rattle.node_config.specs.declared.fault.ConfigFault.{ConfigFault}
 use Rattle.node_config.specs.declared.fault.ConfigFault.TheVariants.{BadKey, OutOfMemory}
+use Rattle.node_config.specs.declared.folder_numbers.FolderNumber.{FolderNumber}
+use Rattle.node_config.specs.declared.folder_numbers.NumberRange.{NumberRange}
 use Rattle.node_config.specs.declared.key.Key.{Key}
 use Rattle.node_config.specs.declared.key.Key.TheVariants.{Device}
 use Rattle.node_config.specs.declared.key.Place.{Place}
@@ -42,18 +45,19 @@ text_at table place key = required_at table place key >>= text_of place key
 abbrev pub array_at : Members → Place → Key → Result Items ConfigFault
 array_at table place key = required_at table place key >>= λ value. ok_or (as_array value) (BadKey place key NotStrings)
 
--- the integer of a key that may be absent, from low to high
-abbrev pub number_of_value : Place → Key → ℤ → ℤ → Data → Result ℤ ConfigFault
-number_of_value place key low high value = do
+-- the integer that is the value of a key, if it is in the range
+abbrev pub number_of_value : Place → Key → NumberRange → Data → Result ℤ ConfigFault
+number_of_value place key range value = do
   number ← ok_or (as_integer value) (BadKey place key NotInteger)
-  if int_le low number && int_le number high then Ok number else Err (BadKey place key (OutOfRange low high))
+  if int_le range.low number && int_le number range.high then Ok number else Err (BadKey place key (OutOfRange range.low range.high))
 
-abbrev pub number_or_default : Place → Key → ℤ → ℤ → ℤ → Option Data → Result ℤ ConfigFault
-number_or_default place key low high default None = Ok default
-number_or_default place key low high default (Some value) = number_of_value place key low high value
+abbrev pub number_or_default : Place → Key → NumberRange → Option Data → Result ℤ ConfigFault
+number_or_default place key range None = Ok range.default
+number_or_default place key range (Some value) = number_of_value place key range value
 
-abbrev pub number_at : Members → Place → Key → ℤ → ℤ → ℤ → Result ℤ ConfigFault
-number_at table place key low high default = number_or_default place key low high default (get_member (key_name key) table)
+-- a number of a folder
+abbrev pub number_at : Members → Place → FolderNumber → Result ℤ ConfigFault
+number_at table place number = number_or_default place (key_of number) (range_of number) (get_member (key_name (key_of number)) table)
 
 -- the bytes of 64 hexadecimal digits
 abbrev pub device_of : List ℕ → Option (List ℕ)

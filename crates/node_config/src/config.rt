@@ -1,3 +1,8 @@
+ghost use Rattle.std.specs.Prelude.{◌≡◌};
+ghost use Rattle.node_config.specs.FolderNumbers.{number_in};
+ghost use Rattle.node_config.specs.Rules.{IsFolder};
+
+use crate::folder_numbers::FolderNumber;
 use bep_messages::{Items, Text};
 use sync_record::DeviceId;
 
@@ -23,12 +28,25 @@ pub struct FolderConfig {
     pub id: Text,
     /// The path of its files.
     pub path: Text,
-    /// The most changes that its history keeps: 1 to 100,000,000.
+    /// The most changes that its history keeps.
     pub history_limit: u64,
-    /// The most conflict copies that are kept of a name: 0 to 1,000, or -1 for any number.
+    /// The most conflict copies that are kept of a name, or -1 for any number.
     pub max_conflicts: i32,
-    /// How many seconds lie between two scans by the clock: at most 31,536,000, and 0 for no such scans.
+    /// How many seconds lie between two scans by the clock, or 0 for no such scans.
     pub rescan: u64,
+}
+
+impl FolderConfig {
+    /// One of its numbers. O(1).
+    pub fn number(&self, number: FolderNumber) -> i64
+        ensures { IsFolder self.now → result ≡ number_in number self.now }
+    {
+        match number {
+            FolderNumber::HistoryLimit => i64::try_from(self.history_limit).unwrap_or(i64::MAX),
+            FolderNumber::MaxConflicts => i64::from(self.max_conflicts),
+            FolderNumber::Rescan => i64::try_from(self.rescan).unwrap_or(i64::MAX),
+        }
+    }
 }
 
 /// Another device, with which a node keeps folders alike.

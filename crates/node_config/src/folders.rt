@@ -7,24 +7,12 @@ ghost use Rattle.node_config.specs.Values.{Finds, Reads};
 
 use crate::config::FolderConfig;
 use crate::fault::ConfigFault;
+use crate::folder_numbers::FolderNumber;
 use crate::key::{Key, Place, Problem};
 use crate::values::{number_at, table_of, text_at, value_at};
 use bep_messages::{Items, Text};
 use std::alloc::Global;
 use toml::{Table, Value};
-
-const GREATEST_HISTORY_LIMIT: i64 = 100_000_000;
-
-const DEFAULT_HISTORY_LIMIT: i64 = 1_000_000;
-
-const GREATEST_MAX_CONFLICTS: i64 = 1_000;
-
-const ANY_CONFLICTS: i64 = -1;
-
-/// A year.
-const GREATEST_RESCAN: i64 = 31_536_000;
-
-const DEFAULT_RESCAN: i64 = 3_600;
 
 /// The folders of a document.
 pub(crate) fn read_folders(
@@ -68,30 +56,9 @@ fn read_folder(
     let place = Place::Folder(earlier.len() + 1);
     let id = checked_id(earlier, place, text_at(table, place, Key::Id)?)?;
     let path = text_at(table, place, Key::Path)?;
-    let history_limit = number_at(
-        table,
-        place,
-        Key::HistoryLimit,
-        1,
-        GREATEST_HISTORY_LIMIT,
-        DEFAULT_HISTORY_LIMIT,
-    )?;
-    let max_conflicts = number_at(
-        table,
-        place,
-        Key::MaxConflicts,
-        ANY_CONFLICTS,
-        GREATEST_MAX_CONFLICTS,
-        ANY_CONFLICTS,
-    )?;
-    let rescan = number_at(
-        table,
-        place,
-        Key::Rescan,
-        0,
-        GREATEST_RESCAN,
-        DEFAULT_RESCAN,
-    )?;
+    let history_limit = number_at(table, place, FolderNumber::HistoryLimit)?;
+    let max_conflicts = number_at(table, place, FolderNumber::MaxConflicts)?;
+    let rescan = number_at(table, place, FolderNumber::Rescan)?;
     Ok(FolderConfig {
         id: Text::from_str(alloc, id)?,
         path: Text::from_str(alloc, path)?,

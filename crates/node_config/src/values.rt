@@ -1,11 +1,13 @@
 //! The value of a key of a table.
-ghost use Rattle.std.specs.Prelude.{◌≡◌, ◌≤ℤ◌, IfOk, MatchOption, Some, None};
+ghost use Rattle.std.specs.Prelude.{◌≡◌, IfOk, MatchOption, Some, None};
 ghost use Rattle.toml.specs.Data.{get_member};
 ghost use Rattle.toml.specs.View.{array_view, table_view, view};
+ghost use Rattle.node_config.specs.FolderNumbers.{IsIn, range_of};
 ghost use Rattle.node_config.specs.Keys.{key_name};
 ghost use Rattle.node_config.specs.Values.{Finds, Reads, array_at, device_at, number_at, number_of_value, required_at, table_of, text_at, text_of};
 
 use crate::fault::ConfigFault;
+use crate::folder_numbers::{FolderNumber, NumberRange, NumberRule};
 use crate::key::{Key, Place, Problem};
 use bep_messages::Text;
 use std::alloc::Global;
@@ -81,16 +83,15 @@ pub(crate) fn array_at(table: &Table, place: Place, key: Key) -> Result<&Array, 
     }
 }
 
-/// The integer that is the value of a key, from `low` to `high`.
+/// The integer that is the value of a key, if it is in the range.
 fn number_of_value(
     value: &Value,
     place: Place,
     key: Key,
-    low: i64,
-    high: i64,
+    range: NumberRange,
 ) -> Result<i64, ConfigFault>
-    ensures value { result ≡ number_of_value place key low high (view value.now) }
-    ensures range { IfOk result (λ number. (low ≤ℤ number) × (number ≤ℤ high)) }
+    ensures value { result ≡ number_of_value place key range (view value.now) }
+    ensures range { IfOk result (IsIn range) }
 {
     let Some(number) = value.as_integer() else {
         return Err(ConfigFault::BadKey {
@@ -99,6 +100,7 @@ fn number_of_value(
             problem: Problem::NotInteger,
         });
     };
+    let NumberRange { low, high, .. } = range;
     if low <= number && number <= high {
         Ok(number)
     } else {
@@ -110,23 +112,19 @@ fn number_of_value(
     }
 }
 
-/// The integer of a key, from `low` to `high`, or `default` where the key is absent.
+/// A number of a folder, or its default where the key is absent.
 pub(crate) fn number_at(
     table: &Table,
     place: Place,
-    key: Key,
-    low: i64,
-    high: i64,
-    default: i64,
+    number: FolderNumber,
 ) -> Result<i64, ConfigFault>
-    requires low { low ≤ℤ default }
-    requires high { default ≤ℤ high }
-    ensures value { result ≡ number_at (table_view table.now) place key low high default }
-    ensures range { IfOk result (λ number. (low ≤ℤ number) × (number ≤ℤ high)) }
+    ensures value { result ≡ number_at (table_view table.now) place number }
+    ensures range { IfOk result (IsIn (range_of number)) }
 {
+    let NumberRule { key, range, .. } = number.rule();
     match value_at(table, key) {
-        Some(value) => number_of_value(value, place, key, low, high),
-        None => Ok(default),
+        Some(value) => number_of_value(value, place, key, range),
+        None => Ok(range.default),
     }
 }
 

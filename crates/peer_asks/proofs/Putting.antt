@@ -5,7 +5,8 @@ use Rattle.std.specs.Prelude.{Option, Some}
 use Rattle.bep_frames.specs.declared.frame.Message.{Message}
 use Rattle.bep_frames.specs.declared.frame.Message.TheVariants as message
 use Rattle.bep_messages.specs.declared.request.Request.{Request}
-use Rattle.peer_asks.specs.Requests.{ComeEach, PutsEach, PutsOne}
+use Rattle.peer_conn.proofs.Coming.{come-more}
+use Rattle.peer_asks.specs.Requests.{PutsEach, PutsOne}
 
 joined : (before between after : List Message) (requests : List Request) (request : Request)
     → between ≡ before ++ map message.Request requests → after ≡ between ++ message.Request request ∷ []
@@ -17,11 +18,6 @@ joined before between after requests request e f =
     ∙ ap (λ (xs : List Message). before ++ xs) (sym (map-append message.Request requests (request ∷ [])))
 
 module _ {Q : Type 0} (comes : Q → Option Request → Q → Type 0) where
-  come-more : (from : Q) (requests : List Request) (point : Q) (request : Request) (to : Q)
-      → ComeEach comes from requests point → comes point (Some request) to → ComeEach comes from (requests ++ request ∷ []) to
-  come-more from [] point request to h c = (to, subst (λ q. comes q (Some request) to) h c, refl)
-  come-more from (y ∷ ys) point request to h c = (h.0, h.1, come-more h.0 ys point request to h.2 c)
-
   pub none-put : (from : Q) (before : List Message) → PutsEach comes from from before before
   none-put from before = record { requests = []; came = refl; put = sym (append-nil before) }
 

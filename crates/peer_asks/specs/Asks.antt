@@ -4,6 +4,8 @@ use Rattle.std.specs.List.{position}
 use Rattle.std.specs.Global.{Vec}
 use Rattle.bep_messages.specs.declared.response.Response.{Response}
 use Rattle.bep_session.specs.Ids.{max_asks}
+use Rattle.bep_messages.specs.declared.request.Request.{Request}
+use Rattle.peer_asks.specs.Requests.{TakesOne, under}
 use Rattle.peer_asks.specs.declared.fault.AskFault.{AskFault}
 use Rattle.peer_asks.specs.declared.fault.AskFault.TheVariants.{NotConnected, TooManyAsks, TooLarge, OutOfMemory}
 use Rattle.peer_asks.specs.declared.table.AskState.{AskState}
@@ -92,9 +94,12 @@ HasLooked old id new before None after = HasTaken old id new NotYet × (after �
 abbrev pub IsTakenBack : List AskState → List AskState → Type 0
 IsTakenBack old new = (id : ℤ) × (size : ℕ) × (between : List AskState) × HasOpened old id (Waits size) between × IsSetAt between id (λ _. Free) new
 
--- why a Request was not sent
-abbrev pub HasRefused : {S : Type 0} → AskFault → Option S → List AskState → List AskState → Type 0
-HasRefused NotConnected requests old new = (requests ≡ None) × (new ≡ old)
-HasRefused TooManyAsks requests old new = (AreAllTaken old × (new ≡ old)) ⊎ IsTakenBack old new
-HasRefused TooLarge requests old new = ⊥
-HasRefused OutOfMemory requests old new = new ≡ old
+module _ {S : Type 0} (takes : S → Request → Bool → S → Type 0) where
+  -- Why a Request was not sent, and what then became of where they go, and of the states: there was no connection; there was a Request at
+  -- each place; it was given to where they go, which did not take it; or memory ran out.
+  abbrev pub HasRefused : AskFault → Request → Option S → Option S → List AskState → List AskState → Type 0
+  HasRefused NotConnected request from to old new = (from ≡ None) × (to ≡ from) × (new ≡ old)
+  HasRefused TooManyAsks request from to old new =
+      (AreAllTaken old × (to ≡ from) × (new ≡ old)) ⊎ (((id : ℤ) × TakesOne takes (under id request) false from to) × IsTakenBack old new)
+  HasRefused TooLarge request from to old new = ⊥
+  HasRefused OutOfMemory request from to old new = (to ≡ from) × (new ≡ old)

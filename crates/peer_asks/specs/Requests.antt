@@ -4,15 +4,11 @@ use Rattle.bep_frames.specs.declared.frame.Message.{Message}
 use Rattle.bep_frames.specs.declared.frame.Message.TheVariants as message
 use Rattle.bep_messages.specs.declared.request.Request.{Request}
 use Rattle.sync_blocks.specs.declared.block.Block.{Block}
+use Rattle.peer_conn.specs.Sources.{ComeEach}
 use Rattle.peer_asks.specs.declared.requester.RequesterEnd.{RequesterEnd}
 use Rattle.peer_asks.specs.declared.requester.RequesterEnd.TheVariants.{Closed, Gone}
 
 module _ {Q : Type 0} (comes : Q → Option Request → Q → Type 0) where
-  -- these Requests came, one after the other
-  abbrev pub ComeEach : Q → List Request → Q → Type 0
-  ComeEach from [] to = to ≡ from
-  ComeEach from (r ∷ rs) to = (next : Q) × comes from (Some r) next × ComeEach next rs to
-
   -- a Request came, and was put
   abbrev pub PutsOne : Q → Q → List Message → List Message → Type 0
   PutsOne from to before after = (request : Request) × comes from (Some request) to × (after ≡ before ++ message.Request request ∷ [])
@@ -25,7 +21,7 @@ module _ {Q : Type 0} (comes : Q → Option Request → Q → Type 0) where
   -- each Request that came was put, in this order, and nothing else
   pub record PutsEach (from to : Q) (before after : List Message) : Type 0 where
     pub requests : List Request
-    pub came : ComeEach from requests to
+    pub came : ComeEach comes from requests to
     pub put : after ≡ before ++ map message.Request requests
 
   -- all that a requester did
@@ -40,10 +36,6 @@ module _ {S : Type 0} (takes : S → Request → Bool → S → Type 0) where
   -- a Request was given once to where they go: whether it was taken
   abbrev pub TakesOne : Request → Bool → Option S → Option S → Type 0
   TakesOne request taken old new = (from to : S) × (old ≡ Some from) × takes from request taken to × (new ≡ Some to)
-
-  -- none was taken
-  abbrev pub TakesNone : Request → Option S → Option S → Type 0
-  TakesNone request old new = (new ≡ old) ⊎ ((id : ℤ) × TakesOne (under id request) false old new)
 
 -- the Request for a block of a file of a folder, without its id and a digest
 abbrev pub request_of : List ℕ → List ℕ → Block → Request

@@ -1,8 +1,8 @@
 //! The Requests under way over the connection with a peer.
-ghost use Rattle.std.specs.Prelude.{◌≡◌, ◌≢◌, ◌⊎◌, ◌+◌, ◌%◌, ◌^◌, ◌∷◌, ◌++◌, [], IfErr, IfOk, MatchResult, OnOk, Some, false, true};
+ghost use Rattle.std.specs.Prelude.{◌≡◌, ◌≢◌, ◌⊎◌, ◌+◌, ◌%◌, ◌^◌, ◌∷◌, ◌++◌, [], IfErr, IfOk, OnErr, OnOk, Some, false, true};
 ghost use Rattle.peer_asks.specs.Asks.{HasLooked, HasOpened, HasRefused, HasTaken, IsSetAt, after_let_go};
 ghost use Rattle.peer_asks.specs.Counts.{HasCounted};
-ghost use Rattle.peer_asks.specs.Requests.{IsNamed, IsTooLarge, TakesNone, TakesOne, request_of, under};
+ghost use Rattle.peer_asks.specs.Requests.{IsNamed, IsTooLarge, TakesOne, request_of, under};
 ghost use Rattle.peer_asks.specs.declared.fault.AskFault.TheVariants.{OutOfMemory, TooLarge};
 ghost use Rattle.peer_asks.specs.declared.table.AskState.TheVariants.{Waits};
 ghost use Rattle.peer_asks.specs.declared.table.Taken.TheVariants.{Nothing};
@@ -177,12 +177,12 @@ impl<S: RequestSink + Drop> Shared<S> {
             HasOpened self.old.table.states.items ask.id (Waits size) self.new.table.states.items) }
         ensures untold { IfOk result (λ ask. self.new.table.untold.items ≡ self.old.table.untold.items ++ ask.id ∷ []) }
         ensures connection { IfOk result (λ ask. ask.connection ≡ self.old.connection) }
-        ensures sent { MatchResult result
-            (λ ask. TakesOne S.takes (under ask.id request) true self.old.requests self.new.requests)
-            (λ _. TakesNone S.takes request self.old.requests self.new.requests) }
+        ensures sent { IfOk result (λ ask.
+            TakesOne S.takes (under ask.id request) true self.old.requests self.new.requests) }
+        ensures not_sent { IfErr result (λ fault. HasRefused S.takes fault request self.old.requests self.new.requests
+            self.old.table.states.items self.new.table.states.items) }
+        ensures not_told { OnErr result (self.new.table.untold.items ≡ self.old.table.untold.items) }
         ensures same { (self.new.connection ≡ self.old.connection) × (self.new.counts ≡ self.old.counts) }
-        ensures not_sent { IfErr result (λ fault.
-            HasRefused fault self.old.requests self.old.table.states.items self.new.table.states.items) }
     {
         let Some(requests) = &mut self.requests else {
             return Err(AskFault::NotConnected);

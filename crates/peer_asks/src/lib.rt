@@ -20,5 +20,5 @@ pub use book::{AskBook, AskId};
 pub use counts::AskCounts;
 pub use fault::AskFault;
 pub use peer::{FolderPeer, PeerAsks, PeerBook};
-pub use requester::{RequestSource, RequesterEnd, run_requester};
+pub use requester::{RequesterEnd, run_requester};
 pub use source::PeerSource;

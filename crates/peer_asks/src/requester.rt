@@ -1,13 +1,11 @@
 //! The requester of a connection.
-ghost use Rattle.std.specs.Prelude.{◌≡◌, MatchResult, Option};
-ghost use Rattle.bep_messages.specs.declared.request.Request.{Request};
+ghost use Rattle.std.specs.Prelude.{◌≡◌, MatchResult};
 ghost use Rattle.peer_conn.specs.Words.{IsSameEnded, IsSameSeat, all_of, put_of};
 ghost use Rattle.peer_asks.specs.Requests.{Leaves, PutsOne, PutsRequests};
 
 use bep_frames::Message;
 use bep_messages::Request;
-use crossbeam_channel::Receiver;
-use peer_conn::{Ended, Seat};
+use peer_conn::{Ended, Seat, Source};
 use std::sync::Wait;
 
 /// Why a requester ended.
@@ -19,32 +17,11 @@ pub enum RequesterEnd {
     Gone,
 }
 
-/// Where the Requests to a peer come from, one after the other.
-pub trait RequestSource {
-    /// What each call gives: what there was before it, the Request, or none where no more will come, and what there is after it.
-    ghost gives: { Self → Option Request → Self → Type 0 };
-
-    /// Waits for the next Request, and returns it; `None` where no more will come.
-    fn next<R: Wait>(&mut self, rt: &R) -> Option<Request>
-        ensures { gives self.old result self.new };
-}
-
-impl RequestSource for Receiver<Request> {
-    ghost use Rattle.std.specs.Prelude.{⊤};
-
-    ghost gives = { λ _ _ _. ⊤ };
-
-    /// `None` once the other end of the channel was dropped and the channel is empty.
-    fn next<R: Wait>(&mut self, rt: &R) -> Option<Request> {
-        self.recv(rt).ok()
-    }
-}
-
 /// Puts each Request that comes, once, in the order in which they come. Sleeps while there is none, and while the queue is full.
 /// Does not allocate.
 ///
 /// It ends with `Closed` where no more will come; with `Gone` at the first Request that cannot be put, which is dropped.
-pub fn run_requester<R: Wait, Q: RequestSource + Drop>(
+pub fn run_requester<R: Wait, Q: Source<Request> + Drop>(
     rt: &R,
     requests: Q,
     seat: Seat<Message>,
@@ -59,7 +36,7 @@ pub fn run_requester<R: Wait, Q: RequestSource + Drop>(
 }
 
 // Puts each Request until there is a reason to end.
-fn put_all<R: Wait, Q: RequestSource>(
+fn put_all<R: Wait, Q: Source<Request>>(
     rt: &R,
     requests: &mut Q,
     seat: &mut Seat<Message>,
@@ -76,7 +53,7 @@ fn put_all<R: Wait, Q: RequestSource>(
 }
 
 // Waits for the next Request, and puts it.
-fn put_next<R: Wait, Q: RequestSource>(
+fn put_next<R: Wait, Q: Source<Request>>(
     rt: &R,
     requests: &mut Q,
     seat: &mut Seat<Message>,

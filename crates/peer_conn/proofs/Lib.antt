@@ -6,3 +6,4 @@ pub mod Sending
 pub mod Seeing
 pub mod Telling
 pub mod Slices
+pub mod Coming

@@ -4,3 +4,4 @@ pub mod Sending
 pub mod Configs
 pub mod Turns
 pub mod Indexing
+pub mod Sources

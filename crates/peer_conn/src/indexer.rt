@@ -1,8 +1,7 @@
 //! The indexer of a connection.
-ghost use Rattle.std.specs.Prelude.{◌≡◌, ◌≢◌, ◌++◌, ◌∷◌, [], IfErr, IfOk, List, None, Option, true};
+ghost use Rattle.std.specs.Prelude.{◌≡◌, ◌≢◌, ◌++◌, ◌∷◌, [], IfErr, IfOk, List, Option};
 ghost use Rattle.std.specs.List.{AllZip};
 ghost use Rattle.bep_frames.specs.declared.frame.Message.{Message};
-ghost use Rattle.bep_messages.specs.declared.cluster_config.ClusterConfig.{ClusterConfig};
 ghost use Rattle.index_sender.specs.Pages.{Progress};
 ghost use Rattle.peer_conn.specs.Indexing.{BeginsAt, EndsFor, Indexes, IsPing, Tells, TellsPeer};
 ghost use Rattle.peer_conn.specs.declared.indexer.IndexerEnd.TheVariants.{Closed, Gone};
@@ -11,11 +10,11 @@ ghost use Rattle.peer_conn.specs.Words.{IsSameEnded, IsSameSeat, all_of, put_of}
 
 use crate::config::{folder_of, start_of};
 use crate::ends::{Ended, Seat};
+use crate::source::Source;
 use crate::turn::{Turn, TurnEnd, index_turn};
 use bep_frames::Message;
 use bep_messages::{ClusterConfig, Ping, Text};
 use bep_session::ping_due;
-use crossbeam_channel::{Receiver, RecvTimeoutError};
 use folder_calls::FolderCalls;
 use index_sender::IndexSender;
 use std::alloc::{AllocError, Global};
@@ -35,38 +34,6 @@ pub struct IndexedFolder<W> {
     pub index_id: u64,
     /// The calls of the folder.
     pub calls: W,
-}
-
-/// Where the peer's ClusterConfigs come from, one after the other.
-pub trait PeerConfigs {
-    /// What was given: what there was before, a ClusterConfig, or none where no more will come, and what there is after it.
-    ghost gives: { Self → Option ClusterConfig → Self → Type 0 };
-
-    /// Waits for the next one, and returns it; `None` where no more will come.
-    fn next<R: Wait>(&mut self, rt: &R) -> Option<ClusterConfig>
-        ensures { gives self.old result self.new };
-
-    /// Waits until no more will come, or one comes, which is passed over, or this time has passed. Returns whether no more will come.
-    fn is_over_within<R: Wait + Clock>(&mut self, rt: &R, time: Duration) -> bool
-        ensures { result ≡ true → gives self.old None self.new };
-}
-
-impl PeerConfigs for Receiver<ClusterConfig> {
-    ghost use Rattle.std.specs.Prelude.{⊤};
-
-    ghost gives = { λ _ _ _. ⊤ };
-
-    /// `None` once the other end of the channel was dropped.
-    fn next<R: Wait>(&mut self, rt: &R) -> Option<ClusterConfig> {
-        self.recv(rt).ok()
-    }
-
-    fn is_over_within<R: Wait + Clock>(&mut self, rt: &R, time: Duration) -> bool {
-        match self.recv_timeout(rt, time) {
-            Err(RecvTimeoutError::Disconnected) => true,
-            _ => false,
-        }
-    }
 }
 
 /// Why an indexer ended.
@@ -92,7 +59,7 @@ impl From<AllocError> for IndexerEnd {
 ///
 /// After a round in which there was nothing to tell it sleeps for a second, and puts a Ping if it has put nothing for 90 seconds. It
 /// ends once no ClusterConfig will come any more, at once if it sleeps.
-pub fn run_indexer<R: Wait + Clock, C: PeerConfigs, W: FolderCalls>(
+pub fn run_indexer<R: Wait + Clock, C: Source<ClusterConfig>, W: FolderCalls>(
     rt: &R,
     alloc: Global,
     config: ClusterConfig,
@@ -114,7 +81,7 @@ pub fn run_indexer<R: Wait + Clock, C: PeerConfigs, W: FolderCalls>(
 }
 
 // Waits for the peer's ClusterConfig, and puts pages until it ends.
-fn index_all<R: Wait + Clock, C: PeerConfigs, W: FolderCalls>(
+fn index_all<R: Wait + Clock, C: Source<ClusterConfig>, W: FolderCalls>(
     rt: &R,
     alloc: Global,
     configs: &mut C,
@@ -152,7 +119,7 @@ fn index_all<R: Wait + Clock, C: PeerConfigs, W: FolderCalls>(
 }
 
 // A round, and where there was nothing to tell a pause. Returns the moment of the last put.
-fn index_once<R: Wait + Clock, C: PeerConfigs, W: FolderCalls>(
+fn index_once<R: Wait + Clock, C: Source<ClusterConfig>, W: FolderCalls>(
     rt: &R,
     alloc: Global,
     configs: &mut C,

@@ -12,15 +12,17 @@ mod known;
 mod queue;
 mod rule;
 mod seats;
+mod source;
 mod taking;
 mod turn;
 mod writer;
 
 pub use config::{FolderTold, cluster_config, entry_of, start_of};
 pub use ends::{Bell, Ended, NotPut, Rings, Seat, Taker};
-pub use indexer::{IndexedFolder, IndexerEnd, PeerConfigs, run_indexer};
+pub use indexer::{IndexedFolder, IndexerEnd, run_indexer};
 pub use known::{Account, Known, SeatName, Sent};
 pub use queue::OutQueue;
 pub use rule::{InOrder, law};
+pub use source::Source;
 pub use turn::{Turn, TurnEnd, index_turn};
 pub use writer::{WriterFault, finish_writer, run_writer};

@@ -1,5 +1,5 @@
 -- How far a reader has come.
-use Rattle.std.proofs.Common.{◌≡◌, ◌++◌, ◌∷◌, [], ℕ, List, Option, map, refl, sym, ◌∙◌, ap, subst, inl, inr, append_assoc, append-nil}
+use Rattle.std.proofs.Common.{◌≡◌, ◌++◌, ◌⊎◌, ◌∷◌, [], ℕ, List, Option, map, refl, sym, ◌∙◌, ap, subst, inl, inr, append_assoc, append-nil}
 use Rattle.std.specs.Io.KnownBytes.{Consumes, Keeps}
 use Rattle.std.proofs.KnownBytes.{Consumes-kept, Consumes-trans}
 use Rattle.std.proofs.lemmas.List.{map-append}
@@ -19,7 +19,7 @@ use Rattle.peer_reader.specs.declared.stop.ReaderStop.{ReaderStop}
 use Rattle.peer_reader.specs.declared.stop.ReaderStop.TheVariants as stop
 use Rattle.peer_reader.specs.Effects.{Heard, after_event}
 use Rattle.peer_reader.specs.Hears.{AsksEach, applied, heard_of}
-use Rattle.peer_reader.specs.Reading.{HasHeardAll, HasShown, HasTimedOut, HearsPiece, AreOpenings, AreTimed, IsOfEvents, OnlyOpens, ReadsAll, ReadsTo, ReadsUpTo, StopsIn, StopsInPiece, after_events, fed_of, at_the_first_look, at_a_later_look}
+use Rattle.peer_reader.specs.Reading.{HasHeardAll, HasTimedOut, HearsPiece, AreOpenings, AreTimed, IsOfEvents, OnlyOpens, ReadsAll, ReadsTo, ReadsUpTo, ShowsLater, StopsIn, StopsInPiece, after_events, at_a_later_look, at_the_next_look, fed_of, last_fed}
 use Rattle.sync_record.specs.Devices.{Identity}
 
 folders-append : (peer : Identity) (fs : List Heard) (xs ys : List Event)
@@ -58,20 +58,53 @@ feed_events v opened o piece moment =
 feed_bytes : (v opened : View) (o : OnlyOpens v opened) (piece : List ℕ) (moment : ℕ) → fed_of (o.acts ++ Feeds piece moment ∷ []) ≡ piece
 feed_bytes v opened o piece moment = fed_of-append o.acts (Feeds piece moment ∷ []) ∙ ap (λ l. l ++ (piece ++ [])) o.bytes ∙ append-nil piece
 
-module _ (shows : ℕ → ℕ → Type 0) where
-  timed-append : (xs ys : List Act) → AreTimed shows xs → AreTimed shows ys → AreTimed shows (xs ++ ys)
-  timed-append [] ys a b = b
-  timed-append (Feeds piece moment ∷ xs) ys a b = (a.0, timed-append xs ys a.1 b)
-  timed-append (Opens id ∷ xs) ys a b = timed-append xs ys a b
-  timed-append (Says moment ∷ xs) ys a b = absurd a
-  timed-append (Ticks moment ∷ xs) ys a b = absurd a
+last_fed-append : (last : ℕ) (xs ys : List Act) → last_fed last (xs ++ ys) ≡ last_fed (last_fed last xs) ys
+last_fed-append last [] ys = refl
+last_fed-append last (Feeds piece moment ∷ xs) ys = last_fed-append moment xs ys
+last_fed-append last (Opens id ∷ xs) ys = last_fed-append last xs ys
+last_fed-append last (Says moment ∷ xs) ys = last_fed-append last xs ys
+last_fed-append last (Ticks moment ∷ xs) ys = last_fed-append last xs ys
 
-  timed-opening : (acts : List Act) → AreOpenings acts → AreTimed shows acts
-  timed-opening [] only = tt
-  timed-opening (Opens id ∷ xs) only = timed-opening xs only
-  timed-opening (Feeds piece moment ∷ xs) only = absurd only
-  timed-opening (Says moment ∷ xs) only = absurd only
-  timed-opening (Ticks moment ∷ xs) only = absurd only
+-- ids that are opened feed nothing
+last_fed-openings : (last : ℕ) (acts : List Act) → AreOpenings acts → last_fed last acts ≡ last
+last_fed-openings last [] only = refl
+last_fed-openings last (Opens id ∷ acts) only = last_fed-openings last acts only
+last_fed-openings last (Feeds piece moment ∷ acts) only = absurd only
+last_fed-openings last (Says moment ∷ acts) only = absurd only
+last_fed-openings last (Ticks moment ∷ acts) only = absurd only
+
+module _ (shows : ℕ → ℕ → Type 0) where
+  timed-append : (last : ℕ) (xs ys : List Act) → AreTimed shows last xs → AreTimed shows (last_fed last xs) ys → AreTimed shows last (xs ++ ys)
+  timed-append last [] ys a b = b
+  timed-append last (Feeds piece moment ∷ xs) ys a b = (a.0, timed-append moment xs ys a.1 b)
+  timed-append last (Opens id ∷ xs) ys a b = timed-append last xs ys a b
+  timed-append last (Says moment ∷ xs) ys a b = absurd a
+  timed-append last (Ticks moment ∷ xs) ys a b = absurd a
+
+  timed-openings : (last : ℕ) (acts : List Act) → AreOpenings acts → AreTimed shows last acts
+  timed-openings last [] only = tt
+  timed-openings last (Opens id ∷ acts) only = timed-openings last acts only
+  timed-openings last (Feeds piece moment ∷ acts) only = absurd only
+  timed-openings last (Says moment ∷ acts) only = absurd only
+  timed-openings last (Ticks moment ∷ acts) only = absurd only
+
+  -- ids are opened and a piece is fed after these acts
+  timed-feed : (last : ℕ) (xs opens : List Act) (piece : List ℕ) (moment : ℕ) → AreTimed shows last xs → AreOpenings opens → ShowsLater shows (last_fed last xs) moment
+      → AreTimed shows last (xs ++ (opens ++ Feeds piece moment ∷ []))
+  timed-feed last xs opens piece moment timed only later =
+      let mid = last_fed last xs in
+      timed-append last xs (opens ++ Feeds piece moment ∷ []) timed
+      (timed-append mid opens (Feeds piece moment ∷ []) (timed-openings mid opens only)
+      (subst (λ l. ShowsLater shows l moment) (sym (last_fed-openings mid opens only)) later, tt))
+
+  last_fed-feed : (last : ℕ) (xs opens : List Act) (piece : List ℕ) (moment : ℕ) → last_fed last (xs ++ (opens ++ Feeds piece moment ∷ [])) ≡ moment
+  last_fed-feed last xs opens piece moment =
+      last_fed-append last xs (opens ++ Feeds piece moment ∷ []) ∙ last_fed-append (last_fed last xs) opens (Feeds piece moment ∷ [])
+
+  -- what a look shows after this moment or after a later look
+  shown_later : (last mid now : ℕ) → (mid ≡ last) ⊎ ShowsLater shows last mid → shows mid now → ShowsLater shows last now
+  shown_later last mid now (inl e) shown = at_the_next_look now (subst (λ m. shows m now) e shown)
+  shown_later last mid now (inr l) shown = at_a_later_look mid now l shown
 
 module _ {W F : Type 0} (view : W → CallerView) (folder : W → F) where
   heard_together : GoTogether → (peer : Identity) (xs ys : List Event) (olds mids news : List (PeerFolder W)) (counts before later : ReaderCounts)
@@ -112,9 +145,9 @@ module _ {W F : Type 0} (view : W → CallerView) (folder : W → F) where
     pub taken : Consumes given left (fed_of acts)
     pub session_is : session ≡ (run (begun moment) acts).session
     pub heard : HasHeardAll view folder peer (run (begun moment) acts).events olds no_counts news counts
-    pub begun_then : HasShown shows moment
-    pub timed : AreTimed shows acts
-    pub now_then : HasShown shows now
+    pub begun_then : ShowsLater shows 0 moment
+    pub timed : AreTimed shows moment acts
+    pub now_then : (now ≡ last_fed moment acts) ⊎ ShowsLater shows (last_fed moment acts) now
 
   pub at_first : (shows : ℕ → ℕ → Type 0) (peer : Identity) (given : Option (List ℕ)) (moment : ℕ) (session : View) (olds : List (PeerFolder W)) (counts : ReaderCounts)
       → Consumes given given [] → session ≡ begun moment → counts ≡ no_counts → shows 0 moment → IsSoFar shows peer given given session olds olds counts moment
@@ -126,9 +159,9 @@ module _ {W F : Type 0} (view : W → CallerView) (folder : W → F) where
         taken = none;
         session_is = e;
         heard = subst (λ (x : ReaderCounts). HasHeardAll view folder peer [] olds no_counts olds x) (sym c) (heard_no_event view folder peer olds no_counts);
-        begun_then = at_the_first_look moment shown;
+        begun_then = at_the_next_look moment shown;
         timed = tt;
-        now_then = at_the_first_look moment shown;
+        now_then = inl refl;
       }
 
   -- nothing was read
@@ -170,7 +203,7 @@ module _ {W F : Type 0} (view : W → CallerView) (folder : W → F) where
         heard = a.heard;
         begun_then = a.begun_then;
         timed = a.timed;
-        now_then = at_a_later_look last now a.now_then shown;
+        now_then = inr (shown_later shows (last_fed a.moment a.acts) last now a.now_then shown);
       }
 
   pub at_end : (shows : ℕ → ℕ → Type 0) (peer : Identity) (given left after : Option (List ℕ)) (session : View) (olds news : List (PeerFolder W)) (counts : ReaderCounts) (now : ℕ)
@@ -178,10 +211,10 @@ module _ {W F : Type 0} (view : W → CallerView) (folder : W → F) where
   at_end shows peer given left after session olds news counts now a none =
       record { moment = a.moment; acts = a.acts; taken = Consumes-trans given left after (fed_of a.acts) [] a.taken none; heard = a.heard }
 
-  pub one_piece : (shows : ℕ → ℕ → Type 0) → GoTogether → (peer : Identity) (given left next : Option (List ℕ)) (session after : View) (olds mids news : List (PeerFolder W)) (counts later : ReaderCounts) (piece : List ℕ) (moment : ℕ)
-      → IsSoFar shows peer given left session olds mids counts moment → Consumes left next piece → HearsPiece view folder peer session mids counts piece moment after news later
+  pub one_piece : (shows : ℕ → ℕ → Type 0) → GoTogether → (peer : Identity) (given left next : Option (List ℕ)) (session after : View) (olds mids news : List (PeerFolder W)) (counts later : ReaderCounts) (piece : List ℕ) (last moment : ℕ)
+      → IsSoFar shows peer given left session olds mids counts last → shows last moment → Consumes left next piece → HearsPiece view folder peer session mids counts piece moment after news later
       → IsSoFar shows peer given next after olds news later moment
-  one_piece shows together peer given left next session after olds mids news counts later piece moment a taken h =
+  one_piece shows together peer given left next session after olds mids news counts later piece last moment a shown taken h =
       let more = h.opens.acts ++ Feeds piece moment ∷ [] in
       let start = begun a.moment in
       let events : (run start (a.acts ++ more)).events ≡ (run start a.acts).events ++ (fed h.opened piece moment).events
@@ -196,8 +229,9 @@ module _ {W F : Type 0} (view : W → CallerView) (folder : W → F) where
         heard = subst (λ l. HasHeardAll view folder peer l olds no_counts news later) (sym events)
             (heard_together together peer (run start a.acts).events (fed h.opened piece moment).events olds mids news no_counts counts later a.heard h.heard);
         begun_then = a.begun_then;
-        timed = timed-append shows a.acts more a.timed (timed-append shows h.opens.acts (Feeds piece moment ∷ []) (timed-opening shows h.opens.acts h.opens.only) (a.now_then, tt));
-        now_then = a.now_then;
+        timed = timed-feed shows a.moment a.acts h.opens.acts piece moment a.timed h.opens.only
+            (shown_later shows (last_fed a.moment a.acts) last moment a.now_then shown);
+        now_then = inl (sym (last_fed-feed shows a.moment a.acts h.opens.acts piece moment));
       }
 
   -- ---- how it ends

@@ -124,28 +124,36 @@ abbrev pub HasFailed : {I : Type 0} → (I → ErrorKind → I → Type 0) → R
 HasFailed {I} fails (stop.Read kind) left = (before : I) × fails before kind left
 HasFailed fails _ left = ⊤
 
--- a clock showed this, at the first look or at one after others
-pub data HasShown (shows : ℕ → ℕ → Type 0) : ℕ → Type 0 where
-  at_the_first_look : (now : ℕ) → shows 0 now → HasShown shows now
-  at_a_later_look : (last now : ℕ) → HasShown shows last → shows last now → HasShown shows now
+-- what a clock shows at a look after the one that showed the first of these: the next, or one after it
+pub data ShowsLater (shows : ℕ → ℕ → Type 0) (last : ℕ) : ℕ → Type 0 where
+  at_the_next_look : (now : ℕ) → shows last now → ShowsLater shows last now
+  at_a_later_look : (mid now : ℕ) → ShowsLater shows last mid → shows mid now → ShowsLater shows last now
 
--- pieces are fed at moments that the clock showed, and ids are opened
-abbrev pub AreTimed : (ℕ → ℕ → Type 0) → List Act → Type 0
-AreTimed shows [] = ⊤
-AreTimed shows (Feeds piece moment ∷ acts) = HasShown shows moment × AreTimed shows acts
-AreTimed shows (Opens id ∷ acts) = AreTimed shows acts
-AreTimed shows (_ ∷ acts) = ⊥
+-- pieces are fed, each at the moment of a look after that of the one before, and ids are opened
+abbrev pub AreTimed : (ℕ → ℕ → Type 0) → ℕ → List Act → Type 0
+AreTimed shows last [] = ⊤
+AreTimed shows last (Feeds piece moment ∷ acts) = ShowsLater shows last moment × AreTimed shows moment acts
+AreTimed shows last (Opens id ∷ acts) = AreTimed shows last acts
+AreTimed shows last (_ ∷ acts) = ⊥
 
--- A session that was begun, and was fed just the bytes that were taken, at moments that the clock showed, says at one more of them
--- that no whole message came for too long.
+-- the moment of the last piece, or this one where there is none
+abbrev pub last_fed : ℕ → List Act → ℕ
+last_fed last [] = last
+last_fed last (Feeds piece moment ∷ acts) = last_fed moment acts
+last_fed last (Opens id ∷ acts) = last_fed last acts
+last_fed last (Says moment ∷ acts) = last_fed last acts
+last_fed last (Ticks moment ∷ acts) = last_fed last acts
+
+-- A session that was begun at the moment of a look, and was fed just the bytes that were taken, each piece at that of a later look than
+-- the one before, says at the last of these moments, or at that of a look after it, that no whole message came for too long.
 pub record HasTimedOut (shows : ℕ → ℕ → Type 0) (given left : Option (List ℕ)) : Type 0 where
   pub moment : ℕ
   pub acts : List Act
   pub now : ℕ
   pub taken : Consumes given left (fed_of acts)
-  pub begun_then : HasShown shows moment
-  pub timed : AreTimed shows acts
-  pub now_then : HasShown shows now
+  pub begun_then : ShowsLater shows 0 moment
+  pub timed : AreTimed shows moment acts
+  pub now_then : (now ≡ last_fed moment acts) ⊎ ShowsLater shows (last_fed moment acts) now
   pub late : tick_at (run (begun moment) acts).session.conversation.received (run (begun moment) acts).session.conversation.said now ≡ TimedOut
 
 abbrev pub TimesOut : (ℕ → ℕ → Type 0) → Option (List ℕ) → Option (List ℕ) → ReaderStop → Type 0

@@ -12,8 +12,11 @@ use Rattle.folder_calls.specs.declared.entry.Entry.{Entry}
 use Rattle.file_store.specs.Asked.{Call, Value}
 use Rattle.file_store.specs.Trees.{Tree}
 use Rattle.file_store.specs.declared.refusal.StoreRefusal.{StoreRefusal}
+use Rattle.std.proofs.lemmas.List.{map-append}
+use Rattle.peer_conn.specs.Sources.{ComeEach}
+use Rattle.peer_conn.proofs.Coming.{come-more}
 use Rattle.peer_server.specs.Answered.{Answers, OneGoesOn, Responds, RunsOut, Stays}
-use Rattle.peer_server.specs.Served.{AnswersEach, ComeEach, HasServed, Leaves, PutsAnswer, ServesPeer, message_of}
+use Rattle.peer_server.specs.Served.{AnswersEach, HasServed, Leaves, PutsAnswer, ServesPeer, asked_of, message_of}
 use Rattle.peer_server.specs.declared.request.PeerRequest.{PeerRequest}
 use Rattle.peer_server.specs.declared.request.ServedFolder.{ServedFolder}
 use Rattle.peer_server.specs.declared.server.ServerEnd.{ServerEnd}
@@ -150,19 +153,10 @@ module _ {S W F : Type 0} (keeps : Bool) (tree : S → Tree) (folder : W → F) 
       stays-served from to old before after end new h =
           stays-on old h.point new (stays-each old h.has_served.served h.point h.has_served.answered) (stays-left h.source to end h.point new h.leaves)
 
-      come-more : (from : Q) (served : List (PeerRequest × Response)) (point : Q) (x : PeerRequest × Response) (to : Q)
-          → ComeEach keeps tree folder view faults gives comes from served point → comes point (Some x.0) to → ComeEach keeps tree folder view faults gives comes from (served ++ x ∷ []) to
-      come-more from [] point x to h c = (to, subst (λ q. comes q (Some x.0) to) h c, refl)
-      come-more from (y ∷ ys) point x to h c = (h.0, h.1, come-more h.0 ys point x to h.2 c)
-
     each-more : (old : List (ServedFolder S W)) (served : List (PeerRequest × Response)) (point : List (ServedFolder S W)) (asked : PeerRequest) (response : Response) (new : List (ServedFolder S W))
         → AnswersEach keeps tree folder view faults gives old served point → Answer point asked response new → AnswersEach keeps tree folder view faults gives old (served ++ (asked, response) ∷ []) new
     each-more old [] point asked response new h a = (new, subst (λ l. Answer l asked response new) h a, refl)
     each-more old (x ∷ xs) point asked response new h a = (h.0, h.1, each-more h.0 xs point asked response new h.2 a)
-
-    map-more : (served : List (PeerRequest × Response)) (x : PeerRequest × Response) → map message_of (served ++ x ∷ []) ≡ map message_of served ++ message_of x ∷ []
-    map-more [] x = refl
-    map-more (y ∷ ys) x = ap (λ l. message_of y ∷ l) (map-more ys x)
 
     module _ {Q : Type 0} (comes : Q → Option PeerRequest → Q → Type 0) where
       pub none-served : (from : Q) (old : List (ServedFolder S W)) (before : List Message) → HasServed keeps tree folder view faults gives comes from from old before before old
@@ -174,8 +168,8 @@ module _ {S W F : Type 0} (keeps : Bool) (tree : S → Tree) (folder : W → F) 
           → HasServed keeps tree folder view faults gives comes from to old before after new
       one-more from source to old before then after point new h n = record {
         served = h.served ++ (n.0, n.2.response) ∷ [];
-        came = come-more comes from h.served source (n.0, n.2.response) to h.came n.1;
+        came = subst (λ l. ComeEach comes from l to) (sym (map-append asked_of h.served ((n.0, n.2.response) ∷ []))) (come-more comes from (map asked_of h.served) source n.0 to h.came n.1);
         put = n.2.put ∙ ap (λ l. l ++ message.Response n.2.response ∷ []) h.put ∙ append_assoc before (map message_of h.served) (message.Response n.2.response ∷ [])
-            ∙ ap (λ l. before ++ l) (sym (map-more h.served (n.0, n.2.response)));
+            ∙ ap (λ l. before ++ l) (sym (map-append message_of h.served ((n.0, n.2.response) ∷ [])));
         answered = each-more old h.served point n.0 n.2.response new h.answered n.2.answers;
       }

@@ -11,11 +11,16 @@ use Rattle.file_store.specs.Trees.{Tree, bytes_of}
 use Rattle.file_store.specs.declared.refusal.StoreRefusal.{StoreRefusal}
 use Rattle.block_server.specs.PartsGiven.{ServesGiven}
 use Rattle.block_server.specs.Served.{Serves}
+use Rattle.peer_conn.specs.Sources.{ComeEach}
 use Rattle.peer_server.specs.Answered.{Answers, OneGoesOn, RunsOut}
 use Rattle.peer_server.specs.declared.request.PeerRequest.{PeerRequest}
 use Rattle.peer_server.specs.declared.request.ServedFolder.{ServedFolder}
 use Rattle.peer_server.specs.declared.server.ServerEnd.{ServerEnd}
 use Rattle.peer_server.specs.declared.server.ServerEnd.TheVariants.{Closed, Gone, OutOfMemory}
+
+-- the request that was answered
+abbrev pub asked_of : PeerRequest × Response → PeerRequest
+asked_of x = x.0
 
 -- the response as it is put
 abbrev pub message_of : PeerRequest × Response → Message
@@ -28,15 +33,10 @@ module _ {S W F : Type 0} (keeps : Bool) (tree : S → Tree) (folder : W → F) 
   AnswersEach old (x ∷ xs) new = (middle : List (ServedFolder S W)) × Answers keeps tree folder view faults gives old x.0 x.1 middle × AnswersEach middle xs new
 
   module _ {Q : Type 0} (comes : Q → Option PeerRequest → Q → Type 0) where
-    -- the requests came one after the other
-    abbrev pub ComeEach : Q → List (PeerRequest × Response) → Q → Type 0
-    ComeEach from [] to = to ≡ from
-    ComeEach from (x ∷ xs) to = (next : Q) × comes from (Some x.0) next × ComeEach next xs to
-
     -- each of those that came was answered, in this order, and just these answers were put
     pub record HasServed (from to : Q) (old : List (ServedFolder S W)) (before after : List Message) (new : List (ServedFolder S W)) : Type 0 where
       pub served : List (PeerRequest × Response)
-      pub came : ComeEach from served to
+      pub came : ComeEach comes from (map asked_of served) to
       pub put : after ≡ before ++ map message_of served
       pub answered : AnswersEach old served new
 

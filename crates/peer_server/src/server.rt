@@ -7,11 +7,11 @@ ghost use Rattle.peer_server.specs.Answered.{Stays};
 ghost use Rattle.peer_server.specs.declared.request.PeerRequest.{PeerRequest};
 
 use crate::answering::respond;
-use crate::request::{PeerRequest, PeerRequests, ServedFolder};
+use crate::request::{PeerRequest, ServedFolder};
 use bep_frames::Message;
 use file_store::{FileStore, Gate};
 use folder_calls::FolderCalls;
-use peer_conn::{Ended, Seat};
+use peer_conn::{Ended, Seat, Source};
 use std::alloc::Global;
 use std::sync::Wait;
 
@@ -30,7 +30,7 @@ pub enum ServerEnd {
 /// place, or with code 2 and no bytes where no folder is there, and puts each Response by the seat. Sleeps while there is no Request,
 /// and while the queue is full.
 ///
-/// The caller makes the channel of Requests, or another source of them, and with room for some number of them: so a peer that asks faster than it reads is slowed
+/// The caller makes the channel of Requests, with room for some number of them: so a peer that asks faster than it reads is slowed
 /// down, since who receives its Requests then waits for room in the channel. Beside the Responses in the queue and the Requests in the
 /// channel one of each is held, a Response of up to 16 MiB.
 ///
@@ -40,7 +40,7 @@ pub enum ServerEnd {
 ///
 /// Each Request that came is answered once, in the order in which they came, but for the last one where it ends otherwise. O(n) for
 /// each Request with n bytes of its name and its part.
-pub fn run_server<R: Wait, Q: PeerRequests + Drop, S: FileStore, W: FolderCalls, G: Gate>(
+pub fn run_server<R: Wait, Q: Source<PeerRequest> + Drop, S: FileStore, W: FolderCalls, G: Gate>(
     rt: &R,
     alloc: Global,
     requests: Q,
@@ -60,7 +60,7 @@ pub fn run_server<R: Wait, Q: PeerRequests + Drop, S: FileStore, W: FolderCalls,
 }
 
 // Answers one Request after the other.
-fn serve_all<R: Wait, Q: PeerRequests, S: FileStore, W: FolderCalls, G: Gate>(
+fn serve_all<R: Wait, Q: Source<PeerRequest>, S: FileStore, W: FolderCalls, G: Gate>(
     rt: &R,
     alloc: Global,
     requests: &mut Q,
@@ -81,7 +81,7 @@ fn serve_all<R: Wait, Q: PeerRequests, S: FileStore, W: FolderCalls, G: Gate>(
 }
 
 // Waits for the next Request, and puts its Response.
-fn serve_next<R: Wait, Q: PeerRequests, S: FileStore, W: FolderCalls, G: Gate>(
+fn serve_next<R: Wait, Q: Source<PeerRequest>, S: FileStore, W: FolderCalls, G: Gate>(
     rt: &R,
     alloc: Global,
     requests: &mut Q,

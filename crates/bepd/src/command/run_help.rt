@@ -1,4 +1,6 @@
 //! The help of `bepd run`.
+use node_config::{FolderNumber, NumberRange, NumberRule};
+use std::alloc::{AllocError, Global};
 
 pub(super) const RUN_ABOUT: &str = "Keep folders alike with peers over TCP";
 
@@ -8,7 +10,26 @@ pub(super) const RUN_CHECK: &str = "Say what the configuration asks for, and end
 
 pub(super) const RUN_QUIET: &str = "Tell nothing on standard error of what happens";
 
-pub(super) const RUN_LONG_ABOUT: &str = "\
+/// What the help says first, with the numbers of a folder by their table. Fails only if out of memory.
+pub(crate) fn run_about(alloc: Global) -> Result<String, AllocError> {
+    let mut text = String::from_str(alloc, CONFIGURATION)?;
+    for number in FolderNumber::ALL {
+        let NumberRule {
+            key,
+            range,
+            sentence,
+        } = number.rule();
+        let NumberRange { low, high, default } = range;
+        let lines = format!(in alloc;
+            "    {key} = {default}\n        {sentence} {low} to {high}.\n"
+        )?;
+        text.push_str(lines.as_str())?;
+    }
+    text.push_str(REST)?;
+    Ok(text)
+}
+
+const CONFIGURATION: &str = "\
 Keep folders alike with peers over TCP.
 
 Each folder of the configuration is scanned when it begins, each hour (rescan; 0 is
@@ -18,8 +39,7 @@ a tunnel. What a folder's files were found to be is kept in the state file. A fo
 has a marker, .stfolder: while it is missing, as where a disk is not mounted, nothing
 is recorded as deleted.
 
-Configuration, by example; history_limit, max_conflicts and rescan, which has seconds,
-may be left out:
+Configuration, by example:
 
     device = \"0000000000000000000000000000000000000000000000000000000000000001\"
     name = \"laptop\"
@@ -28,9 +48,6 @@ may be left out:
     [[folder]]
     id = \"docs\"
     path = \"/home/me/docs\"
-    history_limit = 1000000
-    max_conflicts = -1
-    rescan = 3600
 
     [[peer]]
     device = \"0000000000000002000000000000000000000000000000000000000000000000\"
@@ -41,6 +58,11 @@ A device's identity has 64 hexadecimal digits, of which the first 16 must differ
 between devices. In place of dial, listen has the address of this device at which
 the peer makes the connection; localhost:22000 is an address too.
 
+A folder may have more; where it has not, it is as if it had
+
+";
+
+const REST: &str = "
 Input: on standard input a command a line, with one space between words. F is the
 id of a folder.
 

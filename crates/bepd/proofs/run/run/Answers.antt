@@ -75,7 +75,7 @@ pub returns-in-Refused-clause-node : goal.returns-in-Refused-clause-node
 returns-in-Refused-clause-node g c = λ program path line plain. absurd (asked_run c.args.words.now _ program path line plain c.in-Refused.ensures)
 
 pub returns-in-Run-clause-node : goal.returns-in-Run-clause-node
-returns-in-Run-clause-node g c = λ program path line plain. (c.run_and_tell-ran.result, g.E.Write.contents c.run_and_tell-ran.new.errors, c.end_run.ensures.ends)
+returns-in-Run-clause-node g c = λ program path line plain. (c.run_config.result, g.E.Write.contents c.run_config.new.errors, c.end_run.ensures.ends)
 
 pub returns-in-OutOfMemory-clause-node : goal.returns-in-OutOfMemory-clause-node
 returns-in-OutOfMemory-clause-node g c = λ program path line plain.

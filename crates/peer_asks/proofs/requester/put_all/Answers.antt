@@ -11,6 +11,6 @@ loop-preserved g c =
       next = tt;
       finite = tt;
       same = (now.0 ∙ same.0, now.1 ∙ same.1);
-      puts = one-more g.Q.RequestSource.gives c.args.requests.now c.loop.requests c.put_next.new.requests (put_of c.args.seat.now) (put_of c.loop.seat)
+      puts = one-more g.Q.Source.gives c.args.requests.now c.loop.requests c.put_next.new.requests (put_of c.args.seat.now) (put_of c.loop.seat)
           (put_of c.put_next.new.seat) c.loop.invariant.puts c.in_default.ensures.put;
     }

@@ -7,5 +7,5 @@ invariant-loop g l = record {
   next : (goal.iterator-loop g).can_next l.iterator';
   finite : (goal.iterator-loop g).is_finite l.iterator';
   same : IsSameSeat l.fn.seat l.seat;
-  puts : PutsEach g.Q.RequestSource.gives l.fn.requests l.requests (put_of l.fn.seat) (put_of l.seat);
+  puts : PutsEach g.Q.Source.gives l.fn.requests l.requests (put_of l.fn.seat) (put_of l.seat);
 }

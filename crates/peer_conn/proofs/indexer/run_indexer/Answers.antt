@@ -22,7 +22,7 @@ returns-clause-stays g c =
 pub returns-clause-tells : goal.returns-clause-tells
 returns-clause-tells g c =
     let view = g.W.FolderCalls.view in
-    let gives = g.C.PeerConfigs.gives in
+    let gives = g.C.Source.gives in
     let config = c.args.config in
     let from = c.args.configs.now in
     let fs = c.args.folders.now in

@@ -56,8 +56,8 @@ returns-then-eq-clause-ended g c =
           same_so_far g.W.FolderCalls.view g.W.FolderCalls.folder (g.R.ReaderClock.shows c.args.rt.now) c.args.peer (g.I.Read.remaining c.args.reader.now) (g.I.Read.remaining c.read_some.new.self) w.hear_piece.new.session c.match-read_some.session c.args.folders.now
           w.hear_piece.new.folders c.match-read_some.folders w.hear_piece.new.counts c.match-read_some.counts w.moment_after-moment-in-Ok.result c.match-read_some.moment w.session-is w.folders-is w.counts-is w.moment-is
           (one_piece g.W.FolderCalls.view g.W.FolderCalls.folder (g.R.ReaderClock.shows c.args.rt.now) c.changes_are_asked_in_order.ensures.together c.args.peer (g.I.Read.remaining c.args.reader.now) (g.I.Read.remaining c.loop.reader) (g.I.Read.remaining c.read_some.new.self)
-          c.loop.session w.hear_piece.new.session c.args.folders.now c.loop.folders w.hear_piece.new.folders c.loop.counts w.hear_piece.new.counts _ w.moment_after-moment-in-Ok.result
-          (looked g.W.FolderCalls.view g.W.FolderCalls.folder (g.R.ReaderClock.shows c.args.rt.now) c.args.peer (g.I.Read.remaining c.args.reader.now) (g.I.Read.remaining c.loop.reader) c.loop.session c.args.folders.now c.loop.folders c.loop.counts c.loop.moment w.moment_after-moment-in-Ok.result c.loop.invariant w.moment_after-moment-in-Ok.ensures)
+          c.loop.session w.hear_piece.new.session c.args.folders.now c.loop.folders w.hear_piece.new.folders c.loop.counts w.hear_piece.new.counts _ c.loop.moment w.moment_after-moment-in-Ok.result
+          c.loop.invariant w.moment_after-moment-in-Ok.ensures
           w.in-Ok.ensures.bytes.0 w.in_ok-hear_piece-in-Ok.ensures.heard)
       | in-Err+else-not-is_for_now w ↦
           same_so_far g.W.FolderCalls.view g.W.FolderCalls.folder (g.R.ReaderClock.shows c.args.rt.now) c.args.peer (g.I.Read.remaining c.args.reader.now) (g.I.Read.remaining c.read_some.new.self) c.loop.session c.match-read_some.session c.args.folders.now
@@ -75,8 +75,8 @@ returns-then-eq-clause-timed g c =
           same_so_far g.W.FolderCalls.view g.W.FolderCalls.folder (g.R.ReaderClock.shows c.args.rt.now) c.args.peer (g.I.Read.remaining c.args.reader.now) (g.I.Read.remaining c.read_some.new.self) w.hear_piece.new.session c.match-read_some.session c.args.folders.now
           w.hear_piece.new.folders c.match-read_some.folders w.hear_piece.new.counts c.match-read_some.counts w.moment_after-moment-in-Ok.result c.match-read_some.moment w.session-is w.folders-is w.counts-is w.moment-is
           (one_piece g.W.FolderCalls.view g.W.FolderCalls.folder (g.R.ReaderClock.shows c.args.rt.now) c.changes_are_asked_in_order.ensures.together c.args.peer (g.I.Read.remaining c.args.reader.now) (g.I.Read.remaining c.loop.reader) (g.I.Read.remaining c.read_some.new.self)
-          c.loop.session w.hear_piece.new.session c.args.folders.now c.loop.folders w.hear_piece.new.folders c.loop.counts w.hear_piece.new.counts _ w.moment_after-moment-in-Ok.result
-          (looked g.W.FolderCalls.view g.W.FolderCalls.folder (g.R.ReaderClock.shows c.args.rt.now) c.args.peer (g.I.Read.remaining c.args.reader.now) (g.I.Read.remaining c.loop.reader) c.loop.session c.args.folders.now c.loop.folders c.loop.counts c.loop.moment w.moment_after-moment-in-Ok.result c.loop.invariant w.moment_after-moment-in-Ok.ensures)
+          c.loop.session w.hear_piece.new.session c.args.folders.now c.loop.folders w.hear_piece.new.folders c.loop.counts w.hear_piece.new.counts _ c.loop.moment w.moment_after-moment-in-Ok.result
+          c.loop.invariant w.moment_after-moment-in-Ok.ensures
           w.in-Ok.ensures.bytes.0 w.in_ok-hear_piece-in-Ok.ensures.heard)
       | in-Err+else-not-is_for_now w ↦
           same_so_far g.W.FolderCalls.view g.W.FolderCalls.folder (g.R.ReaderClock.shows c.args.rt.now) c.args.peer (g.I.Read.remaining c.args.reader.now) (g.I.Read.remaining c.read_some.new.self) c.loop.session c.match-read_some.session c.args.folders.now
@@ -93,8 +93,8 @@ loop-preserved g c = elim c.match-read_some.branch [
       same_so_far g.W.FolderCalls.view g.W.FolderCalls.folder (g.R.ReaderClock.shows c.args.rt.now) c.args.peer (g.I.Read.remaining c.args.reader.now) (g.I.Read.remaining c.read_some.new.self) w.hear_piece.new.session c.match-read_some.session c.args.folders.now
       w.hear_piece.new.folders c.match-read_some.folders w.hear_piece.new.counts c.match-read_some.counts w.moment_after-moment-in-Ok.result c.match-read_some.moment w.session-is w.folders-is w.counts-is w.moment-is
       (one_piece g.W.FolderCalls.view g.W.FolderCalls.folder (g.R.ReaderClock.shows c.args.rt.now) c.changes_are_asked_in_order.ensures.together c.args.peer (g.I.Read.remaining c.args.reader.now) (g.I.Read.remaining c.loop.reader) (g.I.Read.remaining c.read_some.new.self)
-      c.loop.session w.hear_piece.new.session c.args.folders.now c.loop.folders w.hear_piece.new.folders c.loop.counts w.hear_piece.new.counts _ w.moment_after-moment-in-Ok.result
-      (looked g.W.FolderCalls.view g.W.FolderCalls.folder (g.R.ReaderClock.shows c.args.rt.now) c.args.peer (g.I.Read.remaining c.args.reader.now) (g.I.Read.remaining c.loop.reader) c.loop.session c.args.folders.now c.loop.folders c.loop.counts c.loop.moment w.moment_after-moment-in-Ok.result c.loop.invariant w.moment_after-moment-in-Ok.ensures)
+      c.loop.session w.hear_piece.new.session c.args.folders.now c.loop.folders w.hear_piece.new.folders c.loop.counts w.hear_piece.new.counts _ c.loop.moment w.moment_after-moment-in-Ok.result
+      c.loop.invariant w.moment_after-moment-in-Ok.ensures
       w.in-Ok.ensures.bytes.0 w.in_ok-hear_piece-in-Ok.ensures.heard)
   | in-Err+else-not-is_for_now w ↦
       same_so_far g.W.FolderCalls.view g.W.FolderCalls.folder (g.R.ReaderClock.shows c.args.rt.now) c.args.peer (g.I.Read.remaining c.args.reader.now) (g.I.Read.remaining c.read_some.new.self) c.loop.session c.match-read_some.session c.args.folders.now

@@ -1,0 +1,103 @@
+//! What happens in a node.
+use file_dir::SkipReason;
+use file_store::StoreRefusal;
+use folder_calls::ScanRefusal;
+use peer_reader::ReaderStop;
+use std::fmt::{self, Display, Formatter};
+use sync_names::SafeName;
+use sync_pull::{PullFailure, PullRefusal};
+use sync_record::DeviceId;
+use sync_scan::{ScanSum, Scanned};
+
+/// What happened. Folders are named by their ids.
+#[derive(Clone, Copy)]
+pub enum Event<'a> {
+    /// A connection with a peer is made.
+    Connected(DeviceId),
+    /// It ended.
+    Gone(DeviceId, &'a ReaderStop),
+    /// An index of a folder came from a peer, whose records have sequences up to this one.
+    Received(&'a str, DeviceId, u64),
+    /// A scan of a folder recorded changes, or left names out.
+    Scanned(&'a str, ScanSum),
+    /// A scan of a folder left out this name, which was not so before.
+    Skipped(&'a str, &'a str, SkipWhy),
+    /// It left out so many more.
+    SkippedMore(&'a str, u64),
+    /// A folder is away: another run has it.
+    InUse(&'a str),
+    /// A scan of a folder is at this name of so many.
+    Scanning(&'a str, u64, u64),
+    /// A folder isn't there, or has no marker.
+    Away(&'a str),
+    /// It is there again.
+    Back(&'a str),
+    /// What is at the name of a folder is now its best.
+    Pulled(&'a str, &'a SafeName),
+    /// What was at a name of a folder is kept under this one.
+    Kept(&'a str, &'a SafeName),
+    /// So many names of a folder were pulled, of so many.
+    Pulling(&'a str, u64, u64),
+    /// A name of a folder could not be pulled.
+    Failed(&'a str, &'a SafeName, PullFailure),
+    /// The same, for the folder refused it, or memory is out.
+    Refused(&'a str, &'a SafeName, PullRefusal),
+    /// The same, for its best is neither a file nor a directory.
+    Unsupported(&'a str, &'a SafeName),
+    /// The history of a folder is full, and the node begins anew.
+    HistoryFull(&'a str),
+    /// The state could not be written while the node runs.
+    NotKept,
+    /// A file of a folder could not be written, since the disk is full.
+    NoRoom(&'a str),
+}
+
+impl Event<'_> {
+    // How far something is, where it only says that.
+    pub(crate) fn far(&self) -> Option<u64> {
+        match self {
+            Event::Scanning(_, at, _) | Event::Pulling(_, at, _) => Some(*at),
+            _ => None,
+        }
+    }
+}
+
+/// Why a scan leaves out a name, or why other devices can't have it. Displayed, it is how a line on the name ends.
+#[derive(Clone, Copy, Debug, PartialEq, Eq)]
+pub enum SkipWhy {
+    /// It is not listed, or is too long.
+    Listing(SkipReason),
+    /// The size of its file changed while it was read.
+    Changing,
+    /// It has too many bytes, or is neither a file nor a directory.
+    Unfit,
+    /// The folder refuses it.
+    Refused(ScanRefusal),
+    /// It can't be read.
+    Fault(StoreRefusal),
+}
+
+impl SkipWhy {
+    /// Why a scan of a name that came to this left it out, if it did. What meets a pull settles by itself, and what stops the scan is told of that.
+    pub fn of(scanned: &Result<Scanned, StoreRefusal>) -> Option<SkipWhy> {
+        match scanned {
+            Ok(Scanned::Answered(Ok(_))) => None,
+            Ok(Scanned::Answered(Err(refusal))) => Some(SkipWhy::Refused(*refusal)),
+            Ok(Scanned::Skipped) => Some(SkipWhy::Unfit),
+            Ok(Scanned::Changing) => Some(SkipWhy::Changing),
+            Err(refusal) => Some(SkipWhy::Fault(*refusal)),
+        }
+    }
+}
+
+impl Display for SkipWhy {
+    fn fmt<W: fmt::Write>(&self, f: &mut Formatter<W>) -> fmt::Result {
+        match self {
+            SkipWhy::Listing(reason) => write!(f, "{reason}"),
+            SkipWhy::Changing => f.write_str("it changed while it was read"),
+            SkipWhy::Unfit => f.write_str("it is too large, or neither a file nor a directory"),
+            SkipWhy::Refused(refusal) => write!(f, "{} {refusal}", refusal.number()),
+            SkipWhy::Fault(refusal) => write!(f, "{} {refusal}", refusal.number()),
+        }
+    }
+}

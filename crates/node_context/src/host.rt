@@ -1,0 +1,11 @@
+//! What a node needs of the system.
+use std::net::{Net, TcpListener, TcpStream};
+use std::sync::Wait;
+use std::thread::Threads;
+use std::time::Clock;
+
+/// What a node needs of the system.
+pub trait Host: Clock + Net<Listener = TcpListener, Stream = TcpStream> + Threads + Wait + Sync {}
+
+impl<R: Clock + Net<Listener = TcpListener, Stream = TcpStream> + Threads + Wait + Sync> Host
+    for R {}

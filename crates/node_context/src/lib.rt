@@ -1,0 +1,19 @@
+//! What all threads of a node share: the clock, what is told, the connections that are up, and why a node stops or did not run.
+#![tactic(auto)]
+
+mod clock;
+mod connections;
+mod context;
+mod event;
+mod event_line;
+mod fault;
+mod host;
+mod log;
+
+pub use clock::moment;
+pub use connections::{Connections, NodeStop};
+pub use context::Context;
+pub use event::{Event, SkipWhy};
+pub use fault::NodeFault;
+pub use host::Host;
+pub use log::{Log, ProgressStyle, write_log};

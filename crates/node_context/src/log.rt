@@ -1,0 +1,186 @@
+//! What a node tells while it runs: a line for each thing that happened, until it is written.
+use crate::clock::moment;
+use crate::event::Event;
+use crate::event_line::{push_event, push_line};
+use std::alloc::Global;
+use std::io::{self, Write};
+use std::mem::replace;
+use std::sync::{Condvar, Mutex, Wait};
+use std::time::Clock;
+use sync_version::Moment;
+
+/// How many bytes of lines may wait to be written. What happens while there are more is counted, and not told.
+const MAX_WAITING: usize = 1_048_576;
+
+/// How it is shown how far a scan or a pull is.
+#[derive(Clone, Copy, Debug, PartialEq, Eq)]
+pub enum ProgressStyle {
+    /// In place, on a terminal, each second.
+    InPlace,
+    /// By a line, each ten seconds.
+    ByLines,
+}
+
+impl ProgressStyle {
+    // How many seconds lie between two times that it is shown.
+    fn seconds(self) -> u64 {
+        match self {
+            ProgressStyle::InPlace => 1,
+            ProgressStyle::ByLines => 10,
+        }
+    }
+}
+
+/// What the threads of a node tell, until it is written.
+#[derive(Drop)]
+pub struct Log {
+    alloc: Global,
+    // `None` where nothing is told.
+    progress: Option<ProgressStyle>,
+    waiting: Mutex<Waiting>,
+    // Notified when there is something to write, and at the end.
+    changes: Condvar,
+}
+
+// What waits to be written.
+#[derive(Drop)]
+struct Waiting {
+    lines: Vec<u8>,
+    // How far something is, in place.
+    far: Vec<u8>,
+    // From when on it is told again how far something is, in seconds since 1970.
+    next: u64,
+    // How many lines are left out.
+    lost: u64,
+    is_ended: bool,
+}
+
+impl Log {
+    /// Takes each event, and shows so how far something is.
+    pub fn new(alloc: Global, progress: ProgressStyle) -> Log {
+        Log::of(alloc, Some(progress))
+    }
+
+    /// Takes no notice of any.
+    pub fn quiet(alloc: Global) -> Log {
+        Log::of(alloc, None)
+    }
+
+    fn of(alloc: Global, progress: Option<ProgressStyle>) -> Log {
+        Log {
+            alloc,
+            progress,
+            waiting: Mutex::new(Waiting {
+                lines: Vec::new(alloc),
+                far: Vec::new(alloc),
+                next: 0,
+                lost: 0,
+                is_ended: false,
+            }),
+            changes: Condvar::new(),
+        }
+    }
+
+    /// Takes an event. Where memory runs out, or too much waits, it is counted as left out.
+    pub fn tell<R: Clock + Wait>(&self, rt: &R, event: &Event) {
+        let Some(progress) = self.progress else {
+            return;
+        };
+        let now = moment(rt);
+        let mut waiting = self.waiting.lock(rt);
+        let is_new = match event.far() {
+            Some(at) => waiting.take_far(progress, now, at, event),
+            None => {
+                waiting.take(now, event);
+                true
+            }
+        };
+        drop(waiting);
+        if is_new {
+            self.changes.notify_all();
+        }
+    }
+
+    /// There are no more events.
+    pub fn end<R: Wait>(&self, rt: &R) {
+        self.waiting.lock(rt).is_ended = true;
+        self.changes.notify_all();
+    }
+}
+
+impl Waiting {
+    fn take(&mut self, now: Moment, event: &Event) {
+        let length = self.lines.len();
+        if length > MAX_WAITING {
+            self.lost = self.lost.saturating_add(1);
+            return;
+        }
+        if push_line(&mut self.lines, now, event).is_err() {
+            self.lines.truncate(length);
+            self.lost = self.lost.saturating_add(1);
+        }
+    }
+
+    // How far something is, if it has taken long enough since it began, or was told. Returns whether it has.
+    fn take_far(&mut self, progress: ProgressStyle, now: Moment, at: u64, event: &Event) -> bool {
+        let seconds = now.seconds();
+        let is_due = at > 1 && seconds >= self.next;
+        if at <= 1 || is_due {
+            self.next = seconds.saturating_add(progress.seconds());
+        }
+        if !is_due {
+            return false;
+        }
+        match progress {
+            ProgressStyle::InPlace => {
+                self.far.clear();
+                if push_event(&mut self.far, event).is_err() {
+                    self.far.clear();
+                }
+            }
+            ProgressStyle::ByLines => self.take(now, event),
+        }
+        true
+    }
+
+    fn is_empty(&self) -> bool {
+        self.lines.is_empty() && self.far.is_empty() && self.lost == 0
+    }
+}
+
+/// Writes what a log is told, until it has ended. That it can't be written ends nothing.
+pub fn write_log<R: Wait, E: Write>(rt: &R, log: &Log, errors: &mut E) {
+    let alloc = log.alloc;
+    let mut is_far = false;
+    for _ in rt.forever() {
+        let waiting = log.waiting.lock(rt);
+        let mut waiting = log.changes.wait_while(rt, waiting, |waiting| {
+            waiting.is_empty() && !waiting.is_ended
+        });
+        let is_ended = waiting.is_ended && waiting.is_empty();
+        let lines = replace(&mut waiting.lines, Vec::new(alloc));
+        let far = replace(&mut waiting.far, Vec::new(alloc));
+        let lost = replace(&mut waiting.lost, 0);
+        drop(waiting);
+        if is_far {
+            let _ = errors.write_all(CLEAR_LINE);
+        }
+        if is_ended {
+            return;
+        }
+        is_far = !far.is_empty();
+        let _ = write_taken(errors, lines.as_slice(), far.as_slice(), lost);
+    }
+}
+
+/// Goes to the beginning of a terminal's line, and clears it (ECMA-48, 8.3.41).
+const CLEAR_LINE: &[u8] = b"\r\x1b[K";
+
+fn write_taken<E: Write>(errors: &mut E, lines: &[u8], far: &[u8], lost: u64) -> io::Result<()> {
+    errors.write_all(lines)?;
+    if lost > 0 {
+        writeln!(errors, "({lost} lines left out)")?;
+    }
+    errors.write_all(far)?;
+    errors.flush()
+}

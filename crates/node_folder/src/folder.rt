@@ -1,0 +1,61 @@
+//! A folder of a node, and by what a worker reads and changes it.
+use crate::scan_times::ScanTimes;
+use crate::skips::Skips;
+use bep_messages::Text;
+use std::alloc::Global;
+use sync_pull::MaxConflicts;
+
+/// How a folder is kept.
+#[derive(Drop)]
+pub struct FolderSettings {
+    /// Its id, which is another one than those of the other folders.
+    pub id: Text,
+    /// Where it is on the disk.
+    pub path: Text,
+    /// The number of this device's index of it, not 0.
+    pub index_id: u64,
+    /// How many entries its history takes.
+    pub history_limit: u64,
+    /// How many conflict copies are kept of a name.
+    pub max_conflicts: MaxConflicts,
+    /// How many seconds lie between two scans by the clock, or 0 for none.
+    pub rescan: u64,
+}
+
+/// A folder of a node, but for its records and its files.
+#[derive(Drop)]
+pub struct NodeFolder {
+    /// How it is kept.
+    pub settings: FolderSettings,
+    /// When its scans begin.
+    pub times: ScanTimes,
+    /// What its scans leave out.
+    pub skips: Skips,
+}
+
+impl NodeFolder {
+    /// One that was not scanned yet. Does not allocate.
+    pub fn new(alloc: Global, settings: FolderSettings) -> NodeFolder {
+        NodeFolder {
+            settings,
+            times: ScanTimes::new(),
+            skips: Skips::new(alloc),
+        }
+    }
+
+    /// Its id.
+    pub fn id(&self) -> &str {
+        self.settings.id.as_str()
+    }
+}
+
+/// By what one worker reads and changes a folder.
+#[derive(Drop)]
+pub struct FolderWorker<'x, S, W> {
+    /// The folder.
+    pub folder: &'x NodeFolder,
+    /// Its files, as the worker reads and writes them.
+    pub store: S,
+    /// Its records, as the worker reads and changes them.
+    pub calls: W,
+}

@@ -1,0 +1,185 @@
+//! Scans by the clock.
+use crate::folder::FolderWorker;
+use crate::schedule::{ScanOutcome, ScanSchedule};
+use crate::skips::LeftOut;
+use crate::store::Marked;
+use file_store::{FileStore, Gate, StoreRefusal};
+use folder_calls::FolderCalls;
+use node_context::{Context, Event, Host, Log};
+use std::sync::Wait;
+use std::time::Clock;
+use sync_names::SafeName;
+use sync_scan::{Progress, ScanSum, Scanned, scan_all};
+
+/// How long nothing is scanned, where nothing is to be, before it is looked again whether the node stops. (A year: it is woken then.)
+const NEVER_SECONDS: u64 = 31_536_000;
+
+// Where a folder is.
+#[derive(Clone, Copy, PartialEq, Eq)]
+enum Whereabouts {
+    There,
+    // It isn't there, or has no marker.
+    Away,
+    // Another run has it.
+    InUse,
+}
+
+/// A folder, for the scanner.
+#[derive(Drop)]
+pub struct ScannedFolder<'x, S, W> {
+    worker: FolderWorker<'x, S, W>,
+    schedule: ScanSchedule,
+    at: Whereabouts,
+}
+
+impl<'x, S, W> ScannedFolder<'x, S, W> {
+    /// A folder that was not scanned yet.
+    pub fn new(worker: FolderWorker<'x, S, W>) -> ScannedFolder<'x, S, W> {
+        let schedule = ScanSchedule::new(worker.folder.settings.rescan);
+        ScannedFolder {
+            worker,
+            schedule,
+            at: Whereabouts::There,
+        }
+    }
+}
+
+/// Scans each folder again as often as it asks for, until the node stops.
+pub fn run_scanner<R, S, W, G>(cx: &Context<R, G>, folders: &mut [ScannedFolder<S, W>])
+where
+    R: Host,
+    S: FileStore + Marked,
+    W: FolderCalls,
+    G: Gate,
+{
+    for _ in cx.rt.forever() {
+        let next = folders
+            .iter()
+            .filter_map(|folder| folder.schedule.left())
+            .min();
+        let seconds = next.unwrap_or(NEVER_SECONDS);
+        if cx.pause(seconds) {
+            return;
+        }
+        for folder in folders.iter_mut() {
+            folder.schedule.pass(seconds);
+        }
+        scan_due(cx, folders);
+    }
+}
+
+/// Scans each folder that is to be scanned now; at first these are all.
+pub fn scan_due<R, S, W, G>(cx: &Context<R, G>, folders: &mut [ScannedFolder<S, W>])
+where
+    R: Host,
+    S: FileStore + Marked,
+    W: FolderCalls,
+    G: Gate,
+{
+    for folder in folders.iter_mut() {
+        if folder.schedule.is_due() {
+            let outcome = scan_if_there(cx, folder);
+            folder.schedule.settle(outcome);
+        }
+    }
+}
+
+// Scans a folder, if it is there.
+fn scan_if_there<R, S, W, G>(cx: &Context<R, G>, folder: &mut ScannedFolder<S, W>) -> ScanOutcome
+where
+    R: Host,
+    S: FileStore + Marked,
+    W: FolderCalls,
+    G: Gate,
+{
+    let at = look_for(&mut folder.worker.store);
+    if folder.at != at {
+        folder.at = at;
+        tell_whereabouts(cx, folder.worker.folder.id(), at);
+    }
+    if at != Whereabouts::There {
+        return ScanOutcome::Away;
+    }
+    let sum = scan_folder(cx, &mut folder.worker, true);
+    if sum.other == 0 && sum.stopped.is_none() {
+        ScanOutcome::Whole
+    } else {
+        ScanOutcome::Partly
+    }
+}
+
+/// Scans all names of a folder, and keeps what is left out. What came of it is told, and how far it is, if `is_told`.
+pub fn scan_folder<R, S, W, G>(
+    cx: &Context<R, G>,
+    worker: &mut FolderWorker<S, W>,
+    is_told: bool,
+) -> ScanSum
+where
+    R: Host,
+    S: FileStore + Marked,
+    W: FolderCalls,
+    G: Gate,
+{
+    let FolderWorker {
+        folder,
+        store,
+        calls,
+    } = worker;
+    let moment = folder.times.next(cx);
+    let mut seen = Seen {
+        rt: cx.rt,
+        id: folder.id(),
+        log: if is_told { Some(cx.log) } else { None },
+        left_out: LeftOut::new(cx),
+    };
+    let sum = scan_all(cx.rt, cx.alloc, store, calls, cx.gate, moment, &mut seen);
+    if is_told && (sum.recorded > 0 || sum.other > 0 || sum.stopped.is_some()) {
+        cx.tell(&Event::Scanned(folder.id(), sum));
+    }
+    folder
+        .skips
+        .take(cx, folder.id(), store, seen.left_out, &sum);
+    sum
+}
+
+// Where a folder is now.
+fn look_for<S: Marked>(store: &mut S) -> Whereabouts {
+    if store.is_there() {
+        Whereabouts::There
+    } else if store.is_in_use() {
+        Whereabouts::InUse
+    } else {
+        Whereabouts::Away
+    }
+}
+
+fn tell_whereabouts<R: Clock + Wait, G>(cx: &Context<R, G>, id: &str, at: Whereabouts) {
+    cx.tell(&match at {
+        Whereabouts::There => Event::Back(id),
+        Whereabouts::Away => Event::Away(id),
+        Whereabouts::InUse => Event::InUse(id),
+    });
+}
+
+// What a scan that is under way says: how far it is, for the log if there is one, and what it leaves out.
+#[derive(Drop)]
+struct Seen<'a, R> {
+    rt: &'a R,
+    id: &'a str,
+    log: Option<&'a Log>,
+    left_out: LeftOut<'a, R>,
+}
+
+impl<R: Clock + Wait> Progress for Seen<'_, R> {
+    fn hashed(&mut self, _bytes: u64) {}
+
+    fn scanned(&mut self, names: u64, listed: u64) {
+        if let Some(log) = self.log {
+            log.tell(self.rt, &Event::Scanning(self.id, names, listed));
+        }
+    }
+
+    fn came_to(&mut self, name: &SafeName, scanned: &Result<Scanned, StoreRefusal>) {
+        self.left_out.came_to(name, scanned);
+    }
+}

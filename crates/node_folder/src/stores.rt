@@ -1,0 +1,143 @@
+//! Where a node's folders are on the disk.
+ghost use Rattle.std.specs.Prelude.{IfErr};
+ghost use Rattle.file_store.specs.Refusals.{IsPlain};
+
+use file_dir::{DirStore, LockRefusal, MarkerLock, Skipped};
+use file_store::{FileStore, StoreRefusal};
+use std::alloc::{AllocError, Global};
+use std::fs::{File, Files};
+use std::sync::{Mutex, Wait};
+use sync_names::SafeName;
+
+/// Where a node's folders are.
+pub trait Stores {
+    /// What a worker reads and writes a folder by.
+    type Store: FileStore + Drop;
+
+    /// The folder at a path, for one more worker. Fails with `StoreFault` where there is none.
+    fn open(&self, alloc: Global, path: &str) -> Result<Self::Store, StoreRefusal>
+        ensures { IfErr result IsPlain };
+
+    /// Whether the folder has its marker. An empty directory, at which a disk is not mounted, has none.
+    fn is_marked(&self, store: &mut Self::Store) -> bool;
+
+    /// The file that is put in place next at this name gets this modification time, if the disk can hold it.
+    fn set_modified(
+        &self,
+        store: &mut Self::Store,
+        name: &SafeName,
+        seconds: i64,
+        nanoseconds: u32,
+    ) -> Result<(), AllocError>;
+
+    /// Whether the last `StoreFault` came of a disk that is full, or of a quota.
+    fn lacks_room(&self, store: &Self::Store) -> bool;
+
+    /// Gives the folder at a path its marker, if it is a new one; takes it, and removes temporary files that an earlier run left, if it has one. Fails
+    /// with `StoreFault` where no directory is there, and with `InUse` where another run has it.
+    fn begin(&self, alloc: Global, path: &str, is_new: bool) -> Result<(), LockRefusal>;
+
+    /// Takes the folder at a path, which has its marker, for as long as these are kept, or until it is let go of. Does nothing where they have it.
+    /// Fails with `InUse` where another run has it.
+    fn take(&self, store: &mut Self::Store, path: &str) -> Result<(), LockRefusal>;
+
+    /// Lets go of the folder at a path, if these have it.
+    fn let_go(&self, path: &str);
+
+    /// What the store's last listing left out, once.
+    fn take_skipped(&self, store: &mut Self::Store) -> Vec<Skipped>;
+}
+
+/// The folders of a disk.
+#[derive(Drop)]
+pub struct Disks<'a, R> {
+    files: &'a R,
+    alloc: Global,
+    // The folders that these have.
+    taken: Mutex<Vec<Taken>>,
+}
+
+// A folder that no other run has.
+#[derive(Drop)]
+struct Taken {
+    path: String,
+    _lock: MarkerLock,
+}
+
+impl<'a, R> Disks<'a, R> {
+    /// Those of this disk.
+    pub fn new(files: &'a R, alloc: Global) -> Disks<'a, R> {
+        Disks {
+            files,
+            alloc,
+            taken: Mutex::new(Vec::new(alloc)),
+        }
+    }
+}
+
+impl<'a, R: Files<File = File> + Sync + Wait> Stores for Disks<'a, R> {
+    type Store = DirStore<&'a R>;
+
+    fn open(&self, alloc: Global, path: &str) -> Result<DirStore<&'a R>, StoreRefusal> {
+        DirStore::open(self.files, alloc, path)
+    }
+
+    fn is_marked(&self, store: &mut DirStore<&'a R>) -> bool {
+        store.has_marker().unwrap_or(false)
+    }
+
+    fn set_modified(
+        &self,
+        store: &mut DirStore<&'a R>,
+        name: &SafeName,
+        seconds: i64,
+        nanoseconds: u32,
+    ) -> Result<(), AllocError> {
+        store.set_modified(name, seconds, nanoseconds)
+    }
+
+    fn lacks_room(&self, store: &DirStore<&'a R>) -> bool {
+        store.lacks_room()
+    }
+
+    fn begin(&self, alloc: Global, path: &str, is_new: bool) -> Result<(), LockRefusal> {
+        let mut store = DirStore::open(self.files, alloc, path).map_err(refusal_of)?;
+        if is_new {
+            store.make_marker().map_err(refusal_of)?;
+        }
+        if store.has_marker().map_err(refusal_of)? {
+            self.take(&mut store, path)?;
+            store.remove_temps().map_err(refusal_of)?;
+        }
+        Ok(())
+    }
+
+    fn take(&self, store: &mut DirStore<&'a R>, path: &str) -> Result<(), LockRefusal> {
+        let mut taken = self.taken.lock(self.files);
+        if taken.iter().any(|it| it.path.as_str() == path) {
+            return Ok(());
+        }
+        let path = String::from_str(self.alloc, path)?;
+        let _lock = store.lock_marker()?;
+        match taken.push(Taken { path, _lock }) {
+            Ok(()) => Ok(()),
+            Err(_) => Err(LockRefusal::OutOfMemory),
+        }
+    }
+
+    fn let_go(&self, path: &str) {
+        let mut taken = self.taken.lock(self.files);
+        taken.retain(|it| it.path.as_str() != path);
+    }
+
+    fn take_skipped(&self, store: &mut DirStore<&'a R>) -> Vec<Skipped> {
+        store.take_skipped()
+    }
+}
+
+fn refusal_of(refusal: StoreRefusal) -> LockRefusal {
+    match refusal {
+        StoreRefusal::OutOfMemory => LockRefusal::OutOfMemory,
+        _ => LockRefusal::StoreFault,
+    }
+}

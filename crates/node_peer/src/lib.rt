@@ -1,0 +1,10 @@
+//! A peer of a node: how it is reached, what it is told first, and its connections.
+#![tactic(auto)]
+
+mod accept;
+mod connection;
+mod dial;
+mod peer;
+mod told;
+
+pub use peer::{Peer, PeerWorker, Reach, run_peer};

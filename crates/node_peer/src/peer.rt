@@ -1,0 +1,62 @@
+//! A peer: a connection with it, again and again.
+use crate::accept::accept_each;
+use crate::dial::dial_again;
+use file_store::{FileStore, Gate};
+use folder_calls::FolderCalls;
+use node_context::{Context, Host};
+use peer_asks::AskBook;
+use peer_link::LinkFolders;
+use std::net::{SocketAddr, TcpListener};
+use sync_record::DeviceId;
+
+/// How a connection with a peer comes about.
+#[derive(Drop)]
+pub enum Reach {
+    /// This device makes it.
+    Dial(SocketAddr),
+    /// The peer makes it.
+    Listen(TcpListener),
+}
+
+/// What stays the same for all connections of a peer.
+#[derive(Clone, Copy)]
+pub struct Peer<'x> {
+    /// Its place among the peers.
+    pub place: usize,
+    /// Its identity.
+    pub device: DeviceId,
+    /// The name of this device.
+    pub name: &'x str,
+    /// The Requests to it.
+    pub book: &'x AskBook,
+}
+
+/// A peer, how it is reached, and the folders that are shared with it, as the workers of a connection read and change them.
+#[derive(Drop)]
+pub struct PeerWorker<'x, S, W> {
+    /// The peer.
+    pub peer: Peer<'x>,
+    /// How a connection with it comes about.
+    pub reach: Reach,
+    /// The folders.
+    pub folders: LinkFolders<S, W>,
+}
+
+/// Has connections with a peer, one after another, until the node stops. Returns the folders as these left them.
+pub fn run_peer<R, S, W, G>(cx: &Context<R, G>, worker: PeerWorker<S, W>) -> LinkFolders<S, W>
+where
+    R: Host,
+    S: FileStore + Drop + Send,
+    W: FolderCalls + Drop + Send,
+    G: Gate + Sync,
+{
+    let PeerWorker {
+        peer,
+        reach,
+        folders,
+    } = worker;
+    match reach {
+        Reach::Dial(address) => dial_again(cx, &peer, &address, folders),
+        Reach::Listen(listener) => accept_each(cx, &peer, &listener, folders),
+    }
+}

@@ -1,0 +1,74 @@
+//! What this device tells a peer of itself: its Hello, and its ClusterConfig.
+use bep_messages::{ClusterConfig, Hello, Items, Text};
+use folder_calls::FolderCalls;
+use peer_conn::{FolderTold, cluster_config};
+use peer_link::LinkFolders;
+use peer_reader::PeerFolder;
+use std::alloc::{AllocError, Global};
+use sync_record::DeviceId;
+
+/// The Hello of this device, by its name.
+pub(crate) fn hello_of(alloc: Global, name: &str) -> Result<Hello, AllocError> {
+    Ok(Hello {
+        device_name: Text::from_str(alloc, name)?,
+        client_name: Text::from_str(alloc, "bepd")?,
+        client_version: Text::from_str(alloc, "v0.1.0")?,
+    })
+}
+
+/// The ClusterConfig of this device for the peer.
+pub(crate) fn own_config<S, W: FolderCalls>(
+    alloc: Global,
+    peer: DeviceId,
+    name: &str,
+    folders: &mut LinkFolders<S, W>,
+) -> Result<ClusterConfig, AllocError> {
+    let known = known_of(alloc, peer, folders.read.as_mut_slice())?;
+    let (read, indexed) = (folders.read.as_slice(), folders.indexed.as_slice());
+    let Some(first) = read.first() else {
+        return Ok(ClusterConfig {
+            folders: Items::new(alloc),
+        });
+    };
+    let me = first.calls.me();
+    let mut told = Vec::with_capacity(alloc, read.len())?;
+    for at in 0..read.len() {
+        let (Some(folder), Some(indexed), Some(known)) = (
+            read.get(at),
+            indexed.get(at),
+            known.get(at),
+        ) else {
+            break;
+        };
+        told.push(FolderTold {
+            id: folder.id.as_str(),
+            index_id: indexed.index_id,
+            sequence: known.own,
+            peer_index_id: folder.kept_index_id,
+            peer_sequence: known.peers,
+        })?;
+    }
+    cluster_config(alloc, me, name, peer, told.as_slice())
+}
+
+/// The greatest sequences of a folder that this device knows.
+#[derive(Clone, Copy)]
+struct Known {
+    own: u64,
+    peers: u64,
+}
+
+fn known_of<W: FolderCalls>(
+    alloc: Global,
+    peer: DeviceId,
+    read: &mut [PeerFolder<W>],
+) -> Result<Vec<Known>, AllocError> {
+    let mut known = Vec::with_capacity(alloc, read.len())?;
+    for folder in read.iter_mut() {
+        let me = folder.calls.me();
+        let own = folder.calls.known(me).value;
+        let peers = folder.calls.known(peer).value;
+        known.push(Known { own, peers })?;
+    }
+    Ok(known)
+}

@@ -1,0 +1,325 @@
+//! Rounds of pulls: what is needed of each folder, again and again.
+use crate::batch::{Batch, Puller, pull_batch};
+use crate::order::PullOrder;
+use crate::retries::Retries;
+use crate::turn::Turn;
+use crate::wanted::Wanted;
+use file_store::{FileStore, Gate};
+use folder_calls::FolderCalls;
+use node_context::{Context, Event, Host, NodeStop};
+use node_folder::{Marked, NodeFolder};
+use peer_asks::PeerBook;
+use std::alloc::{AllocError, Global};
+use std::mem::replace;
+use std::sync::Wait;
+use std::thread::for_each_mut;
+use std::time::{Clock, Duration};
+
+/// How many milliseconds lie between two rounds of which the first pulled something, so that what peers announced meanwhile is pulled soon.
+const LEAST_PAUSE: u64 = 25;
+
+/// How many lie between two rounds where nothing is pulled. Each such round is followed by twice the pause, up to this one.
+const MOST_PAUSE: u64 = 1_000;
+
+/// How many threads pull files of a folder side by side: a small file waits for the disk, and the next one need not.
+pub const PULLERS: usize = 8;
+
+/// A folder, for the rounds.
+#[derive(Drop)]
+pub struct PulledFolder<'x, S, W> {
+    folder: &'x NodeFolder,
+    pullers: Vec<Puller<'x, S, W>>,
+    // Those that it is shared with, with their places among all peers.
+    peers: Vec<PeerBook<'x>>,
+    places: Vec<usize>,
+    // The greatest sequence that is known of each.
+    known: Vec<u64>,
+    retries: Retries,
+    // How many changes its history had when nothing was needed. With no more, nothing is needed still.
+    idle_at: Option<u64>,
+}
+
+impl<'x, S: Drop, W: FolderCalls + Drop> PulledFolder<'x, S, W> {
+    /// A folder that is pulled by these, from these peers, whose places among all peers these are. Fails only if out of memory.
+    pub fn new(
+        alloc: Global,
+        folder: &'x NodeFolder,
+        pullers: Vec<Puller<'x, S, W>>,
+        peers: Vec<PeerBook<'x>>,
+        places: Vec<usize>,
+    ) -> Result<PulledFolder<'x, S, W>, AllocError> {
+        let mut pullers = pullers;
+        let mut known = Vec::with_capacity(alloc, peers.len())?;
+        if let Some(puller) = pullers.first_mut() {
+            for peer in peers.iter() {
+                known.push(puller.worker.calls.known(peer.device).value)?;
+            }
+        }
+        Ok(PulledFolder {
+            folder,
+            pullers,
+            peers,
+            places,
+            known,
+            retries: Retries::new(alloc),
+            idle_at: None,
+        })
+    }
+}
+
+/// Pulls what is needed of each folder, in their order, and again each second, or sooner after something was pulled and at the
+/// start, until the node stops. A history that is full makes it stop.
+pub fn run_rounds<'x, R, S, W, G>(cx: &Context<'x, R, G>, folders: &mut [PulledFolder<'x, S, W>])
+where
+    R: Host,
+    S: FileStore + Marked + Drop + Send,
+    W: FolderCalls + Drop + Send,
+    G: Gate + Sync,
+{
+    let mut pause = LEAST_PAUSE;
+    let mut last = None;
+    for _ in cx.rt.forever() {
+        if cx.is_stopping() {
+            return;
+        }
+        let second = second_of(cx.rt);
+        // (without a clock each round is taken for one that a second lies before)
+        let is_later = second.is_none() || second != last;
+        last = second;
+        let mut has_pulled = false;
+        for folder in folders.iter_mut() {
+            // (out of memory ends a round; the next one begins anew)
+            if let Ok(true) = pull_round(cx, folder, is_later) {
+                has_pulled = true;
+            }
+            if is_full(folder) {
+                cx.tell(&Event::HistoryFull(folder.folder.id()));
+                cx.stop(NodeStop::HistoryFull);
+            }
+        }
+        pause = if has_pulled {
+            LEAST_PAUSE
+        } else {
+            pause.saturating_mul(2).min(MOST_PAUSE)
+        };
+        if cx.pause_for(Duration::from_millis(pause)) {
+            return;
+        }
+    }
+}
+
+// The second that it is, since an arbitrary start.
+fn second_of<R: Clock>(rt: &R) -> Option<u64> {
+    match rt.monotonic() {
+        Ok(time) => Some(time.as_secs()),
+        Err(_) => None,
+    }
+}
+
+// Whether the history has no room for a pull any more, but has changes.
+fn is_full<S, W: FolderCalls>(folder: &mut PulledFolder<S, W>) -> bool {
+    let limit = folder.folder.settings.history_limit;
+    let Some(puller) = folder.pullers.first_mut() else {
+        return false;
+    };
+    let me = puller.worker.calls.me();
+    let at = puller.worker.calls.known(me).at;
+    at > 0 && at.saturating_add(1) >= limit
+}
+
+// Pulls each needed name of a folder once, but those that are left alone. Returns whether any was pulled. Whether a second lies between this round and the
+// last one tells whether the time passes for which names are left alone.
+fn pull_round<'x, R, S, W, G>(
+    cx: &Context<'x, R, G>,
+    folder: &mut PulledFolder<'x, S, W>,
+    is_later: bool,
+) -> Result<bool, AllocError>
+where
+    R: Host,
+    S: FileStore + Marked + Drop + Send,
+    W: FolderCalls + Drop + Send,
+    G: Gate + Sync,
+{
+    let up = up_count(cx, folder.places.as_slice());
+    let Some(order) = order_of(cx, folder, up, is_later)? else {
+        return Ok(false);
+    };
+    let mut has_pulled = false;
+    let turn = Turn::first();
+    for wanted in order.live.iter().filter(|wanted| !wanted.is_empty()) {
+        turn.begin(cx.rt);
+        let wanted = wanted.as_slice();
+        pull_side_by_side(cx, folder, wanted, &turn);
+        if settle(cx, folder, wanted, up)? {
+            has_pulled = true;
+        }
+    }
+    let deleted = order.deleted.as_slice();
+    pull_in_turn(cx, folder, deleted)?;
+    if settle(cx, folder, deleted, up)? {
+        has_pulled = true;
+    }
+    folder.retries.end_round(has_pulled);
+    Ok(has_pulled)
+}
+
+// What is to be pulled of a folder now, if anything is needed, and the folder is there.
+fn order_of<R, S, W, G>(
+    cx: &Context<R, G>,
+    folder: &mut PulledFolder<S, W>,
+    up: usize,
+    is_later: bool,
+) -> Result<Option<PullOrder>, AllocError>
+where
+    R: Host,
+    S: Marked,
+    W: FolderCalls,
+{
+    let PulledFolder {
+        folder,
+        pullers,
+        peers,
+        known,
+        retries,
+        idle_at,
+        ..
+    } = folder;
+    let Some(puller) = pullers.first_mut() else {
+        return Ok(None);
+    };
+    let calls = &mut puller.worker.calls;
+    let me = calls.me();
+    let at = calls.known(me).at;
+    if *idle_at == Some(at) {
+        return Ok(None);
+    }
+    tell_received(
+        cx,
+        folder.id(),
+        calls,
+        peers.as_slice(),
+        known.as_mut_slice(),
+    );
+    let needed = calls.need(None, usize::MAX)?.value;
+    retries.keep(needed.as_slice());
+    if needed.as_slice().is_empty() {
+        *idle_at = Some(at);
+        return Ok(None);
+    }
+    if !puller.worker.store.is_there() {
+        return Ok(None);
+    }
+    let calls = &mut puller.worker.calls;
+    let order = PullOrder::new(cx.alloc, calls, needed.as_slice(), retries, up, is_later)?;
+    Ok(Some(order))
+}
+
+// Tells of each peer that more of its index came.
+fn tell_received<R: Host, W: FolderCalls, G>(
+    cx: &Context<R, G>,
+    id: &str,
+    calls: &mut W,
+    peers: &[PeerBook],
+    known: &mut [u64],
+) {
+    for (peer, known) in peers.iter().zip(known.iter_mut()) {
+        let device = peer.device;
+        let now = calls.known(device).value;
+        if now > *known {
+            cx.tell(&Event::Received(id, device, now));
+        }
+        *known = now;
+    }
+}
+
+// The names that could not be pulled are left alone for a time. Returns whether any was pulled.
+fn settle<R: Host, S, W, G>(
+    cx: &Context<R, G>,
+    folder: &mut PulledFolder<S, W>,
+    wanted: &[Wanted],
+    up: usize,
+) -> Result<bool, AllocError> {
+    let PulledFolder {
+        folder,
+        pullers,
+        retries,
+        ..
+    } = folder;
+    let mut has_pulled = false;
+    for puller in pullers.iter_mut() {
+        if replace(&mut puller.has_pulled, false) {
+            has_pulled = true;
+        }
+        for miss in puller.failed.iter() {
+            if miss.lacks_room && retries.lack_room() {
+                cx.tell(&Event::NoRoom(folder.id()));
+            }
+            if let Some(wanted) = wanted.get(miss.place) {
+                retries.begin(wanted.told(miss.told)?, up, miss.lacks_room)?;
+            }
+        }
+        puller.failed.clear();
+    }
+    Ok(has_pulled)
+}
+
+// Pulls names by all pullers, each the next one that none has. Out of memory, the others are left to the next round.
+fn pull_side_by_side<'x, R, S, W, G>(
+    cx: &Context<'x, R, G>,
+    folder: &mut PulledFolder<'x, S, W>,
+    wanted: &[Wanted],
+    turn: &Turn,
+)
+where
+    R: Host,
+    S: FileStore + Marked + Drop + Send,
+    W: FolderCalls + Drop + Send,
+    G: Gate + Sync,
+{
+    let PulledFolder { pullers, peers, .. } = folder;
+    let batch = Batch {
+        peers: peers.as_slice(),
+        wanted,
+        turn,
+    };
+    let threads = wanted.len().min(PULLERS).max(1);
+    for_each_mut(
+        cx.rt,
+        pullers.as_mut_slice(),
+        threads,
+        &|_, puller| {
+            let _ = pull_batch(cx, &batch, puller);
+        },
+    );
+}
+
+// Pulls names one after another.
+fn pull_in_turn<'x, R, S, W, G>(
+    cx: &Context<'x, R, G>,
+    folder: &mut PulledFolder<'x, S, W>,
+    wanted: &[Wanted],
+) -> Result<(), AllocError>
+where
+    R: Host,
+    S: FileStore + Marked,
+    W: FolderCalls,
+    G: Gate,
+{
+    let PulledFolder { pullers, peers, .. } = folder;
+    let Some(puller) = pullers.first_mut() else {
+        return Ok(());
+    };
+    let batch = Batch {
+        peers: peers.as_slice(),
+        wanted,
+        turn: &Turn::first(),
+    };
+    pull_batch(cx, &batch, puller)
+}
+
+fn up_count<R: Host, G>(cx: &Context<R, G>, places: &[usize]) -> usize {
+    places
+        .iter()
+        .filter(|place| cx.connections.is_up(cx.rt, **place))
+        .count()
+}

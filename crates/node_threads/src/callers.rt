@@ -1,0 +1,91 @@
+//! Who calls the folders of a node, each with a pass of its own.
+use crate::peers::NodePeer;
+use folder_core::FolderCore;
+use folder_shared::{Member, SharedFolder};
+use node_commands::Histories;
+use node_context::NodeFault;
+use node_pull::PULLERS;
+use std::alloc::Global;
+use std::sync::Wait;
+
+/// Those who work, in this order: the scanner of each folder; the pullers of each folder; and of each peer a reader, a server and an indexer of each
+/// folder that is shared with it.
+pub(crate) fn work_callers<'a, C: FolderCore + Drop, R: Wait>(
+    rt: &'a R,
+    alloc: Global,
+    folders: &'a [SharedFolder<C>],
+    peers: &[NodePeer],
+) -> Result<Vec<Member<'a, C, R>>, NodeFault> {
+    let mut callers = each_caller(rt, alloc, folders)?;
+    for folder in folders {
+        for _ in 0..PULLERS {
+            add_caller(rt, folder, &mut callers)?;
+        }
+    }
+    for peer in peers {
+        for share in peer.shares.iter() {
+            let Some(folder) = folders.get(share.folder) else {
+                return Err(NodeFault::NoFolder);
+            };
+            for _ in 0..SHARE_CALLERS {
+                add_caller(rt, folder, &mut callers)?;
+            }
+        }
+    }
+    Ok(callers)
+}
+
+/// How many callers there are for a folder that is shared with a peer.
+const SHARE_CALLERS: usize = 3;
+
+/// A caller of each folder.
+pub(crate) fn each_caller<'a, C: FolderCore + Drop, R: Wait>(
+    rt: &'a R,
+    alloc: Global,
+    folders: &'a [SharedFolder<C>],
+) -> Result<Vec<Member<'a, C, R>>, NodeFault> {
+    let mut callers = Vec::with_capacity(alloc, folders.len())?;
+    for folder in folders {
+        add_caller(rt, folder, &mut callers)?;
+    }
+    Ok(callers)
+}
+
+fn add_caller<'a, C: FolderCore + Drop, R: Wait>(
+    rt: &'a R,
+    folder: &'a SharedFolder<C>,
+    callers: &mut Vec<Member<'a, C, R>>,
+) -> Result<(), NodeFault> {
+    let Ok(pass) = folder.pass(rt) else {
+        return Err(NodeFault::PassesFull);
+    };
+    match callers.push(Member::new(folder, rt, pass)) {
+        Ok(()) => Ok(()),
+        Err(_) => Err(NodeFault::OutOfMemory),
+    }
+}
+
+/// The histories of folders with a lock each.
+#[derive(Drop)]
+pub(crate) struct SharedHistories<'a, C: FolderCore + Drop, R> {
+    rt: &'a R,
+    folders: &'a [SharedFolder<C>],
+}
+
+impl<'a, C: FolderCore + Drop, R> SharedHistories<'a, C, R> {
+    pub(crate) fn new(rt: &'a R, folders: &'a [SharedFolder<C>]) -> SharedHistories<'a, C, R> {
+        SharedHistories { rt, folders }
+    }
+}
+
+impl<C: FolderCore + Drop, R: Wait> Histories for SharedHistories<'_, C, R> {
+    fn verify(&self, place: usize) -> Result<bool, NodeFault> {
+        let Some(folder) = self.folders.get(place) else {
+            return Err(NodeFault::NoFolder);
+        };
+        let Ok(mut pass) = folder.pass(self.rt) else {
+            return Err(NodeFault::PassesFull);
+        };
+        Ok(folder.verify(self.rt, &mut pass)?)
+    }
+}

@@ -1,0 +1,79 @@
+//! The peers of a node, and how they are reached.
+use node_context::{Connections, NodeFault};
+use node_peer::Reach;
+use std::alloc::Global;
+use std::io;
+use std::net::{Net, SocketAddr, TcpListener, TcpStream};
+use std::os::fd::OwnedFd;
+use std::sync::Wait;
+use sync_record::DeviceId;
+
+/// How a connection with a peer comes about.
+#[derive(Clone, Copy, Debug)]
+pub enum NodeAddress {
+    /// This device makes it, to this address.
+    Dial(SocketAddr),
+    /// The peer makes it, to this address of this device.
+    Listen(SocketAddr),
+}
+
+/// A folder that is shared with a peer.
+#[derive(Clone, Copy, Debug)]
+pub struct Share {
+    /// Its place among the node's folders.
+    pub folder: usize,
+    /// The number of the peer's index of which there are records, or 0 for none.
+    pub kept_index_id: u64,
+}
+
+/// A peer of a node.
+#[derive(Drop)]
+pub struct NodePeer {
+    /// Its identity, which is another one than those of the other peers and of this device.
+    pub device: DeviceId,
+    /// How a connection with it comes about.
+    pub address: NodeAddress,
+    /// The folders that are shared with it.
+    pub shares: Vec<Share>,
+}
+
+/// How the connections of each peer come about.
+#[derive(Drop)]
+pub struct Listeners {
+    pub(crate) reaches: Vec<Reach>,
+}
+
+/// Listens for each peer that makes the connection. Fails with `BadAddress` where an address can't be listened on, and if out of memory.
+pub fn listen_all<R: Net<Listener = TcpListener, Stream = TcpStream>>(
+    rt: &R,
+    alloc: Global,
+    peers: &[NodePeer],
+) -> Result<Listeners, NodeFault> {
+    let mut reaches = Vec::with_capacity(alloc, peers.len())?;
+    for peer in peers {
+        reaches.push(match peer.address {
+            NodeAddress::Dial(address) => Reach::Dial(address),
+            NodeAddress::Listen(address) => {
+                Reach::Listen(TcpListener::bind(rt, address).map_err(no_address)?)
+            }
+        })?;
+    }
+    Ok(Listeners { reaches })
+}
+
+/// The socket that listens, if one does, is shut down once the node stops.
+pub(crate) fn end_at_stop<R: Wait>(
+    rt: &R,
+    connections: &Connections,
+    reach: &Reach,
+) -> Result<(), NodeFault> {
+    if let Reach::Listen(listener) = reach {
+        let clone = listener.try_clone().map_err(no_address)?;
+        connections.add_listener(rt, TcpStream::from(OwnedFd::from(clone)))?;
+    }
+    Ok(())
+}
+
+fn no_address(_error: io::Error) -> NodeFault {
+    NodeFault::BadAddress
+}

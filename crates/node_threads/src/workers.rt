@@ -1,0 +1,259 @@
+//! What the threads of a node work on: all that can fail is done here, before they begin.
+use crate::lent::{Lent, LentCalls, next_of};
+use crate::peers::NodePeer;
+use bep_messages::Text;
+use file_store::FileStore;
+use folder_calls::FolderCalls;
+use node_context::{Connections, NodeFault};
+use node_folder::{FolderStore, FolderWorker, GivesUp, Marked, NodeFolder, ScannedFolder, Stores};
+use node_peer::{Peer, PeerWorker, Reach};
+use node_pull::{PULLERS, PulledFolder, Puller};
+use peer_asks::{AskBook, PeerBook};
+use peer_conn::IndexedFolder;
+use peer_link::LinkFolders;
+use peer_reader::PeerFolder;
+use peer_server::ServedFolder;
+use std::alloc::{AllocError, Global};
+use std::sync::Wait;
+use sync_record::DeviceId;
+
+/// What the workers of a node are told.
+#[derive(Clone, Copy)]
+pub(crate) struct Node<'x> {
+    /// The name of this device.
+    pub(crate) name: &'x str,
+    pub(crate) folders: &'x [NodeFolder],
+    pub(crate) peers: &'x [NodePeer],
+    /// The Requests to each peer.
+    pub(crate) books: &'x [AskBook],
+}
+
+/// How the workers of a node read and write its folders.
+pub(crate) trait FolderFiles {
+    /// By what a worker does.
+    type Store: FileStore + Marked + Drop;
+
+    /// That of the folder at a place, for one worker. Fails where no folder is there.
+    fn at(&self, place: usize, gives_up: GivesUp) -> Result<Self::Store, NodeFault>;
+}
+
+/// The folders' files by these stores.
+#[derive(Drop)]
+pub(crate) struct Files<'x, R, T> {
+    pub(crate) rt: &'x R,
+    pub(crate) alloc: Global,
+    pub(crate) connections: &'x Connections,
+    pub(crate) stores: &'x T,
+    pub(crate) folders: &'x [NodeFolder],
+}
+
+impl<'x, R: Wait, T: Stores> FolderFiles for Files<'x, R, T> {
+    type Store = FolderStore<'x, T, T::Store, R>;
+
+    fn at(
+        &self,
+        place: usize,
+        gives_up: GivesUp,
+    ) -> Result<FolderStore<'x, T, T::Store, R>, NodeFault> {
+        let folders = self.folders;
+        let Some(folder) = folders.get(place) else {
+            return Err(NodeFault::NoFolder);
+        };
+        let path = folder.settings.path.as_str();
+        Ok(FolderStore::new(
+            self.rt,
+            self.alloc,
+            self.connections,
+            self.stores,
+            path,
+            gives_up,
+        ))
+    }
+}
+
+/// What scans, pulls and has connections.
+#[derive(Drop)]
+pub(crate) struct Workers<'x, S, W> {
+    pub(crate) scanned: Vec<ScannedFolder<'x, S, W>>,
+    pub(crate) pulled: Vec<PulledFolder<'x, S, W>>,
+    pub(crate) peers: Vec<PeerWorker<'x, S, W>>,
+}
+
+/// The workers of a node. The callers are taken in the order in which they are made (`callers.rt`).
+pub(crate) fn workers_of<'x, 'b, F: FolderFiles, W: FolderCalls>(
+    alloc: Global,
+    files: &F,
+    node: Node<'x>,
+    reaches: Vec<Reach>,
+    callers: &mut LentCalls<'b, W>,
+) -> Result<Workers<'x, F::Store, Lent<'b, W>>, NodeFault> {
+    let scanned = scanned_of(alloc, files, node, callers)?;
+    let pulled = pulled_of(alloc, files, node, callers)?;
+    let peers = peers_of(alloc, files, node, reaches, callers)?;
+    Ok(Workers {
+        scanned,
+        pulled,
+        peers,
+    })
+}
+
+// A worker of the folder at a place.
+fn worker_of<'x, 'b, F: FolderFiles, W: FolderCalls>(
+    files: &F,
+    folder: &'x NodeFolder,
+    place: usize,
+    gives_up: GivesUp,
+    callers: &mut LentCalls<'b, W>,
+) -> Result<FolderWorker<'x, F::Store, Lent<'b, W>>, NodeFault> {
+    let store = files.at(place, gives_up)?;
+    let calls = next_of(callers)?;
+    Ok(FolderWorker {
+        folder,
+        store,
+        calls,
+    })
+}
+
+/// A worker of each folder, in their order, by these callers, for the commands.
+pub(crate) fn answered_of<'x, 'b, F: FolderFiles, W: FolderCalls>(
+    alloc: Global,
+    files: &F,
+    node: Node<'x>,
+    callers: &mut LentCalls<'b, W>,
+) -> Result<Vec<FolderWorker<'x, F::Store, Lent<'b, W>>>, NodeFault> {
+    let mut workers = Vec::with_capacity(alloc, node.folders.len())?;
+    for (place, folder) in node.folders.iter().enumerate() {
+        workers.push(worker_of(files, folder, place, GivesUp::Never, callers)?)?;
+    }
+    Ok(workers)
+}
+
+fn scanned_of<'x, 'b, F: FolderFiles, W: FolderCalls>(
+    alloc: Global,
+    files: &F,
+    node: Node<'x>,
+    callers: &mut LentCalls<'b, W>,
+) -> Result<Vec<ScannedFolder<'x, F::Store, Lent<'b, W>>>, NodeFault> {
+    let mut scanned = Vec::with_capacity(alloc, node.folders.len())?;
+    for (place, folder) in node.folders.iter().enumerate() {
+        let worker = worker_of(files, folder, place, GivesUp::AtStop, callers)?;
+        scanned.push(ScannedFolder::new(worker))?;
+    }
+    Ok(scanned)
+}
+
+fn pulled_of<'x, 'b, F: FolderFiles, W: FolderCalls>(
+    alloc: Global,
+    files: &F,
+    node: Node<'x>,
+    callers: &mut LentCalls<'b, W>,
+) -> Result<Vec<PulledFolder<'x, F::Store, Lent<'b, W>>>, NodeFault> {
+    let mut pulled = Vec::with_capacity(alloc, node.folders.len())?;
+    for (place, folder) in node.folders.iter().enumerate() {
+        let mut pullers = Vec::with_capacity(alloc, PULLERS)?;
+        for _ in 0..PULLERS {
+            let worker = worker_of(files, folder, place, GivesUp::AtStop, callers)?;
+            pullers.push(Puller::new(alloc, worker))?;
+        }
+        let (books, places) = books_of(alloc, node, place)?;
+        pulled.push(PulledFolder::new(alloc, folder, pullers, books, places)?)?;
+    }
+    Ok(pulled)
+}
+
+// The peers that the folder at a place is shared with, and their places.
+fn books_of<'x>(
+    alloc: Global,
+    node: Node<'x>,
+    folder: usize,
+) -> Result<(Vec<PeerBook<'x>>, Vec<usize>), AllocError> {
+    let mut books = Vec::new(alloc);
+    let mut places = Vec::new(alloc);
+    for at in 0..node.peers.len() {
+        let (Some(peer), Some(book)) = (node.peers.get(at), node.books.get(at)) else {
+            break;
+        };
+        if peer.shares.iter().any(|share| share.folder == folder) {
+            let device = peer.device;
+            books.extend_from_slice(&[PeerBook { device, book }])?;
+            places.push(at)?;
+        }
+    }
+    Ok((books, places))
+}
+
+fn peers_of<'x, 'b, F: FolderFiles, W: FolderCalls>(
+    alloc: Global,
+    files: &F,
+    node: Node<'x>,
+    reaches: Vec<Reach>,
+    callers: &mut LentCalls<'b, W>,
+) -> Result<Vec<PeerWorker<'x, F::Store, Lent<'b, W>>>, NodeFault> {
+    let mut workers = Vec::with_capacity(alloc, node.peers.len())?;
+    let mut place = 0usize;
+    for reach in reaches {
+        let (Some(peer), Some(book)) = (node.peers.get(place), node.books.get(place)) else {
+            break;
+        };
+        let folders = link_folders(alloc, files, node, peer, callers)?;
+        workers.push(PeerWorker {
+            peer: Peer {
+                place,
+                device: peer.device,
+                name: node.name,
+                book,
+            },
+            reach,
+            folders,
+        })?;
+        place = place.saturating_add(1);
+    }
+    Ok(workers)
+}
+
+fn link_folders<'b, F: FolderFiles, W: FolderCalls>(
+    alloc: Global,
+    files: &F,
+    node: Node,
+    peer: &NodePeer,
+    callers: &mut LentCalls<'b, W>,
+) -> Result<LinkFolders<F::Store, Lent<'b, W>>, NodeFault> {
+    let count = peer.shares.len();
+    let mut read = Vec::with_capacity(alloc, count)?;
+    let mut served = Vec::with_capacity(alloc, count)?;
+    let mut indexed = Vec::with_capacity(alloc, count)?;
+    for share in peer.shares.iter() {
+        let Some(folder) = node.folders.get(share.folder) else {
+            continue;
+        };
+        read.push(PeerFolder {
+            id: Text::from_str(alloc, folder.id())?,
+            kept_index_id: share.kept_index_id,
+            is_told: false,
+            calls: next_of(callers)?,
+        })?;
+        served.push(ServedFolder {
+            store: files.at(share.folder, GivesUp::Never)?,
+            calls: next_of(callers)?,
+        })?;
+        indexed.push(IndexedFolder {
+            id: Text::from_str(alloc, folder.id())?,
+            index_id: folder.settings.index_id,
+            calls: next_of(callers)?,
+        })?;
+    }
+    Ok(LinkFolders {
+        read,
+        served,
+        indexed,
+    })
+}
+
+/// The identities of peers.
+pub(crate) fn devices_of(alloc: Global, peers: &[NodePeer]) -> Result<Vec<DeviceId>, AllocError> {
+    let mut devices = Vec::with_capacity(alloc, peers.len())?;
+    for peer in peers {
+        devices.push(peer.device)?;
+    }
+    Ok(devices)
+}
