@@ -1,4 +1,4 @@
-//! The addresses of a configuration.
+//! The addresses of a configuration, read from text.
 ghost use Rattle.std.specs.Prelude.{◌≡◌, IfErr, IfOk, OnErr};
 ghost use Rattle.node_context.specs.declared.fault.NodeFault.TheVariants.{BadAddress};
 ghost use Rattle.bepd_run.specs.Addresses.{IsNoAddress, IsOneAddress, IsReadAs, IsUnread};

@@ -1,4 +1,4 @@
-//! What a node would do by a configuration.
+//! What a node would do by a configuration, written without a run.
 use crate::addresses::address_of;
 use crate::failure::RunFailure;
 use crate::files::read_config_file;

@@ -1,3 +1,4 @@
+//! Why a run failed: its line on standard error, and its exit status.
 ghost use Rattle.std.specs.Prelude.{◌≡◌, Some};
 ghost use Rattle.std.specs.IoError.{error_kind};
 ghost use Rattle.bepd_run.specs.Failures.{io_failure, restore_failure, run_failure_status, run_failure_text};

@@ -1,4 +1,4 @@
-//! Who has a state, and whether the run that had it last ended well.
+//! The lock file of a state: no two runs have it, and whether the last one ended well.
 use crate::failure::RunFailure;
 use std::alloc::Global;
 use std::fs::{File, Files, OpenFile, OpenOptions, TryLockError};

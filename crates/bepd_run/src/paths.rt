@@ -1,4 +1,4 @@
-//! Where the folders and the state of a configuration are.
+//! Whether a folder of a configuration lies within another one, or the state within a folder.
 use crate::failure::RunFailure;
 use bep_messages::Text;
 use node_config::{Config, check_paths};

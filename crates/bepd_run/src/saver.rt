@@ -1,4 +1,4 @@
-//! The state that is written while a node runs.
+//! How the local records are written into the state file while a node runs.
 use crate::failure::RunFailure;
 use crate::files::StateFiles;
 use bep_messages::{Items, Text};

@@ -1,4 +1,4 @@
-//! The commands, a line each: a word, or a word, a space and the id of a folder.
+//! Which command a line is: a word, or a word, a space and the id of a folder.
 ghost use Rattle.std.specs.Prelude.{◌≡◌, ◌≢◌, MatchOption};
 ghost use Rattle.node_commands.specs.Commands.{command_text};
 ghost use Rattle.node_commands.specs.declared.command.Command.{Command as AnyCommand};

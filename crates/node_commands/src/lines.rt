@@ -1,4 +1,4 @@
-//! The lines of the commands.
+//! The lines of the input, before they are commands.
 use crossbeam_channel::Sender;
 use std::alloc::Global;
 use std::io::{self, BufRead, ErrorKind};

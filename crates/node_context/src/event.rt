@@ -1,4 +1,4 @@
-//! What happens in a node.
+//! The events of a node, and why a scan skips a name.
 use file_dir::SkipReason;
 use file_store::StoreRefusal;
 use folder_calls::ScanRefusal;

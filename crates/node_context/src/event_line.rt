@@ -1,4 +1,4 @@
-//! How what happens in a node is told: the text of each event.
+//! The text of each event, as it is told on standard error.
 use crate::event::{Event, SkipWhy};
 use bep_messages::Text;
 use jiff::Timestamp;

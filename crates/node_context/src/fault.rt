@@ -1,4 +1,4 @@
-//! Why a node did not run.
+//! Why a node did not run, or what it left is lost.
 ghost use Rattle.std.specs.Prelude.{◌≡◌, Some};
 ghost use Rattle.node_context.specs.Faults.{node_fault_name, node_fault_number};
 ghost use Rattle.node_context.specs.declared.fault.NodeFault.TheVariants.{OutOfMemory};

@@ -1,4 +1,4 @@
-//! What all threads of a node share: the clock, what is told, the connections that are up, and why a node stops or did not run.
+//! What all threads of a node share: the clock, what is told, the connections that are up, why a node stops or did not run, and how calls are lent.
 #![tactic(auto)]
 
 mod clock;
@@ -8,6 +8,7 @@ mod event;
 mod event_line;
 mod fault;
 mod host;
+mod lent;
 mod log;
 
 pub use clock::moment;
@@ -16,4 +17,5 @@ pub use context::Context;
 pub use event::{Event, SkipWhy};
 pub use fault::NodeFault;
 pub use host::Host;
+pub use lent::{Lent, LentCalls, lend_all, next_of};
 pub use log::{Log, ProgressStyle, write_log};

@@ -1,4 +1,4 @@
-//! What a node tells while it runs: a line for each thing that happened, until it is written.
+//! The log of a node: lines of events that wait until they are written on standard error.
 use crate::clock::moment;
 use crate::event::Event;
 use crate::event_line::{push_event, push_line};

@@ -2,6 +2,7 @@
 #![tactic(auto)]
 
 mod folder;
+mod marked;
 mod scan_times;
 mod scanner;
 mod schedule;
@@ -10,9 +11,10 @@ mod store;
 mod stores;
 
 pub use folder::{FolderSettings, FolderWorker, NodeFolder};
+pub use marked::Marked;
 pub use scan_times::ScanTimes;
 pub use scanner::{ScannedFolder, run_scanner, scan_due, scan_folder};
 pub use schedule::{ScanOutcome, ScanSchedule};
 pub use skips::{LeftOut, Skips};
-pub use store::{FolderStore, GivesUp, Marked};
+pub use store::{FolderStore, GivesUp};
 pub use stores::{Disks, Stores};

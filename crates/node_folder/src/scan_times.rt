@@ -1,4 +1,4 @@
-//! When scans begin: no two of a folder in one second.
+//! The moments of scans: no two of a folder in one second.
 use node_context::{Context, moment};
 use std::sync::{Mutex, Wait};
 use std::time::{Clock, Duration};

@@ -1,8 +1,8 @@
-//! Scans by the clock.
+//! The scans of folders, when they are due or asked for, and what is told of them.
 use crate::folder::FolderWorker;
+use crate::marked::Marked;
 use crate::schedule::{ScanOutcome, ScanSchedule};
 use crate::skips::LeftOut;
-use crate::store::Marked;
 use file_store::{FileStore, Gate, StoreRefusal};
 use folder_calls::FolderCalls;
 use node_context::{Context, Event, Host, Log};

@@ -1,4 +1,4 @@
-//! When a folder is scanned next.
+//! When a folder is scanned next, and how many seconds lie between two scans.
 
 /// After how many seconds a folder is scanned again of which some names could not be recorded, as a file that changed while it was read. Each
 /// time that this is so once more they are twice as many, up to an hour.

@@ -1,5 +1,5 @@
 //! What scans leave out.
-use crate::store::Marked;
+use crate::marked::Marked;
 use file_dir::Skipped;
 use file_store::StoreRefusal;
 use node_context::{Connections, Context, Event, SkipWhy};

@@ -1,10 +1,11 @@
-//! The files of a folder, as a worker of a node reads and writes them.
+//! The files of a folder, as a worker reads and writes them, and what is refused while it is away.
 ghost use Rattle.std.specs.Prelude.{◌≡◌, ◌≢◌, false, ⊤, Err, IfErr, IfOk};
 ghost use Rattle.file_store.specs.Listings.{IsInOrder};
 ghost use Rattle.file_store.specs.Refusals.{IsPlain, count_after};
 ghost use Rattle.file_store.specs.Stores.{empty_tree};
 ghost use Rattle.file_store.specs.declared.refusal.StoreRefusal.TheVariants.{NotEmpty};
 
+use crate::marked::Marked;
 use crate::stores::Stores;
 use file_dir::{LockRefusal, Skipped};
 use file_store::{FileStore, Listing, Stat, StoreRefusal};
@@ -12,27 +13,6 @@ use node_context::Connections;
 use std::alloc::Global;
 use std::sync::Wait;
 use sync_names::SafeName;
-
-/// A folder that may be away for a time.
-pub trait Marked {
-    /// Whether the folder is there, with its marker.
-    fn is_there(&mut self) -> bool;
-
-    /// Whether it was not there when it was last looked for, since another run has it.
-    fn is_in_use(&self) -> bool;
-
-    /// What its last listing left out, once.
-    fn take_skipped(&mut self) -> Vec<Skipped>;
-
-    /// The name to which a file was moved last, if one was since this was called last.
-    fn take_moved(&mut self) -> Option<SafeName>;
-
-    /// The file that is put in place next at this name gets this modification time, as far as the folder can.
-    fn set_modified(&mut self, name: &SafeName, seconds: i64, nanoseconds: u32);
-
-    /// Whether the last `StoreFault` came of a disk that is full, or of a quota.
-    fn lacks_room(&self) -> bool;
-}
 
 /// When the calls of a store give up.
 #[derive(Clone, Copy, PartialEq, Eq)]

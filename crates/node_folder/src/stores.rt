@@ -1,4 +1,4 @@
-//! Where a node's folders are on the disk.
+//! A node's folders on the disk: how each is opened, marked and taken.
 ghost use Rattle.std.specs.Prelude.{IfErr};
 ghost use Rattle.file_store.specs.Refusals.{IsPlain};
 

@@ -1,4 +1,4 @@
-//! A peer that is dialled.
+//! A peer that is dialled, and when it is dialled again.
 use crate::connection::{begins, run_connection};
 use crate::peer::Peer;
 use file_store::{FileStore, Gate};

@@ -1,4 +1,4 @@
-//! A peer: a connection with it, again and again.
+//! A peer, which is dialled or listened for.
 use crate::accept::accept_each;
 use crate::dial::dial_again;
 use file_store::{FileStore, Gate};

@@ -1,11 +1,11 @@
 //! Names of a folder that are pulled side by side.
 use crate::puller::pull;
 use crate::turn::Turn;
-use crate::wanted::{Miss, Wanted};
 use file_store::{FileStore, Gate};
 use folder_calls::FolderCalls;
 use node_context::{Context, Event, Host};
 use node_folder::{FolderWorker, Marked};
+use node_need::{Miss, Wanted};
 use peer_asks::{PeerBook, PeerSource};
 use std::alloc::{AllocError, Global};
 use sync_names::SafeName;

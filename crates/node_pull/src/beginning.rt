@@ -1,4 +1,4 @@
-//! What must be at hand of a name before a file makes way for it.
+//! Whether the first block of a name is at hand, before a file in its way is moved.
 ghost use Rattle.std.specs.Prelude.{◌≡◌};
 ghost use Rattle.node_pull.specs.Ways.{are_bytes_of, first_with_bytes, is_at_hand, may_make_way};
 

@@ -1,4 +1,4 @@
-//! Files where directories are needed.
+//! A file that is where a directory is needed: when it makes way, and when it is moved back.
 use crate::beginning::{first_with_bytes, may_make_way};
 use crate::puller::{keep_copy, pull_once};
 use file_store::{FileStore, Gate, GatePlace, Stat, StoreRefusal, read_full};

@@ -1,13 +1,11 @@
 //! Rounds of pulls: what is needed of each folder, again and again.
 use crate::batch::{Batch, Puller, pull_batch};
-use crate::order::PullOrder;
-use crate::retries::Retries;
 use crate::turn::Turn;
-use crate::wanted::Wanted;
 use file_store::{FileStore, Gate};
 use folder_calls::FolderCalls;
 use node_context::{Context, Event, Host, NodeStop};
 use node_folder::{Marked, NodeFolder};
+use node_need::{PullOrder, Retries, Wanted};
 use peer_asks::PeerBook;
 use std::alloc::{AllocError, Global};
 use std::mem::replace;

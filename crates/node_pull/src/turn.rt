@@ -1,4 +1,4 @@
-//! Which of the names that are pulled side by side is the next.
+//! Which name the next puller takes, and which are too large for the disk.
 use std::sync::{Mutex, Wait};
 use sync_record::Record;
 

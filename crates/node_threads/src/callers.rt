@@ -1,4 +1,4 @@
-//! Who calls the folders of a node, each with a pass of its own.
+//! The callers of each folder: its scanner, its pullers, and three for each peer that it is shared with.
 use crate::peers::NodePeer;
 use folder_core::FolderCore;
 use folder_shared::{Member, SharedFolder};

@@ -1,9 +1,8 @@
-//! A node: folders on a disk that are kept alike with peers, over TCP.
+//! A node: its folders, its peers, and the threads that work on them.
 #![tactic(auto)]
 
 mod callers;
 mod folders;
-mod lent;
 mod peers;
 mod run;
 mod saver;

@@ -1,4 +1,4 @@
-//! A node, from its folders to what it leaves.
+//! A run of a node: its folders are opened, its threads run, and its folders are closed.
 ghost use Rattle.std.specs.Prelude.{IfOk};
 ghost use Rattle.std.specs.Thread.{IsSend, IsSync};
 ghost use Rattle.node_threads.specs.Left.{AreLeft};

@@ -1,4 +1,4 @@
-//! What is saved of a node while it runs.
+//! When the local records of a node are saved while it runs.
 use folder_calls::FolderCalls;
 use node_context::{Context, Event, Host};
 use std::alloc::{AllocError, Global};

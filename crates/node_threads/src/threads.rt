@@ -1,7 +1,6 @@
-//! The threads of a node.
+//! The threads of a node: those that answer, save, scan and pull, and one for each peer.
 ghost use Rattle.std.specs.Thread.{IsSend, IsSync};
 
-use crate::lent::lend_all;
 use crate::saver::{SaveState, run_saver};
 use crate::workers::{FolderFiles, Node, Workers, answered_of, devices_of, workers_of};
 use crossbeam_channel::Receiver;
@@ -10,7 +9,7 @@ use folder_calls::FolderCalls;
 use folder_core::FolderCore;
 use folder_shared::Member;
 use node_commands::{Answerer, Histories, InputLine, answer_commands};
-use node_context::{Context, Host, NodeFault, NodeStop};
+use node_context::{Context, Host, NodeFault, NodeStop, lend_all};
 use node_folder::{Marked, run_scanner, scan_due};
 use node_peer::{Reach, run_peer};
 use node_pull::run_rounds;

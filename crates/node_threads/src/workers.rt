@@ -1,10 +1,9 @@
 //! What the threads of a node work on: all that can fail is done here, before they begin.
-use crate::lent::{Lent, LentCalls, next_of};
 use crate::peers::NodePeer;
 use bep_messages::Text;
 use file_store::FileStore;
 use folder_calls::FolderCalls;
-use node_context::{Connections, NodeFault};
+use node_context::{Connections, Lent, LentCalls, NodeFault, next_of};
 use node_folder::{FolderStore, FolderWorker, GivesUp, Marked, NodeFolder, ScannedFolder, Stores};
 use node_peer::{Peer, PeerWorker, Reach};
 use node_pull::{PULLERS, PulledFolder, Puller};

@@ -9,17 +9,17 @@ use sync_record::Kind;
 
 /// The needed names of a folder that are tried now.
 #[derive(Drop)]
-pub(crate) struct PullOrder {
+pub struct PullOrder {
     /// Those with a live best, in byte order: of files next to one another as many as there are, any other alone. A directory so comes before
     /// what is in it.
-    pub(crate) live: Vec<Vec<Wanted>>,
+    pub live: Vec<Vec<Wanted>>,
     /// Those with a deleted best, in the reverse order, so that what is in a directory goes before it.
-    pub(crate) deleted: Vec<Wanted>,
+    pub deleted: Vec<Wanted>,
 }
 
 impl PullOrder {
     /// Those of these names, in byte order, that are not left alone, where so many peers are up, and a second may lie behind the last round.
-    pub(crate) fn new<W: FolderCalls>(
+    pub fn new<W: FolderCalls>(
         alloc: Global,
         calls: &mut W,
         needed: &[SafeName],

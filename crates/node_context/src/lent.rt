@@ -1,11 +1,11 @@
-//! Calls of a folder that are lent.
+//! A folder's calls, lent to a worker and given back.
+use crate::fault::NodeFault;
 use bep_messages::Items;
 use folder_calls::{
     At, BeginAnswer, Commit, EnterAllocError, EnterRefusal, FolderCalls, HistoryFull, ScanRefusal,
     Ticket,
 };
 use folder_core::{Best, Counts, Finding, Place, ScanAnswer, Stray};
-use node_context::NodeFault;
 use std::alloc::{AllocError, Global};
 use std::vec::IntoIter;
 use sync_names::SafeName;
@@ -15,18 +15,15 @@ use sync_version::{Moment, Version};
 /// The calls of a folder that another one has. Let go of, they are given back, so code that takes calls by value need not be told how those
 /// end that it is lent.
 #[derive(Drop)]
-pub(crate) struct Lent<'a, W> {
-    pub(crate) calls: &'a mut W,
+pub struct Lent<'a, W> {
+    pub calls: &'a mut W,
 }
 
 /// Calls that are lent, one after the other.
-pub(crate) type LentCalls<'a, W> = IntoIter<Lent<'a, W>>;
+pub type LentCalls<'a, W> = IntoIter<Lent<'a, W>>;
 
 /// Lends these. Fails only if out of memory.
-pub(crate) fn lend_all<'a, W>(
-    alloc: Global,
-    callers: &'a mut [W],
-) -> Result<LentCalls<'a, W>, NodeFault> {
+pub fn lend_all<'a, W>(alloc: Global, callers: &'a mut [W]) -> Result<LentCalls<'a, W>, NodeFault> {
     let mut lent = Vec::with_capacity(alloc, callers.len())?;
     let each = callers.iter_mut();
     for calls in each {
@@ -38,7 +35,7 @@ pub(crate) fn lend_all<'a, W>(
 }
 
 /// The next of these. Fails where there are fewer than workers.
-pub(crate) fn next_of<'a, W>(each: &mut LentCalls<'a, W>) -> Result<Lent<'a, W>, NodeFault> {
+pub fn next_of<'a, W>(each: &mut LentCalls<'a, W>) -> Result<Lent<'a, W>, NodeFault> {
     match each.next() {
         Some(lent) => Ok(lent),
         None => Err(NodeFault::PassesFull),

@@ -42,7 +42,7 @@ impl Retry {
 /// happens at it, or another number of peers is up; one for which the disk had no room for a minute. So a file that someone is editing, or a full disk,
 /// costs no endless downloads, and a history doesn't fill with pulls that fail.
 #[derive(Drop)]
-pub(crate) struct Retries {
+pub struct Retries {
     retries: Vec<Retry>,
     // Whether the disk had no room in this round, and whether that was told.
     lacks_room: bool,
@@ -51,7 +51,7 @@ pub(crate) struct Retries {
 
 impl Retries {
     /// None.
-    pub(crate) fn new(alloc: Global) -> Retries {
+    pub fn new(alloc: Global) -> Retries {
         Retries {
             retries: Vec::new(alloc),
             lacks_room: false,
@@ -60,20 +60,20 @@ impl Retries {
     }
 
     /// The disk had no room in this round. Returns whether that is to be told.
-    pub(crate) fn lack_room(&mut self) -> bool {
+    pub fn lack_room(&mut self) -> bool {
         self.lacks_room = true;
         !replace(&mut self.is_lack_told, true)
     }
 
     /// A round has ended, in which something was pulled or not. Where it was, and the disk had room, it is told when it has none later.
-    pub(crate) fn end_round(&mut self, has_pulled: bool) {
+    pub fn end_round(&mut self, has_pulled: bool) {
         if !replace(&mut self.lacks_room, false) && has_pulled {
             self.is_lack_told = false;
         }
     }
 
     /// What was told last of the name, if nothing happened at it since.
-    pub(crate) fn told_of(&self, wanted: &Wanted) -> Option<PullAnswer> {
+    pub fn told_of(&self, wanted: &Wanted) -> Option<PullAnswer> {
         let place = self.place_of(&wanted.name).ok()?;
         let before = &self.retries.get(place)?.wanted;
         if before.is_as(wanted) {
@@ -90,7 +90,7 @@ impl Retries {
     }
 
     /// Whether the name may be pulled in this round, in which so many peers are up, and which may be a second later than the last one.
-    pub(crate) fn is_over(&mut self, wanted: &Wanted, up: usize, is_later: bool) -> bool {
+    pub fn is_over(&mut self, wanted: &Wanted, up: usize, is_later: bool) -> bool {
         let Ok(place) = self.place_of(&wanted.name) else {
             return true;
         };
@@ -111,12 +111,7 @@ impl Retries {
     }
 
     /// The name could not be pulled, while so many peers were up, or since the disk had no room.
-    pub(crate) fn begin(
-        &mut self,
-        wanted: Wanted,
-        up: usize,
-        lacks_room: bool,
-    ) -> Result<(), AllocError> {
+    pub fn begin(&mut self, wanted: Wanted, up: usize, lacks_room: bool) -> Result<(), AllocError> {
         match self.place_of(&wanted.name) {
             Ok(place) => {
                 if let Some(retry) = self.retries.get_mut(place) {
@@ -143,7 +138,7 @@ impl Retries {
     }
 
     /// Forgets those of names that are not needed any more: of these, which are in byte order, none.
-    pub(crate) fn keep(&mut self, needed: &[SafeName]) {
+    pub fn keep(&mut self, needed: &[SafeName]) {
         self.retries.retain(|retry| {
             let text = retry.wanted.name.as_str();
             needed

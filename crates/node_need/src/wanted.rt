@@ -1,4 +1,4 @@
-//! A name that is to be pulled.
+//! A name that is to be pulled, and one that could not be.
 use std::alloc::AllocError;
 use sync_names::SafeName;
 use sync_pull::PullAnswer;
@@ -6,30 +6,30 @@ use sync_record::Record;
 
 /// What is known of a name when it is to be pulled.
 #[derive(Drop)]
-pub(crate) struct Wanted {
-    pub(crate) name: SafeName,
+pub struct Wanted {
+    pub name: SafeName,
     /// Its best.
-    pub(crate) best: Record,
+    pub best: Record,
     /// What this device has recorded of it.
-    pub(crate) local: Option<Record>,
+    pub local: Option<Record>,
     /// What was told last of a pull that failed, since something happened at the name.
-    pub(crate) told: Option<PullAnswer>,
+    pub told: Option<PullAnswer>,
 }
 
 /// That a name could not be pulled.
 #[derive(Clone, Copy)]
-pub(crate) struct Miss {
+pub struct Miss {
     /// The place of the name among those that are pulled.
-    pub(crate) place: usize,
+    pub place: usize,
     /// What was told of it.
-    pub(crate) told: Option<PullAnswer>,
+    pub told: Option<PullAnswer>,
     /// Whether the disk had no room for it.
-    pub(crate) lacks_room: bool,
+    pub lacks_room: bool,
 }
 
 impl Wanted {
     /// The same, of which the records share their memory.
-    pub(crate) fn copy(&self) -> Result<Wanted, AllocError> {
+    pub fn copy(&self) -> Result<Wanted, AllocError> {
         Ok(Wanted {
             name: self.name.copy()?,
             best: self.best.copy()?,
@@ -42,14 +42,14 @@ impl Wanted {
     }
 
     /// The same, of which this was told.
-    pub(crate) fn told(&self, told: Option<PullAnswer>) -> Result<Wanted, AllocError> {
+    pub fn told(&self, told: Option<PullAnswer>) -> Result<Wanted, AllocError> {
         let mut wanted = self.copy()?;
         wanted.told = told;
         Ok(wanted)
     }
 
     /// It could not be pulled, and this is told of it.
-    pub(crate) fn miss(&self, place: usize, answer: PullAnswer) -> Miss {
+    pub fn miss(&self, place: usize, answer: PullAnswer) -> Miss {
         Miss {
             place,
             told: Some(answer),
@@ -58,7 +58,7 @@ impl Wanted {
     }
 
     /// It could not be pulled, since the disk has no room. This is told for all names at once.
-    pub(crate) fn miss_for_room(&self, place: usize) -> Miss {
+    pub fn miss_for_room(&self, place: usize) -> Miss {
         Miss {
             place,
             told: self.told,
@@ -67,7 +67,7 @@ impl Wanted {
     }
 
     /// Whether nothing happened at the name since: its best and its local record have the versions that they had.
-    pub(crate) fn is_as(&self, other: &Wanted) -> bool {
+    pub fn is_as(&self, other: &Wanted) -> bool {
         let same_local = match (&self.local, &other.local) {
             (None, None) => true,
             (Some(a), Some(b)) => a.version() == b.version(),
