@@ -2,7 +2,7 @@
 use std::sync::{Mutex, Wait};
 use sync_record::Record;
 
-/// The next name that nobody took, and what the disk has no room for, for all hands that pull names of a folder.
+/// The next name that nobody took, and what the disk has no room for, for all pullers of a folder.
 #[derive(Drop)]
 pub(crate) struct Turn {
     next: Mutex<usize>,

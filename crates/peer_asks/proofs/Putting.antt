@@ -25,6 +25,6 @@ module _ {Q : Type 0} (comes : Q → Option Request → Q → Type 0) where
       → PutsEach comes from to before after
   one-more from point to before between after puts one = record {
     requests = puts.requests ++ one.0 ∷ [];
-    came = come-more from puts.requests point one.0 to puts.came one.1;
+    came = come-more comes from puts.requests point one.0 to puts.came one.1;
     put = joined before between after puts.requests one.0 puts.put one.2;
   }

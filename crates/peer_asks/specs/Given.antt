@@ -6,6 +6,11 @@ use Rattle.sync_record.specs.Devices.{Identity}
 use Rattle.sync_record.specs.Records.{Name}
 use Rattle.peer_asks.specs.declared.ask.Ask.{Ask}
 use Rattle.peer_asks.specs.declared.fault.AskFault.{AskFault}
+use Rattle.peer_asks.specs.declared.fault.AskFault.TheVariants.{OutOfMemory}
+
+abbrev pub is_out_of_memory : AskFault → Bool
+is_out_of_memory OutOfMemory = true
+is_out_of_memory _ = false
 
 -- the device was asked for this block of this file
 pub record IsFor (device : Identity) (n : Name) (block : Block) (ask : Ask) : Type 0 where
@@ -14,11 +19,11 @@ pub record IsFor (device : Identity) (n : Name) (block : Block) (ask : Ask) : Ty
   pub block_is : ask.block ≡ block
 
 module _ {P : Type 0} (device : P → Identity) (refuses : P → Name → Block → AskFault → Type 0) (brings : P → Ask → Option (List ℕ) → Type 0) where
-  -- the peer gave the bytes, or none, of a Request for this block; or it was not asked
+  -- the peer gave the bytes, or none, of a Request for this block; or it was not asked, for another reason than memory
   abbrev pub GivesOf : P → Name → Block → Bool → List ℕ → Type 0
   GivesOf peer n block true bytes = (ask : Ask) × IsFor (device peer) n block ask × brings peer ask (Some bytes)
   GivesOf peer n block false bytes =
-      ((ask : Ask) × IsFor (device peer) n block ask × brings peer ask None) ⊎ ((fault : AskFault) × refuses peer n block fault)
+      ((ask : Ask) × IsFor (device peer) n block ask × brings peer ask None) ⊎ ((fault : AskFault) × (is_out_of_memory fault ≡ false) × refuses peer n block fault)
 
   -- the first of the peers that is the device gave them; none where no peer is
   abbrev pub GivesBlock : List P → Identity → Name → Block → Bool → List ℕ → Type 0

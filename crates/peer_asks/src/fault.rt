@@ -1,3 +1,7 @@
+//! Why a peer is not asked.
+ghost use Rattle.std.specs.Prelude.{◌≡◌};
+ghost use Rattle.peer_asks.specs.Given.{is_out_of_memory};
+
 use std::alloc::AllocError;
 use thiserror::Error;
 
@@ -16,6 +20,18 @@ pub enum AskFault {
     /// Memory is out.
     #[error("OutOfMemory")]
     OutOfMemory,
+}
+
+impl AskFault {
+    /// Whether memory is out.
+    pub(crate) fn is_out_of_memory(self) -> bool
+        ensures { result ≡ is_out_of_memory self }
+    {
+        match self {
+            AskFault::OutOfMemory => true,
+            AskFault::NotConnected | AskFault::TooManyAsks | AskFault::TooLarge => false,
+        }
+    }
 }
 
 impl From<AllocError> for AskFault {

@@ -2,7 +2,6 @@
 ghost use Rattle.std.specs.Prelude.{◌≡◌, bytes_eq};
 ghost use Rattle.std.specs.List.{position};
 
-use crate::fault::AskFault;
 use crate::lane::Lane;
 use crate::peer::{FolderPeer, PeerAsks, PeerBook};
 use std::alloc::{AllocError, Global};
@@ -104,7 +103,7 @@ impl<R: Wait + Clock, P: PeerAsks + Drop> BlockSource for PeerSource<'_, R, P> {
         };
         match asked {
             Ok(ask) => Ok(peer.wait_for(self.rt, ask, bytes)),
-            Err(AskFault::OutOfMemory) => Err(AllocError),
+            Err(fault) if fault.is_out_of_memory() => Err(AllocError),
             Err(_) => Ok(false),
         }
     }

@@ -1,8 +1,8 @@
-use Rattle.std.proofs.Common.{◌≡◌, false, rules, refl, sym, subst, inr}
+use Rattle.std.proofs.Common.{◌≡◌, ◌∙◌, false, rules, refl, sym, subst, inr}
 use Rattle.std.specs.Prelude.{MatchResult, Some, bytes_eq, slice_get}
 use Rattle.std.specs.List.{position}
 use Rattle.std.proofs.lemmas.Option.{slice_get-get_or}
-use Rattle.peer_asks.specs.Given.{IsFor}
+use Rattle.peer_asks.specs.Given.{IsFor, is_out_of_memory}
 use Rattle.peer_asks.proofs.Giving.{of_peer, of_wait}
 use Rattle.peer_asks.proofs.source.PeerSourceBlockSource.fetch.Goals as goal
 use Rattle.peer_asks.proofs.source.PeerSourceBlockSource.fetch.Goals.{in-Some-get_mut, in-None}
@@ -31,8 +31,8 @@ returns-in-Ok g c =
       );
     }
 
-pub returns-in-Err : goal.returns-in-Err
-returns-in-Err g c =
+pub returns-in-Err-2 : goal.returns-in-Err-2
+returns-in-Err-2 g c =
     let device = g.P.PeerAsks.device in
     let refuses = g.P.PeerAsks.refuses in
     let brings = g.P.PeerAsks.brings in
@@ -46,10 +46,12 @@ returns-in-Err g c =
       | in-Some-get_mut w ↦ subst (λ r. MatchResult r (IsFor (device peer) n block) (refuses peer n block)) (sym w.asked-is) w.ask-asked.ensures
       | in-None w ↦ subst (λ r. MatchResult r (IsFor (device peer) n block) (refuses peer n block)) (sym w.asked-is) w.ask-asked-in-None.ensures
     ] in
-    let refused = subst (λ r. MatchResult r (IsFor (device peer) n block) (refuses peer n block)) c.in-Err.is asked in
+    let refused = subst (λ r. MatchResult r (IsFor (device peer) n block) (refuses peer n block)) c.in-Err-2.is asked in
+    let same : c.in-Err.fault ≡ c.in-Err-2.field-0 = cc (c.in-Err.is, c.in-Err-2.is) in
+    let other = subst (λ f. is_out_of_memory f ≡ false) same (sym c.is_out_of_memory.ensures ∙ c.if-is_out_of_memory.false) in
     record {
       gives = (
-        of_peer device refuses brings peers c.args.device n block false c.args.bytes.now.items c.in-Some.at peer found at (inr (c.in-Err.field-0, refused)),
+        of_peer device refuses brings peers c.args.device n block false c.args.bytes.now.items c.in-Some.at peer found at (inr (c.in-Err-2.field-0, other, refused)),
         refl,
       );
     }
