@@ -80,14 +80,14 @@ pub(crate) struct Outside<'a, T> {
 }
 
 /// Runs nodes, one after another, until one stops for another reason than that a history is full. Each one's state is written. Returns whether all
-/// commands were answered.
+/// commands were answered. What reads the commands then ends too, since nobody takes them.
 pub(crate) fn run_nodes<R, T, O>(
     rt: &R,
     alloc: Global,
     config: &Config,
     node: NextNode,
     outside: &Outside<T>,
-    lines: &Receiver<InputLine>,
+    lines: Receiver<InputLine>,
     output: &mut O,
 ) -> Result<io::Result<()>, RunFailure>
 where
@@ -98,7 +98,7 @@ where
 {
     let mut node = node;
     for _ in rt.forever() {
-        let (state, answered, why) = run_once(rt, alloc, config, node, outside, lines, output)?;
+        let (state, answered, why) = run_once(rt, alloc, config, node, outside, &lines, output)?;
         if why == NodeStop::Quit {
             return Ok(answered);
         }

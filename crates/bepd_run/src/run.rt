@@ -142,7 +142,7 @@ where
     let ((), ended) = join(
         rt,
         || read_commands(rt, alloc, input, sender),
-        || run_nodes(rt, alloc, config, node, outside, &lines, output),
+        || run_nodes(rt, alloc, config, node, outside, lines, output),
     );
     ended
 }
