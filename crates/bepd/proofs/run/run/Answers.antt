@@ -25,8 +25,8 @@ returns-in-Text-clause-best g c = λ program folder line plain. absurd (asked_be
 pub returns-in-Refused-clause-best : goal.returns-in-Refused-clause-best
 returns-in-Refused-clause-best g c = λ program folder line plain. absurd (asked_best c.args.words.now _ program folder line plain c.in-Refused.ensures)
 
-pub returns-in-OutOfMemory-clause-best : goal.returns-in-OutOfMemory-clause-best
-returns-in-OutOfMemory-clause-best g c = λ program folder line plain.
+pub returns-clause-best : goal.returns-clause-best
+returns-clause-best g c = λ program folder line plain.
     lists_nothing folder c.end-in-OutOfMemory.result (g.R.Read.remaining c.args.input.now) (g.W.Write.contents c.args.output.now)
     (g.E.Write.contents c.args.errors.now) (g.E.Write.contents c.end-in-OutOfMemory.new.errors) c.end-in-OutOfMemory.ensures.ends
 
@@ -42,8 +42,8 @@ returns-in-Text-clause-pair g c = λ program line. absurd (asked_pair c.args.wor
 pub returns-in-Refused-clause-pair : goal.returns-in-Refused-clause-pair
 returns-in-Refused-clause-pair g c = λ program line. absurd (asked_pair c.args.words.now _ program line c.in-Refused.ensures)
 
-pub returns-in-OutOfMemory-clause-pair : goal.returns-in-OutOfMemory-clause-pair
-returns-in-OutOfMemory-clause-pair g c = λ program line.
+pub returns-clause-pair : goal.returns-clause-pair
+returns-clause-pair g c = λ program line.
     plays_nothing c.end-in-OutOfMemory.result (g.R.Read.remaining c.args.input.now) (g.W.Write.contents c.args.output.now)
     (g.E.Write.contents c.args.errors.now) (g.E.Write.contents c.end-in-OutOfMemory.new.errors) c.end-in-OutOfMemory.ensures.ends
 
@@ -77,8 +77,8 @@ returns-in-Refused-clause-node g c = λ program path line plain. absurd (asked_r
 pub returns-in-Run-clause-node : goal.returns-in-Run-clause-node
 returns-in-Run-clause-node g c = λ program path line plain. (c.run_config.result, g.E.Write.contents c.run_config.new.errors, c.end_run.ensures.ends)
 
-pub returns-in-OutOfMemory-clause-node : goal.returns-in-OutOfMemory-clause-node
-returns-in-OutOfMemory-clause-node g c = λ program path line plain.
+pub returns-clause-node : goal.returns-clause-node
+returns-clause-node g c = λ program path line plain.
     tells_nothing c.end-in-OutOfMemory.result (g.R.Read.remaining c.args.input.now) (g.W.Write.contents c.args.output.now)
     (g.E.Write.contents c.args.errors.now) (g.E.Write.contents c.end-in-OutOfMemory.new.errors) c.end-in-OutOfMemory.ensures.ends
 
