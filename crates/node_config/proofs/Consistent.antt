@@ -1,8 +1,9 @@
 -- A configuration that a document has follows the rules.
-use Rattle.std.proofs.Common.{◌≡◌, ◌≢◌, ℕ, ◌+◌, ◌<◌, ◌≤◌, Bool, true, false, ◌&&◌, ◌||◌, List, [], ◌∷◌, ◌++◌, length, get_or, ℤ, pos, negsuc, ◌≤ℤ◌, Option, Some, None, Ok, refl, sym, subst, arith}
+use Rattle.std.proofs.Common.{◌≡◌, ◌≢◌, ℕ, ◌+◌, ◌<◌, ◌≤◌, Bool, true, false, ◌&&◌, ◌||◌, List, [], ◌∷◌, ◌++◌, length, get_or, ℤ, pos, negsuc, ◌≤ℤ◌, Option, Some, None, Ok, ◌∙◌, ap, refl, sym, subst, arith}
 use Rattle.std.specs.Prelude.{int_le, unsigned_abs, position, nat_lt, All, ◌==◌}
 use Rattle.std.specs.List.{list_any, position_or_len}
 use Rattle.std.specs.Option.{ok_or}
+use Rattle.std.specs.declared.net.socket_addr.SocketAddrV4.{SocketAddrV4}
 use Rattle.std.proofs.lemmas.Bool.{and_parts, ltb-true}
 use Rattle.std.proofs.lemmas.Bool.Decides.{nat_tests}
 use Rattle.std.proofs.lemmas.Int.{ints}
@@ -13,10 +14,11 @@ use Rattle.toml.specs.Data.{Data, Items, no_items, item, Members, get_member, as
 use Rattle.sync_record.specs.Devices.{short_id}
 use Rattle.node_config.specs.Documents.{config_of}
 use Rattle.node_config.specs.Folders.{has_id, checked_id, folder_of, folders_after, folders_at}
-use Rattle.node_config.specs.FolderNumbers.{IsIn, key_of, range_of}
+use Rattle.node_config.specs.Addresses.{socket_text}
+use Rattle.node_config.specs.FolderNumbers.{IsIn, key_of, number_in, range_of}
 use Rattle.node_config.specs.Keys.{key_name}
 use Rattle.node_config.specs.Peers.{is_taken, is_short_id_taken, checked_device, place_of, places_after, places_at, listens_at, checked_listen, address_of, address_at, peer_of, peers_after, peers_at}
-use Rattle.node_config.specs.Rules.{IsFolder, AreFolders, ArePeers, IsConsistent}
+use Rattle.node_config.specs.Rules.{IsFolder, AreFolders, ArePeers, IsConsistent, IsListenedAt}
 use Rattle.node_config.specs.Values.{text_of, text_at, array_at, number_or_default, number_at, device_at, tables_of, table_of}
 use Rattle.node_config.specs.declared.config.Config.{Config}
 use Rattle.node_config.specs.declared.config.FolderConfig.{FolderConfig}
@@ -30,6 +32,7 @@ use Rattle.node_config.specs.declared.key.Key.TheVariants.{Name, State, Folder a
 use Rattle.node_config.specs.declared.key.Place.{Place}
 use Rattle.node_config.specs.declared.key.Place.TheVariants.{Node, Folder, Peer}
 use Rattle.node_config.specs.declared.key.Problem.TheVariants.{NotInteger, NotStrings}
+use Rattle.node_config.proofs.AddressLemmas.{same_socket}
 use Rattle.node_config.proofs.Steps.{both, value_of, passed, tested, some_where, none_passes, differs}
 
 -- folders
@@ -54,13 +57,20 @@ number_found place number n (Some value) h =
     let (test, same) = tested (int_le range.low x && int_le x range.high) x _ n rest in
     subst (IsIn range) same (within range.low range.high x test)
 
-limit_range : (z : ℤ) → IsIn (range_of HistoryLimit) z → (1 ≤ unsigned_abs z) × (unsigned_abs z ≤ 100000000)
-limit_range (pos n) (l, g) = (omega (arith, ints), omega (arith, ints))
-limit_range (negsuc n) (l, g) = absurd (omega (arith, ints))
+-- numbers that are not negative are kept without a sign
+limit_kept : (z : ℤ) → IsIn (range_of HistoryLimit) z → IsIn (range_of HistoryLimit) (pos (unsigned_abs z))
+limit_kept (pos n) h = h
+limit_kept (negsuc n) (l, g) = absurd (omega (arith, ints))
 
-rescan_range : (z : ℤ) → IsIn (range_of Rescan) z → unsigned_abs z ≤ 31536000
-rescan_range (pos n) (l, g) = omega (arith, ints)
-rescan_range (negsuc n) (l, g) = absurd (omega (arith, ints))
+rescan_kept : (z : ℤ) → IsIn (range_of Rescan) z → IsIn (range_of Rescan) (pos (unsigned_abs z))
+rescan_kept (pos n) h = h
+rescan_kept (negsuc n) (l, g) = absurd (omega (arith, ints))
+
+in_ranges : (folder : FolderConfig) → IsIn (range_of HistoryLimit) (pos folder.history_limit) → IsIn (range_of MaxConflicts) folder.max_conflicts → IsIn (range_of Rescan) (pos folder.rescan)
+    → (number : FolderNumber) → IsIn (range_of number) (number_in number folder)
+in_ranges folder limit most seconds HistoryLimit = limit
+in_ranges folder limit most seconds MaxConflicts = most
+in_ranges folder limit most seconds Rescan = seconds
 
 not_empty : (id : List ℕ) → (length id == 0) ≡ false → id ≢ []
 not_empty [] h = cc h
@@ -89,7 +99,7 @@ folder_found earlier value folder h =
     let b = number_found (Folder (length earlier + 1)) MaxConflicts most (get_member (key_name (key_of MaxConflicts)) table) m in
     let c = number_found (Folder (length earlier + 1)) Rescan seconds (get_member (key_name (key_of Rescan)) table) r in
     subst (λ (f : FolderConfig). IsFolder f × (list_any (has_id f.id) earlier ≡ false)) same
-    (record { id = is.0; history_limit = limit_range limit a; max_conflicts = b; rescan = rescan_range seconds c }, is.1)
+    (record { id = is.0; numbers = in_ranges made (limit_kept limit a) b (rescan_kept seconds c) }, is.1)
 
 more_folders : (earlier : List FolderConfig) (folder : FolderConfig) → AreFolders earlier → IsFolder folder × (list_any (has_id folder.id) earlier ≡ false) → AreFolders (earlier ++ folder ∷ [])
 more_folders earlier folder e h = (
@@ -149,27 +159,37 @@ device_found me earlier place identity device h =
 differ : (m n : ℕ) → (m == n) ≡ false → m ≢ n
 differ m n h = grind (arith, nat_tests)
 
--- the address is listened at for no earlier peer
+-- no earlier peer is listened for at the address
 abbrev IsApart : List PeerConfig → PeerAddress → Type 0
-IsApart earlier address = (k : ℕ) (d : PeerConfig) → k < length earlier → (text : List ℕ) → (get_or earlier k d).address ≡ Listen text → address ≢ Listen text
+IsApart earlier address = (k : ℕ) (d : PeerConfig) → k < length earlier → (one other : List ℕ) → (get_or earlier k d).address ≡ Listen one → address ≡ Listen other → socket_text one ≢ socket_text other
 
-listens_there : (address : PeerAddress) (text : List ℕ) → address ≡ Listen text → listens_at text address ≡ true
-listens_there (Dial t) text e = cc e
-listens_there (Listen t) text e = (bytes_eq-Decides t text).1 (cc e)
+listens_there : (address : PeerAddress) (one text : List ℕ) → address ≡ Listen one → socket_text one ≡ socket_text text → listens_at text address ≡ true
+listens_there (Dial t) one text e same = cc e
+listens_there (Listen t) one text e same =
+    let there : t ≡ one = cc e in
+    (bytes_eq-Decides (socket_text t) (socket_text text)).1 (ap socket_text there ∙ same)
 
 listen_found : (earlier : List PeerConfig) (place : Place) (text : List ℕ) (address : PeerAddress) → checked_listen earlier place text ≡ Ok address → IsApart earlier address
 listen_found earlier place text address h =
     let (none, last) = passed (list_any (λ peer. listens_at text peer.address) earlier) _ _ address h in
-    λ k d inside other there here.
-    let same : other ≡ text = cc (last, here) in
-    let heard = listens_there (get_or earlier k d).address other there in
-    cc (none_passes (λ peer. listens_at text peer.address) earlier k d none inside, subst (λ (t : List ℕ). listens_at t (get_or earlier k d).address ≡ true) same heard)
+    λ k d inside one other there here same.
+    let it : other ≡ text = cc (last, here) in
+    let heard = listens_there (get_or earlier k d).address one text there (same ∙ ap socket_text it) in
+    cc (none_passes (λ peer. listens_at text peer.address) earlier k d none inside, heard)
+
+apart_at : (one other : PeerConfig) → ((text text' : List ℕ) → one.address ≡ Listen text → other.address ≡ Listen text' → socket_text text ≢ socket_text text')
+    → (address : SocketAddrV4) → IsListenedAt address one → IsListenedAt address other → ⊥
+apart_at one other apart address (text, there, h) (text', here, k) = apart text text' there here ((same_socket text text' address address h k).1 refl)
+
+apart_by : (one other : PeerConfig) → ((text text' : List ℕ) → one.address ≡ Listen text → other.address ≡ Listen text' → socket_text text ≢ socket_text text')
+    → (text : List ℕ) → one.address ≡ Listen text → other.address ≢ Listen text
+apart_by one other apart text there here = apart text text there here refl
 
 address_found : (earlier : List PeerConfig) (place : Place) (dial listen : Option Data) (address : PeerAddress) → address_of earlier place dial listen ≡ Ok address → IsApart earlier address
 address_found earlier place None None address h = cc h
 address_found earlier place (Some dial) None address h =
     let (text, t, last) = both (text_of place DialKey dial) (λ text. Ok (Dial text)) address h in
-    λ k d inside other there here. cc (last, here)
+    λ k d inside one other there here. cc (last, here)
 address_found earlier place None (Some listen) address h =
     let (text, t, last) = both (text_of place ListenKey listen) (checked_listen earlier place) address h in
     listen_found earlier place text address last
@@ -201,7 +221,8 @@ more_peers me folders earlier peer e h =
       places = All-push (λ p. All (λ k. k < length folders) p.folders) earlier peer e.places h.0;
       own_id = All-push (λ p. short_id p.device ≢ short_id me) earlier peer e.own_id (λ same. differ _ _ own (sym same));
       short_ids = all_pairs_push (λ a b. short_id a.device ≢ short_id b.device) earlier peer e.short_ids (λ k d inside. differ (short_id (get_or earlier k d).device) (short_id peer.device) (none_passes (λ p. short_id p.device == short_id peer.device) earlier k d others inside));
-      listens = all_pairs_push (λ a b. (text : List ℕ) → a.address ≡ Listen text → b.address ≢ Listen text) earlier peer e.listens h.2;
+      listens = all_pairs_push (λ a b. (address : SocketAddrV4) → IsListenedAt address a → IsListenedAt address b → ⊥) earlier peer e.listens (λ k d inside. apart_at (get_or earlier k d) peer (h.2 k d inside));
+      listen_texts = all_pairs_push (λ a b. (text : List ℕ) → a.address ≡ Listen text → b.address ≢ Listen text) earlier peer e.listen_texts (λ k d inside. apart_by (get_or earlier k d) peer (h.2 k d inside));
     }
 
 peers_found : (me : List ℕ) (folders : List FolderConfig) (earlier : List PeerConfig) (values : Items) (peers : List PeerConfig) → peers_after me folders earlier values ≡ Ok peers → ArePeers me (length folders) earlier → ArePeers me (length folders) peers
@@ -218,6 +239,7 @@ no_peers me number = record {
   own_id = All-nil (λ p. short_id p.device ≢ short_id me);
   short_ids = λ i j d a b. absurd (omega arith);
   listens = λ i j d a b. absurd (omega arith);
+  listen_texts = λ i j d a b. absurd (omega arith);
 }
 
 peers_at_found : (me : List ℕ) (folders : List FolderConfig) (document : Members) (peers : List PeerConfig) → peers_at me folders document ≡ Ok peers → ArePeers me (length folders) peers

@@ -4,6 +4,7 @@ use Rattle.std.specs.List.{list_any}
 use Rattle.std.specs.Option.{ok_or}
 use Rattle.toml.specs.Data.{Data, Items, no_items, item, Members, get_member, as_str}
 use Rattle.sync_record.specs.Devices.{short_id}
+use Rattle.node_config.specs.Addresses.{socket_text}
 use Rattle.node_config.specs.Folders.{has_id}
 use Rattle.node_config.specs.Keys.{key_name}
 use Rattle.node_config.specs.Values.{◌>>=◌, text_of, array_at, device_at, table_of, tables_of}
@@ -48,12 +49,12 @@ places_after folders place earlier (item value values) =
 abbrev pub places_at : List FolderConfig → Members → Place → Result (List ℕ) ConfigFault
 places_at folders table place = array_at table place Folders >>= places_after folders place []
 
--- the peer is listened for at this address
+-- the peer is listened for at the socket that this text means
 abbrev pub listens_at : List ℕ → PeerAddress → Bool
 listens_at text (Dial dialled) = false
-listens_at text (Listen listened) = bytes_eq listened text
+listens_at text (Listen listened) = bytes_eq (socket_text listened) (socket_text text)
 
--- an address that is not listened at for an earlier peer
+-- an address at whose socket no earlier peer is listened for
 abbrev pub checked_listen : List PeerConfig → Place → List ℕ → Result PeerAddress ConfigFault
 checked_listen earlier place text =
     if list_any (λ peer. listens_at text peer.address) earlier then Err (BadKey place ListenKey Repeats)

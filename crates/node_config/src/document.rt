@@ -23,8 +23,8 @@ use toml::de::Error;
 ///   says that it is a line of the text, since none says where that reader stops.
 /// - [`ConfigFault::BadKey`] if a key is absent, has a value of another type or is out of its range; if a folder's id is empty or that of
 ///   another folder; if a peer's `folders` has a string that is no folder's id; if two devices, this one and the peers, have the same
-///   identity or the same first 8 bytes of it; if a peer has both `dial` and `listen`, or neither; if two peers have the same text in
-///   `listen`. Of several such keys it is the first, in this order: `device`, `name`, `state`, then each folder and each peer in the
+///   identity or the same first 8 bytes of it; if a peer has both `dial` and `listen`, or neither; if two peers have the same address in
+///   `listen`, where `localhost` is 127.0.0.1. Of several such keys it is the first, in this order: `device`, `name`, `state`, then each folder and each peer in the
 ///   order of the document, with the keys of each in the order of the crate's table.
 /// - [`ConfigFault::OutOfMemory`] if memory ran out, and never for a text of white space and comments alone. For other texts no clause can
 ///   say that there is memory.

@@ -12,7 +12,7 @@
 //! | `[[folder]]` `rescan` | 0 to 31,536,000 seconds, or 3,600 where it is absent |
 //! | `[[peer]]` `device` | as above, unlike that of each other device, also in its first 8 bytes |
 //! | `[[peer]]` `folders` | an array of the ids of folders above |
-//! | `[[peer]]` `dial` or `listen` | one of them: an address; no two peers have the same text in `listen` |
+//! | `[[peer]]` `dial` or `listen` | one of them: an address; no two peers have the same in `listen`, where `localhost` is 127.0.0.1 |
 //!
 //! All but the three numbers are required. There may be no `[[folder]]` and no `[[peer]]`. Other keys are ignored.
 #![tactic(auto)]
@@ -24,6 +24,7 @@ mod fault;
 mod folder_numbers;
 mod folders;
 mod key;
+pub mod laws;
 mod overlap;
 mod peers;
 mod values;

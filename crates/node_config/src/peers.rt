@@ -7,6 +7,7 @@ ghost use Rattle.toml.specs.View.{items_view, table_view, view};
 ghost use Rattle.node_config.specs.Peers.{address_at, checked_device, checked_listen, is_short_id_taken, is_taken, listens_at, peer_of, peers_after, peers_at, place_of, places_after, places_at};
 ghost use Rattle.node_config.specs.Values.{Finds, Reads};
 
+use crate::address::is_same_socket;
 use crate::config::{FolderConfig, PeerAddress, PeerConfig};
 use crate::fault::ConfigFault;
 use crate::key::{Key, Place, Problem};
@@ -219,7 +220,7 @@ fn read_address(
     }
 }
 
-/// An address to listen at, unlike that for an earlier peer.
+/// An address to listen at, which means another socket than that for each earlier peer.
 fn read_listen(
     alloc: Global,
     earlier: &[PeerConfig],
@@ -238,17 +239,17 @@ fn read_listen(
     Ok(PeerAddress::Listen(Text::from_str(alloc, text)?))
 }
 
-/// Whether a peer is listened for at this address.
+/// Whether a peer is listened for at the socket that this text means.
 fn listens_at(text: &str, address: &PeerAddress) -> bool
     ensures { result ≡ listens_at text.now address.now }
 {
     match address {
         PeerAddress::Dial(_) => false,
-        PeerAddress::Listen(listened) => listened.as_str() == text,
+        PeerAddress::Listen(listened) => is_same_socket(listened.as_str(), text),
     }
 }
 
-/// Whether one of the peers is listened for at this address.
+/// Whether one of the peers is.
 fn is_listened_at(peers: &[PeerConfig], text: &str) -> bool
     ensures { result ≡ list_any (λ peer. listens_at text.now peer.address) peers.now }
 {

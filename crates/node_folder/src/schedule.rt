@@ -1,4 +1,6 @@
 //! When a folder is scanned next, and how many seconds lie between two scans.
+ghost use Rattle.std.specs.Prelude.{◌≡◌, ◌↔◌, IsTrue};
+ghost use Rattle.node_folder.specs.Schedules.{by_clock, first_of, later, next_retry, next_scan, settled, unscanned};
 
 /// After how many seconds a folder is scanned again of which some names could not be recorded, as a file that changed while it was read. Each
 /// time that this is so once more they are twice as many, up to an hour.
@@ -33,8 +35,10 @@ pub struct ScanSchedule {
 }
 
 impl ScanSchedule {
-    /// A folder that was not scanned yet, and is to be scanned again after so many seconds each time, or never for 0.
-    pub fn new(rescan: u64) -> ScanSchedule {
+    /// A folder that was not scanned yet, and is to be scanned again after so many seconds each time, or never for 0. It is due now.
+    pub fn new(rescan: u64) -> ScanSchedule
+        ensures { result ≡ unscanned rescan }
+    {
         ScanSchedule {
             rescan,
             left: Some(0),
@@ -43,41 +47,75 @@ impl ScanSchedule {
     }
 
     /// Whether it is to be scanned now.
-    pub fn is_due(&self) -> bool {
-        self.left == Some(0)
+    pub fn is_due(&self) -> bool
+        ensures { IsTrue result ↔ (next_scan self.now ≡ Some 0) }
+    {
+        match self.left {
+            Some(left) => left == 0,
+            None => false,
+        }
     }
 
     /// How many seconds are left until the next scan, if there is to be one.
-    pub fn left(&self) -> Option<u64> {
+    pub fn left(&self) -> Option<u64>
+        ensures { result ≡ next_scan self.now }
+    {
         self.left
     }
 
     /// So many seconds passed.
-    pub fn pass(&mut self, seconds: u64) {
+    pub fn pass(&mut self, seconds: u64)
+        ensures { self.new ≡ later seconds self.old }
+    {
         self.left = match self.left {
             Some(left) => Some(left.saturating_sub(seconds)),
             None => None,
         };
     }
 
-    /// It was scanned, and that came to this.
-    pub fn settle(&mut self, outcome: ScanOutcome) {
-        let by_clock = if self.rescan == 0 {
-            None
-        } else {
-            Some(self.rescan)
-        };
+    /// It was scanned, and that came to this. The next scan comes by the clock after a whole scan; after one that left names out, by the clock or
+    /// after 10 seconds, then 20, 40 and so on, an hour at most, whichever comes first; and where the folder is away, after 10 seconds.
+    pub fn settle(&mut self, outcome: ScanOutcome)
+        ensures { self.new ≡ settled outcome self.old }
+    {
         match outcome {
             ScanOutcome::Whole => {
+                self.left = by_clock(self.rescan);
                 self.retry = 0;
-                self.left = by_clock;
             }
             ScanOutcome::Partly => {
-                let twice = self.retry.saturating_mul(2);
-                self.retry = twice.max(SOON_SECONDS).min(MAX_SOON_SECONDS);
-                self.left = Some(by_clock.unwrap_or(self.retry).min(self.retry));
+                self.retry = next_retry(self.retry);
+                self.left = Some(first_of(by_clock(self.rescan), self.retry));
             }
             ScanOutcome::Away => self.left = Some(AWAY_SECONDS),
         }
+    }
+}
+
+// When the next scan by the clock is.
+fn by_clock(rescan: u64) -> Option<u64>
+    ensures { result ≡ by_clock rescan }
+{
+    if rescan == 0 { None } else { Some(rescan) }
+}
+
+// After how many seconds it is scanned once more, where these were the last time, or 0 for none.
+fn next_retry(retry: u64) -> u64
+    ensures { result ≡ next_retry retry }
+{
+    if retry == 0 {
+        SOON_SECONDS
+    } else {
+        retry.saturating_mul(2).min(MAX_SOON_SECONDS)
+    }
+}
+
+// The sooner of a scan by the clock, if there is one, and one that tries again.
+fn first_of(clock: Option<u64>, retry: u64) -> u64
+    ensures { result ≡ first_of clock retry }
+{
+    match clock {
+        Some(clock) => clock.min(retry),
+        None => retry,
     }
 }

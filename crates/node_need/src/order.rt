@@ -1,11 +1,16 @@
 //! The order in which the needed names of a folder are pulled.
+ghost use Rattle.std.specs.Prelude.{◌≡◌, ◌∷◌, [], IfOk};
+ghost use Rattle.sync_record.specs.Records.{is_file};
+ghost use Rattle.node_need.specs.Orders.{Chooses, IsAsked, IsOrderNow, IsOrderOf, left_after, tried};
+ghost use Rattle.node_need.specs.Retries.{retry_at};
+
 use crate::retries::Retries;
 use crate::wanted::Wanted;
 use folder_calls::FolderCalls;
 use std::alloc::{AllocError, Global};
 use std::mem::replace;
 use sync_names::SafeName;
-use sync_record::Kind;
+use sync_record::{Kind, Record};
 
 /// The needed names of a folder that are tried now.
 #[derive(Drop)]
@@ -18,7 +23,8 @@ pub struct PullOrder {
 }
 
 impl PullOrder {
-    /// Those of these names, in byte order, that are not left alone, where so many peers are up, and a second may lie behind the last round.
+    /// Those of these names, in byte order, that have a best and are not left alone, where so many peers are up, and a second may lie behind the last
+    /// round. Each is asked for once, in their order, and has what was told of it last, if nothing happened at it since. Fails only if out of memory.
     pub fn new<W: FolderCalls>(
         alloc: Global,
         calls: &mut W,
@@ -26,56 +32,112 @@ impl PullOrder {
         retries: &mut Retries,
         up: usize,
         is_later: bool,
-    ) -> Result<PullOrder, AllocError> {
-        let mut live = Vec::new(alloc);
-        let mut files = Vec::new(alloc);
-        let mut last_first = Vec::new(alloc);
+    ) -> Result<PullOrder, AllocError>
+        ensures folder { W.folder calls.new ≡ W.folder calls.old }
+        ensures order { IfOk result (λ order.
+            IsOrderNow up is_later (W.view calls.old) (retry_at retries.old) needed.now order (W.view calls.new) (retry_at retries.new)) }
+    {
+        let mut wanted = Vec::new(alloc);
         for name in needed {
-            let Some(mut wanted) = wanted_of(calls, name)? else {
-                continue;
-            };
-            wanted.told = retries.told_of(&wanted);
-            if !retries.is_over(&wanted, up, is_later) {
-                continue;
-            }
-            match (wanted.best.is_deleted(), wanted.best.kind()) {
-                (true, _) => last_first.push(wanted)?,
-                (false, Kind::File) => files.push(wanted)?,
-                (false, _) => {
-                    live.push(replace(&mut files, Vec::new(alloc)))?;
-                    files.push(wanted)?;
-                    live.push(replace(&mut files, Vec::new(alloc)))?;
-                }
+            match choose(calls, name, retries, up, is_later)? {
+                Some(one) => wanted.push(one)?,
+                None => {}
             }
         }
-        live.push(files)?;
-        Ok(PullOrder {
-            live,
-            deleted: reversed(alloc, last_first)?,
-        })
+        ordered(alloc, wanted)
+    }
+}
+
+// What is to be tried of a name: what is known of it, if it has a best and is not left alone.
+fn choose<W: FolderCalls>(
+    calls: &mut W,
+    name: &SafeName,
+    retries: &mut Retries,
+    up: usize,
+    is_later: bool,
+) -> Result<Option<Wanted>, AllocError>
+    ensures folder { W.folder calls.new ≡ W.folder calls.old }
+    ensures chosen { IfOk result (λ one.
+        Chooses up is_later (W.view calls.old) (retry_at retries.old) name.now one (W.view calls.new) (retry_at retries.new)) }
+{
+    match wanted_of(calls, name)? {
+        Some(wanted) => Ok(tried(wanted, retries, up, is_later)),
+        None => Ok(None),
+    }
+}
+
+// The same with what was told of it last, if it may be tried now.
+fn tried(wanted: Wanted, retries: &mut Retries, up: usize, is_later: bool) -> Option<Wanted>
+    ensures tried { result ≡ tried up (retry_at retries.old) (Some wanted) }
+    ensures left { retry_at retries.new ≡ left_after up is_later (retry_at retries.old) (Some wanted) }
+{
+    let mut wanted = wanted;
+    let told = retries.told_of(&wanted);
+    if retries.is_over(&wanted, up, is_later) {
+        wanted.told = told;
+        Some(wanted)
+    } else {
+        None
     }
 }
 
 // What is known of a name, if it has a best.
-fn wanted_of<W: FolderCalls>(calls: &mut W, name: &SafeName) -> Result<Option<Wanted>, AllocError> {
-    let Some(best) = calls.best(name)?.value else {
-        return Ok(None);
-    };
-    Ok(Some(Wanted {
-        name: name.copy()?,
-        best: best.record,
-        local: calls.local(name)?.value,
-        told: None,
-    }))
+fn wanted_of<W: FolderCalls>(calls: &mut W, name: &SafeName) -> Result<Option<Wanted>, AllocError>
+    ensures folder { W.folder calls.new ≡ W.folder calls.old }
+    ensures asked { IfOk result (λ wanted. IsAsked (W.view calls.old) name.now wanted (W.view calls.new)) }
+{
+    let best = calls.best(name)?;
+    match best.value {
+        Some(found) => {
+            let local = calls.local(name)?;
+            Ok(Some(Wanted {
+                name: name.copy()?,
+                best: found.record,
+                local: local.value,
+                told: None,
+            }))
+        }
+        None => Ok(None),
+    }
 }
 
-fn reversed(alloc: Global, names: Vec<Wanted>) -> Result<Vec<Wanted>, AllocError> {
-    let mut names = names;
-    let mut reversed = Vec::with_capacity(alloc, names.len())?;
-    for _ in 0..names.len() {
-        if let Some(wanted) = names.pop() {
-            reversed.push(wanted)?;
+// These names in their order: each once. Fails only if out of memory.
+fn ordered(alloc: Global, wanted: Vec<Wanted>) -> Result<PullOrder, AllocError>
+    ensures { IfOk result (IsOrderOf wanted.items) }
+{
+    let mut live = Vec::new(alloc);
+    let mut files = Vec::new(alloc);
+    let mut deleted = Vec::new(alloc);
+    for one in wanted {
+        if one.best.is_deleted() {
+            deleted.push(one)?;
+        } else if is_file(&one.best) {
+            files.push(one)?;
+        } else {
+            live.push(replace(&mut files, Vec::new(alloc)))?;
+            live.push(alone(alloc, one)?)?;
         }
     }
-    Ok(reversed)
+    live.push(files)?;
+    deleted.reverse();
+    Ok(PullOrder { live, deleted })
+}
+
+// A group of one name.
+fn alone(alloc: Global, wanted: Wanted) -> Result<Vec<Wanted>, AllocError>
+    ensures { IfOk result (λ group. group.items ≡ wanted ∷ []) }
+{
+    let mut group = Vec::new(alloc);
+    group.push(wanted)?;
+    Ok(group)
+}
+
+fn is_file(best: &Record) -> bool
+    ensures { result ≡ is_file best.now }
+{
+    match best.kind() {
+        Kind::File => true,
+        Kind::Directory => false,
+        Kind::Other => false,
+    }
 }

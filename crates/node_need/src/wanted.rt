@@ -1,4 +1,6 @@
 //! A name that is to be pulled, and one that could not be.
+ghost use Rattle.std.specs.Prelude.{◌≡◌, IfOk, false, true};
+
 use std::alloc::AllocError;
 use sync_names::SafeName;
 use sync_pull::PullAnswer;
@@ -28,28 +30,31 @@ pub struct Miss {
 }
 
 impl Wanted {
-    /// The same, of which the records share their memory.
-    pub fn copy(&self) -> Result<Wanted, AllocError> {
+    /// The same, of which the records share their memory. Fails only if out of memory. O(n) for a name of n bytes.
+    pub fn copy(&self) -> Result<Wanted, AllocError>
+        ensures { IfOk result (λ wanted. wanted ≡ self.now) }
+    {
         Ok(Wanted {
             name: self.name.copy()?,
             best: self.best.copy()?,
-            local: match &self.local {
-                Some(local) => Some(local.copy()?),
-                None => None,
-            },
+            local: copy_of(&self.local)?,
             told: self.told,
         })
     }
 
-    /// The same, of which this was told.
-    pub fn told(&self, told: Option<PullAnswer>) -> Result<Wanted, AllocError> {
+    /// The same, of which this was told. Fails only if out of memory. O(n) for a name of n bytes.
+    pub fn told(&self, told: Option<PullAnswer>) -> Result<Wanted, AllocError>
+        ensures { IfOk result (λ wanted. wanted ≡ record self.now { told = told }) }
+    {
         let mut wanted = self.copy()?;
         wanted.told = told;
         Ok(wanted)
     }
 
     /// It could not be pulled, and this is told of it.
-    pub fn miss(&self, place: usize, answer: PullAnswer) -> Miss {
+    pub fn miss(&self, place: usize, answer: PullAnswer) -> Miss
+        ensures { result ≡ record { place = place; told = Some answer; lacks_room = false } }
+    {
         Miss {
             place,
             told: Some(answer),
@@ -58,21 +63,23 @@ impl Wanted {
     }
 
     /// It could not be pulled, since the disk has no room. This is told for all names at once.
-    pub fn miss_for_room(&self, place: usize) -> Miss {
+    pub fn miss_for_room(&self, place: usize) -> Miss
+        ensures { result ≡ record { place = place; told = self.now.told; lacks_room = true } }
+    {
         Miss {
             place,
             told: self.told,
             lacks_room: true,
         }
     }
+}
 
-    /// Whether nothing happened at the name since: its best and its local record have the versions that they had.
-    pub fn is_as(&self, other: &Wanted) -> bool {
-        let same_local = match (&self.local, &other.local) {
-            (None, None) => true,
-            (Some(a), Some(b)) => a.version() == b.version(),
-            _ => false,
-        };
-        same_local && self.best.version() == other.best.version()
+// The same record, if there is one, in the same memory.
+fn copy_of(local: &Option<Record>) -> Result<Option<Record>, AllocError>
+    ensures { IfOk result (λ copy. copy ≡ local.now) }
+{
+    match local {
+        Some(local) => Ok(Some(local.copy()?)),
+        None => Ok(None),
     }
 }

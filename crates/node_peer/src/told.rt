@@ -1,7 +1,10 @@
 //! What this device tells a peer of itself: its Hello, and its ClusterConfig.
+ghost use Rattle.std.specs.Prelude.{◌≡◌};
+ghost use Rattle.node_peer.specs.Told.{IsKnown};
+
 use bep_messages::{ClusterConfig, Hello, Items, Text};
 use folder_calls::FolderCalls;
-use peer_conn::{FolderTold, cluster_config};
+use peer_conn::{FolderTold, IndexedFolder, cluster_config};
 use peer_link::LinkFolders;
 use peer_reader::PeerFolder;
 use std::alloc::{AllocError, Global};
@@ -40,20 +43,33 @@ pub(crate) fn own_config<S, W: FolderCalls>(
         ) else {
             break;
         };
-        told.push(FolderTold {
-            id: folder.id.as_str(),
-            index_id: indexed.index_id,
-            sequence: known.own,
-            peer_index_id: folder.kept_index_id,
-            peer_sequence: known.peers,
-        })?;
+        told.push(folder_told(folder, indexed, *known))?;
     }
     cluster_config(alloc, me, name, peer, told.as_slice())
 }
 
+// What the peer is told of a folder.
+fn folder_told<'a, W>(
+    folder: &'a PeerFolder<W>,
+    indexed: &IndexedFolder<W>,
+    known: Known,
+) -> FolderTold<'a>
+    ensures id { result.id.now ≡ folder.now.id }
+    ensures own { (result.index_id ≡ indexed.now.index_id) × (result.sequence ≡ known.own) }
+    ensures peers { (result.peer_index_id ≡ folder.now.kept_index_id) × (result.peer_sequence ≡ known.peers) }
+{
+    FolderTold {
+        id: folder.id.as_str(),
+        index_id: indexed.index_id,
+        sequence: known.own,
+        peer_index_id: folder.kept_index_id,
+        peer_sequence: known.peers,
+    }
+}
+
 /// The greatest sequences of a folder that this device knows.
 #[derive(Clone, Copy)]
-struct Known {
+pub(crate) struct Known {
     own: u64,
     peers: u64,
 }
@@ -65,10 +81,18 @@ fn known_of<W: FolderCalls>(
 ) -> Result<Vec<Known>, AllocError> {
     let mut known = Vec::with_capacity(alloc, read.len())?;
     for folder in read.iter_mut() {
-        let me = folder.calls.me();
-        let own = folder.calls.known(me).value;
-        let peers = folder.calls.known(peer).value;
-        known.push(Known { own, peers })?;
+        known.push(known_by(peer, &mut folder.calls))?;
     }
     Ok(known)
+}
+
+// What the folder knows, of this device and of the peer.
+fn known_by<W: FolderCalls>(peer: DeviceId, calls: &mut W) -> Known
+    ensures folder { W.folder calls.new ≡ W.folder calls.old }
+    ensures known { IsKnown peer (W.view calls.old) result (W.view calls.new) }
+{
+    let me = calls.me();
+    let own = calls.known(me).value;
+    let peers = calls.known(peer).value;
+    Known { own, peers }
 }

@@ -1,0 +1,3 @@
+pub mod MarkedStores
+pub mod Moved
+pub mod Paths

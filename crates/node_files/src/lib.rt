@@ -1,0 +1,13 @@
+//! The files of a node's folders: under a marker, by the store of a disk.
+#![tactic(auto)]
+
+mod ends;
+mod marked;
+mod root;
+mod store;
+mod stores;
+
+pub use ends::Ends;
+pub use marked::{Marked, Whereabouts};
+pub use store::FolderStore;
+pub use stores::{Disks, Stores};

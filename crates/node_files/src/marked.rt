@@ -1,0 +1,34 @@
+//! A folder that may be away for a time.
+use file_dir::Skipped;
+use sync_names::SafeName;
+
+/// Where a folder is.
+#[derive(Clone, Copy, Debug, PartialEq, Eq)]
+pub enum Whereabouts {
+    /// It is there, with its marker, and this run has it.
+    There,
+    /// It isn't there, or has no marker.
+    Away,
+    /// Another run has it.
+    InUse,
+    /// Memory ran out before that was known.
+    Unknown,
+}
+
+/// A folder that may be away for a time.
+pub trait Marked {
+    /// Where the folder is now.
+    fn look(&mut self) -> Whereabouts;
+
+    /// What its last listing left out, once.
+    fn take_skipped(&mut self) -> Vec<Skipped>;
+
+    /// The name to which a file was moved last, if one was since this was called last.
+    fn take_moved(&mut self) -> Option<SafeName>;
+
+    /// The file that is put in place next at this name gets this modification time, as far as the folder can.
+    fn set_modified(&mut self, name: &SafeName, seconds: i64, nanoseconds: u32);
+
+    /// Whether the last `StoreFault` came of a disk that is full, or of a quota.
+    fn lacks_room(&self) -> bool;
+}

@@ -1,0 +1,171 @@
+//! A node's folders on the disk: how each is opened, marked and taken.
+ghost use Rattle.std.specs.Prelude.{Bool, ℕ, List, Result, IfErr};
+ghost use Rattle.file_dir.specs.declared.marker.LockRefusal.{LockRefusal};
+ghost use Rattle.file_store.specs.Refusals.{IsPlain};
+ghost use Rattle.file_store.specs.declared.refusal.StoreRefusal.{StoreRefusal};
+
+use file_dir::{DirStore, LockRefusal, MarkerLock, Skipped};
+use file_store::{FileStore, StoreRefusal};
+use std::alloc::{AllocError, Global};
+use std::fs::{File, Files};
+use std::sync::{Mutex, Wait};
+use sync_names::SafeName;
+
+/// Where a node's folders are.
+pub trait Stores {
+    ghost use Rattle.std.specs.Prelude.{Bool, ℕ, List, Result};
+    ghost use Rattle.file_dir.specs.declared.marker.LockRefusal.{LockRefusal};
+    ghost use Rattle.file_store.specs.declared.refusal.StoreRefusal.{StoreRefusal};
+
+    /// What a worker reads and writes a folder by.
+    type Store: FileStore + Drop;
+
+    /// What opening the folder at a path may answer.
+    ghost opens: { List ℕ → Result Self.Store StoreRefusal → Type 0 };
+
+    /// What looking for the marker may answer: the store before, the answer, the store after.
+    ghost looks: { Self.Store → Result Bool StoreRefusal → Self.Store → Type 0 };
+
+    /// What taking the folder at a path may answer.
+    ghost takes: { Self.Store → List ℕ → Result (Unit {0}) LockRefusal → Self.Store → Type 0 };
+
+    /// The folder at a path, for one more worker. Fails with `StoreFault` where there is none.
+    fn open(&self, alloc: Global, path: &str) -> Result<Self::Store, StoreRefusal>
+        ensures plain { IfErr result IsPlain }
+        ensures opens { opens path.now result };
+
+    /// Whether the folder has its marker. An empty directory, at which a disk is not mounted, has none. Fails with `StoreFault` where that can't be
+    /// read.
+    fn is_marked(&self, store: &mut Self::Store) -> Result<bool, StoreRefusal>
+        ensures plain { IfErr result IsPlain }
+        ensures looks { looks store.old result store.new };
+
+    /// The file that is put in place next at this name gets this modification time, if the disk can hold it.
+    fn set_modified(
+        &self,
+        store: &mut Self::Store,
+        name: &SafeName,
+        seconds: i64,
+        nanoseconds: u32,
+    ) -> Result<(), AllocError>;
+
+    /// Whether the last `StoreFault` came of a disk that is full, or of a quota.
+    fn lacks_room(&self, store: &Self::Store) -> bool;
+
+    /// Gives the folder at a path its marker, if it is a new one; takes it, and removes temporary files that an earlier run left, if it has one. Fails
+    /// with `StoreFault` where no directory is there, and with `InUse` where another run has it.
+    fn begin(&self, alloc: Global, path: &str, is_new: bool) -> Result<(), LockRefusal>;
+
+    /// Takes the folder at a path, which has its marker, for as long as these are kept, or until it is let go of. Does nothing where they have it.
+    /// Fails with `InUse` where another run has it.
+    fn take(&self, store: &mut Self::Store, path: &str) -> Result<(), LockRefusal>
+        ensures { takes store.old path.now result store.new };
+
+    /// Lets go of the folder at a path, if these have it.
+    fn let_go(&self, path: &str);
+
+    /// What the store's last listing left out, once.
+    fn take_skipped(&self, store: &mut Self::Store) -> Vec<Skipped>;
+}
+
+/// The folders of a disk.
+#[derive(Drop)]
+pub struct Disks<'a, R> {
+    files: &'a R,
+    alloc: Global,
+    // The folders that these have.
+    taken: Mutex<Vec<Taken>>,
+}
+
+// A folder that no other run has.
+#[derive(Drop)]
+struct Taken {
+    path: String,
+    _lock: MarkerLock,
+}
+
+impl<'a, R> Disks<'a, R> {
+    /// Those of this disk.
+    pub fn new(files: &'a R, alloc: Global) -> Disks<'a, R> {
+        Disks {
+            files,
+            alloc,
+            taken: Mutex::new(Vec::new(alloc)),
+        }
+    }
+}
+
+impl<'a, R: Files<File = File> + Sync + Wait> Stores for Disks<'a, R> {
+    type Store = DirStore<&'a R>;
+
+    ghost use Rattle.std.specs.Prelude.{⊤};
+
+    ghost opens = { λ _ _. ⊤ };
+
+    ghost looks = { λ _ _ _. ⊤ };
+
+    ghost takes = { λ _ _ _ _. ⊤ };
+
+    fn open(&self, alloc: Global, path: &str) -> Result<DirStore<&'a R>, StoreRefusal> {
+        DirStore::open(self.files, alloc, path)
+    }
+
+    fn is_marked(&self, store: &mut DirStore<&'a R>) -> Result<bool, StoreRefusal> {
+        store.has_marker()
+    }
+
+    fn set_modified(
+        &self,
+        store: &mut DirStore<&'a R>,
+        name: &SafeName,
+        seconds: i64,
+        nanoseconds: u32,
+    ) -> Result<(), AllocError> {
+        store.set_modified(name, seconds, nanoseconds)
+    }
+
+    fn lacks_room(&self, store: &DirStore<&'a R>) -> bool {
+        store.lacks_room()
+    }
+
+    fn begin(&self, alloc: Global, path: &str, is_new: bool) -> Result<(), LockRefusal> {
+        let mut store = DirStore::open(self.files, alloc, path).map_err(refusal_of)?;
+        if is_new {
+            store.make_marker().map_err(refusal_of)?;
+        }
+        if store.has_marker().map_err(refusal_of)? {
+            self.take(&mut store, path)?;
+            store.remove_temps().map_err(refusal_of)?;
+        }
+        Ok(())
+    }
+
+    fn take(&self, store: &mut DirStore<&'a R>, path: &str) -> Result<(), LockRefusal> {
+        let mut taken = self.taken.lock(self.files);
+        if taken.iter().any(|it| it.path.as_str() == path) {
+            return Ok(());
+        }
+        let path = String::from_str(self.alloc, path)?;
+        let _lock = store.lock_marker()?;
+        match taken.push(Taken { path, _lock }) {
+            Ok(()) => Ok(()),
+            Err(_) => Err(LockRefusal::OutOfMemory),
+        }
+    }
+
+    fn let_go(&self, path: &str) {
+        let mut taken = self.taken.lock(self.files);
+        taken.retain(|it| it.path.as_str() != path);
+    }
+
+    fn take_skipped(&self, store: &mut DirStore<&'a R>) -> Vec<Skipped> {
+        store.take_skipped()
+    }
+}
+
+fn refusal_of(refusal: StoreRefusal) -> LockRefusal {
+    match refusal {
+        StoreRefusal::OutOfMemory => LockRefusal::OutOfMemory,
+        _ => LockRefusal::StoreFault,
+    }
+}

@@ -1,0 +1,2 @@
+-- when a folder is scanned
+pub mod Schedules

@@ -1,0 +1,3 @@
+pub mod ChoiceLemmas
+pub mod OrderLemmas
+pub mod RetryLemmas

@@ -1,0 +1,4 @@
+pub mod Restoring
+pub mod Firsts
+pub mod KeptNumbers
+pub mod Listed
