@@ -1,1 +1,2 @@
 mod Unread
+pub mod Starting

@@ -1,2 +1,3 @@
 pub mod Addresses
 pub mod Failures
+pub mod Starts

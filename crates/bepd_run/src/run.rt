@@ -3,17 +3,19 @@ ghost use Rattle.std.specs.Prelude.{◌≡◌, Err, IfErr, IfOk, IsErr, None, On
 
 use crate::failure::RunFailure;
 use crate::files::{StateFiles, read_config_file, read_state_file};
-use crate::keeping::Core;
 use crate::lock::Locked;
 use crate::nodes::{NextNode, Outside, run_nodes};
 use crate::paths::require_apart;
+use crate::starts::Core;
 use bep_messages::Text;
 use crossbeam_channel::{Receiver, Sender, bounded};
+use file_dir::LockRefusal;
+use folder_core::FolderCore;
 use node_commands::{InputLine, read_commands};
 use node_config::{Config, read_config};
 use node_context::{Log, NodeFault, ProgressStyle, write_log};
-use node_folder::Stores;
-use node_threads::{StartFolder, begin_folders};
+use node_files::Stores;
+use node_threads::StartFolder;
 use std::alloc::Global;
 use std::fs::{File, Files};
 use std::io::{self, BufRead, Write};
@@ -182,7 +184,7 @@ impl Ready {
             thread::sleep(rt, Duration::from_secs(AFTER_BAD_END));
         }
         let state = read_state_file(rt, alloc, config.device, config.state.as_str())?;
-        let node = NextNode::new(rt, alloc, config, state, is_left)?;
+        let node = NextNode::new(rt, alloc, config, &state, is_left)?;
         make_ready(alloc, stores, node.folders.as_slice())?;
         let (sender, lines) = bounded::<InputLine, Global>(alloc, 1)?;
         Ok(Ready {
@@ -209,6 +211,26 @@ fn make_ready<T: Stores>(
         }
         begun => Ok(begun?),
     }
+}
+
+// Makes each folder ready, before anybody reads or writes it: one of which nothing was recorded yet gets its marker, and temporary files that an
+// earlier run left are removed. Fails with `FolderInUse` where another run has a folder, and with `StoreFault` where the path of such a new folder is no
+// directory; one of which something was recorded may be away. The others are taken for as long as the stores are kept.
+fn begin_folders<T: Stores>(
+    alloc: Global,
+    stores: &T,
+    folders: &[StartFolder<Core>],
+) -> Result<(), NodeFault> {
+    for (place, folder) in folders.iter().enumerate() {
+        let counts = folder.core.counts();
+        let is_new = counts.files == 0 && counts.directories == 0 && counts.deletions == 0;
+        match stores.begin(alloc, folder.settings.path.as_str(), is_new) {
+            Err(LockRefusal::InUse) => return Err(NodeFault::FolderInUse(place)),
+            Err(_) if is_new => return Err(NodeFault::StoreFault),
+            _ => {}
+        }
+    }
+    Ok(())
 }
 
 // The run ended well where all was answered or could not be, and its state is written.

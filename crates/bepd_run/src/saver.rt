@@ -4,8 +4,9 @@ use crate::files::StateFiles;
 use bep_messages::{Items, Text};
 use folder_core::{Announcement, PlainFolder};
 use node_config::Config;
+use node_folder::LocalRecords;
 use node_state::{KeptIndexes, State, StoredFolder};
-use node_threads::{LocalRecords, SaveState};
+use node_threads::SaveState;
 use std::alloc::Global;
 
 /// Writes the local records of a node in its state file, without those of other devices and the numbers of their indexes: after a bad end these send

@@ -2,8 +2,9 @@
 -- part by tokens, each at a port of the channel. What a token knows: what it is about to do (state), the history that
 -- it took or put last (memo), and the histories of its passes, as far as these have seen (one of a pass, none of a blank token).
 --
--- Either the message is there and no token holds it, or it is not there and one token holds it. What a pass has seen begins the
--- history, and has all entries that the pass has in it. No two histories, of one token or of two, are of one pass.
+-- Where the message is there no token holds it, and where it is not there no two tokens hold it. (That one does then is no part of the rule: nothing
+-- rests on it.) What a pass has seen begins the history, and has all entries that the pass has in it. No two histories, of one token or of two, are of
+-- one pass.
 use Rattle.std.specs.Prelude.{◌≡◌, ◌≢◌, ◌⊎◌, ℕ, ◌+◌, ◌≤◌, ◌<◌, nat_le, if◌then◌else◌, List, [], ◌∷◌, ◌++◌, length, map}
 use mathlib.Core.Option.{some}
 use lib.ListN.{get_elem?}
@@ -61,7 +62,7 @@ pub record Fits (m : History) (items : List History) (holder : ℕ) (seat : ℕ 
   pub sits : SitAt seat port v.histories
   pub fit : AreFit m v.histories
 
--- the folder was put under the lock: it is there, or one token holds it
+-- the folder was put under the lock: it is there, or it is away, and then no token but the one at the holder's port holds it
 pub record Runs (items : List History) (views : List Known) : Type 0 where
   pub now : History
   pub holder : ℕ

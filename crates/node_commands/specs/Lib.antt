@@ -1,1 +1,4 @@
 pub mod Commands
+pub mod Folders
+pub mod Read
+pub mod Refused

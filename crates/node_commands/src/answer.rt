@@ -1,13 +1,20 @@
 //! What is answered to commands.
+ghost use Rattle.std.specs.Prelude.{◌≡◌, IfErr, IfOk, MatchResult, position};
+ghost use Rattle.std.specs.IoError.{error_kind};
+ghost use Rattle.node_commands.specs.Folders.{IsFolderOf, IsOfNoFolder, has_id, place_of};
+ghost use Rattle.node_commands.specs.Read.{AreReadTo, AreReadUntil, FailsAt, IsEnd, IsLast};
+ghost use Rattle.node_commands.specs.Refused.{Refuses};
+
 use crate::command::Command;
-use crate::lines::InputLine;
+use crate::command_lines::CommandLines;
+use crate::lines::{InputLine, is_last};
 use crate::listing::{Listed, list, list_needed};
 use crate::refusal::{Refusal, tell};
-use crossbeam_channel::{Receiver, RecvTimeoutError};
 use file_store::{FileStore, Gate};
 use folder_calls::FolderCalls;
 use node_context::{Context, Host, NodeFault};
-use node_folder::{FolderWorker, Marked, scan_folder};
+use node_files::{Marked, Whereabouts};
+use node_folder::{FolderWorker, scan_folder};
 use std::io::{self, Write};
 use std::sync::Wait;
 use std::time::Duration;
@@ -30,14 +37,72 @@ pub struct Answerer<'x, 'h, 'p, V, S, W> {
     pub peers: &'p [DeviceId],
 }
 
-/// Answers each line of the commands, up to `quit` or their end, or until the node stops. Fails where a line can't be read, or an answer can't be
-/// written.
-pub fn answer_commands<R, V, S, W, G, O>(
+/// How the commands ended.
+#[derive(Clone, Copy, Debug, PartialEq, Eq)]
+pub enum CommandsEnd {
+    /// They were read up to `quit`, or to their end.
+    Read,
+    /// The node stopped before.
+    Stopped,
+}
+
+/// Answers each line of the commands, up to `quit` or their end, or until the node stops, which is looked at before each line, and each second.
+/// Fails where a line can't be read, or an answer can't be written.
+pub fn answer_commands<R, V, L, S, W, G, O>(
     cx: &Context<R, G>,
     answerer: &mut Answerer<V, S, W>,
-    lines: &Receiver<InputLine>,
+    lines: &mut L,
     output: &mut O,
-) -> io::Result<()>
+) -> io::Result<CommandsEnd>
+where
+    R: Host,
+    V: Histories,
+    L: CommandLines,
+    S: FileStore + Marked,
+    W: FolderCalls,
+    G: Gate,
+    O: Write,
+    ensures read { IfOk result (λ end. AreReadTo L.gives lines.old end lines.new) }
+    ensures failed { IfErr result (λ error. AreReadUntil L.gives lines.old (error_kind error) lines.new) }
+{
+    for _ in cx.rt.forever() {
+        if cx.is_stopping() {
+            return Ok(CommandsEnd::Stopped);
+        }
+        let Some(line) = lines.next_within(cx.rt, Duration::from_secs(1)) else {
+            continue;
+        };
+        if is_last(&line) {
+            return end_at(&line);
+        }
+        tell(answer_line(cx, answerer, &line, output), output)?;
+        output.flush()?;
+    }
+    unreachable!()
+}
+
+// How the commands end at their last line.
+fn end_at(line: &InputLine) -> io::Result<CommandsEnd>
+    requires { IsLast line.now }
+    ensures ended { IfOk result (λ end. (end ≡ CommandsEnd.Read) × IsEnd line.now) }
+    ensures failed { IfErr result (λ error. FailsAt line.now (error_kind error)) }
+{
+    match line {
+        InputLine::Line(_) => Ok(CommandsEnd::Read),
+        // (it is no last line)
+        InputLine::NoMemory => Ok(CommandsEnd::Read),
+        InputLine::End => Ok(CommandsEnd::Read),
+        InputLine::Failed(kind) => Err(io::Error::from(*kind)),
+    }
+}
+
+// Writes what is answered to a line.
+fn answer_line<R, V, S, W, G, O>(
+    cx: &Context<R, G>,
+    answerer: &mut Answerer<V, S, W>,
+    line: &InputLine,
+    output: &mut O,
+) -> Result<(), Refusal>
 where
     R: Host,
     V: Histories,
@@ -45,26 +110,16 @@ where
     W: FolderCalls,
     G: Gate,
     O: Write,
+    ensures { Refuses answerer.old.folders.items line.now result }
 {
-    for _ in cx.rt.forever() {
-        if cx.is_stopping() {
-            break;
-        }
-        let answered = match lines.recv_timeout(cx.rt, Duration::from_secs(1)) {
-            Ok(InputLine::Line(line)) => match Command::parse(line.as_str()) {
-                Some(Command::Quit) => break,
-                Some(command) => answer(cx, answerer, command, output),
-                None => Err(Refusal::UnknownCommand),
-            },
-            Ok(InputLine::NoMemory) => Err(Refusal::OutOfMemory),
-            Ok(InputLine::Failed(kind)) => return Err(io::Error::from(kind)),
-            Ok(InputLine::End) | Err(RecvTimeoutError::Disconnected) => break,
-            Err(RecvTimeoutError::Timeout) => continue,
-        };
-        tell(answered, output)?;
-        output.flush()?;
+    match line {
+        InputLine::Line(text) => match Command::parse(text.as_str()) {
+            Some(command) => answer(cx, answerer, command, output),
+            None => Err(Refusal::UnknownCommand),
+        },
+        InputLine::NoMemory => Err(Refusal::OutOfMemory),
+        InputLine::End | InputLine::Failed(_) => Ok(()),
     }
-    Ok(())
 }
 
 // Writes what is answered to a command.
@@ -81,6 +136,7 @@ where
     W: FolderCalls,
     G: Gate,
     O: Write,
+    ensures { IsOfNoFolder answerer.old.folders.items command.entry → result ≡ Err Refusal.UnknownFolder }
 {
     let Answerer {
         folders,
@@ -124,21 +180,34 @@ where
     }
 }
 
+// The first folder of this id.
 fn folder_in<'a, 'b, S, W>(
     folders: &'a mut [FolderWorker<'b, S, W>],
     id: &str,
-) -> Result<&'a mut FolderWorker<'b, S, W>, Refusal> {
-    match folders.iter_mut().find(|worker| worker.folder.id() == id) {
-        Some(worker) => Ok(worker),
+) -> Result<&'a mut FolderWorker<'b, S, W>, Refusal>
+    ensures { MatchResult result (λ worker. IsFolderOf id.now folders.old worker.now) (λ refusal. place_of id.now folders.old ≡ Err refusal) }
+{
+    let place = place_in(folders, id)?;
+    Ok(&mut folders[place])
+}
+
+// Where it stands among the folders.
+fn place_in<S, W>(folders: &[FolderWorker<S, W>], id: &str) -> Result<usize, Refusal>
+    ensures { result ≡ place_of id.now folders.now }
+{
+    match position_of(folders, id) {
+        Some(place) => Ok(place),
         None => Err(Refusal::UnknownFolder),
     }
 }
 
-fn place_in<S, W>(folders: &[FolderWorker<S, W>], id: &str) -> Result<usize, Refusal> {
-    match folders.iter().position(|worker| worker.folder.id() == id) {
-        Some(place) => Ok(place),
-        None => Err(Refusal::UnknownFolder),
-    }
+// The same, if there is one.
+fn position_of<S, W>(folders: &[FolderWorker<S, W>], id: &str) -> Option<usize>
+    ensures { result ≡ position (has_id id.now) folders.now }
+{
+    folders
+        .iter()
+        .position(|worker| worker.folder.settings.id.as_str() == id)
 }
 
 fn scan<R: Host, S: FileStore + Marked, W: FolderCalls, G: Gate, O: Write>(
@@ -146,7 +215,7 @@ fn scan<R: Host, S: FileStore + Marked, W: FolderCalls, G: Gate, O: Write>(
     worker: &mut FolderWorker<S, W>,
     output: &mut O,
 ) -> Result<(), Refusal> {
-    if !worker.store.is_there() {
+    if worker.store.look() != Whereabouts::There {
         return Err(Refusal::FolderMissing);
     }
     let sum = scan_folder(cx, worker, false);

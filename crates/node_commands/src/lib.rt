@@ -3,9 +3,11 @@
 
 mod answer;
 mod command;
+mod command_lines;
 mod lines;
 mod listing;
 mod refusal;
 
-pub use answer::{Answerer, Histories, answer_commands};
+pub use answer::{Answerer, CommandsEnd, Histories, answer_commands};
+pub use command_lines::CommandLines;
 pub use lines::{InputLine, read_commands};

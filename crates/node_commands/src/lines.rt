@@ -1,4 +1,7 @@
 //! The lines of the input, before they are commands.
+ghost use Rattle.std.specs.Prelude.{◌↔◌, IsTrue};
+ghost use Rattle.node_commands.specs.Read.{IsLast};
+
 use crossbeam_channel::Sender;
 use std::alloc::Global;
 use std::io::{self, BufRead, ErrorKind};
@@ -45,6 +48,18 @@ pub enum InputLine {
     Failed(ErrorKind),
 }
 
+/// Whether it is the last that is read: `quit`, the end of the commands, or that they can't be read any more.
+pub(crate) fn is_last(line: &InputLine) -> bool
+    ensures { IsTrue result ↔ IsLast line.now }
+{
+    match line {
+        InputLine::Line(text) => text.as_str() == "quit",
+        InputLine::NoMemory => false,
+        InputLine::End => true,
+        InputLine::Failed(_) => true,
+    }
+}
+
 // The next line of the commands, kept in `line`, or their end.
 fn next_of<I: BufRead>(input: &mut I, line: &mut Vec<u8>, alloc: Global) -> InputLine {
     match read_line(input, line) {
@@ -67,7 +82,7 @@ fn text_of(line: &[u8]) -> &str {
     str::from_utf8(line).unwrap_or("")
 }
 
-/// Reads the commands, a line at a time, for whoever answers them, up to `quit` or their end.
+/// Reads the commands, a line at a time, for whoever answers them, up to `quit` or their end, or until they can't be read any more.
 pub fn read_commands<R: Wait, I: BufRead>(
     rt: &R,
     alloc: Global,
@@ -77,12 +92,8 @@ pub fn read_commands<R: Wait, I: BufRead>(
     let mut line = Vec::new(alloc);
     for _ in rt.forever() {
         let line_read = next_of(input, &mut line, alloc);
-        let is_last = match &line_read {
-            InputLine::Line(text) => text.as_str() == "quit",
-            InputLine::NoMemory => false,
-            InputLine::End | InputLine::Failed(_) => true,
-        };
-        if answerer.send(rt, line_read).is_err() || is_last {
+        let is_over = is_last(&line_read);
+        if answerer.send(rt, line_read).is_err() || is_over {
             return;
         }
     }

@@ -1,19 +1,10 @@
-//! The sockets of a node's connections, and why it stops.
+//! The sockets of a node's connections, and whether it stops.
 use std::alloc::{AllocError, Global};
 use std::net::{Shutdown, TcpStream};
 use std::sync::{Condvar, Mutex, Wait};
 use std::time::{Clock, Duration};
 
-/// Why a node stops.
-#[derive(Clone, Copy, Debug, PartialEq, Eq)]
-pub enum NodeStop {
-    /// It was told to, or the commands ended.
-    Quit,
-    /// The history of a folder has no room for more changes.
-    HistoryFull,
-}
-
-/// The connections that are up, one of a peer at most, and why the node stops, once it does, for all its threads.
+/// The connections that are up, one of a peer at most, and whether the node stops, for all its threads.
 #[derive(Drop)]
 pub struct Connections {
     slots: Mutex<Slots>,
@@ -24,7 +15,7 @@ pub struct Connections {
 // What stands under the lock.
 #[derive(Drop)]
 struct Slots {
-    stop: Option<NodeStop>,
+    is_stopping: bool,
     // By the peer's place.
     streams: Vec<Option<TcpStream>>,
     // The sockets that listen.
@@ -40,7 +31,7 @@ impl Connections {
         }
         Ok(Connections {
             slots: Mutex::new(Slots {
-                stop: None,
+                is_stopping: false,
                 streams,
                 listeners: Vec::new(alloc),
             }),
@@ -57,7 +48,7 @@ impl Connections {
     /// The connection of a peer is up. Returns `false` where one of it is up already, and where the node stops.
     pub fn begin<R: Wait>(&self, rt: &R, peer: usize, stream: TcpStream) -> bool {
         let mut slots = self.slots.lock(rt);
-        if slots.stop.is_some() {
+        if slots.is_stopping {
             return false;
         }
         match slots.streams.get_mut(peer) {
@@ -87,7 +78,7 @@ impl Connections {
 
     /// Whether the node stops.
     pub fn is_stopping<R: Wait>(&self, rt: &R) -> bool {
-        self.slots.lock(rt).stop.is_some()
+        self.slots.lock(rt).is_stopping
     }
 
     /// Waits for so many seconds, or until the node stops, and returns whether it does.
@@ -100,21 +91,14 @@ impl Connections {
         let slots = self.slots.lock(rt);
         let (slots, _) = self
             .stopped
-            .wait_timeout_while(rt, slots, time, |slots| slots.stop.is_none());
-        slots.stop.is_some()
+            .wait_timeout_while(rt, slots, time, |slots| !slots.is_stopping);
+        slots.is_stopping
     }
 
-    /// Why the node stops, if it does.
-    pub fn why<R: Wait>(&self, rt: &R) -> Option<NodeStop> {
-        self.slots.lock(rt).stop
-    }
-
-    /// The node stops: no connection begins any more, those that are up end, and no pause lasts. The first reason stands.
-    pub fn stop<R: Wait>(&self, rt: &R, why: NodeStop) {
+    /// The node stops: no connection begins any more, those that are up end, and no pause lasts.
+    pub fn stop<R: Wait>(&self, rt: &R) {
         let mut slots = self.slots.lock(rt);
-        if slots.stop.is_none() {
-            slots.stop = Some(why);
-        }
+        slots.is_stopping = true;
         for stream in slots.streams.iter().flatten() {
             let _ = stream.shutdown(Shutdown::Both);
         }

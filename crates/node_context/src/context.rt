@@ -1,5 +1,5 @@
 //! What all threads of a node share.
-use crate::connections::{Connections, NodeStop};
+use crate::connections::Connections;
 use crate::event::Event;
 use crate::log::Log;
 use std::alloc::Global;
@@ -17,7 +17,7 @@ pub struct Context<'x, R, G> {
     pub gate: &'x G,
     /// What is told.
     pub log: &'x Log,
-    /// The connections that are up, and why the node stops.
+    /// The connections that are up, and whether the node stops.
     pub connections: &'x Connections,
 }
 
@@ -32,9 +32,9 @@ impl<R: Clock + Wait, G> Context<'_, R, G> {
         self.connections.is_stopping(self.rt)
     }
 
-    /// The node stops. The first reason stands.
-    pub fn stop(&self, why: NodeStop) {
-        self.connections.stop(self.rt, why);
+    /// The node stops.
+    pub fn stop(&self) {
+        self.connections.stop(self.rt);
     }
 
     /// Waits for so many seconds, or until the node stops, and returns whether it does.

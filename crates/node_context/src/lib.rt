@@ -1,4 +1,4 @@
-//! What all threads of a node share: the clock, what is told, the connections that are up, why a node stops or did not run, and how calls are lent.
+//! What all threads of a node share: the clock, what is told, the connections that are up, whether a node stops, why it did not run, and how calls are lent.
 #![tactic(auto)]
 
 mod clock;
@@ -12,7 +12,7 @@ mod lent;
 mod log;
 
 pub use clock::moment;
-pub use connections::{Connections, NodeStop};
+pub use connections::Connections;
 pub use context::Context;
 pub use event::{Event, SkipWhy};
 pub use fault::NodeFault;

@@ -1,4 +1,6 @@
 //! A folder of a node, and by what a worker reads and changes it.
+ghost use Rattle.std.specs.Prelude.{◌≡◌};
+
 use crate::scan_times::ScanTimes;
 use crate::skips::Skips;
 use bep_messages::Text;
@@ -35,7 +37,9 @@ pub struct NodeFolder {
 
 impl NodeFolder {
     /// One that was not scanned yet. Does not allocate.
-    pub fn new(alloc: Global, settings: FolderSettings) -> NodeFolder {
+    pub fn new(alloc: Global, settings: FolderSettings) -> NodeFolder
+        ensures { result.settings ≡ settings }
+    {
         NodeFolder {
             settings,
             times: ScanTimes::new(),
@@ -44,7 +48,9 @@ impl NodeFolder {
     }
 
     /// Its id.
-    pub fn id(&self) -> &str {
+    pub fn id(&self) -> &str
+        ensures { result.now ≡ self.now.settings.id }
+    {
         self.settings.id.as_str()
     }
 }

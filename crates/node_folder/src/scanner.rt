@@ -1,11 +1,11 @@
 //! The scans of folders, when they are due or asked for, and what is told of them.
 use crate::folder::FolderWorker;
-use crate::marked::Marked;
 use crate::schedule::{ScanOutcome, ScanSchedule};
 use crate::skips::LeftOut;
 use file_store::{FileStore, Gate, StoreRefusal};
 use folder_calls::FolderCalls;
 use node_context::{Context, Event, Host, Log};
+use node_files::{Marked, Whereabouts};
 use std::sync::Wait;
 use std::time::Clock;
 use sync_names::SafeName;
@@ -13,16 +13,6 @@ use sync_scan::{Progress, ScanSum, Scanned, scan_all};
 
 /// How long nothing is scanned, where nothing is to be, before it is looked again whether the node stops. (A year: it is woken then.)
 const NEVER_SECONDS: u64 = 31_536_000;
-
-// Where a folder is.
-#[derive(Clone, Copy, PartialEq, Eq)]
-enum Whereabouts {
-    There,
-    // It isn't there, or has no marker.
-    Away,
-    // Another run has it.
-    InUse,
-}
 
 /// A folder, for the scanner.
 #[derive(Drop)]
@@ -92,8 +82,8 @@ where
     W: FolderCalls,
     G: Gate,
 {
-    let at = look_for(&mut folder.worker.store);
-    if folder.at != at {
+    let at = folder.worker.store.look();
+    if folder.at != at && at != Whereabouts::Unknown {
         folder.at = at;
         tell_whereabouts(cx, folder.worker.folder.id(), at);
     }
@@ -142,23 +132,13 @@ where
     sum
 }
 
-// Where a folder is now.
-fn look_for<S: Marked>(store: &mut S) -> Whereabouts {
-    if store.is_there() {
-        Whereabouts::There
-    } else if store.is_in_use() {
-        Whereabouts::InUse
-    } else {
-        Whereabouts::Away
-    }
-}
-
 fn tell_whereabouts<R: Clock + Wait, G>(cx: &Context<R, G>, id: &str, at: Whereabouts) {
-    cx.tell(&match at {
-        Whereabouts::There => Event::Back(id),
-        Whereabouts::Away => Event::Away(id),
-        Whereabouts::InUse => Event::InUse(id),
-    });
+    match at {
+        Whereabouts::There => cx.tell(&Event::Back(id)),
+        Whereabouts::Away => cx.tell(&Event::Away(id)),
+        Whereabouts::InUse => cx.tell(&Event::InUse(id)),
+        Whereabouts::Unknown => {}
+    }
 }
 
 // What a scan that is under way says: how far it is, for the log if there is one, and what it leaves out.

@@ -1,8 +1,8 @@
 //! What scans leave out.
-use crate::marked::Marked;
 use file_dir::Skipped;
 use file_store::StoreRefusal;
 use node_context::{Connections, Context, Event, SkipWhy};
+use node_files::{Marked, Whereabouts};
 use record_lines::push_text;
 use std::alloc::{AllocError, Global};
 use std::io::{self, Write};
@@ -63,7 +63,7 @@ impl Skips {
     ) {
         let listed = store.take_skipped();
         let is_whole = sum.stopped.is_none() && left_out.is_whole();
-        if !is_whole || !store.is_there() {
+        if !is_whole || store.look() != Whereabouts::There {
             return;
         }
         let Ok(new) = all_of(self.alloc, listed, left_out.names) else {

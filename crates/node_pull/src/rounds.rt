@@ -3,8 +3,9 @@ use crate::batch::{Batch, Puller, pull_batch};
 use crate::turn::Turn;
 use file_store::{FileStore, Gate};
 use folder_calls::FolderCalls;
-use node_context::{Context, Event, Host, NodeStop};
-use node_folder::{Marked, NodeFolder};
+use node_context::{Context, Event, Host};
+use node_files::{Marked, Whereabouts};
+use node_folder::NodeFolder;
 use node_need::{PullOrder, Retries, Wanted};
 use peer_asks::PeerBook;
 use std::alloc::{AllocError, Global};
@@ -92,7 +93,7 @@ where
             }
             if is_full(folder) {
                 cx.tell(&Event::HistoryFull(folder.folder.id()));
-                cx.stop(NodeStop::HistoryFull);
+                cx.stop();
             }
         }
         pause = if has_pulled {
@@ -204,7 +205,7 @@ where
         *idle_at = Some(at);
         return Ok(None);
     }
-    if !puller.worker.store.is_there() {
+    if puller.worker.store.look() != Whereabouts::There {
         return Ok(None);
     }
     let calls = &mut puller.worker.calls;

@@ -8,6 +8,14 @@ use node_pull::PULLERS;
 use std::alloc::Global;
 use std::sync::Wait;
 
+/// Who calls the folders of a node: those who work (in the order of `work_callers`), and one of each folder for who saves and for who answers.
+#[derive(Drop)]
+pub(crate) struct Callers<W> {
+    pub(crate) workers: Vec<W>,
+    pub(crate) savers: Vec<W>,
+    pub(crate) answerers: Vec<W>,
+}
+
 /// Those who work, in this order: the scanner of each folder; the pullers of each folder; and of each peer a reader, a server and an indexer of each
 /// folder that is shared with it.
 pub(crate) fn work_callers<'a, C: FolderCore + Drop, R: Wait>(
@@ -68,14 +76,8 @@ fn add_caller<'a, C: FolderCore + Drop, R: Wait>(
 /// The histories of folders with a lock each.
 #[derive(Drop)]
 pub(crate) struct SharedHistories<'a, C: FolderCore + Drop, R> {
-    rt: &'a R,
-    folders: &'a [SharedFolder<C>],
-}
-
-impl<'a, C: FolderCore + Drop, R> SharedHistories<'a, C, R> {
-    pub(crate) fn new(rt: &'a R, folders: &'a [SharedFolder<C>]) -> SharedHistories<'a, C, R> {
-        SharedHistories { rt, folders }
-    }
+    pub(crate) rt: &'a R,
+    pub(crate) folders: &'a [SharedFolder<C>],
 }
 
 impl<C: FolderCore + Drop, R: Wait> Histories for SharedHistories<'_, C, R> {

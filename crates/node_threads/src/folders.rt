@@ -2,11 +2,10 @@
 ghost use Rattle.std.specs.Prelude.{◌≡◌, [], IfOk};
 ghost use Rattle.node_threads.specs.Left.{AreClosed, AreOpened, IsClosed, IsOpened};
 
-use file_dir::LockRefusal;
 use folder_core::FolderCore;
 use folder_shared::{Pass, SharedFolder};
 use node_context::{Connections, NodeFault};
-use node_folder::{FolderSettings, NodeFolder, Stores};
+use node_folder::{FolderSettings, NodeFolder};
 use peer_asks::AskBook;
 use std::alloc::{AllocError, Global};
 use std::sync::Wait;
@@ -20,32 +19,11 @@ pub struct StartFolder<C> {
     pub core: C,
 }
 
-/// Makes each folder ready, before anybody reads or writes it: one of which nothing was recorded yet gets its marker, and temporary files that an
-/// earlier run left are removed. Fails with `FolderInUse` where another run has a folder, and with `StoreFault` where the path of such a new folder is no
-/// directory; one of which something was recorded may be away. The others are taken for as long as the stores are kept.
-pub fn begin_folders<T: Stores, C: FolderCore>(
-    alloc: Global,
-    stores: &T,
-    folders: &[StartFolder<C>],
-) -> Result<(), NodeFault> {
-    for (place, folder) in folders.iter().enumerate() {
-        let counts = folder.core.counts();
-        let is_new = counts.files == 0 && counts.directories == 0 && counts.deletions == 0;
-        match stores.begin(alloc, folder.settings.path.as_str(), is_new) {
-            Err(LockRefusal::InUse) => return Err(NodeFault::FolderInUse(place)),
-            Err(_) if is_new => return Err(NodeFault::StoreFault),
-            _ => {}
-        }
-    }
-    Ok(())
-}
-
 /// What a node shares among its threads.
 #[derive(Drop)]
 pub(crate) struct Opened<C: FolderCore + Drop> {
     pub(crate) folders: Vec<NodeFolder>,
     pub(crate) shared: Vec<SharedFolder<C>>,
-    /// The Requests to each peer.
     pub(crate) books: Vec<AskBook>,
     pub(crate) connections: Connections,
 }

@@ -9,7 +9,7 @@ mod saver;
 mod threads;
 mod workers;
 
-pub use folders::{StartFolder, begin_folders};
+pub use folders::StartFolder;
 pub use peers::{Listeners, NodeAddress, NodePeer, Share, listen_all};
 pub use run::{NodeEnd, NodeOutside, NodeStart, run_node};
-pub use saver::{LocalRecords, SaveNothing, SaveState};
+pub use saver::SaveState;

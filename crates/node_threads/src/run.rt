@@ -3,19 +3,18 @@ ghost use Rattle.std.specs.Prelude.{IfOk};
 ghost use Rattle.std.specs.Thread.{IsSend, IsSync};
 ghost use Rattle.node_threads.specs.Left.{AreLeft};
 
-use crate::callers::{SharedHistories, each_caller, work_callers};
+use crate::callers::{Callers, SharedHistories, each_caller, work_callers};
 use crate::folders::{Opened, StartFolder, close_all, open_all, rooms_for};
 use crate::peers::{Listeners, NodePeer, end_at_stop};
 use crate::saver::SaveState;
-use crate::threads::{Asks, Kept, Work, answer_by_members, work_and_save};
+use crate::threads::{Answered, Kept, Left, Work, answer_by_members, work_and_save};
 use crate::workers::{Files, FolderFiles, Node};
-use crossbeam_channel::Receiver;
 use file_store::Gate;
 use folder_core::FolderCore;
-use folder_shared::SharedFolder;
-use node_commands::InputLine;
-use node_context::{Context, Host, Log, NodeFault, NodeStop};
-use node_folder::Stores;
+use folder_shared::{Member, SharedFolder};
+use node_commands::{CommandLines, CommandsEnd};
+use node_context::{Context, Host, Log, NodeFault};
+use node_files::Stores;
 use node_peer::Reach;
 use std::alloc::Global;
 use std::io::{self, Write};
@@ -48,25 +47,23 @@ pub struct NodeOutside<'a, G, K, T> {
     pub stores: &'a T,
     /// What is told of it.
     pub log: &'a Log,
-    /// The lines of the commands.
-    pub lines: &'a Receiver<InputLine>,
 }
 
 /// What a node leaves.
 #[derive(Drop)]
-pub struct NodeEnd<C> {
+pub struct NodeEnd<C, L> {
     /// The records of each folder, in their order.
     pub cores: Vec<C>,
     /// For each peer, in their order, the numbers of its index of each folder that is shared with it, of which there are records; none where memory
     /// for them ran out.
     pub kept: Vec<Vec<u64>>,
-    /// Whether all commands were read and answered, up to its end.
-    pub answered: io::Result<()>,
-    /// Why it ended.
-    pub why: NodeStop,
+    /// How the commands ended; an error where one can't be read, or an answer can't be written.
+    pub answered: io::Result<CommandsEnd>,
+    /// The lines that are left.
+    pub lines: L,
 }
 
-/// Keeps folders alike with peers, and answers commands, until `quit` or the end of the commands, or until the history of a folder is full: then the
+/// Keeps folders alike with peers, and answers the commands of the lines, until `quit` or their end, or until the history of a folder is full: then the
 /// connections end, and the node's threads with them.
 ///
 /// Each folder is scanned once, and then as often as it asks for. Then one thread pulls what is needed of each folder in turn, once a second; each peer has a
@@ -75,13 +72,14 @@ pub struct NodeEnd<C> {
 /// within a minute.
 ///
 /// Fails before anything is read or written where a folder has open pulls, or memory or threads run out.
-pub fn run_node<R, T, C, G, K, O>(
+pub fn run_node<R, T, C, G, K, L, O>(
     rt: &R,
     alloc: Global,
     start: NodeStart<C>,
     outside: NodeOutside<G, K, T>,
+    lines: L,
     output: &mut O,
-) -> Result<NodeEnd<C>, NodeFault>
+) -> Result<NodeEnd<C, L>, NodeFault>
 where
     R: Clock + Net<Listener = TcpListener, Stream = TcpStream> + Threads + Wait + Sync,
     T: Stores + Sync,
@@ -89,6 +87,7 @@ where
     C: FolderCore + Drop + Send + Sync,
     G: Gate + Sync,
     K: SaveState + Sync,
+    L: CommandLines + Drop,
     O: Write,
     ensures left { IfOk result (λ end. AreLeft C.state start.folders.items end.cores.items) }
 {
@@ -103,31 +102,31 @@ where
     // (made now, so that what is recorded from here on isn't lost for want of them)
     let cores = Vec::with_capacity(alloc, opened.shared.len())?;
     let rooms = rooms_for(alloc, opened.shared.len())?;
-    let (kept, answered) = run_opened(rt, alloc, &opened, reaches, outside, output)?;
-    let Opened {
-        shared,
-        connections,
-        ..
-    } = opened;
+    let left = run_opened(rt, alloc, &opened, reaches, outside, lines, output)?;
+    let Opened { shared, .. } = opened;
     let cores = close_all(rt, alloc, cores, rooms, shared)?;
-    let why = connections.why(rt).unwrap_or(NodeStop::Quit);
+    let Left {
+        kept,
+        answered: Answered { end, lines },
+    } = left;
     Ok(NodeEnd {
         cores,
         kept,
-        answered,
-        why,
+        answered: end,
+        lines,
     })
 }
 
 // Runs the threads of a node over its folders.
-fn run_opened<'x, R, T, C, G, K, O>(
+fn run_opened<'x, R, T, C, G, K, L, O>(
     rt: &'x R,
     alloc: Global,
     opened: &'x Opened<C>,
     reaches: Vec<Reach>,
     outside: NodeOutside<'x, G, K, T>,
+    lines: L,
     output: &mut O,
-) -> Result<Left, NodeFault>
+) -> Result<Left<L>, NodeFault>
 where
     R: Clock + Net<Listener = TcpListener, Stream = TcpStream> + Threads + Wait + Sync,
     T: Stores + Sync,
@@ -135,6 +134,7 @@ where
     C: FolderCore + Drop + Send + Sync,
     G: Gate + Sync,
     K: SaveState + Sync,
+    L: CommandLines + Drop,
     O: Write,
 {
     let cx = Context {
@@ -161,32 +161,20 @@ where
     let work = Work {
         files: &files,
         node,
-        reaches,
-    };
-    let shown = Shown {
         saver: outside.saver,
-        lines: outside.lines,
     };
-    run_threads(&cx, work, opened.shared.as_slice(), &shown, output)
+    run_members(&cx, &work, reaches, opened.shared.as_slice(), lines, output)
 }
 
-// Who saves the records, and the lines of the commands.
-#[derive(Drop)]
-struct Shown<'x, K> {
-    saver: &'x K,
-    lines: &'x Receiver<InputLine>,
-}
-
-type Left = (Kept, io::Result<()>);
-
-// Does all that a node does, on threads.
-fn run_threads<'x, R, G, F, C, K, O>(
+// Does all that a node does, by members of the shared folders.
+fn run_members<'x, R, G, F, C, K, L, O>(
     cx: &Context<'x, R, G>,
-    work: Work<'_, 'x, F>,
-    folders: &'x [SharedFolder<C>],
-    shown: &Shown<'x, K>,
+    work: &Work<'_, 'x, F, K>,
+    reaches: Vec<Reach>,
+    shared: &'x [SharedFolder<C>],
+    lines: L,
     output: &mut O,
-) -> Result<Left, NodeFault>
+) -> Result<Left<L>, NodeFault>
 where
     R: Host,
     G: Gate + Sync,
@@ -194,40 +182,77 @@ where
     F::Store: Send,
     C: FolderCore + Drop + Send + Sync,
     K: SaveState + Sync,
+    L: CommandLines + Drop,
     O: Write,
 {
     let (rt, alloc) = (cx.rt, cx.alloc);
-    let histories = SharedHistories::new(rt, folders);
-    let mut callers = work_callers(rt, alloc, folders, work.node.peers)?;
-    let mut savers = each_caller(rt, alloc, folders)?;
-    let mut answerers = each_caller(rt, alloc, folders)?;
-    let asks = Asks {
-        files: work.files,
-        histories: &histories,
-        node: work.node,
-        lines: shown.lines,
+    let mut callers = Callers {
+        workers: work_callers(rt, alloc, shared, work.node.peers)?,
+        savers: each_caller(rt, alloc, shared)?,
+        answerers: each_caller(rt, alloc, shared)?,
     };
-    let mut work = work;
-    let saver = shown.saver;
-    let (left, answered) = join(
+    let histories = SharedHistories {
         rt,
+        folders: shared,
+    };
+    run_threads(cx, work, reaches, &histories, &mut callers, lines, output)
+}
+
+// Works, saves the records and answers the commands, each on threads of its own. The node stops once the commands end.
+fn run_threads<'x, R, G, F, C, K, L, O>(
+    cx: &Context<'x, R, G>,
+    work: &Work<'_, 'x, F, K>,
+    reaches: Vec<Reach>,
+    histories: &SharedHistories<'x, C, R>,
+    callers: &mut Callers<Member<'x, C, R>>,
+    lines: L,
+    output: &mut O,
+) -> Result<Left<L>, NodeFault>
+where
+    R: Host,
+    G: Gate + Sync,
+    F: FolderFiles + Sync,
+    F::Store: Send,
+    C: FolderCore + Drop + Send + Sync,
+    K: SaveState + Sync,
+    L: CommandLines + Drop,
+    O: Write,
+{
+    let Callers {
+        workers,
+        savers,
+        answerers,
+    } = callers;
+    let (files, node) = (work.files, work.node);
+    let (kept, answered) = join(
+        cx.rt,
         || -> Result<Kept, NodeFault>
             requires { IsSync R.row × IsSync G.row × IsSync F.row × IsSync K.row × IsSync C.row × IsSend C.row × IsSend F.Store.row }
         {
             work_and_save(
                 cx,
-                &mut work,
-                callers.as_mut_slice(),
-                saver,
+                work,
+                reaches,
+                workers.as_mut_slice(),
                 savers.as_mut_slice(),
             )
         },
         || {
-            let answered = answer_by_members(cx, asks, answerers.as_mut_slice(), output);
-            cx.stop(NodeStop::Quit);
+            let answered = answer_by_members(
+                cx,
+                files,
+                histories,
+                node,
+                answerers.as_mut_slice(),
+                lines,
+                output,
+            );
+            cx.stop();
             answered
         },
     );
-    let answered = answered.unwrap_or(Err(io::Error::from(io::ErrorKind::OutOfMemory)));
-    Ok((left?, answered))
+    Ok(Left {
+        kept: kept?,
+        answered,
+    })
 }

@@ -1,50 +1,57 @@
 //! The threads of a node: those that answer, save, scan and pull, and one for each peer.
-ghost use Rattle.std.specs.Thread.{IsSend, IsSync};
+ghost use Rattle.std.specs.Prelude.{◌≡◌, map, IfOk};
+ghost use Rattle.node_commands.specs.Read.{AreReadTo};
+ghost use Rattle.node_threads.specs.Workers.{kept_numbers};
 
 use crate::saver::{SaveState, run_saver};
 use crate::workers::{FolderFiles, Node, Workers, answered_of, devices_of, workers_of};
-use crossbeam_channel::Receiver;
 use file_store::{FileStore, Gate};
 use folder_calls::FolderCalls;
 use folder_core::FolderCore;
 use folder_shared::Member;
-use node_commands::{Answerer, Histories, InputLine, answer_commands};
-use node_context::{Context, Host, NodeFault, NodeStop, lend_all};
-use node_folder::{Marked, run_scanner, scan_due};
+use node_commands::{Answerer, CommandLines, CommandsEnd, Histories, answer_commands};
+use node_context::{Context, Host, NodeFault, lend_all};
+use node_files::Marked;
+use node_folder::{run_scanner, scan_due};
 use node_peer::{Reach, run_peer};
 use node_pull::run_rounds;
 use peer_link::LinkFolders;
+use peer_reader::PeerFolder;
 use std::alloc::{AllocError, Global};
-use std::io::{self, Write};
-use std::mem::replace;
+use std::io::{self, ErrorKind, Write};
 use std::thread::{join, map_vec};
 
 /// For each peer, the numbers of its indexes that are kept.
 pub(crate) type Kept = Vec<Vec<u64>>;
 
-/// What a node works with: its folders' files, and what it is told.
+/// What a node works with: its folders' files, what it is told, and who saves its records.
 #[derive(Drop)]
-pub(crate) struct Work<'f, 'x, F> {
+pub(crate) struct Work<'f, 'x, F, K> {
     pub(crate) files: &'f F,
     pub(crate) node: Node<'x>,
-    pub(crate) reaches: Vec<Reach>,
+    pub(crate) saver: &'x K,
 }
 
-/// By what commands are answered, and what is done meanwhile.
+/// What the threads leave.
 #[derive(Drop)]
-pub(crate) struct Asks<'a, 'x, F, V> {
-    pub(crate) files: &'a F,
-    pub(crate) histories: &'a V,
-    pub(crate) node: Node<'x>,
-    pub(crate) lines: &'a Receiver<InputLine>,
+pub(crate) struct Left<L> {
+    pub(crate) kept: Kept,
+    pub(crate) answered: Answered<L>,
 }
 
-/// Works, and has the records saved meanwhile. Returns the numbers of the peers' indexes that are kept.
+/// How the commands ended, and the lines that are left.
+#[derive(Drop)]
+pub(crate) struct Answered<L> {
+    pub(crate) end: io::Result<CommandsEnd>,
+    pub(crate) lines: L,
+}
+
+/// Works, and has the records saved meanwhile. Where it can't work, the node stops.
 pub(crate) fn work_and_save<'x, R, G, F, K, C>(
     cx: &Context<'x, R, G>,
-    work: &mut Work<'_, 'x, F>,
-    callers: &mut [Member<'x, C, R>],
-    saver: &'x K,
+    work: &Work<'_, 'x, F, K>,
+    reaches: Vec<Reach>,
+    workers: &mut [Member<'x, C, R>],
     savers: &mut [Member<'x, C, R>],
 ) -> Result<Kept, NodeFault>
 where
@@ -55,24 +62,27 @@ where
     K: SaveState + Sync,
     C: FolderCore + Drop + Send + Sync,
 {
-    let (left, ()) = join(
+    let (files, node, saver) = (work.files, work.node, work.saver);
+    let (kept, ()) = join(
         cx.rt,
         || {
-            let left = work_by_members(cx, work, callers);
-            if left.is_err() {
-                cx.stop(NodeStop::Quit);
+            let kept = work_by_members(cx, files, node, reaches, workers);
+            if kept.is_err() {
+                cx.stop();
             }
-            left
+            kept
         },
         || save_by_members(cx, saver, savers),
     );
-    left
+    kept
 }
 
-// Works by these callers. (What a call over a folder's `Member`s costs the prover grows with the bounds of its function, so it has no more than it needs.)
+// (What a call over a folder's `Member`s costs the prover grows with the bounds of its function, so there are three, with no more bounds than they need.)
 fn work_by_members<'x, R, G, F, C>(
     cx: &Context<'x, R, G>,
-    work: &mut Work<'_, 'x, F>,
+    files: &F,
+    node: Node<'x>,
+    reaches: Vec<Reach>,
     callers: &mut [Member<'x, C, R>],
 ) -> Result<Kept, NodeFault>
 where
@@ -82,10 +92,9 @@ where
     F::Store: Send,
     C: FolderCore + Drop + Send + Sync,
 {
-    work_by(cx, work, callers)
+    work_by(cx, files, node, reaches, callers)
 }
 
-// Has the records saved by these callers, one of each folder.
 fn save_by_members<'x, R, G, K, C>(
     cx: &Context<'x, R, G>,
     saver: &'x K,
@@ -100,60 +109,71 @@ where
 }
 
 /// Answers the commands by these callers, one of each folder.
-pub(crate) fn answer_by_members<'x, R, G, F, V, C, O>(
+pub(crate) fn answer_by_members<'x, R, G, F, V, C, L, O>(
     cx: &Context<'x, R, G>,
-    asks: Asks<'_, 'x, F, V>,
+    files: &F,
+    histories: &V,
+    node: Node<'x>,
     callers: &mut [Member<'x, C, R>],
+    lines: L,
     output: &mut O,
-) -> Result<io::Result<()>, NodeFault>
+) -> Answered<L>
 where
     R: Host,
     G: Gate,
     F: FolderFiles,
     V: Histories,
     C: FolderCore + Drop,
+    L: CommandLines + Drop,
     O: Write,
+    ensures { IfOk result.end (λ end. AreReadTo L.gives lines end result.lines) }
 {
-    answer_by(cx, asks, callers, output)
+    let mut lines = lines;
+    let end = answer_by(cx, files, histories, node, callers, &mut lines, output);
+    Answered { end, lines }
 }
 
 // The same by callers, whoever they are.
-fn answer_by<'x, R, G, F, V, W, O>(
+fn answer_by<'x, R, G, F, V, W, L, O>(
     cx: &Context<'x, R, G>,
-    asks: Asks<'_, 'x, F, V>,
+    files: &F,
+    histories: &V,
+    node: Node<'x>,
     callers: &mut [W],
+    lines: &mut L,
     output: &mut O,
-) -> Result<io::Result<()>, NodeFault>
+) -> io::Result<CommandsEnd>
 where
     R: Host,
     G: Gate,
     F: FolderFiles,
     V: Histories,
     W: FolderCalls,
+    L: CommandLines,
     O: Write,
+    ensures { IfOk result (λ end. AreReadTo L.gives lines.old end lines.new) }
 {
-    let Asks {
-        files,
-        histories,
-        node,
-        lines,
-    } = asks;
-    let mut callers = lend_all(cx.alloc, callers)?;
-    let folders = answered_of(cx.alloc, files, node, &mut callers)?;
+    let mut callers = lend_all(cx.alloc, callers).map_err(no_answerer)?;
+    let folders = answered_of(cx.alloc, files, node, &mut callers).map_err(no_answerer)?;
     let devices = devices_of(cx.alloc, node.peers)?;
-    let peers = devices.as_slice();
     let mut answerer = Answerer {
         folders,
         histories,
-        peers,
+        peers: devices.as_slice(),
     };
-    Ok(answer_commands(cx, &mut answerer, lines, output))
+    answer_commands(cx, &mut answerer, lines, output)
 }
 
-// Works by these callers, whoever they are.
+fn no_answerer(_fault: NodeFault) -> io::Error {
+    io::Error::from(ErrorKind::OutOfMemory)
+}
+
+// Works by these callers.
 fn work_by<'x, R, G, F, W>(
     cx: &Context<'x, R, G>,
-    work: &mut Work<'_, 'x, F>,
+    files: &F,
+    node: Node<'x>,
+    reaches: Vec<Reach>,
     callers: &mut [W],
 ) -> Result<Kept, NodeFault>
 where
@@ -163,9 +183,8 @@ where
     F::Store: Send,
     W: FolderCalls + Send,
 {
-    let reaches = replace(&mut work.reaches, Vec::new(cx.alloc));
     let mut callers = lend_all(cx.alloc, callers)?;
-    let workers = workers_of(cx.alloc, work.files, work.node, reaches, &mut callers)?;
+    let workers = workers_of(cx.alloc, files, node, reaches, &mut callers)?;
     // (out of memory they are forgotten, and the peers send their indexes anew)
     Ok(match run_workers(cx, workers) {
         Ok(left) => kept_of(cx.alloc, left).unwrap_or(Vec::new(cx.alloc)),
@@ -173,13 +192,11 @@ where
     })
 }
 
-type LeftByPeers<S, W> = Result<Vec<LinkFolders<S, W>>, AllocError>;
-
 // Scans, pulls, and has connections, until the node stops. Nothing is pulled before each folder was scanned once.
 fn run_workers<'x, R, G, S, W>(
     cx: &Context<'x, R, G>,
     workers: Workers<'x, S, W>,
-) -> LeftByPeers<S, W>
+) -> Result<Vec<LinkFolders<S, W>>, AllocError>
 where
     R: Host,
     G: Gate + Sync,
@@ -207,18 +224,26 @@ where
     left
 }
 
-// The numbers of the peers' indexes that are kept.
+// For each peer, the numbers of its indexes that are kept.
 fn kept_of<S: Drop, W: Drop>(
     alloc: Global,
     left: Vec<LinkFolders<S, W>>,
-) -> Result<Kept, AllocError> {
+) -> Result<Kept, AllocError>
+    ensures { IfOk result (λ all. map (λ kept. kept.items) all.items ≡ map (λ folders. kept_numbers folders.read.items) left.items) }
+{
     let mut all = Vec::with_capacity(alloc, left.len())?;
     for folders in left {
-        let mut kept = Vec::with_capacity(alloc, folders.read.len())?;
-        for folder in folders.read.iter() {
-            kept.push(folder.kept_index_id)?;
-        }
-        all.push(kept)?;
+        all.push(kept_numbers(alloc, folders.read.as_slice())?)?;
     }
     Ok(all)
+}
+
+fn kept_numbers<W>(alloc: Global, read: &[PeerFolder<W>]) -> Result<Vec<u64>, AllocError>
+    ensures { IfOk result (λ kept. kept.items ≡ kept_numbers read.now) }
+{
+    let mut kept = Vec::with_capacity(alloc, read.len())?;
+    for folder in read {
+        kept.push(folder.kept_index_id)?;
+    }
+    Ok(kept)
 }

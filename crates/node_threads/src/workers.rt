@@ -1,10 +1,14 @@
 //! What the threads of a node work on: all that can fail is done here, before they begin.
-use crate::peers::NodePeer;
+ghost use Rattle.std.specs.Prelude.{◌≡◌, IfOk};
+ghost use Rattle.node_threads.specs.Workers.{IsShared};
+
+use crate::peers::{NodePeer, Share};
 use bep_messages::Text;
 use file_store::FileStore;
 use folder_calls::FolderCalls;
 use node_context::{Connections, Lent, LentCalls, NodeFault, next_of};
-use node_folder::{FolderStore, FolderWorker, GivesUp, Marked, NodeFolder, ScannedFolder, Stores};
+use node_files::{FolderStore, Marked, Stores};
+use node_folder::{FolderWorker, GivesUp, NodeFolder, ScannedFolder, WorkerEnds};
 use node_peer::{Peer, PeerWorker, Reach};
 use node_pull::{PULLERS, PulledFolder, Puller};
 use peer_asks::{AskBook, PeerBook};
@@ -29,11 +33,17 @@ pub(crate) struct Node<'x> {
 
 /// How the workers of a node read and write its folders.
 pub(crate) trait FolderFiles {
+    ghost use Rattle.std.specs.Prelude.{ℕ};
+
     /// By what a worker does.
     type Store: FileStore + Marked + Drop;
 
+    /// It is of the folder at this place.
+    ghost is_at: { Self → ℕ → Self.Store → Type 0 };
+
     /// That of the folder at a place, for one worker. Fails where no folder is there.
-    fn at(&self, place: usize, gives_up: GivesUp) -> Result<Self::Store, NodeFault>;
+    fn at(&self, place: usize, gives_up: GivesUp) -> Result<Self::Store, NodeFault>
+        ensures { IfOk result (is_at self.now place) };
 }
 
 /// The folders' files by these stores.
@@ -47,26 +57,26 @@ pub(crate) struct Files<'x, R, T> {
 }
 
 impl<'x, R: Wait, T: Stores> FolderFiles for Files<'x, R, T> {
-    type Store = FolderStore<'x, T, T::Store, R>;
+    type Store = FolderStore<'x, T, T::Store, WorkerEnds<'x, R>>;
+
+    ghost use Rattle.std.specs.Prelude.{◌≡◌, Some, slice_get};
+    ghost use Rattle.node_files.specs.Paths.{path_of};
+    ghost use Rattle.node_folder.specs.declared.folder.NodeFolder.{NodeFolder};
+
+    ghost is_at = { λ files place store.
+        (folder : NodeFolder) × (slice_get files.folders.now place ≡ Some folder) × (path_of store ≡ folder.settings.path) };
 
     fn at(
         &self,
         place: usize,
         gives_up: GivesUp,
-    ) -> Result<FolderStore<'x, T, T::Store, R>, NodeFault> {
+    ) -> Result<FolderStore<'x, T, T::Store, WorkerEnds<'x, R>>, NodeFault> {
         let folders = self.folders;
         let Some(folder) = folders.get(place) else {
             return Err(NodeFault::NoFolder);
         };
-        let path = folder.settings.path.as_str();
-        Ok(FolderStore::new(
-            self.rt,
-            self.alloc,
-            self.connections,
-            self.stores,
-            path,
-            gives_up,
-        ))
+        let ends = WorkerEnds::new(self.rt, self.connections, gives_up);
+        Ok(FolderStore::new(self.alloc, ends, self.stores, folder.settings.path.as_str()))
     }
 }
 
@@ -222,29 +232,61 @@ fn link_folders<'b, F: FolderFiles, W: FolderCalls>(
     let mut served = Vec::with_capacity(alloc, count)?;
     let mut indexed = Vec::with_capacity(alloc, count)?;
     for share in peer.shares.iter() {
-        let Some(folder) = node.folders.get(share.folder) else {
-            continue;
-        };
-        read.push(PeerFolder {
-            id: Text::from_str(alloc, folder.id())?,
-            kept_index_id: share.kept_index_id,
-            is_told: false,
-            calls: next_of(callers)?,
-        })?;
-        served.push(ServedFolder {
-            store: files.at(share.folder, GivesUp::Never)?,
-            calls: next_of(callers)?,
-        })?;
-        indexed.push(IndexedFolder {
-            id: Text::from_str(alloc, folder.id())?,
-            index_id: folder.settings.index_id,
-            calls: next_of(callers)?,
-        })?;
+        let shared = share_folder(alloc, files, node.folders, share, callers)?;
+        read.push(shared.read)?;
+        served.push(shared.served)?;
+        indexed.push(shared.indexed)?;
     }
     Ok(LinkFolders {
         read,
         served,
         indexed,
+    })
+}
+
+// A folder, as the workers of a connection have it.
+#[derive(Drop)]
+pub(crate) struct SharedWith<S, W> {
+    read: PeerFolder<W>,
+    served: ServedFolder<S, W>,
+    indexed: IndexedFolder<W>,
+}
+
+// The folder of a share: under its id to the peer, from its files, with its index number and the peer's.
+fn share_folder<'b, F: FolderFiles, W: FolderCalls>(
+    alloc: Global,
+    files: &F,
+    folders: &[NodeFolder],
+    share: &Share,
+    callers: &mut LentCalls<'b, W>,
+) -> Result<SharedWith<F::Store, Lent<'b, W>>, NodeFault>
+    ensures { IfOk result (IsShared (F.is_at files.now) folders.now share.now) }
+{
+    let Some(folder) = folders.get(share.folder) else {
+        return Err(NodeFault::NoFolder);
+    };
+    let (id, told_id) = (
+        Text::from_str(alloc, folder.id())?,
+        Text::from_str(alloc, folder.id())?,
+    );
+    let store = files.at(share.folder, GivesUp::Never)?;
+    let (reader, server, indexer) = (next_of(callers)?, next_of(callers)?, next_of(callers)?);
+    Ok(SharedWith {
+        read: PeerFolder {
+            id,
+            kept_index_id: share.kept_index_id,
+            is_told: false,
+            calls: reader,
+        },
+        served: ServedFolder {
+            store,
+            calls: server,
+        },
+        indexed: IndexedFolder {
+            id: told_id,
+            index_id: folder.settings.index_id,
+            calls: indexer,
+        },
     })
 }
 

@@ -1,0 +1,150 @@
+//! What a node begins with, by its configuration and its state.
+ghost use Rattle.std.specs.Prelude.{◌≡◌, length, map, IfOk};
+ghost use Rattle.node_resume.specs.Resumed.{taken};
+ghost use Rattle.bepd_run.specs.Starts.{AreFolders, ArePeers, IsFolder, IsPeer, are_shares, told};
+
+use crate::addresses::address_of;
+use crate::failure::RunFailure;
+use bep_messages::Text;
+use folder_db::IndexedFolder;
+use node_config::{
+    Config, ConfigFault, FolderConfig, FolderNumber, NumberRule, PeerConfig, Place, Problem,
+};
+use node_folder::FolderSettings;
+use node_resume::{ResumedFolder, Share, shares_of};
+use node_state::State;
+use node_threads::{NodePeer, StartFolder};
+use std::alloc::{AllocError, Global};
+use sync_pull::MaxConflicts;
+
+/// What a node keeps the records of a folder in.
+pub(crate) type Core = IndexedFolder;
+
+/// The folders of the configuration, in its order, each with what was resumed at its place.
+pub(crate) fn folders_of(
+    alloc: Global,
+    config: &Config,
+    resumed: Vec<ResumedFolder>,
+) -> Result<Vec<StartFolder<Core>>, RunFailure>
+    requires { length resumed.items ≡ length config.now.folders }
+    ensures all { IfOk result (λ folders. length folders.items ≡ length config.now.folders) }
+    ensures each { IfOk result (λ folders. AreFolders (map taken resumed.items) folders.items config.now.folders) }
+{
+    let mut folders = Vec::with_capacity(alloc, resumed.len())?;
+    for folder in resumed {
+        let place = folders.len();
+        let kept_as = &config.folders.as_slice()[place];
+        folders.push(folder_of(alloc, place, kept_as, folder)?)?;
+    }
+    Ok(folders)
+}
+
+// The folder at this place of the configuration.
+fn folder_of(
+    alloc: Global,
+    place: usize,
+    folder: &FolderConfig,
+    resumed: ResumedFolder,
+) -> Result<StartFolder<Core>, RunFailure>
+    ensures { IfOk result (IsFolder folder.now (taken resumed)) }
+{
+    let Some(max_conflicts) = MaxConflicts::new(folder.max_conflicts) else {
+        return Err(out_of_range(place, FolderNumber::MaxConflicts));
+    };
+    let settings = FolderSettings {
+        id: Text::from_str(alloc, folder.id.as_str())?,
+        path: Text::from_str(alloc, folder.path.as_str())?,
+        index_id: resumed.index_id,
+        history_limit: folder.history_limit,
+        max_conflicts,
+        rescan: folder.rescan,
+    };
+    Ok(StartFolder {
+        settings,
+        core: resumed.records,
+    })
+}
+
+// A number of the folder at the place is out of its range.
+fn out_of_range(place: usize, number: FolderNumber) -> RunFailure {
+    let NumberRule { key, range, .. } = number.rule();
+    RunFailure::Config(ConfigFault::BadKey {
+        place: Place::Folder(place.saturating_add(1)),
+        key,
+        problem: Problem::OutOfRange {
+            low: range.low,
+            high: range.high,
+        },
+    })
+}
+
+/// The folders that are shared with each peer, in the order of the peers.
+pub(crate) fn all_shares(
+    alloc: Global,
+    config: &Config,
+    state: &State,
+) -> Result<Vec<Vec<Share>>, AllocError>
+    ensures { IfOk result (λ shares. map (λ s. s.items) shares.items ≡ are_shares config.now state.now config.now.peers) }
+{
+    let peers = config.peers.as_slice();
+    let mut shares = Vec::with_capacity(alloc, peers.len())?;
+    for peer in peers {
+        shares.push(shares_of(alloc, config, state, peer)?)?;
+    }
+    Ok(shares)
+}
+
+/// The peers of the configuration, in its order, each with the shares at its place. Fails with `BadAddress` where an address is none, and if out of memory.
+pub(crate) fn peers_of(
+    alloc: Global,
+    config: &Config,
+    shares: &[Vec<Share>],
+) -> Result<Vec<NodePeer>, RunFailure>
+    requires { length shares.now ≡ length config.now.peers }
+    ensures { IfOk result (λ peers. ArePeers (map (λ s. s.items) shares.now) peers.items config.now.peers) }
+{
+    let mut peers = Vec::with_capacity(alloc, shares.len())?;
+    for (place, shares) in shares.iter().enumerate() {
+        let peer = &config.peers.as_slice()[place];
+        peers.push(peer_of(alloc, peer, shares.as_slice())?)?;
+    }
+    Ok(peers)
+}
+
+fn peer_of(alloc: Global, peer: &PeerConfig, shares: &[Share]) -> Result<NodePeer, RunFailure>
+    ensures { IfOk result (IsPeer peer.now shares.now) }
+{
+    Ok(NodePeer {
+        device: peer.device,
+        address: address_of(&peer.address)?,
+        shares: told_shares(alloc, shares)?,
+    })
+}
+
+// The shares, as a node takes them.
+fn told_shares(alloc: Global, shares: &[Share]) -> Result<Vec<node_threads::Share>, AllocError>
+    ensures { IfOk result (λ all. all.items ≡ map told shares.now) }
+{
+    let mut all = Vec::with_capacity(alloc, shares.len())?;
+    for share in shares {
+        all.push(node_threads::Share {
+            folder: share.folder,
+            kept_index_id: share.kept_index_id,
+        })?;
+    }
+    Ok(all)
+}
+
+/// The index number of each folder.
+pub(crate) fn index_ids_of(
+    alloc: Global,
+    folders: &[StartFolder<Core>],
+) -> Result<Vec<u64>, AllocError>
+    ensures { IfOk result (λ ids. ids.items ≡ map (λ f. f.settings.index_id) folders.now) }
+{
+    let mut ids = Vec::with_capacity(alloc, folders.len())?;
+    for folder in folders {
+        ids.push(folder.settings.index_id)?;
+    }
+    Ok(ids)
+}

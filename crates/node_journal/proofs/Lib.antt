@@ -1,0 +1,9 @@
+pub mod Behind
+pub mod Counts
+pub mod Cuts
+pub mod Founds
+pub mod Headers
+pub mod Joins
+pub mod Journals
+pub mod Once
+pub mod Pieces

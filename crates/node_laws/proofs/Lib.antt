@@ -1,0 +1,11 @@
+pub mod Places
+pub mod FirstPlaces
+pub mod LastNumbers
+pub mod TakenOver
+pub mod LeftPlaces
+pub mod SharePlaces
+pub mod TakenBack
+pub mod NewBests
+pub mod FolderBests
+pub mod FullPasses
+pub mod Begins
