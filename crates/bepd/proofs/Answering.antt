@@ -14,7 +14,8 @@ use Rattle.bepd.specs.declared.ending.Ending.{Ending}
 use Rattle.bepd.specs.declared.ending.Ending.TheVariants.{Done, Rest, Fault, Failed}
 use Rattle.bepd.specs.declared.ending.Failure.{Failure}
 use Rattle.bepd.specs.declared.ending.Failure.TheVariants.{OutOfMemory, Read, Write}
-use Rattle.bepd.specs.Endings.{IsEndOf, StopsAtFault, WritesFront, max_input_bytes}
+use Rattle.bepd.specs.Counts.{Input, Output, Reads}
+use Rattle.bepd.specs.Endings.{IsEndOf, StopsAtFault, TellsFailedRead, TellsFailedWrite, WritesFront, failed_writes_after, max_input_bytes}
 use Rattle.bepd.specs.Received.{own_device, folder_after}
 use Rattle.bepd.specs.Lines.{skipped_line}
 use Rattle.bepd.specs.Listing.{Answers, best_lines, listing, listing_of}
@@ -47,17 +48,43 @@ answered folder bytes (Failed f) old new within end stops written = absurd (not_
     not_failed (Ok rest) f e = e
     not_failed (Err e') f e = e
 
-module _ (folder : List ℕ) (a b : Option (List ℕ)) (ending : Ending) (s : FolderState) (n : ℕ) (h : IsRead folder a b ending s n) where
-  pub listed : (old new : Option (List ℕ)) → Appends old new (best_lines s ++ skipped_line n) → (bytes : List ℕ) × Consumes a b bytes × Answers folder bytes ending old new
+-- no read failed, where the stream ended, or where something else did
+none_read : (ending : Ending) (end : Result (List ℕ) FrameFault) (bytes : List ℕ) (a b : Input) → IsEndOf end ending → b.failed ≡ a.failed → TellsFailedRead ending bytes a b
+none_read Done end bytes a b e none = none
+none_read (Rest n) end bytes a b e none = none
+none_read (Fault f) end bytes a b e none = none
+none_read (Failed f) (Ok rest) bytes a b e none = absurd e
+none_read (Failed f) (Err g) bytes a b e none = absurd e
+
+none_read_failed : (failure : Failure) (bytes : List ℕ) (a b : Input) → (failure ≡ Read → ⊥) → b.failed ≡ a.failed → TellsFailedRead (Failed failure) bytes a b
+none_read_failed OutOfMemory bytes a b ne none = none
+none_read_failed Read bytes a b ne none = absurd (ne refl)
+none_read_failed Write bytes a b ne none = none
+
+-- what a writer counted of a listing
+pub write_told : (end : Result (List ℕ) FrameFault) (ending : Ending) (a b : Output) → IsEndOf end ending → b.failed ≡ a.failed → TellsFailedWrite ending a b
+write_told end Done a b e none = none
+write_told end (Rest n) a b e none = none
+write_told end (Fault f) a b e none = none
+write_told (Ok rest) (Failed f) a b e none = absurd e
+write_told (Err g) (Failed f) a b e none = absurd e
+
+pub write_failed : (failure : Failure) (a b : Output) → b.failed ≡ failed_writes_after (Err failure) a.failed → TellsFailedWrite (Failed failure) a b
+write_failed OutOfMemory a b e = e
+write_failed Read a b e = e
+write_failed Write a b e = e
+
+module _ (folder : List ℕ) (a b : Input) (ending : Ending) (s : FolderState) (n : ℕ) (h : IsRead folder a b ending s n) where
+  pub listed : (old new : Option (List ℕ)) → Appends old new (best_lines s ++ skipped_line n) → (bytes : List ℕ) × Reads bytes a b × TellsFailedRead ending bytes a b × Answers folder bytes ending old new
   listed old new written =
-      (h.bytes, h.taken, answered folder h.bytes ending old new h.within h.end h.stops (subst (Appends old new) (listing_received folder h.bytes s n h.received) written))
+      (h.bytes, h.reads, none_read ending (stream false h.bytes).end h.bytes a b h.end h.none_failed, answered folder h.bytes ending old new h.within h.end h.stops (subst (Appends old new) (listing_received folder h.bytes s n h.received) written))
 
   abbrev IsKnown : Option (List ℕ) → Option (List ℕ) → List ℕ → Type 0
   IsKnown old new input = IsEndOf (stream false input).end ending × Appends old new (listing folder input)
 
-  pub known : (old new : Option (List ℕ)) → Appends old new (best_lines s ++ skipped_line n) → IfSome a (λ input. IsEndOf (stream false input).end ending × Appends old new (listing folder input))
+  pub known : (old new : Option (List ℕ)) → Appends old new (best_lines s ++ skipped_line n) → IfSome a.left (λ input. IsEndOf (stream false input).end ending × Appends old new (listing folder input))
   known old new written =
-      by a b h.taken h.whole (h.end, subst (Appends old new) (listing_received folder h.bytes s n h.received) written)
+      by a.left b.left h.reads.taken h.whole (h.end, subst (Appends old new) (listing_received folder h.bytes s n h.received) written)
     where
       by : (a b : Option (List ℕ)) → Consumes a b h.bytes → IfSome b (λ rest. stream false (h.bytes ++ rest) ≡ stream false h.bytes) → IsKnown old new h.bytes → IfSome a (IsKnown old new)
       by None b taken whole p = tt
@@ -66,11 +93,17 @@ module _ (folder : List ℕ) (a b : Option (List ℕ)) (ending : Ending) (s : Fo
           let same : stream false h.bytes ≡ stream false input = sym whole ∙ ap (stream false) (sym taken) in
           (subst (λ (t : Stream). IsEndOf t.end ending) same p.0, subst (λ (t : Stream). Appends old new (listing_of folder t.frames)) same p.1)
 
-  pub failed_writing : (failure : Failure) (old new : Option (List ℕ)) → WritesFront failure (best_lines s ++ skipped_line n) old new → (bytes : List ℕ) × Consumes a b bytes × WritesFront failure (listing folder bytes) old new
-  failed_writing failure old new front = (h.bytes, h.taken, subst (λ l. WritesFront failure l old new) (listing_received folder h.bytes s n h.received) front)
+  pub failed_writing : (failure : Failure) (old new : Option (List ℕ)) → WritesFront failure (best_lines s ++ skipped_line n) old new → (failure ≡ Read → ⊥) → (bytes : List ℕ) × Reads bytes a b × TellsFailedRead (Failed failure) bytes a b × WritesFront failure (listing folder bytes) old new
+  failed_writing failure old new front ne = (h.bytes, h.reads, none_read_failed failure h.bytes a b ne h.none_failed, subst (λ l. WritesFront failure l old new) (listing_received folder h.bytes s n h.received) front)
 
 -- nothing was written
-pub untouched : (failure : Failure) (bytes : List ℕ) (old : Option (List ℕ)) → (failure ≡ Write → ⊥) → WritesFront failure bytes old old
-untouched OutOfMemory bytes old ne = ([], bytes, refl, Appends-nil old)
-untouched Read bytes old ne = Keeps-refl old
-untouched Write bytes old ne = absurd (ne refl)
+pub untouched : (failure : Failure) (bytes : List ℕ) (old : Option (List ℕ)) → WritesFront failure bytes old old
+untouched OutOfMemory bytes old = ([], bytes, refl, Appends-nil old)
+untouched Read bytes old = Keeps-refl old
+untouched Write bytes old = ([], bytes, refl, Appends-nil old)
+
+-- and no write failed
+pub no_write_failed : (failure : Failure) (o : Output) → (failure ≡ Write → ⊥) → TellsFailedWrite (Failed failure) o o
+no_write_failed OutOfMemory o ne = refl
+no_write_failed Read o ne = refl
+no_write_failed Write o ne = absurd (ne refl)

@@ -1,3 +1,4 @@
+pub mod Counting
 pub mod Keeping
 pub mod Framing
 pub mod Reading

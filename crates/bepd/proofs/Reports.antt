@@ -7,10 +7,11 @@ use Rattle.std.proofs.lemmas.List.Folds.{flat_map-map}
 use Rattle.std.specs.Io.KnownBytes.{Appends, Keeps}
 use Rattle.std.specs.Option.{option_map_or}
 use Rattle.std.proofs.lemmas.Bool.{true≢false}
+use Rattle.std.proofs.lemmas.Option.{slice_get-get_or}
 use Rattle.std.specs.Prelude.{flat_map, slice_get, is_some, option_map, Result, Ok, Err, IfErr}
 use Rattle.std.specs.Result.{IsErrAnd}
 use Rattle.bepd.specs.declared.ending.Failure.{Failure}
-use Rattle.bepd.specs.declared.ending.Failure.TheVariants.{OutOfMemory}
+use Rattle.bepd.specs.Counts.{WritesSome}
 use Rattle.folder_core.specs.Announced.{IsNamed}
 use Rattle.folder_core.specs.Reads.{BestEntry, bests_after, bests_page}
 use Rattle.folder_core.specs.States.{FolderState}
@@ -77,20 +78,45 @@ split_page s named after page b read last =
     bests_after-page s named after 1000 (founds page) (b.record, b.devices) read
     (ap (λ n. slice_get (founds page) (n - 1)) (length-founds page) ∙ last_found page b (length page - 1) last)
 
-pub written_page : (s : FolderState) (page : List Best) (b : Best) (lines : List ℕ) (old mid new : Option (List ℕ)) → IsNamed s.announced → slice_get page (length page - 1) ≡ Some b
-    → lines ≡ flat_map (λ b. best_line b.record) page → Appends mid new lines → IsWritten s page old mid → IsWrittenTo s (Some b.record.name) old new
-written_page s page b lines old mid new named last made put w =
+-- the lines of the page go on with what was written
+page_whole : (s : FolderState) (page : List Best) (b : Best) (lines : List ℕ) (old mid : Option (List ℕ)) → IsNamed s.announced → slice_get page (length page - 1) ≡ Some b
+    → lines ≡ flat_map (λ b. best_line b.record) page → (w : IsWritten s page old mid) → w.written.front ++ (lines ++ found_lines (bests_after s (Some b.record.name))) ≡ best_lines s
+page_whole s page b lines old mid named last made w =
     let rest = found_lines (bests_after s (Some b.record.name)) in
     let front = w.written.front in
     let lines_are : lines ≡ found_lines (founds page) = made ∙ sym (flat_map-map (λ (f : BestEntry). best_line f.0) (λ (b : Best). (b.record, b.devices)) page) in
     let split : found_lines (bests_after s w.after) ≡ lines ++ rest =
     ap found_lines (split_page s named w.after page b w.read last)
     ∙ flat_map-append (λ (f : BestEntry). best_line f.0) (founds page) (bests_after s (Some b.record.name)) ∙ ap (λ l. l ++ rest) (sym lines_are) in
+    ap (λ l. front ++ l) (sym split) ∙ w.written.whole
+
+pub written_page : (s : FolderState) (page : List Best) (b : Best) (lines : List ℕ) (old mid new : Option (List ℕ)) → IsNamed s.announced → slice_get page (length page - 1) ≡ Some b
+    → lines ≡ flat_map (λ b. best_line b.record) page → Appends mid new lines → IsWritten s page old mid → IsWrittenTo s (Some b.record.name) old new
+written_page s page b lines old mid new named last made put w =
+    let rest = found_lines (bests_after s (Some b.record.name)) in
+    let front = w.written.front in
     record {
       front = front ++ lines;
       put = Appends-trans old mid new front lines w.written.put put;
-      whole = append_assoc front lines rest ∙ ap (λ l. front ++ l) (sym split) ∙ w.written.whole;
+      whole = append_assoc front lines rest ∙ page_whole s page b lines old mid named last made w;
     }
+
+-- a front was written, and then a front of lines
+some_more : (a b c : Option (List ℕ)) (front lines rest whole : List ℕ) → Appends a b front → WritesSome lines b c → front ++ (lines ++ rest) ≡ whole → WritesSome whole a c
+some_more a b c front lines rest whole put w e =
+    let same : front ++ (lines ++ rest) ≡ (front ++ w.0) ++ (w.1 ++ rest) =
+    ap (λ l. front ++ (l ++ rest)) w.2 ∙ ap (λ l. front ++ l) (append_assoc w.0 w.1 rest) ∙ sym (append_assoc front w.0 (w.1 ++ rest)) in
+    (front ++ w.0, w.1 ++ rest, sym e ∙ same, Appends-trans a b c front w.0 put w.3)
+
+-- where the write of a page failed
+pub written_some : (s : FolderState) (page : List Best) (b : Best) (lines last : List ℕ) (old mid new : Option (List ℕ)) → IsNamed s.announced → slice_get page (length page - 1) ≡ Some b
+    → lines ≡ flat_map (λ b. best_line b.record) page → WritesSome lines mid new → IsWritten s page old mid → WritesSome (best_lines s ++ last) old new
+written_some s page b lines last old mid new named at_end made some w =
+    let rest = found_lines (bests_after s (Some b.record.name)) in
+    let front = w.written.front in
+    let whole : front ++ (lines ++ (rest ++ last)) ≡ best_lines s ++ last =
+    ap (λ l. front ++ l) (sym (append_assoc lines rest last)) ∙ sym (append_assoc front (lines ++ rest) last) ∙ ap (λ l. l ++ last) (page_whole s page b lines old mid named at_end made w) in
+    some_more old mid new front lines (rest ++ last) (best_lines s ++ last) w.written.put some whole
 
 pub written_next : (s : FolderState) (next : List Best) (after : Name) (old new : Option (List ℕ)) → founds next ≡ bests_page s (Some after) 1000 → IsWrittenTo s (Some after) old new → IsWritten s next old new
 written_next s next after old new read w = record { after = Some after; read = read; written = w }
@@ -138,22 +164,46 @@ no_founds : (page : List Best) → page ≡ [] → [] ≡ founds page
 no_founds page e = sym (ap founds e)
 
 -- what was written is a front of the listing
-pub written_front : (s : FolderState) (after : Option Name) (last : List ℕ) (old new : Option (List ℕ)) → IsWrittenTo s after old new
-    → (front : List ℕ) × (rest : List ℕ) × (best_lines s ++ last ≡ front ++ rest) × Appends old new front
+pub written_front : (s : FolderState) (after : Option Name) (last : List ℕ) (old new : Option (List ℕ)) → IsWrittenTo s after old new → WritesSome (best_lines s ++ last) old new
 written_front s after last old new w =
     let rest = found_lines (bests_after s after) in
     (w.front, rest ++ last, ap (λ l. l ++ last) (sym w.whole) ∙ append_assoc w.front rest last, w.put)
 
--- and with the last line the whole, where no best is left
+-- a page without a last best is empty
+pub no_last : (page : List Best) → None ≡ slice_get page (length page - 1) → page ≡ []
+no_last [] e = refl
+no_last (b ∷ page) e = absurd (none_some _ (e ∙ slice_get-get_or (b ∷ page) (length (b ∷ page) - 1) b (omega arith)))
+
+-- and all lines of bests, where none is left
+all_lines : (s : FolderState) (page : List Best) (old mid : Option (List ℕ)) → page ≡ [] → (w : IsWritten s page old mid) → w.written.front ≡ best_lines s
+all_lines s page old mid none w =
+    let start = w.written.front in
+    let over : bests_after s w.after ≡ [] = take_none 999 (bests_after s w.after) (no_founds page none ∙ w.read) in
+    sym (append-nil start) ∙ ap (λ l. start ++ found_lines l) (sym over) ∙ w.written.whole
+
+-- and with the last line the whole
 pub written_all : (s : FolderState) (page : List Best) (last : List ℕ) (old mid put_to new : Option (List ℕ)) → page ≡ [] → Appends mid put_to last → Keeps put_to new
     → IsWritten s page old mid → Appends old new (best_lines s ++ last)
 written_all s page last old mid put_to new none appended kept w =
-    let start = w.written.front in
-    let over : bests_after s w.after ≡ [] = take_none 999 (bests_after s w.after) (no_founds page none ∙ w.read) in
-    let front : start ≡ best_lines s = sym (append-nil start) ∙ ap (λ l. start ++ found_lines l) (sym over) ∙ w.written.whole in
-    subst (λ l. Appends old new (l ++ last)) front (Appends-trans old mid new start last w.written.put (Appends-kept mid put_to new last appended kept))
+    subst (λ l. Appends old new (l ++ last)) (all_lines s page old mid none w)
+    (Appends-trans old mid new w.written.front last w.written.put (Appends-kept mid put_to new last appended kept))
 
--- what holds of out of memory holds of an error that is that
-pub at_memory : {A : Type 0} (P : Failure → Type 0) (r : Result A Failure) → IsErrAnd r (λ failure. failure ≡ OutOfMemory) → P OutOfMemory → IfErr r P
-at_memory P (Ok x) e p = tt
-at_memory P (Err f) e p = subst P (sym e) p
+-- where the write of the last line failed
+pub written_last : (s : FolderState) (page : List Best) (last : List ℕ) (old mid new : Option (List ℕ)) → page ≡ [] → WritesSome last mid new
+    → IsWritten s page old mid → WritesSome (best_lines s ++ last) old new
+written_last s page last old mid new none some w =
+    let front = w.written.front in
+    some_more old mid new front last [] (best_lines s ++ last) w.written.put some (ap (λ l. front ++ l) (append-nil last) ∙ ap (λ l. l ++ last) (all_lines s page old mid none w))
+
+-- all of the bytes are a front of them
+pub all_written : (bytes : List ℕ) (old new : Option (List ℕ)) → Appends old new bytes → WritesSome bytes old new
+all_written bytes old new put = (bytes, [], sym (append-nil bytes), put)
+
+-- what holds of a failure holds of an error that is that
+pub at_failure : {A : Type 0} (P : Failure → Type 0) (told failure : Failure) (r : Result A Failure) → IsErrAnd r (λ f. f ≡ told) → told ≡ failure → P failure → IfErr r P
+at_failure P told failure (Ok x) e same p = tt
+at_failure P told failure (Err f) e same p = subst P (sym (e ∙ same)) p
+
+pub if_failure : {A : Type 0} (P : Failure → Type 0) (failure : Failure) (r : Result A Failure) → IfErr r (λ f. f ≡ failure) → P failure → IfErr r P
+if_failure P failure (Ok x) e p = tt
+if_failure P failure (Err f) e p = subst P (sym e) p

@@ -1,9 +1,10 @@
 -- How `bepd best` ends (own rule).
-use Rattle.std.specs.Prelude.{◌≡◌, ℕ, ◌^◌, ◌<◌, ◌≤◌, false, List, [], ◌++◌, length, Option, Result, Ok, Err, ⊤, codes, decimal}
-use Rattle.std.specs.Io.KnownBytes.{Appends, Keeps}
+use Rattle.std.specs.Prelude.{◌≡◌, ◌⊎◌, ℕ, ◌^◌, ◌<◌, ◌≤◌, false, List, [], ◌++◌, length, Option, Result, Ok, Err, ⊤, codes, decimal}
+use Rattle.std.specs.Io.KnownBytes.{Keeps}
 use Rattle.bep_frames.specs.declared.fault.FrameFault.{FrameFault}
 use Rattle.bep_frames.specs.Stream.{stream}
 use Rattle.bep_frames.specs.Faults.{frame_fault_name, frame_fault_number}
+use Rattle.bepd.specs.Counts.{Input, Output, WritesSome, count_more}
 use Rattle.bepd.specs.declared.ending.Ending.{Ending}
 use Rattle.bepd.specs.declared.ending.Ending.TheVariants.{Done, Rest, Fault, Failed}
 use Rattle.bepd.specs.declared.ending.Failure.{Failure}
@@ -63,9 +64,23 @@ abbrev pub StopsAtFault : List ℕ → Ending → Type 0
 StopsAtFault bytes (Fault fault) = EndsInPiece bytes
 StopsAtFault bytes _ = ⊤
 
--- what a failure leaves of the bytes that were to be written: before a write failed, their front alone was written; and
--- none after a failed read
+-- what a failure leaves of the bytes that were to be written: none of them were written after a failed read, else a front
 abbrev pub WritesFront : Failure → List ℕ → Option (List ℕ) → Option (List ℕ) → Type 0
-WritesFront OutOfMemory bytes old new = (front : List ℕ) × (rest : List ℕ) × (bytes ≡ front ++ rest) × Appends old new front
+WritesFront OutOfMemory bytes old new = WritesSome bytes old new
 WritesFront Read bytes old new = Keeps old new
-WritesFront Write bytes old new = ⊤
+WritesFront Write bytes old new = WritesSome bytes old new
+
+-- the ending says that a read failed just where one did, or where more bytes were read than an input may have
+abbrev pub TellsFailedRead : Ending → List ℕ → Input → Input → Type 0
+TellsFailedRead (Failed Read) bytes old new = (new.failed ≡ count_more old.failed 1) ⊎ ((new.failed ≡ old.failed) × (max_input_bytes < length bytes))
+TellsFailedRead _ bytes old new = new.failed ≡ old.failed
+
+-- and that a write failed just where one did
+abbrev pub TellsFailedWrite : Ending → Output → Output → Type 0
+TellsFailedWrite (Failed Write) old new = new.failed ≡ count_more old.failed 1
+TellsFailedWrite _ old new = new.failed ≡ old.failed
+
+-- how many writes failed, after what was written so
+abbrev pub failed_writes_after : Result (Unit {0}) Failure → ℕ → ℕ
+failed_writes_after (Err Write) n = count_more n 1
+failed_writes_after _ n = n

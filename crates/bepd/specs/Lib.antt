@@ -1,5 +1,6 @@
 pub mod Lines
 pub mod Received
+pub mod Counts
 pub mod Endings
 pub mod Listing
 pub mod Progress

@@ -5,7 +5,7 @@ use Rattle.bep_messages.specs.declared.file_info.FileInfo.{FileInfo}
 use Rattle.bep_frames.specs.State.{State, fed, remaining, with_front}
 use Rattle.bep_frames.specs.Stream.{ended, stream}
 use Rattle.bep_frames.specs.declared.fault.FrameFault.{FrameFault}
-use Rattle.std.specs.Io.KnownBytes.{Consumes}
+use Rattle.bepd.specs.Counts.{Input, Reads}
 use Rattle.bepd.specs.declared.ending.Ending.{Ending}
 use Rattle.bepd.specs.Endings.{IsEndOf, StopsAtFault, max_input_bytes}
 use Rattle.folder_core.specs.Announced.{IsNamed}
@@ -44,12 +44,13 @@ abbrev pub Leaves : State → Option FrameFault → Type 0
 Leaves reader None = remaining (fed reader []) ≡ ended (Ok reader.rest)
 Leaves reader (Some fault) = (more : List ℕ) → remaining (fed reader more) ≡ ended (Err fault)
 
--- A stream was read up to its end, or up to its first fault.
-pub record IsRead (folder : List ℕ) (old new : Option (List ℕ)) (ending : Ending) (s : FolderState) (skipped : ℕ) : Type 0 where
+-- A stream was read up to its end, or up to its first fault, and no read failed.
+pub record IsRead (folder : List ℕ) (old new : Input) (ending : Ending) (s : FolderState) (skipped : ℕ) : Type 0 where
   pub bytes : List ℕ
-  pub taken : Consumes old new bytes
+  pub reads : Reads bytes old new
+  pub none_failed : new.failed ≡ old.failed
   pub within : length bytes ≤ max_input_bytes
   pub received : IsReceived folder (stream false bytes).frames s skipped
   pub end : IsEndOf (stream false bytes).end ending
   pub stops : StopsAtFault bytes ending
-  pub whole : IfSome new (λ rest. stream false (bytes ++ rest) ≡ stream false bytes)
+  pub whole : IfSome new.left (λ rest. stream false (bytes ++ rest) ≡ stream false bytes)

@@ -1,6 +1,6 @@
 -- What the program does for a command line (own rule).
 use Rattle.std.specs.Prelude.{◌≡◌, ℕ, ◌⊎◌, false, List, [], ◌++◌, Option, Result, Ok, Err, OnOk, IfSome, codes}
-use Rattle.std.specs.Io.KnownBytes.{Appends, Consumes}
+use Rattle.std.specs.Io.KnownBytes.{Appends}
 use Rattle.std.specs.String.{string_bytes}
 use Rattle.bep_frames.specs.Stream.{stream}
 use Rattle.bepd.specs.declared.command.Request.{Request}
@@ -9,7 +9,8 @@ use Rattle.bepd.specs.declared.ending.Ending.{Ending}
 use Rattle.bepd.specs.declared.ending.Ending.TheVariants.{Done, Failed}
 use Rattle.bepd.specs.declared.ending.Failure.TheVariants as failure
 use Rattle.bepd.specs.declared.run.Outcome.{Outcome}
-use Rattle.bepd.specs.Endings.{IsEndOf, IsListed, ending_text, status_of}
+use Rattle.bepd.specs.Counts.{Input, Output, Reads, count_more}
+use Rattle.bepd.specs.Endings.{IsEndOf, IsListed, TellsFailedRead, TellsFailedWrite, ending_text, status_of}
 use Rattle.bepd.specs.Listing.{Answers, listing}
 use Rattle.bepd.specs.Playing.{played_ending}
 use Rattle.bepd_pair.specs.Playing.{Plays as AnyPlays}
@@ -17,13 +18,13 @@ use Rattle.bepd_pair.specs.declared.playing.PairFailure.{PairFailure}
 use Rattle.bepd_run.specs.Failures.{run_failure_status, run_failure_text}
 use Rattle.bepd_run.specs.declared.failure.RunFailure.{RunFailure}
 
--- The standard streams: the bytes that the input has left, and those that the output and the errors have, where they are known.
+-- The standard streams: the input and the output with what they count, and the bytes of standard error, where they are known.
 pub record Streams : Type 0 where
-  pub input : Option (List ℕ)
-  pub output : Option (List ℕ)
+  pub input : Input
+  pub output : Output
   pub errors : Option (List ℕ)
 
-abbrev pub streams : Option (List ℕ) → Option (List ℕ) → Option (List ℕ) → Streams
+abbrev pub streams : Input → Output → Option (List ℕ) → Streams
 streams input output errors = record { input = input; output = output; errors = errors }
 
 -- the line of an ending; there is none where all is done
@@ -40,16 +41,18 @@ pub record Ends (ending : Ending) (outcome : Outcome) (old new : Option (List �
 pub record Lists (folder : List ℕ) (outcome : Outcome) (old new : Streams) : Type 0 where
   pub ending : Ending
   pub bytes : List ℕ
-  pub taken : Consumes old.input new.input bytes
-  pub answers : Answers folder bytes ending old.output new.output
-  pub known : IfSome old.input (λ input. IsListed ending →
-      IsEndOf (stream false input).end ending × Appends old.output new.output (listing folder input))
+  pub reads : Reads bytes old.input new.input
+  pub failed_read : TellsFailedRead ending bytes old.input new.input
+  pub failed_write : TellsFailedWrite ending old.output new.output
+  pub answers : Answers folder bytes ending old.output.bytes new.output.bytes
+  pub known : IfSome old.input.left (λ input. IsListed ending →
+      IsEndOf (stream false input).end ending × Appends old.output.bytes new.output.bytes (listing folder input))
   pub ends : Ends ending outcome old.errors new.errors
 
 -- two peers did the commands of the input
 pub record Plays (outcome : Outcome) (old new : Streams) : Type 0 where
   pub played : Result (Unit {0}) PairFailure
-  pub plays : AnyPlays played old.input new.input old.output new.output
+  pub plays : AnyPlays played old.input.left new.input.left old.output.bytes new.output.bytes
   pub ends : Ends (played_ending played) outcome old.errors new.errors
 
 -- how a node's program ends; what the node does, no clause says
@@ -66,10 +69,11 @@ TellsRun outcome old new = (ran : Result (Unit {0}) RunFailure) × (told : Optio
 abbrev pub RunsNode : Outcome → Streams → Streams → Type 0
 RunsNode outcome old new = (ran : Result (Unit {0}) RunFailure) × EndsRun ran outcome old.errors new.errors
 
--- the text goes to standard output, or can't be written
-abbrev pub Shows : List ℕ → Outcome → Option (List ℕ) → Option (List ℕ) → Option (List ℕ) → Option (List ℕ) → Type 0
+-- the text goes to standard output, or a write of it failed
+abbrev pub Shows : List ℕ → Outcome → Output → Output → Option (List ℕ) → Option (List ℕ) → Type 0
 Shows text outcome old_output new_output old_errors new_errors =
-    ((outcome.status ≡ 0) × Appends old_output new_output text) ⊎ Ends (Failed failure.Write) outcome old_errors new_errors
+    ((outcome.status ≡ 0) × (new_output.failed ≡ old_output.failed) × Appends old_output.bytes new_output.bytes text)
+    ⊎ ((new_output.failed ≡ count_more old_output.failed 1) × Ends (Failed failure.Write) outcome old_errors new_errors)
 
 -- what is done for a request: nothing is read or written but this
 abbrev pub Does : Request → Outcome → Streams → Streams → Type 0

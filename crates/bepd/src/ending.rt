@@ -1,3 +1,4 @@
+//! How a listing ends.
 ghost use Rattle.std.specs.Prelude.{◌≡◌, Some};
 ghost use Rattle.bepd.specs.Endings.{ending_text, failure_text, status_of};
 ghost use Rattle.bepd.specs.declared.ending.Failure.TheVariants.{OutOfMemory};

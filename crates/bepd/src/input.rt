@@ -1,16 +1,18 @@
 //! A stream read to its end, or to its first fault.
 ghost use Rattle.std.specs.Prelude.{◌≡◌, ◌≢◌, ◌++◌, ◌+◌, ◌<◌, ◌^◌, ℕ, List, IfErr, IfOk, OnOk, Ok, [], false, length};
-ghost use Rattle.std.specs.Io.KnownBytes.{Consumes};
-ghost use Rattle.bepd.specs.Endings.{IsEndOf};
+ghost use Rattle.bepd.specs.Counts.{Reads, input_of};
+ghost use Rattle.bepd.specs.Endings.{IsEndOf, TellsFailedRead};
+ghost use Rattle.bepd.specs.declared.ending.Ending.TheVariants.{Failed};
 ghost use Rattle.bepd.specs.Received.{own_device};
 ghost use Rattle.bepd.specs.Progress.{IsReceived, IsReceivedOf, IsRead, Leaves};
 
+use crate::counted::CountedReader;
 use crate::ending::{Ending, Failure};
 use crate::received::Received;
 use bep_frames::{FrameFault, FrameReader};
 use folder_core::FolderCore;
 use std::alloc::{AllocError, Global};
-use std::io::{ErrorKind, Read};
+use std::io::Read;
 
 /// How many bytes are read at once at most.
 const PIECE_BYTES: usize = 65_536;
@@ -20,45 +22,38 @@ const MAX_INPUT_BYTES: u64 = 0x100_0000_0000;
 
 /// Reads a stream without Hello up to its end or its first fault, and takes its frames.
 ///
-/// Fails with `Read` if a read failed, other than by an interrupt, after which it is tried again, or if the input has more
-/// than 2^40 bytes.
+/// Fails with `Read` if a read failed, or if the input has more than 2^40 bytes.
 pub(crate) fn read_stream<F: FolderCore, R: Read>(
     alloc: Global,
     folder: &str,
     received: &mut Received<F>,
-    reader: &mut R,
+    reader: &mut CountedReader<R>,
 ) -> Result<Ending, Failure>
     requires { IsReceived folder.now [] (F.state received.old.folder) received.old.skipped }
-    ensures read { IfOk result (λ ending. IsRead folder.now (R.remaining reader.old) (R.remaining reader.new)
+    ensures read { IfOk result (λ ending. IsRead folder.now (input_of R.remaining reader.old) (input_of R.remaining reader.new)
         ending (F.state received.new.folder) received.new.skipped) }
-    ensures taken { (bytes : List ℕ) × Consumes (R.remaining reader.old) (R.remaining reader.new) bytes }
+    ensures failed { let old = input_of R.remaining reader.old in let new = input_of R.remaining reader.new in
+        IfErr result (λ failure. (bytes : List ℕ) × Reads bytes old new × TellsFailedRead (Failed failure) bytes old new) }
     ensures refused { IfErr result (λ failure. failure ≢ Failure.Write) }
 {
     let mut frames = FrameReader::after_hello(alloc);
     let mut bytes = make_buffer(alloc, PIECE_BYTES)?;
     let buffer = bytes.as_mut_slice();
     let mut total = 0;
-    for _ in 0..u64::MAX {
-        match reader.read(buffer) {
-            Ok(0) => return Ok(end_of(&frames)),
-            Ok(count) => {
-                total += count as u64;
-                if total > MAX_INPUT_BYTES {
-                    return Err(Failure::Read);
-                }
-                let piece = &buffer[..count];
-                if let Some(fault) = take_piece(alloc, folder, received, &mut frames, piece)? {
-                    return Ok(Ending::Fault(fault));
-                }
-            }
-            Err(error) => {
-                if error.kind() != ErrorKind::Interrupted {
-                    return Err(Failure::Read);
-                }
-            }
+    loop {
+        let count = reader.read(buffer)?;
+        if count == 0 {
+            return Ok(end_of(&frames));
+        }
+        total += count as u64;
+        if total > MAX_INPUT_BYTES {
+            return Err(Failure::Read);
+        }
+        let piece = &buffer[..count];
+        if let Some(fault) = take_piece(alloc, folder, received, &mut frames, piece)? {
+            return Ok(Ending::Fault(fault));
         }
     }
-    Err(Failure::Read)
 }
 
 /// A buffer of so many bytes.

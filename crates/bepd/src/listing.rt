@@ -1,11 +1,12 @@
 //! The listing of what was received.
-ghost use Rattle.std.specs.Prelude.{◌≡◌, ◌++◌, IfErr, OnOk, flat_map};
-ghost use Rattle.std.specs.Io.KnownBytes.{Appends, Keeps};
+ghost use Rattle.std.specs.Prelude.{◌≡◌, ◌≢◌, ◌++◌, IfErr, OnOk, flat_map};
+ghost use Rattle.std.specs.Io.KnownBytes.{Appends};
 ghost use Rattle.folder_core.specs.Announced.{IsNamed};
-ghost use Rattle.bepd.specs.Endings.{WritesFront};
+ghost use Rattle.bepd.specs.Endings.{WritesFront, failed_writes_after};
 ghost use Rattle.bepd.specs.Lines.{best_line, skipped_line};
 ghost use Rattle.bepd.specs.Listing.{best_lines};
 
+use crate::counted::CountedWriter;
 use crate::ending::Failure;
 use crate::line::{push_best, push_skipped};
 use crate::received::Received;
@@ -24,26 +25,28 @@ const PAGE: usize = 1_000;
 pub(crate) fn write_listing<F: FolderCore, W: Write>(
     alloc: Global,
     received: &Received<F>,
-    writer: &mut W,
+    writer: &mut CountedWriter<W>,
 ) -> Result<(), Failure>
     requires named { IsNamed (F.state received.now.folder).announced }
-    ensures listed { OnOk result (Appends (W.contents writer.old) (W.contents writer.new)
+    ensures listed { OnOk result (Appends (W.contents writer.old.inner) (W.contents writer.new.inner)
         (best_lines (F.state received.now.folder) ++ skipped_line received.now.skipped)) }
     ensures failed { IfErr result (λ failure. WritesFront failure (best_lines (F.state received.now.folder) ++ skipped_line received.now.skipped)
-        (W.contents writer.old) (W.contents writer.new)) }
+        (W.contents writer.old.inner) (W.contents writer.new.inner)) }
+    ensures refused { IfErr result (λ failure. failure ≢ Failure.Read) }
+    ensures counted { writer.new.failed ≡ failed_writes_after result writer.old.failed }
 {
     let mut lines = Vec::new(alloc);
     let mut page = received.folder.bests(None, PAGE)?;
     while let Some(last) = page.as_slice().last() {
         lines.clear();
         push_bests(&mut lines, page.as_slice())?;
-        put(writer, lines.as_slice())?;
+        writer.write_all(lines.as_slice())?;
         page = received.folder.bests(Some(last.record.name()), PAGE)?;
     }
     lines.clear();
     push_skipped(&mut lines, received.skipped)?;
-    put(writer, lines.as_slice())?;
-    flush(writer)
+    writer.write_all(lines.as_slice())?;
+    writer.flush()
 }
 
 /// Appends the lines of these bests. Returns `Err` only if out of memory.
@@ -54,18 +57,4 @@ fn push_bests(lines: &mut Vec<u8>, bests: &[Best]) -> Result<(), AllocError>
         push_best(lines, &best.record)?;
     }
     Ok(())
-}
-
-fn put<W: Write>(writer: &mut W, bytes: &[u8]) -> Result<(), Failure>
-    ensures put { OnOk result (Appends (W.contents writer.old) (W.contents writer.new) bytes.now) }
-    ensures failed { IfErr result (λ failure. failure ≡ Failure.Write) }
-{
-    writer.write_all(bytes).map_err(|_| Failure::Write)
-}
-
-fn flush<W: Write>(writer: &mut W) -> Result<(), Failure>
-    ensures kept { Keeps (W.contents writer.old) (W.contents writer.new) }
-    ensures failed { IfErr result (λ failure. failure ≡ Failure.Write) }
-{
-    writer.flush().map_err(|_| Failure::Write)
 }

@@ -3,6 +3,7 @@
 
 mod best;
 mod command;
+mod counted;
 mod ending;
 mod input;
 mod line;
@@ -12,6 +13,7 @@ mod received;
 mod run;
 
 use bepd_run::{Disks, ProgressStyle};
+use counted::{CountedReader, CountedWriter};
 use run::run;
 use std::env::{self, Env};
 use std::io::{self, IsTerminal};
@@ -19,7 +21,9 @@ use std::process::ExitCode;
 
 fn main(rt: HostRuntime) -> ExitCode {
     let words = words(&rt);
-    let (mut input, mut output, mut errors) = (rt.reader(), rt.stdout(), rt.stderr());
+    let mut input = CountedReader::new(rt.reader());
+    let mut output = CountedWriter::new(rt.stdout());
+    let mut errors = rt.stderr();
     let progress = if errors.is_terminal() {
         ProgressStyle::InPlace
     } else {
@@ -27,7 +31,6 @@ fn main(rt: HostRuntime) -> ExitCode {
     };
     let outcome = run(
         &rt,
-        rt.alloc(),
         &Disks::new(&rt, rt.alloc()),
         &words,
         progress,

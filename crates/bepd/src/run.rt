@@ -1,6 +1,7 @@
 //! The whole program, from the words of the command line and the standard streams to the exit status.
-ghost use Rattle.std.specs.Prelude.{◌≡◌, ◌⊎◌, ◌∷◌, [], List, ℕ, OnOk, codes, false};
+ghost use Rattle.std.specs.Prelude.{◌≡◌, ◌⊎◌, ◌∷◌, [], List, ℕ, IfErr, OnOk, codes, false};
 ghost use Rattle.std.specs.Io.KnownBytes.{Appends};
+ghost use Rattle.bepd.specs.Counts.{failed_after, input_of, output_of};
 ghost use Rattle.bepd.specs.CommandLine.{AreForTelling, IsCommandLine, IsRequested, begins_with_hyphen};
 ghost use Rattle.bepd.specs.Runs.{Does, Ends, EndsRun, Lists, Plays, Shows, TellsRun, streams};
 ghost use Rattle.bepd.specs.declared.command.Request.{Request as AnyRequest};
@@ -8,6 +9,7 @@ ghost use Rattle.bepd.specs.declared.ending.Ending.TheVariants.{Done};
 
 use crate::best::best;
 use crate::command::{Request, request_of, run_about};
+use crate::counted::{CountedReader, CountedWriter};
 use crate::ending::{Ending, Failure};
 use crate::playing::ending_of;
 use crate::received::own_device;
@@ -16,7 +18,6 @@ use bepd_run::{
     ProgressStyle, RunFailure, StateFiles, Stores, check_config, new_config, run_config,
 };
 use folder_db::IndexedFolder;
-use std::alloc::Global;
 use std::fs::{File, Files};
 use std::io::{self, BufRead, Write};
 use std::net::{Net, TcpListener, TcpStream};
@@ -43,12 +44,11 @@ pub(crate) struct Outcome {
 /// and the version go to the output, and why words are refused to `errors`, as does the line of each ending with a status above 0.
 pub(crate) fn run<T, S, R, W, E>(
     rt: &T,
-    alloc: Global,
     stores: &S,
     words: &io::Result<Vec<String>>,
     progress: ProgressStyle,
-    input: &mut R,
-    output: &mut W,
+    input: &mut CountedReader<R>,
+    output: &mut CountedWriter<W>,
     errors: &mut E,
 ) -> Outcome
 where
@@ -67,29 +67,30 @@ where
     E: Write + Send,
     // What the words ask for is done, and nothing else.
     ensures does { (asked : AnyRequest) × IsRequested words.now asked × Does asked result
-        (streams (R.remaining input.old) (W.contents output.old) (E.contents errors.old))
-        (streams (R.remaining input.new) (W.contents output.new) (E.contents errors.new)) }
+        (streams (input_of R.remaining input.old) (output_of W.contents output.old) (E.contents errors.old))
+        (streams (input_of R.remaining input.new) (output_of W.contents output.new) (E.contents errors.new)) }
     // The words `PROGRAM best FOLDER` ask for the listing of just that folder.
     ensures best { (program folder : List ℕ)
         → IsCommandLine words.now (program ∷ codes "best" ∷ folder ∷ []) → begins_with_hyphen folder ≡ false
         → Lists folder result
-        (streams (R.remaining input.old) (W.contents output.old) (E.contents errors.old))
-        (streams (R.remaining input.new) (W.contents output.new) (E.contents errors.new)) }
+        (streams (input_of R.remaining input.old) (output_of W.contents output.old) (E.contents errors.old))
+        (streams (input_of R.remaining input.new) (output_of W.contents output.new) (E.contents errors.new)) }
     // The words `PROGRAM pair` ask for two peers.
     ensures pair { (program : List ℕ) → IsCommandLine words.now (program ∷ codes "pair" ∷ [])
         → Plays result
-        (streams (R.remaining input.old) (W.contents output.old) (E.contents errors.old))
-        (streams (R.remaining input.new) (W.contents output.new) (E.contents errors.new)) }
+        (streams (input_of R.remaining input.old) (output_of W.contents output.old) (E.contents errors.old))
+        (streams (input_of R.remaining input.new) (output_of W.contents output.new) (E.contents errors.new)) }
     // The words `PROGRAM run --config FILE` ask for a node.
     ensures node { (program path : List ℕ)
         → IsCommandLine words.now (program ∷ codes "run" ∷ codes "--config" ∷ path ∷ [])
         → begins_with_hyphen path ≡ false
         → TellsRun result
-        (streams (R.remaining input.old) (W.contents output.old) (E.contents errors.old))
-        (streams (R.remaining input.new) (W.contents output.new) (E.contents errors.new)) }
+        (streams (input_of R.remaining input.old) (output_of W.contents output.old) (E.contents errors.old))
+        (streams (input_of R.remaining input.new) (output_of W.contents output.new) (E.contents errors.new)) }
     // Standard error stays as it was where the status is 0, unless a node tells what happens.
     ensures quiet { AreForTelling words.now ⊎ (result.status ≡ 0 → errors.new ≡ errors.old) }
 {
+    let alloc = rt.alloc();
     let about = run_about(alloc);
     match request_of(alloc, words, &about) {
         Request::Best(folder) => {
@@ -97,20 +98,29 @@ where
             let ending = best(alloc, folder, empty, input, output);
             end(ending, errors)
         }
-        Request::Pair => end(ending_of(pair(rt, alloc, input, output)), errors),
+        Request::Pair => {
+            let played = pair(rt, alloc, &mut input.inner, &mut output.inner);
+            end(ending_of(played), errors)
+        }
         Request::Run(path) => {
             let told = Some(progress);
-            end_run(
-                run_config(rt, stores, path, told, input, output, errors),
-                errors,
-            )
+            let (input, output) = (&mut input.inner, &mut output.inner);
+            let ran = run_config(rt, stores, path, told, input, output, errors);
+            end_run(ran, errors)
         }
         Request::QuietRun(path) => {
+            let (input, output) = (&mut input.inner, &mut output.inner);
             let ran = run_config(rt, stores, path, None, input, output, errors);
             end_run(ran, errors)
         }
-        Request::Check(path) => end_run(check_config(rt, alloc, path, output), errors),
-        Request::New(directory) => end_run(new_config(rt, alloc, directory, output), errors),
+        Request::Check(path) => {
+            let checked = check_config(rt, alloc, path, &mut output.inner);
+            end_run(checked, errors)
+        }
+        Request::New(directory) => {
+            let made = new_config(rt, alloc, directory, &mut output.inner);
+            end_run(made, errors)
+        }
         Request::Text(text) => show(text.as_str(), output, errors),
         Request::Refused(text) => Outcome {
             status: REFUSED_STATUS,
@@ -153,9 +163,9 @@ fn end_run<E: Write>(ran: Result<(), RunFailure>, errors: &mut E) -> Outcome
 }
 
 /// Prints the help or the version.
-fn show<W: Write, E: Write>(text: &str, output: &mut W, errors: &mut E) -> Outcome
-    ensures shows { Shows text.now result
-        (W.contents output.old) (W.contents output.new) (E.contents errors.old) (E.contents errors.new) }
+fn show<W: Write, E: Write>(text: &str, output: &mut CountedWriter<W>, errors: &mut E) -> Outcome
+    ensures shows { Shows text.now result (output_of W.contents output.old) (output_of W.contents output.new)
+        (E.contents errors.old) (E.contents errors.new) }
     ensures quiet { result.status ≡ 0 → errors.new ≡ errors.old }
 {
     match print(text, output) {
@@ -163,12 +173,14 @@ fn show<W: Write, E: Write>(text: &str, output: &mut W, errors: &mut E) -> Outco
             status: 0,
             reported: Ok(()),
         },
-        Err(_) => end(Ending::Failed(Failure::Write), errors),
+        Err(failure) => end(Ending::Failed(failure), errors),
     }
 }
 
-fn print<W: Write>(text: &str, output: &mut W) -> io::Result<()>
-    ensures { OnOk result (Appends (W.contents output.old) (W.contents output.new) text.now) }
+fn print<W: Write>(text: &str, output: &mut CountedWriter<W>) -> Result<(), Failure>
+    ensures written { OnOk result (Appends (W.contents output.old.inner) (W.contents output.new.inner) text.now) }
+    ensures failed { output.new.failed ≡ failed_after result output.old.failed }
+    ensures failure { IfErr result (λ failure. failure ≡ Failure.Write) }
 {
     output.write_all(text.as_bytes())?;
     output.flush()

@@ -1,5 +1,6 @@
 use Rattle.std.proofs.Common.{ap, ◌∙◌}
-use Rattle.bepd.proofs.Answering.{received_nothing, untouched}
+use Rattle.bepd.specs.Counts.{output_of}
+use Rattle.bepd.proofs.Answering.{received_nothing, no_write_failed, untouched}
 use Rattle.bepd.proofs.best.best.Goals as goal
 
 pub read_stream-requires : goal.read_stream-requires
@@ -13,5 +14,8 @@ write_listing-requires g c = record { named = c.in-Ok.ensures.read.received.name
 
 pub returns-in-Err-clause-listing : goal.returns-in-Err-clause-listing
 returns-in-Err-clause-listing g c =
-    let taken = c.in-Err.ensures.taken in
-    (taken.0, taken.1, untouched c.in-Err.failure _ (g.W.Write.contents c.args.writer.now) c.in-Err.ensures.refused)
+    let told = c.in-Err.ensures.failed in
+    (told.0, told.1, told.2, untouched c.in-Err.failure _ (g.W.Write.contents c.args.writer.now.inner))
+
+pub returns-in-Err-clause-writes : goal.returns-in-Err-clause-writes
+returns-in-Err-clause-writes g c = no_write_failed c.in-Err.failure (output_of g.W.Write.contents c.args.writer.now) c.in-Err.ensures.refused

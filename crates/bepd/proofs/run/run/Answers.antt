@@ -1,4 +1,5 @@
 use Rattle.std.proofs.Common.{subst}
+use Rattle.bepd.specs.Counts.{input_of, output_of}
 use Rattle.bepd.specs.Runs.{Lists, streams}
 use Rattle.bepd.proofs.Matching.{asked_best, asked_pair, asked_run}
 use Rattle.bepd.proofs.Running.{lists_nothing, plays_nothing, tells_nothing}
@@ -6,14 +7,16 @@ use Rattle.bepd.proofs.run.run.Goals as goal
 
 pub returns-in-Best-clause-best : goal.returns-in-Best-clause-best
 returns-in-Best-clause-best g c = λ program folder line plain.
-    let old = streams (g.R.Read.remaining c.args.input.now) (g.W.Write.contents c.args.output.now) (g.E.Write.contents c.args.errors.now) in
-    let new = streams (g.R.Read.remaining c.best-ending.new.reader) (g.W.Write.contents c.best-ending.new.writer) (g.E.Write.contents c.end.new.errors) in
+    let old = streams (input_of g.R.Read.remaining c.args.input.now) (output_of g.W.Write.contents c.args.output.now) (g.E.Write.contents c.args.errors.now) in
+    let new = streams (input_of g.R.Read.remaining c.best-ending.new.reader) (output_of g.W.Write.contents c.best-ending.new.writer) (g.E.Write.contents c.end.new.errors) in
     let listed = c.best-ending.ensures.listing in
     let lists : Lists c.in-Best.folder.now c.end.result old new = record {
       ending = c.best-ending.result;
       bytes = listed.0;
-      taken = listed.1;
-      answers = listed.2;
+      reads = listed.1;
+      failed_read = listed.2;
+      failed_write = c.best-ending.ensures.writes;
+      answers = listed.3;
       known = c.best-ending.ensures.known;
       ends = c.end.ensures.ends;
     } in
@@ -27,7 +30,7 @@ returns-in-Refused-clause-best g c = λ program folder line plain. absurd (asked
 
 pub returns-clause-best : goal.returns-clause-best
 returns-clause-best g c = λ program folder line plain.
-    lists_nothing folder c.end-in-OutOfMemory.result (g.R.Read.remaining c.args.input.now) (g.W.Write.contents c.args.output.now)
+    lists_nothing folder c.end-in-OutOfMemory.result (input_of g.R.Read.remaining c.args.input.now) (output_of g.W.Write.contents c.args.output.now)
     (g.E.Write.contents c.args.errors.now) (g.E.Write.contents c.end-in-OutOfMemory.new.errors) c.end-in-OutOfMemory.ensures.ends
 
 pub returns-in-Pair-clause-best : goal.returns-in-Pair-clause-best
@@ -44,7 +47,7 @@ returns-in-Refused-clause-pair g c = λ program line. absurd (asked_pair c.args.
 
 pub returns-clause-pair : goal.returns-clause-pair
 returns-clause-pair g c = λ program line.
-    plays_nothing c.end-in-OutOfMemory.result (g.R.Read.remaining c.args.input.now) (g.W.Write.contents c.args.output.now)
+    plays_nothing c.end-in-OutOfMemory.result (input_of g.R.Read.remaining c.args.input.now) (output_of g.W.Write.contents c.args.output.now)
     (g.E.Write.contents c.args.errors.now) (g.E.Write.contents c.end-in-OutOfMemory.new.errors) c.end-in-OutOfMemory.ensures.ends
 
 pub returns-in-Run-clause-best : goal.returns-in-Run-clause-best
@@ -75,11 +78,11 @@ pub returns-in-Refused-clause-node : goal.returns-in-Refused-clause-node
 returns-in-Refused-clause-node g c = λ program path line plain. absurd (asked_run c.args.words.now _ program path line plain c.in-Refused.ensures)
 
 pub returns-in-Run-clause-node : goal.returns-in-Run-clause-node
-returns-in-Run-clause-node g c = λ program path line plain. (c.run_config.result, g.E.Write.contents c.run_config.new.errors, c.end_run.ensures.ends)
+returns-in-Run-clause-node g c = λ program path line plain. (c.run_config-ran.result, g.E.Write.contents c.run_config-ran.new.errors, c.end_run.ensures.ends)
 
 pub returns-clause-node : goal.returns-clause-node
 returns-clause-node g c = λ program path line plain.
-    tells_nothing c.end-in-OutOfMemory.result (g.R.Read.remaining c.args.input.now) (g.W.Write.contents c.args.output.now)
+    tells_nothing c.end-in-OutOfMemory.result (input_of g.R.Read.remaining c.args.input.now) (output_of g.W.Write.contents c.args.output.now)
     (g.E.Write.contents c.args.errors.now) (g.E.Write.contents c.end-in-OutOfMemory.new.errors) c.end-in-OutOfMemory.ensures.ends
 
 pub returns-in-New-clause-best : goal.returns-in-New-clause-best
