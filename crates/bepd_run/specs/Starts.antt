@@ -1,6 +1,5 @@
 -- What a node begins with, by its configuration and its state, and what is left of it (own rule).
 use Rattle.std.specs.Prelude.{◌≡◌, ⊤, ℕ, Bool, List, [], ◌∷◌, length, map}
-use Rattle.folder_core.specs.States.{FolderState}
 use Rattle.folder_db.specs.declared.folder.IndexedFolder.{IndexedFolder}
 use Rattle.node_config.specs.declared.config.Config.{Config}
 use Rattle.node_config.specs.declared.config.FolderConfig.{FolderConfig}
@@ -30,13 +29,17 @@ IsFolder folder resumed start =
     })
     × (start.core.folder ≡ resumed.folder)
 
+-- one of the configuration's stands at the place of each of these, which belong together
+abbrev pub AreEach : {A B C : Type 0} → (A → B → C → Type 0) → List A → List B → List C → Type 0
+AreEach P [] [] cs = ⊤
+AreEach P [] (b ∷ bs) cs = ⊥
+AreEach P (a ∷ as) [] cs = ⊥
+AreEach P (a ∷ as) (b ∷ bs) [] = ⊥
+AreEach P (a ∷ as) (b ∷ bs) (c ∷ cs) = P a b c × AreEach P as bs cs
+
 -- each of these is the configuration's folder at its place
 abbrev pub AreFolders : List Resumed → List (StartFolder IndexedFolder) → List FolderConfig → Type 0
-AreFolders [] [] folders = ⊤
-AreFolders [] (s ∷ ss) folders = ⊥
-AreFolders (r ∷ rs) [] folders = ⊥
-AreFolders (r ∷ rs) (s ∷ ss) [] = ⊥
-AreFolders (r ∷ rs) (s ∷ ss) (f ∷ fs) = IsFolder f r s × AreFolders rs ss fs
+AreFolders resumed starts folders = AreEach (λ r s f. IsFolder f r s) resumed starts folders
 
 -- a share, as a node takes it
 abbrev pub told : resume.Share → node.Share
@@ -52,11 +55,7 @@ IsPeer peer shares start = (start.device ≡ peer.device) × IsReadAs peer.addre
 
 -- each of these is the configuration's peer at its place
 abbrev pub ArePeers : List (List resume.Share) → List NodePeer → List PeerConfig → Type 0
-ArePeers [] [] peers = ⊤
-ArePeers [] (n ∷ ns) peers = ⊥
-ArePeers (s ∷ ss) [] peers = ⊥
-ArePeers (s ∷ ss) (n ∷ ns) [] = ⊥
-ArePeers (s ∷ ss) (n ∷ ns) (p ∷ ps) = IsPeer p s n × ArePeers ss ns ps
+ArePeers shares starts peers = AreEach (λ s n p. IsPeer p s n) shares starts peers
 
 -- a node of this configuration: it has all its folders
 abbrev pub IsOf : Config → NextNode → Type 0

@@ -142,7 +142,8 @@ fn require_both<R: Files>(
     require_in_place(disk, new)
 }
 
-/// Removes a file. A fault if it changed since the last look, if that was at it, also while it was removed; then it is there again.
+/// Removes a file; its directory reaches the disk before this returns. A fault if it changed since the last look, if that was at it, also while it was
+/// removed; then it is there again.
 pub(crate) fn remove<R: Files>(
     disk: &Disk<R>,
     dir: &mut Option<Dir<R::File>>,
@@ -166,7 +167,7 @@ where
     let gone = Look::gone(String::from_str(disk.alloc, name.as_str())?);
     remove_by_way_of(disk, open, kept.as_str(), path.as_str(), &old)?;
     *look = Some(gone);
-    Ok(())
+    open.sync()
 }
 
 pub(crate) fn make_dir<R: Files>(
@@ -185,6 +186,7 @@ where
     Ok(())
 }
 
+/// Removes an empty directory; the one that it was in reaches the disk before this returns.
 pub(crate) fn remove_dir<R: Files>(
     disk: &Disk<R>,
     dir: &mut Option<Dir<R::File>>,
@@ -215,5 +217,5 @@ where
         return Err(refusal);
     }
     *look = Some(gone);
-    Ok(())
+    open.sync()
 }

@@ -24,7 +24,7 @@ use sync_names::SafeName;
 /// nothing, but nothing is put in their place. Several stores may be on one folder. The folder itself may be reached
 /// through links. While it is missing, or on another device than when the store was opened, each call returns `StoreFault`.
 ///
-/// What `commit_temp`, `rename` and `make_dir` have done has reached the disk when they return. A temporary file reaches the disk when `stat` looks at its
+/// What `commit_temp`, `rename`, `remove`, `make_dir` and `remove_dir` have done has reached the disk when they return. A temporary file reaches the disk when `stat` looks at its
 /// name.
 ///
 /// Others may change the folder at any time. Of the name that `stat` looked at last, or of which this store moved or removed the file since, `commit_temp` and `remove` return `StoreFault`

@@ -1,3 +1,4 @@
 pub mod PageRecords
 pub mod KeepingUp
 pub mod PageRead
+pub mod UpTo

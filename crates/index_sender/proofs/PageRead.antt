@@ -1,6 +1,6 @@
 -- A page from a read of the folder.
-use Rattle.std.proofs.Common.{◌≡◌, List, ◌++◌, sym, ap, ◌∙◌, append_assoc}
-use Rattle.std.specs.Prelude.{Some}
+use Rattle.std.proofs.Common.{◌≡◌, ℕ, Bool, List, length, ◌++◌, sym, ap, ◌∙◌, append_assoc}
+use Rattle.std.specs.Prelude.{Some, nat_lt}
 use mathlib.Core.List.{IsPrefix}
 use Rattle.sync_record.specs.Records.{FileRecord}
 use Rattle.folder_core.specs.Reads.{LocalSince, local_since}
@@ -9,7 +9,7 @@ use Rattle.folder_calls.specs.declared.entry.Entry.{Entry}
 use Rattle.folder_calls.specs.Histories.{state_after}
 use Rattle.folder_calls.specs.Shared.{CallerView, ReadsAt, Sees, now}
 use Rattle.index_sender.specs.Overlay.{GoesOn}
-use Rattle.index_sender.specs.Pages.{Gives, Progress, after_page, page_of}
+use Rattle.index_sender.specs.Pages.{Gives, GivesKept, Progress, after_page, page_of, up_to}
 use Rattle.index_sender.specs.declared.page.Page.{Page}
 
 prefix-on : (xs ys zs : List Entry) → IsPrefix xs ys → IsPrefix ys zs → IsPrefix xs zs
@@ -27,5 +27,16 @@ read-gives before after old new page reply reads page_is new_is = record {
   records = reply.value;
   read = reads.answer_is ∙ ap (λ s. local_since (state_after s after.seen) old.cursor 1000) (sym (ap (λ (v : CallerView). v.opening) reads.sees.same));
   page_is = page_is;
+  new_is = new_is;
+}
+
+pub read-gives-kept : (before after : CallerView) (kept : ℕ) (old new : Progress) (page : Page) (is_waiting : Bool) (reply : At (List FileRecord)) → ReadsAt before (LocalSince old.cursor 1000) (Some reply) after
+    → page ≡ page_of old.owes_index (up_to kept reply.value) → is_waiting ≡ nat_lt (length (up_to kept reply.value)) (length reply.value) → new ≡ after_page old (up_to kept reply.value)
+    → GivesKept kept (now after) old page is_waiting new
+read-gives-kept before after kept old new page is_waiting reply reads page_is waiting_is new_is = record {
+  records = reply.value;
+  read = reads.answer_is ∙ ap (λ s. local_since (state_after s after.seen) old.cursor 1000) (sym (ap (λ (v : CallerView). v.opening) reads.sees.same));
+  page_is = page_is;
+  waiting_is = waiting_is;
   new_is = new_is;
 }

@@ -44,7 +44,7 @@ in-rest x xs y i = Contains-append_right (x ∷ []) xs y i
 abbrev pub Rise : List FileRecord → Type 0
 Rise rs = IsStrictlySortedBy nat_cmp (map (λ r. r.sequence) rs)
 
-above-all : (k : ℕ) (rs : List FileRecord) → AllByRecursion (λ j. nat_cmp k j ≡ Less) (map (λ r. r.sequence) rs) → (r : FileRecord) → Contains rs r → k < r.sequence
+pub above-all : (k : ℕ) (rs : List FileRecord) → AllByRecursion (λ j. nat_cmp k j ≡ Less) (map (λ r. r.sequence) rs) → (r : FileRecord) → Contains rs r → k < r.sequence
 above-all k [] above r i = absurd (let below = i.1 in omega arith)
 above-all k (x ∷ xs) above r i = by (above-all k xs above.1 r) (in-cons x xs r i)
   where

@@ -1,6 +1,6 @@
 -- Pages of a device's index (Block Exchange Protocol v1, "Index" and "Index Update"; how many records a page has, and when
 -- the whole index is sent, are own rules).
-use Rattle.std.specs.Prelude.{◌≡◌, ℕ, Bool, true, false, ℤ, List, [], ◌∷◌, Option, Some, None}
+use Rattle.std.specs.Prelude.{◌≡◌, ℕ, Bool, true, false, ℤ, List, [], ◌∷◌, length, nat_le, nat_lt, if◌then◌else◌, Option, Some, None}
 use Rattle.sync_record.specs.Infos.{natural}
 use Rattle.sync_record.specs.Records.{FileRecord}
 use Rattle.folder_core.specs.Reads.{LocalSince, Reads}
@@ -43,6 +43,19 @@ pub record Gives (s : FolderState) (old : Progress) (page : Page) (new : Progres
   pub read : Reads s (LocalSince old.cursor max_page_records) records
   pub page_is : page ≡ page_of old.owes_index records
   pub new_is : new ≡ after_page old records
+
+-- of records in rising sequence those up to a sequence
+abbrev pub up_to : ℕ → List FileRecord → List FileRecord
+up_to sequence [] = []
+up_to sequence (r ∷ rs) = if nat_le r.sequence sequence then r ∷ up_to sequence rs else []
+
+-- The same where only the records up to a sequence are kept: the page has no other, and others wait for that.
+pub record GivesKept (kept : ℕ) (s : FolderState) (old : Progress) (page : Page) (is_waiting : Bool) (new : Progress) : Type 0 where
+  pub records : List FileRecord
+  pub read : Reads s (LocalSince old.cursor max_page_records) records
+  pub page_is : page ≡ page_of old.owes_index (up_to kept records)
+  pub waiting_is : is_waiting ≡ nat_lt (length (up_to kept records)) (length records)
+  pub new_is : new ≡ after_page old (up_to kept records)
 
 -- the records of a page
 abbrev pub records_of : Page → List FileRecord

@@ -1,6 +1,6 @@
 //! The laws of an index in pages. A law is a function that does nothing, whose contract says of the definitions in `specs/`
 //! what follows from them in plainer words.
-ghost use Rattle.std.specs.Prelude.{◌≡◌, ◌⊎◌, ◌<◌, ◌≤◌, ◌++◌, ◌∷◌, [], ℕ, ℤ, List, Option, Some, Contains, length, map, true, false};
+ghost use Rattle.std.specs.Prelude.{◌≡◌, ◌⊎◌, ◌<◌, ◌≤◌, ◌++◌, ◌∷◌, [], Bool, ℕ, ℤ, List, Option, Some, Contains, length, map, true, false};
 ghost use Rattle.std.specs.List.Sorted.{IsStrictlySortedBy};
 ghost use Rattle.std.specs.Ordering.{nat_cmp};
 ghost use Rattle.std.specs.FinMap.{get};
@@ -12,7 +12,7 @@ ghost use Rattle.folder_core.specs.Steps.{step};
 ghost use Rattle.folder_core.specs.States.{FolderState, IsFolder, local};
 ghost use Rattle.folder_calls.specs.Shared.{CallerView, IsLegalView, now};
 ghost use Rattle.index_sender.specs.Overlay.{GoesOn, KeepsUp, lay, overlay};
-ghost use Rattle.index_sender.specs.Pages.{Gives, Progress, max_page_records, records_of, sending_from};
+ghost use Rattle.index_sender.specs.Pages.{Gives, GivesKept, Progress, max_page_records, records_of, sending_from};
 ghost use Rattle.index_sender.specs.declared.page.Page.{Page};
 ghost use Rattle.index_sender.specs.declared.page.Page.TheVariants.{Index, IndexUpdate, Nothing};
 
@@ -28,6 +28,12 @@ pub fn pages_keep_up()
         (before after : CallerView) →
         KeepsUp start pages old before → GoesOn before after → IsLegalView after →
         Gives (now after) old page new →
+        KeepsUp start (pages ++ page ∷ []) new after }
+    // A page of what is kept leaves out no change either: what waits comes later.
+    ensures kept { (start kept : ℕ) (pages : List Page) (old new : Progress) (page : Page) (is_waiting : Bool)
+        (before after : CallerView) →
+        KeepsUp start pages old before → GoesOn before after → IsLegalView after →
+        GivesKept kept (now after) old page is_waiting new →
         KeepsUp start (pages ++ page ∷ []) new after }
 {
     local_records_come_in_pages();
@@ -70,6 +76,28 @@ pub fn nothing_is_left()
         (r : FileRecord) → IsFolder (now v) → KeepsUp start pages new v →
         Gives (now v) old Nothing new → local (now v) n ≡ Some r → start < r.sequence →
         overlay pages n ≡ Some r }
+{
+    local_records_come_in_pages();
+}
+
+/// A page of what is kept has no record above that sequence, and else it is a page as any other: of the local records of greater
+/// sequence than the cursor was, up to the cursor after it, none is left out. `Nothing` is given only where no local record that is kept
+/// has a greater sequence than the cursor, and records wait only where a local record is above that sequence.
+pub fn pages_have_what_is_kept()
+    ensures only { (kept : ℕ) (s : FolderState) (old new : Progress) (page : Page) (is_waiting : Bool) (r : FileRecord) →
+        IsFolder s → GivesKept kept s old page is_waiting new → Contains (records_of page) r →
+        (n : Name) × (local s n ≡ Some r) × (old.cursor < r.sequence) × (r.sequence ≤ new.cursor)
+        × (r.sequence ≤ kept) }
+    ensures all { (kept : ℕ) (s : FolderState) (old new : Progress) (page : Page) (is_waiting : Bool) (n : Name) (r : FileRecord) →
+        IsFolder s → GivesKept kept s old page is_waiting new →
+        local s n ≡ Some r → old.cursor < r.sequence → r.sequence ≤ new.cursor →
+        Contains (records_of page) r }
+    ensures end { (kept : ℕ) (s : FolderState) (old new : Progress) (is_waiting : Bool) (n : Name) (r : FileRecord) →
+        IsFolder s → GivesKept kept s old Nothing is_waiting new → local s n ≡ Some r → r.sequence ≤ kept →
+        r.sequence ≤ new.cursor }
+    ensures waits { (kept : ℕ) (s : FolderState) (old new : Progress) (page : Page) →
+        IsFolder s → GivesKept kept s old page true new →
+        (n : Name) × (r : FileRecord) × (local s n ≡ Some r) × (kept < r.sequence) }
 {
     local_records_come_in_pages();
 }

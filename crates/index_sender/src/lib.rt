@@ -10,5 +10,5 @@ mod page;
 mod sender;
 
 pub use infos::file_infos;
-pub use page::Page;
+pub use page::{KeptPage, Page};
 pub use sender::{IndexSender, MAX_PAGE_RECORDS};

@@ -1,6 +1,14 @@
 use bep_messages::Items;
 use sync_record::Record;
 
+/// What a peer is to be told next of those of this device's records that are kept.
+#[derive(Debug, PartialEq, Eq, Drop)]
+pub struct KeptPage {
+    pub page: Page,
+    /// Whether records wait to be kept, and are told then.
+    pub is_waiting: bool,
+}
+
 /// What a peer is to be told next of this device's records (Block Exchange Protocol v1, "Index" and "Index Update").
 #[derive(Debug, PartialEq, Eq, Drop)]
 pub enum Page {

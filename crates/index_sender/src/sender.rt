@@ -1,12 +1,12 @@
-ghost use Rattle.std.specs.Prelude.{◌≡◌, ◌<◌, ◌^◌, ◌++◌, ◌∷◌, [], IfErr, IfOk, List};
+ghost use Rattle.std.specs.Prelude.{◌≡◌, ◌<◌, ◌≤◌, ◌^◌, ◌++◌, ◌∷◌, [], IfErr, IfOk, List, length, take};
 ghost use Rattle.std.specs.Prelude.{ℕ};
 ghost use Rattle.folder_calls.specs.Shared.{CallerView, IsLegalView, Sees, now};
 ghost use Rattle.index_sender.specs.Overlay.{GoesOn, KeepsUp};
-ghost use Rattle.index_sender.specs.Pages.{Gives, after_page, page_of, sending_from};
+ghost use Rattle.index_sender.specs.Pages.{Gives, GivesKept, after_page, page_of, sending_from, up_to};
 ghost use Rattle.index_sender.specs.declared.page.Page.{Page as PageOf};
 
-use crate::Page;
 use crate::laws::pages_keep_up;
+use crate::{KeptPage, Page};
 use bep_messages::Items;
 use folder_calls::{At, FolderCalls};
 use std::alloc::AllocError;
@@ -81,6 +81,38 @@ impl IndexSender {
         Ok(self.give(value))
     }
 
+    /// The next page of the records that are kept, which are those up to a sequence: as [`IndexSender::next_page`], without the
+    /// records above it. Where there are such, they wait.
+    ///
+    /// Returns `Err` only if out of memory, and then the sender is as it was. One call of the folder; the records are shared,
+    /// not copied. O(n) besides for n records of the page.
+    pub fn next_kept_page<W: FolderCalls>(
+        &mut self,
+        calls: &mut W,
+        kept: u64,
+    ) -> Result<KeptPage, AllocError>
+        ensures folder { W.folder calls.new ≡ W.folder calls.old }
+        ensures sees { Sees (W.view calls.old) (W.view calls.new) }
+        ensures gives { IfOk result (λ next.
+            IsLegalView (W.view calls.new)
+            × GivesKept kept (now (W.view calls.new)) self.old next.page next.is_waiting self.new) }
+        // What holds of the pages before, at a point from which the history went on, holds with this one.
+        ensures keeps_up { IfOk result (λ next. (start : ℕ) (pages : List PageOf) (point : CallerView) →
+            GoesOn point (W.view calls.old) → KeepsUp start pages self.old point →
+            KeepsUp start (pages ++ next.page ∷ []) self.new (W.view calls.new)) }
+        ensures out_of_memory { IfErr result (λ _.
+            (self.new ≡ self.old) × (W.view calls.new ≡ W.view calls.old)) }
+    {
+        pages_keep_up();
+        let At { at: _, value } = calls.local_since(self.cursor, MAX_PAGE_RECORDS)?;
+        let count = count_up_to(value.as_slice(), kept);
+        let is_waiting = count < value.as_slice().len();
+        let mut records = value.into_vec();
+        records.truncate(count);
+        let page = self.give(Items::from_vec(records));
+        Ok(KeptPage { page, is_waiting })
+    }
+
     // The page of these records, which are those after the cursor.
     fn give(&mut self, records: Items<Record>) -> Page
         ensures page { result ≡ page_of self.old.owes_index records }
@@ -104,4 +136,17 @@ impl IndexSender {
             Page::IndexUpdate(records)
         }
     }
+}
+
+// How many of the records come before the first one above a sequence.
+fn count_up_to(records: &[Record], sequence: u64) -> usize
+    ensures within { result ≤ length records.now }
+    ensures value { take result records.now ≡ up_to sequence records.now }
+{
+    for at in 0..records.len() {
+        if records[at].sequence() > sequence {
+            return at;
+        }
+    }
+    records.len()
 }

@@ -3,8 +3,8 @@ use crate::connection::{begins, run_connection};
 use crate::peer::Peer;
 use crossbeam_channel::{Receiver, Sender, bounded};
 use file_store::{FileStore, Gate};
-use folder_calls::FolderCalls;
 use node_context::{Context, Host};
+use peer_conn::KeptCalls;
 use peer_link::LinkFolders;
 use std::alloc::Global;
 use std::net::{TcpListener, TcpStream};
@@ -21,7 +21,7 @@ pub(crate) fn accept_each<R, S, W, G>(
 where
     R: Host,
     S: FileStore + Drop + Send,
-    W: FolderCalls + Drop + Send,
+    W: KeptCalls + Drop + Send,
     G: Gate + Sync,
 {
     let Ok((to_link, streams)) = bounded::<TcpStream, Global>(cx.alloc, 1) else {
@@ -72,7 +72,7 @@ fn run_each<R, S, W, G>(
 where
     R: Host,
     S: FileStore + Drop + Send,
-    W: FolderCalls + Drop + Send,
+    W: KeptCalls + Drop + Send,
     G: Gate + Sync,
 {
     let mut folders = folders;

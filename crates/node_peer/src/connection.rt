@@ -2,8 +2,8 @@
 use crate::peer::Peer;
 use crate::told::{hello_of, own_config};
 use file_store::{FileStore, Gate};
-use folder_calls::FolderCalls;
 use node_context::{Context, Event, Host};
+use peer_conn::KeptCalls;
 use peer_link::{Line, LinkEnd, LinkFolders, run_link};
 use peer_reader::{ReaderStop, are_apart};
 use std::net::{Shutdown, TcpStream};
@@ -39,7 +39,7 @@ pub(crate) fn run_connection<R, S, W, G>(
 where
     R: Host,
     S: FileStore + Drop + Send,
-    W: FolderCalls + Drop + Send,
+    W: KeptCalls + Drop + Send,
     G: Gate + Sync,
 {
     cx.tell(&Event::Connected(peer.device));
@@ -59,7 +59,7 @@ fn link<R, S, W, G>(
 where
     R: Host,
     S: FileStore + Drop + Send,
-    W: FolderCalls + Drop + Send,
+    W: KeptCalls + Drop + Send,
     G: Gate + Sync,
 {
     let mut folders = folders;

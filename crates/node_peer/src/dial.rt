@@ -2,8 +2,8 @@
 use crate::connection::{begins, run_connection};
 use crate::peer::Peer;
 use file_store::{FileStore, Gate};
-use folder_calls::FolderCalls;
 use node_context::{Context, Host};
+use peer_conn::KeptCalls;
 use peer_link::LinkFolders;
 use std::net::{SocketAddr, TcpStream};
 use std::sync::Wait;
@@ -25,7 +25,7 @@ pub(crate) fn dial_again<R, S, W, G>(
 where
     R: Host,
     S: FileStore + Drop + Send,
-    W: FolderCalls + Drop + Send,
+    W: KeptCalls + Drop + Send,
     G: Gate + Sync,
 {
     let mut folders = folders;

@@ -2,9 +2,9 @@
 use crate::accept::accept_each;
 use crate::dial::dial_again;
 use file_store::{FileStore, Gate};
-use folder_calls::FolderCalls;
 use node_context::{Context, Host};
 use peer_asks::AskBook;
+use peer_conn::KeptCalls;
 use peer_link::LinkFolders;
 use std::net::{SocketAddr, TcpListener};
 use sync_record::DeviceId;
@@ -47,7 +47,7 @@ pub fn run_peer<R, S, W, G>(cx: &Context<R, G>, worker: PeerWorker<S, W>) -> Lin
 where
     R: Host,
     S: FileStore + Drop + Send,
-    W: FolderCalls + Drop + Send,
+    W: KeptCalls + Drop + Send,
     G: Gate + Sync,
 {
     let PeerWorker {

@@ -15,6 +15,7 @@ use node_files::Marked;
 use node_folder::{run_scanner, scan_due};
 use node_peer::{Reach, run_peer};
 use node_pull::run_rounds;
+use peer_conn::KeptCalls;
 use peer_link::LinkFolders;
 use peer_reader::PeerFolder;
 use std::alloc::{AllocError, Global};
@@ -201,7 +202,7 @@ where
     R: Host,
     G: Gate + Sync,
     S: FileStore + Marked + Drop + Send,
-    W: FolderCalls + Drop + Send,
+    W: KeptCalls + Drop + Send,
 {
     let Workers {
         scanned,

@@ -10,6 +10,7 @@ ghost use Rattle.peer_conn.specs.Words.{IsSameEnded, IsSameSeat, all_of, put_of}
 
 use crate::config::{folder_of, start_of};
 use crate::ends::{Ended, Seat};
+use crate::kept::KeptCalls;
 use crate::source::Source;
 use crate::turn::{Turn, TurnEnd, index_turn};
 use bep_frames::Message;
@@ -22,8 +23,11 @@ use std::sync::Wait;
 use std::time::{Clock, Duration};
 use sync_version::Moment;
 
-/// How many seconds the indexer sleeps once it has told all.
-const PAUSE_SECONDS: u64 = 1;
+/// How many milliseconds the indexer sleeps once it has told all.
+const PAUSE_MILLIS: u64 = 1000;
+
+/// How many it sleeps where records are to be kept before they are told.
+const KEEPING_PAUSE_MILLIS: u64 = 20;
 
 /// A folder that is shared with the peer.
 #[derive(Drop)]
@@ -57,9 +61,11 @@ impl From<AllocError> for IndexerEnd {
 /// in turn. A folder begins with an Index of all records, unless the peer's ClusterConfig says that it has this index up to some
 /// sequence. Later ClusterConfigs of the peer are passed over.
 ///
+/// A record is told once it is kept; where some are not, the indexer asks for it, and looks again after 20 milliseconds.
+///
 /// After a round in which there was nothing to tell it sleeps for a second, and puts a Ping if it has put nothing for 90 seconds. It
 /// ends once no ClusterConfig will come any more, at once if it sleeps.
-pub fn run_indexer<R: Wait + Clock, C: Source<ClusterConfig>, W: FolderCalls>(
+pub fn run_indexer<R: Wait + Clock, C: Source<ClusterConfig>, W: KeptCalls>(
     rt: &R,
     alloc: Global,
     config: ClusterConfig,
@@ -68,7 +74,7 @@ pub fn run_indexer<R: Wait + Clock, C: Source<ClusterConfig>, W: FolderCalls>(
     seat: Seat<Message>,
 ) -> (Ended<Message>, IndexerEnd)
     ensures same { IsSameEnded seat result.0 }
-    ensures tells { Indexes W.view C.gives config configs.old configs.new folders.old (put_of seat)
+    ensures tells { Indexes W.folder W.view W.says C.gives config configs.old configs.new folders.old (put_of seat)
         (all_of result.0) result.1 }
     ensures stays { AllZip (OnlySees W.folder W.view) folders.old folders.new }
 {
@@ -81,7 +87,7 @@ pub fn run_indexer<R: Wait + Clock, C: Source<ClusterConfig>, W: FolderCalls>(
 }
 
 // Waits for the peer's ClusterConfig, and puts pages until it ends.
-fn index_all<R: Wait + Clock, C: Source<ClusterConfig>, W: FolderCalls>(
+fn index_all<R: Wait + Clock, C: Source<ClusterConfig>, W: KeptCalls>(
     rt: &R,
     alloc: Global,
     configs: &mut C,
@@ -90,7 +96,7 @@ fn index_all<R: Wait + Clock, C: Source<ClusterConfig>, W: FolderCalls>(
 ) -> IndexerEnd
     ensures same { IsSameSeat seat.old seat.new }
     ensures tells { (more : List Message) × (put_of seat.new ≡ put_of seat.old ++ more)
-        × TellsPeer W.view C.gives configs.old configs.new folders.old more result }
+        × TellsPeer W.folder W.view W.says C.gives configs.old configs.new folders.old more result }
     ensures stays { AllZip (OnlySees W.folder W.view) folders.old folders.new }
 {
     let Some(config) = configs.next(rt) else {
@@ -119,7 +125,7 @@ fn index_all<R: Wait + Clock, C: Source<ClusterConfig>, W: FolderCalls>(
 }
 
 // A round, and where there was nothing to tell a pause. Returns the moment of the last put.
-fn index_once<R: Wait + Clock, C: Source<ClusterConfig>, W: FolderCalls>(
+fn index_once<R: Wait + Clock, C: Source<ClusterConfig>, W: KeptCalls>(
     rt: &R,
     alloc: Global,
     configs: &mut C,
@@ -130,18 +136,18 @@ fn index_once<R: Wait + Clock, C: Source<ClusterConfig>, W: FolderCalls>(
 ) -> Result<Moment, IndexerEnd>
     ensures same { IsSameSeat seat.old seat.new }
     ensures tells { (end : List (Option Progress)) × (more : List Message) × (put_of seat.new ≡ put_of seat.old ++ more)
-        × Tells W.view folders.old senders.old end more × IfOk result (λ _. end ≡ senders.new) }
-    ensures over { IfErr result (λ why. EndsFor W.view C.gives why configs.new) }
+        × Tells W.folder W.view W.says folders.old senders.old end more × IfOk result (λ _. end ≡ senders.new) }
+    ensures over { IfErr result (λ why. EndsFor C.gives why configs.new) }
     ensures stays { AllZip (OnlySees W.folder W.view) folders.old folders.new }
 {
     let moment = moment_of(rt, last_put);
-    let is_put = index_round(rt, alloc, folders, senders, seat)?;
+    let round = index_round(rt, alloc, folders, senders, seat)?;
+    let is_put = round == Round::Put;
     let is_ping = !is_put && ping_due(last_put, moment);
     if is_ping {
         put_ping(rt, seat)?;
     }
-    let pause = if is_put { 0 } else { PAUSE_SECONDS };
-    if configs.is_over_within(rt, Duration::from_secs(pause)) {
+    if configs.is_over_within(rt, round.pause()) {
         return Err(IndexerEnd::Closed);
     }
     Ok(if is_put || is_ping { moment } else { last_put })
@@ -188,21 +194,51 @@ fn sender_of<W: FolderCalls>(
     Some(IndexSender::new(start))
 }
 
-// A turn of each folder. Returns whether a page was put.
-fn index_round<R: Wait, W: FolderCalls>(
+// What a round came to.
+#[derive(Clone, Copy, Debug, PartialEq, Eq)]
+enum Round {
+    // There was nothing to tell.
+    Nothing,
+    // There is something to tell once it is kept.
+    Waiting,
+    // A page was put.
+    Put,
+}
+
+impl Round {
+    // The same with a folder of which something waits to be kept.
+    fn waiting(self) -> Round {
+        match self {
+            Round::Put => Round::Put,
+            Round::Nothing | Round::Waiting => Round::Waiting,
+        }
+    }
+
+    // How long the indexer sleeps then.
+    fn pause(self) -> Duration {
+        Duration::from_millis(match self {
+            Round::Put => 0,
+            Round::Waiting => KEEPING_PAUSE_MILLIS,
+            Round::Nothing => PAUSE_MILLIS,
+        })
+    }
+}
+
+// A turn of each folder.
+fn index_round<R: Wait, W: KeptCalls>(
     rt: &R,
     alloc: Global,
     folders: &mut [IndexedFolder<W>],
     senders: &mut [Option<IndexSender>],
     seat: &mut Seat<Message>,
-) -> Result<bool, IndexerEnd>
+) -> Result<Round, IndexerEnd>
     ensures same { IsSameSeat seat.old seat.new }
     ensures tells { (end : List (Option Progress)) × (more : List Message) × (put_of seat.new ≡ put_of seat.old ++ more)
-        × Tells W.view folders.old senders.old end more × IfOk result (λ _. end ≡ senders.new) }
+        × Tells W.folder W.view W.says folders.old senders.old end more × IfOk result (λ _. end ≡ senders.new) }
     ensures open { IfErr result (λ why. why ≢ Closed) }
     ensures stays { AllZip (OnlySees W.folder W.view) folders.old folders.new }
 {
-    let mut is_put = false;
+    let mut round = Round::Nothing;
     for i in 0..folders.len().min(senders.len()) {
         let IndexedFolder {
             id,
@@ -212,14 +248,19 @@ fn index_round<R: Wait, W: FolderCalls>(
         let Some(sender) = &mut senders[i] else {
             continue;
         };
-        match index_turn(rt, alloc, sender, id.as_str(), calls, seat) {
-            Turn::Put => is_put = true,
+        let kept = calls.kept_up_to();
+        match index_turn(rt, alloc, sender, id.as_str(), calls, kept, seat) {
+            Turn::Put => round = Round::Put,
             Turn::Nothing => {}
+            Turn::Waiting => {
+                calls.ask_to_keep();
+                round = round.waiting();
+            }
             Turn::Ended(TurnEnd::OutOfMemory) => return Err(IndexerEnd::OutOfMemory),
             Turn::Ended(TurnEnd::Gone) => return Err(IndexerEnd::Gone),
         }
     }
-    Ok(is_put)
+    Ok(round)
 }
 
 // The moment by the clock, or the last one where there is none.

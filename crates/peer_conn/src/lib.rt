@@ -8,6 +8,7 @@
 mod config;
 mod ends;
 mod indexer;
+mod kept;
 mod known;
 mod queue;
 mod rule;
@@ -20,6 +21,7 @@ mod writer;
 pub use config::{FolderTold, cluster_config, entry_of, start_of};
 pub use ends::{Bell, Ended, NotPut, Rings, Seat, Taker};
 pub use indexer::{IndexedFolder, IndexerEnd, run_indexer};
+pub use kept::KeptCalls;
 pub use known::{Account, Known, SeatName, Sent};
 pub use queue::OutQueue;
 pub use rule::{InOrder, law};

@@ -17,7 +17,8 @@ use file_store::{FileStore, Gate};
 use folder_calls::FolderCalls;
 use peer_asks::{RequesterEnd, run_requester};
 use peer_conn::{
-    Bell, Ended, IndexedFolder, IndexerEnd, Seat, Taker, WriterFault, run_indexer, run_writer,
+    Bell, Ended, IndexedFolder, IndexerEnd, KeptCalls, Seat, Taker, WriterFault, run_indexer,
+    run_writer,
 };
 use peer_reader::{PeerFolder, ReaderEnd, run_reader};
 use peer_server::{PeerRequest, ServedFolder, ServerEnd, run_server};
@@ -98,7 +99,7 @@ pub(crate) struct HasIndexed<W> {
 }
 
 /// Tells the peer the folders until there is a reason to end, and hangs the line up.
-pub(crate) fn index<R: Clock + Wait, W: FolderCalls + Drop, L: Line>(
+pub(crate) fn index<R: Clock + Wait, W: KeptCalls + Drop, L: Line>(
     rt: &R,
     alloc: Global,
     start: &Start,

@@ -21,9 +21,8 @@ use crate::start::Start;
 use bep_frames::Message;
 use bep_messages::{ClusterConfig, Hello};
 use file_store::{FileStore, Gate};
-use folder_calls::FolderCalls;
 use peer_asks::AskBook;
-use peer_conn::{Ended, OutQueue, WriterFault, finish_writer};
+use peer_conn::{Ended, KeptCalls, OutQueue, WriterFault, finish_writer};
 use std::alloc::Global;
 use std::io::{Read, Write};
 use std::sync::Wait;
@@ -57,7 +56,7 @@ where
     I: Read + Drop + Send,
     O: Write + Drop + Send,
     S: FileStore + Drop + Send,
-    W: FolderCalls + Drop + Send,
+    W: KeptCalls + Drop + Send,
     G: Gate + Sync,
     L: Line + Sync,
     requires { All (IsApart W.view peer) folders.read.items }
@@ -172,7 +171,7 @@ where
     R: Clock + Sync + Threads + Wait,
     I: Read + Drop + Send,
     S: FileStore + Drop + Send,
-    W: FolderCalls + Drop + Send,
+    W: KeptCalls + Drop + Send,
     G: Gate + Sync,
     L: Line + Sync,
     requires { All (IsApart W.view reading.peer) reading.folders.items }
@@ -215,7 +214,7 @@ fn put<R, S, W, G, L>(
 where
     R: Clock + Sync + Threads + Wait,
     S: FileStore + Drop + Send,
-    W: FolderCalls + Drop + Send,
+    W: KeptCalls + Drop + Send,
     G: Gate + Sync,
     L: Line + Sync,
     ensures indexer { IsSameEnded indexing.seat result.0.seat }

@@ -17,8 +17,10 @@ use Rattle.sync_record.specs.declared.kind.Kind.{Kind}
 use Rattle.sync_record.specs.declared.kind.Kind.TheVariants as kind
 use Rattle.sync_pull.specs.Bytes.{HasBlock}
 use Rattle.sync_pull.specs.Chains.{AsksAndSees}
-use Rattle.sync_pull.specs.Ends.{enters}
+use Rattle.sync_pull.specs.Ends.{Ends, IsNotBegun, enters}
 use Rattle.sync_pull.specs.Plans.{copy_name}
+use Rattle.sync_pull.specs.Pulled.{IfDone}
+use Rattle.sync_pull.specs.declared.answer.PullAnswer.{PullAnswer}
 use Rattle.sync_pull.specs.declared.replace.CopyPlan.{CopyPlan}
 use Rattle.sync_pull.specs.declared.replace.CopyPlan.TheVariants.{Due, NotDue}
 
@@ -101,8 +103,8 @@ pub data EntersFirst {S : Type 0} (gives : S → (call : Call) → Result (Value
   entered : (view : CallerView) (mid : S) → CallsOnly gives (IsOfTemp n) before mid → AsksAndSees old (enters t ∷ []) view → shown mid view
       → ChecksFirst gives n t.base kind undone mid after → EntersFirst gives shown n t kind undone old before after
 
--- The same of the pull of a name: where it is not begun, the store is not called.
-pub data BeginsFirst {S : Type 0} (gives : S → (call : Call) → Result (Value call) StoreRefusal → S → Type 0) (shown : S → CallerView → Type 0) (moment : ℕ) (n : Name) (undone : Type 0) (old : CallerView) (before after : S) : Type 0 where
-  not_begun : undone → after ≡ before → BeginsFirst gives shown moment n undone old before after
-  begun : (t : PullInfo) (view : CallerView) → Gets old (BeginPull n) (Begun t) view
-      → EntersFirst gives shown n t (IsOfPull n (copy_name n moment t.base)) undone view before after → BeginsFirst gives shown moment n undone old before after
+-- The same of the pull of a name: where it is not begun, as its answer says, the store is not called; where it is, this is the pull that ends so.
+pub data BeginsFirst {S : Type 0} (gives : S → (call : Call) → Result (Value call) StoreRefusal → S → Type 0) (shown : S → CallerView → Type 0) (moment : ℕ) (n : Name) (result : PullAnswer) (old : CallerView) (before : S) (new : CallerView) (after : S) : Type 0 where
+  not_begun : IsNotBegun old n result new → after ≡ before → BeginsFirst gives shown moment n result old before new after
+  begun : (t : PullInfo) (view : CallerView) → Gets old (BeginPull n) (Begun t) view → Ends view t result new
+      → EntersFirst gives shown n t (IsOfPull n (copy_name n moment t.base)) (IfDone result ⊥) view before after → BeginsFirst gives shown moment n result old before new after

@@ -22,6 +22,7 @@ ghost use Rattle.sync_pull.specs.Chains.{AsksAndSees};
 ghost use Rattle.sync_pull.specs.Ends.{enters};
 ghost use Rattle.sync_pull.specs.Moments.{BeginsFirst, IsOfPull, SaysStands};
 ghost use Rattle.sync_pull.specs.Sources.{HasNoSource, IsWronglyEmpty, best_devices};
+ghost use Rattle.sync_pull.specs.declared.answer.PullAnswer.TheVariants.{Done};
 ghost use Rattle.sync_blocks.specs.Tiling.{Tiles};
 ghost use Rattle.sync_blocks.specs.declared.block.Block.{Block};
 ghost use Rattle.sync_pull.specs.Bytes.{AreOf, HasBlock};
@@ -82,8 +83,8 @@ pub fn a_file_with_a_due_copy_is_kept()
 /// Of every store: a pull that is done entered its commit, and then the store said and gave what the base says, before anything was
 /// changed but the temporary file of the name.
 pub fn what_is_replaced_was_checked_first<S: FileStore, W: FolderCalls, G: Gate>()
-    ensures { (gate : G) (moment : ℕ) (n : Name) (old : CallerView) (before after : S) →
-        BeginsFirst S.gives (λ s v. (w : W) × G.shown gate S W s w × (W.view w ≡ v)) moment n ⊥ old before after →
+    ensures { (gate : G) (moment : ℕ) (n : Name) (sequence : ℕ) (old new : CallerView) (before after : S) →
+        BeginsFirst S.gives (λ s v. (w : W) × G.shown gate S W s w × (W.view w ≡ v)) moment n (Done sequence) old before new after →
         (t : PullInfo) × (begun entered : CallerView) × Gets old (BeginPull n) (Begun t) begun
         × AsksAndSees begun (enters t ∷ []) entered
         × (mid checked : S) × CallsOnly S.gives (IsOfTemp n) before mid

@@ -241,7 +241,7 @@ pub fn pull_name<S: FileStore, W: FolderCalls, B: BlockSource, G: Gate>(
         (IsRefused S.gives S.tree) result (W.view calls.old) (S.tree store.old) (W.view calls.new)
         (S.tree store.new) }
     ensures checks { BeginsFirst S.gives (λ s v. (w : W) × G.shown gate.now S W s w × (W.view w ≡ v)) moment name.now
-        (IfDone result ⊥) (W.view calls.old) store.old store.new }
+        result (W.view calls.old) store.old (W.view calls.new) store.new }
 {
     gate.at(GatePlace::FolderCall);
     let begun = match calls.begin_pull(name) {

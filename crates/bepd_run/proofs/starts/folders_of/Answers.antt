@@ -3,8 +3,8 @@ use Rattle.std.specs.Prelude.{map}
 use Rattle.std.proofs.lemmas.List.{length-append, map-append}
 use Rattle.node_config.specs.declared.config.FolderConfig.{FolderConfig}
 use Rattle.node_resume.specs.Resumed.{taken}
-use Rattle.bepd_run.specs.Starts.{AreFolders}
-use Rattle.bepd_run.proofs.Starting.{comes-below, folders-more}
+use Rattle.bepd_run.specs.Starts.{AreFolders, IsFolder}
+use Rattle.bepd_run.proofs.Starting.{comes-below, each-more}
 use Rattle.bepd_run.proofs.starts.folders_of.Goals as goal
 
 pub loop-folder-preserved : goal.loop-folder-preserved
@@ -20,7 +20,7 @@ loop-folder-preserved c =
     let x : FolderConfig = c.index-as_slice-place.result in
     let place : c.len-place.result ≡ length c.loop-folder.folders.items = search rules in
     let at : x ≡ get_or fs (length c.loop-folder.folders.items) x = c.index-as_slice-place.is ∙ (λ j. get_or (c.as_slice.ensures j) (place j) x) in
-    let one = folders-more (map taken c.loop-folder.yielded) c.loop-folder.folders.items fs x (taken c.in-Some.folder) c.in_ok-folder_of.field-0
+    let one = each-more (λ r s f. IsFolder f r s) (map taken c.loop-folder.yielded) c.loop-folder.folders.items fs (taken c.in-Some.folder) c.in_ok-folder_of.field-0 x
     c.loop-folder.invariant.each lt at c.in_ok-folder_of.ensures in
     let long : length c.push.new.self.items ≡ length c.loop-folder.folders.items + 1 = ap length grown ∙ length-append c.loop-folder.folders.items (c.in_ok-folder_of.field-0 ∷ []) in
     let longer : length (c.loop-folder.yielded ++ c.in-Some.folder ∷ []) ≡ length c.loop-folder.yielded + 1 = length-append c.loop-folder.yielded (c.in-Some.folder ∷ []) in

@@ -4,7 +4,7 @@ use Rattle.std.proofs.lemmas.List.{length-append, map-append, take_more}
 use Rattle.node_config.specs.declared.config.PeerConfig.{PeerConfig}
 use Rattle.node_resume.specs.declared.shares.Share.{Share}
 use Rattle.bepd_run.specs.Starts.{ArePeers, IsPeer}
-use Rattle.bepd_run.proofs.Starting.{peers-more}
+use Rattle.bepd_run.proofs.Starting.{each-more}
 use Rattle.bepd_run.proofs.starts.peers_of.Goals as goal
 
 pub loop-place-preserved : goal.loop-place-preserved
@@ -21,7 +21,7 @@ loop-place-preserved c =
     let at : x ≡ get_or ps (length c.loop-place.peers.items) x = c.index-as_slice-place.is ∙ (λ j. get_or (c.as_slice.ensures j) (sym count j) x) in
     let is : IsPeer x v.items c.in_ok-peer_of.field-0 = subst (λ (l : List Share). IsPeer x l c.in_ok-peer_of.field-0) c.as_slice-in-loop-place.ensures.value c.in_ok-peer_of.ensures in
     let came : List (List Share) = map (λ s. s.items) (take i c.args.shares.now) in
-    let one = peers-more came c.loop-place.peers.items ps x v.items c.in_ok-peer_of.field-0 c.loop-place.invariant.each lt at is in
+    let one = each-more (λ s n p. IsPeer p s n) came c.loop-place.peers.items ps v.items c.in_ok-peer_of.field-0 x c.loop-place.invariant.each lt at is in
     let more : map (λ s. s.items) (take (i + 1) c.args.shares.now) ≡ came ++ v.items ∷ [] =
     ap (map (λ s. s.items)) (take_more c.args.shares.now i v here ∙ ap (λ y. take i c.args.shares.now ++ y ∷ []) (sym c.index-shares-place.is))
     ∙ map-append (λ s. s.items) (take i c.args.shares.now) (v ∷ []) in

@@ -9,6 +9,6 @@ invariant-loop g l = record {
   next : (goal.iterator-loop g).can_next l.iterator';
   finite : (goal.iterator-loop g).is_finite l.iterator';
   same : IsSameSeat l.fn.seat l.seat;
-  told : HasTold g.W.FolderCalls.view l.fn.folders l.initial.senders.items l.senders.items (put_of l.fn.seat) (put_of l.seat);
+  told : HasTold g.W.FolderCalls.folder g.W.FolderCalls.view g.W.KeptCalls.says l.fn.folders l.initial.senders.items l.senders.items (put_of l.fn.seat) (put_of l.seat);
   stays : AllZip (OnlySees g.W.FolderCalls.folder g.W.FolderCalls.view) l.fn.folders l.folders;
 }

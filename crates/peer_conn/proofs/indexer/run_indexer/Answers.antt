@@ -21,7 +21,9 @@ returns-clause-stays g c =
 
 pub returns-clause-tells : goal.returns-clause-tells
 returns-clause-tells g c =
+    let folder = g.W.FolderCalls.folder in
     let view = g.W.FolderCalls.view in
+    let says = g.W.KeptCalls.says in
     let gives = g.C.Source.gives in
     let config = c.args.config in
     let from = c.args.configs.now in
@@ -32,12 +34,12 @@ returns-clause-tells g c =
           let x = w.index_all-end.ensures.tells in
           let is : all_of c.end.result ≡ before ++ message.ClusterConfig config ∷ x.0 =
           c.end.ensures.1 ∙ ap put_of w.seat-is ∙ x.1 ∙ ap (λ l. l ++ x.0) w.in-Ok.ensures.put ∙ append_assoc before (message.ClusterConfig config ∷ []) x.0 in
-          subst (λ (l : List Message). Indexes view gives config from c.match-put_wait.configs fs before l c.match-put_wait.end) (sym is)
-          (subst (λ (e : IndexerEnd). Indexes view gives config from c.match-put_wait.configs fs before (before ++ message.ClusterConfig config ∷ x.0) e) (sym w.end-is)
-          (subst (λ q. Indexes view gives config from q fs before (before ++ message.ClusterConfig config ∷ x.0) w.index_all-end.result) (sym w.configs-is)
+          subst (λ (l : List Message). Indexes folder view says gives config from c.match-put_wait.configs fs before l c.match-put_wait.end) (sym is)
+          (subst (λ (e : IndexerEnd). Indexes folder view says gives config from c.match-put_wait.configs fs before (before ++ message.ClusterConfig config ∷ x.0) e) (sym w.end-is)
+          (subst (λ q. Indexes folder view says gives config from q fs before (before ++ message.ClusterConfig config ∷ x.0) w.index_all-end.result) (sym w.configs-is)
           (begun x.0 w.index_all-end.result x.2)))
       | in-Err w ↦
           let is : all_of c.end.result ≡ before = c.end.ensures.1 ∙ ap put_of w.seat-is ∙ w.in-Err.ensures.back.1 in
-          subst (λ (l : List Message). Indexes view gives config from c.match-put_wait.configs fs before l c.match-put_wait.end) (sym is)
-          (subst (λ (e : IndexerEnd). Indexes view gives config from c.match-put_wait.configs fs before before e) (sym w.end-is) not_begun)
+          subst (λ (l : List Message). Indexes folder view says gives config from c.match-put_wait.configs fs before l c.match-put_wait.end) (sym is)
+          (subst (λ (e : IndexerEnd). Indexes folder view says gives config from c.match-put_wait.configs fs before before e) (sym w.end-is) not_begun)
     ]

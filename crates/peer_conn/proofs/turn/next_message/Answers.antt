@@ -7,9 +7,10 @@ in-each-error : {T E : Type 0} (P : Type 0) (r : Result T E) → P → IfErr r (
 in-each-error P (Ok t) p = tt
 in-each-error P (Err e) p = p
 
-pub returns-clause-out_of_memory : goal.returns-clause-out_of_memory
-returns-clause-out_of_memory g c =
+pub returns-in_err-told-clause-out_of_memory : goal.returns-in_err-told-clause-out_of_memory
+returns-in_err-told-clause-out_of_memory g c =
     let folder = c.args.folder.now in
-    let given = c.in_ok-page.ensures.gives in
-    in-each-error (MayGiveMessage folder (g.W.FolderCalls.view c.next_page.new.calls) c.args.sender.now c.next_page.new.self) c.message_of.result
-    (inr (message_of folder c.in_ok-page.page, (c.in_ok-page.page, given.0, given.1, refl)))
+    let next = c.in_ok-next.next in
+    let given = c.in_ok-next.ensures.gives in
+    in-each-error (MayGiveMessage folder c.args.kept (g.W.FolderCalls.view c.next_kept_page.new.calls) c.args.sender.now c.next_kept_page.new.self) c.from_residual-in_err-told.result
+    (inr (next.is_waiting, message_of folder next.page, (next.page, given.0, given.1, refl)))

@@ -30,7 +30,7 @@ returns-in-Ok-Begun-clause-comes g c = inr (
 pub returns-in-Ok-Begun-clause-checks : goal.returns-in-Ok-Begun-clause-checks
 returns-in-Ok-Begun-clause-checks g c = begun c.in-Ok-Begun.ticket (g.W.FolderCalls.view c.begin_pull.new.self)
     (gets _ _ (BeginPull c.args.name.now) _ (Begun c.in-Ok-Begun.ticket) c.in-Ok.ensures.changes
-    (ap begin_value c.in-Ok-Begun.is ∙ ap (λ b. begin_value (Ok b)) c.in-Ok-Begun.field-0-is)) c.pull_begun.ensures.checks
+    (ap begin_value c.in-Ok-Begun.is ∙ ap (λ b. begin_value (Ok b)) c.in-Ok-Begun.field-0-is)) c.pull_begun.ensures.ends c.pull_begun.ensures.checks
 
 pub pull_begun-requires-clause-target : goal.pull_begun-requires-clause-target
 pull_begun-requires-clause-target g c = λ _ _.
