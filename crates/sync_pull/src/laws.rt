@@ -22,7 +22,7 @@ ghost use Rattle.sync_pull.specs.Chains.{AsksAndSees};
 ghost use Rattle.sync_pull.specs.Ends.{enters};
 ghost use Rattle.sync_pull.specs.Moments.{BeginsFirst, IsOfPull, SaysStands};
 ghost use Rattle.sync_pull.specs.Sources.{HasNoSource, IsWronglyEmpty, best_devices};
-ghost use Rattle.sync_pull.specs.declared.answer.PullAnswer.TheVariants.{Done};
+ghost use Rattle.sync_pull.specs.declared.answer.PullAnswer.TheVariants.{Busy, Done, NotNeeded, Unsupported};
 ghost use Rattle.sync_blocks.specs.Tiling.{Tiles};
 ghost use Rattle.sync_blocks.specs.declared.block.Block.{Block};
 ghost use Rattle.sync_pull.specs.Bytes.{AreOf, HasBlock};
@@ -91,6 +91,19 @@ pub fn what_is_replaced_was_checked_first<S: FileStore, W: FolderCalls, G: Gate>
         × ((w : W) × G.shown gate S W mid w × (W.view w ≡ entered))
         × SaysStands S.gives n t.base mid checked
         × CallsOnly S.gives (IsOfPull n (copy_name n moment t.base)) checked after }
+{}
+
+/// Of every store: where a pull is not begun, because it isn't needed, another one is open or the best can't be pulled, the store is as it was.
+pub fn what_is_not_begun_changes_nothing<S: FileStore, W: FolderCalls, G: Gate>()
+    ensures not_needed { (gate : G) (moment : ℕ) (n : Name) (old new : CallerView) (before after : S) →
+        BeginsFirst S.gives (λ s v. (w : W) × G.shown gate S W s w × (W.view w ≡ v)) moment n NotNeeded old before new after →
+        after ≡ before }
+    ensures busy { (gate : G) (moment : ℕ) (n : Name) (old new : CallerView) (before after : S) →
+        BeginsFirst S.gives (λ s v. (w : W) × G.shown gate S W s w × (W.view w ≡ v)) moment n Busy old before new after →
+        after ≡ before }
+    ensures unsupported { (gate : G) (moment : ℕ) (n : Name) (old new : CallerView) (before after : S) →
+        BeginsFirst S.gives (λ s v. (w : W) × G.shown gate S W s w × (W.view w ≡ v)) moment n Unsupported old before new after →
+        after ≡ before }
 {}
 
 /// Of every source: where there is none, the target is a live file with a block that is empty and has another digest than no bytes have,
