@@ -90,6 +90,9 @@ class Disk:
 
     def read(self, path):
         facts = os.lstat(path)
+        if facts.st_ino in self.by_number:
+            # (another name of a file)
+            return self.by_number[facts.st_ino]
         if stat.S_ISDIR(facts.st_mode):
             node = Entry(True, facts.st_mode & 0o7777, facts.st_mtime_ns)
             for name in os.listdir(path):
