@@ -1,6 +1,6 @@
 /* Preloaded into a program by tools/crashes: numbers, over all threads, each call that changes the disk or waits for it, of regular files and directories
-   below the directories UNDER (`:` between them), from 1 on. Before the call with the number KILL_AT the program kills itself. The one with the number FAIL_AT, if it waits
-   for the disk, fails with EIO and isn't made. One call is made at a time, and after it a line is added to the file CALLS, by one write, with a blank between its
+   below the directories UNDER (`:` between them), from 1 on. Before the call with the number KILL_AT the program kills itself. Of those that wait for the disk the
+   one with the number FAIL_AT, counted alone, fails with EIO and isn't made. One call is made at a time, and after it a line is added to the file CALLS, by one write, with a blank between its
    words, in which a byte that doesn't print, a blank and a `%` are `%` and two hexadecimal digits:
        NUMBER TIME create INO MODE PATH       a file is made
        NUMBER TIME cut INO LENGTH PATH        it has this length now
@@ -41,7 +41,7 @@
 #define LONGEST (1 << 22)
 
 static pthread_mutex_t one = PTHREAD_MUTEX_INITIALIZER;
-static long number;
+static long number, syncs;
 static int calls = -1;
 static char *line;
 static size_t filled;
@@ -117,15 +117,15 @@ static void leave(void) {
     errno = error;
 }
 
-static int is_at(const char *name) {
+static int is_at(const char *name, long which) {
     const char *at = getenv(name);
-    return at && *at && atol(at) == number;
+    return at && *at && atol(at) == which;
 }
 
 /* Gives a call its number. */
 static void number_it(const char *kind, const char *path) {
     number++;
-    if (!is_at("KILL_AT")) return;
+    if (!is_at("KILL_AT", number)) return;
     note("killed");
     put(" %s", kind);
     put_path(path);
@@ -354,7 +354,7 @@ static int synced(int file, long which) {
     if (!is_file(file, path, &ino, 1)) return raw(which, file, 0, 0, 0, 0, 0);
     enter();
     number_it("sync", path);
-    int fails = is_at("FAIL_AT"), answer = fails ? -1 : raw(which, file, 0, 0, 0, 0, 0);
+    int fails = is_at("FAIL_AT", ++syncs), answer = fails ? -1 : raw(which, file, 0, 0, 0, 0, 0);
     if (fails) errno = EIO;
     int error = errno;
     note(answer ? "lost" : "sync");
