@@ -1,7 +1,7 @@
-/* Preloaded into a program by tools/crashes: numbers, over all threads, each call that changes the disk or waits for it, of regular files and directories
-   below the directories UNDER (`:` between them), from 1 on. Before the call with the number KILL_AT the program kills itself. Of those that wait for the disk the
-   one with the number FAIL_AT, counted alone, fails with EIO and isn't made. One call is made at a time, and after it a line is added to the file CALLS, by one write, with a blank between its
-   words, in which a byte that doesn't print, a blank and a `%` are `%` and two hexadecimal digits:
+/* Preloaded into a program by tools/crashes: numbers, over all threads and from 1 on, each call that changes the disk or waits for it, of regular files and directories
+   below the directories UNDER (`:` between them). Before the call with the number KILL_AT the program kills itself. Of those that wait for the disk the one with the
+   number FAIL_AT, counted alone, fails with EIO and isn't made. One call is made at a time, and after it a line is added to the file CALLS, by one write, with a blank
+   between its words, in which a byte that doesn't print, a blank and a `%` are `%` and two hexadecimal digits:
        NUMBER TIME create INO MODE PATH       a file is made
        NUMBER TIME cut INO LENGTH PATH        it has this length now
        NUMBER TIME write INO OFFSET HEX PATH  these bytes were written
@@ -17,8 +17,8 @@
        NUMBER TIME failed KIND ERROR PATH     a call that changed nothing
        NUMBER TIME other KIND PATH            a call that a model of the disk doesn't know
        NUMBER TIME killed KIND PATH           the call that was not made
-   TIME is in nanoseconds. A path is the whole one, through no link, that the file had just before the call. Calls that would change nothing, as they name what isn't there or make what is, have no
-   number. */
+   TIME is in nanoseconds. A path is the whole one, through no link, that the file had just before the call. Calls that would change nothing, as they name what isn't
+   there or make what is, have no number. */
 #define _GNU_SOURCE
 #include <dlfcn.h>
 #include <errno.h>

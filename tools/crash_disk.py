@@ -1,8 +1,9 @@
 """A disk that can lose what has not reached it: built from the files of a directory, and from what tools/crash_calls.c noted of the calls that changed them.
 
 A file's bytes have reached the disk as of its last sync, a directory's names as of its own. What came after may be lost: wholly, or by a choice of a seed. Then of each
-write after the last sync each 512 bytes are there or not, and the file is as long as after any of these calls; of each directory the first of its calls are there, so and so many. A rename
-from one directory to another is there in both or in none, and in the order of the calls of both. So a sync of one of them also keeps what came before in the other one."""
+write after the last sync each 512 bytes are there or not, and the file is as long as after any of these calls; of each directory the first of its calls are there, so and
+so many. A rename from one directory to another is there in both or in none, and in the order of the calls of both. So a sync of one of them also keeps what came before
+in the other one. (Stricter than most file systems: a new file whose bytes are synced has no name yet, and neither has a new directory that is.)"""
 import os
 import random
 import re

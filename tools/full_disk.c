@@ -1,5 +1,5 @@
-/* Preloaded into a program: while there is a file at the path FULL, the disk has no room for a byte more of a temporary file, or, where FULL_AT is a path, of those files whose paths begin
-   with it. */
+/* Preloaded into a program: while there is a file at the path FULL, the disk has no room for a byte more of a temporary file, or, where FULL_AT is a path, of those
+   files whose paths begin with it. */
 #define _GNU_SOURCE
 #include <dlfcn.h>
 #include <errno.h>
