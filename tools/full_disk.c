@@ -1,4 +1,5 @@
-/* Preloaded into a program: while there is a file at the path FULL, the disk has no room for a byte more of a temporary file. */
+/* Preloaded into a program: while there is a file at the path FULL, the disk has no room for a byte more of a temporary file, or, where FULL_AT is a path, of those
+   files whose paths begin with it. */
 #define _GNU_SOURCE
 #include <dlfcn.h>
 #include <errno.h>
@@ -10,10 +11,13 @@
 
 static int is_refused(int file) {
     char link[64], path[4096];
-    const char *full = getenv("FULL");
+    const char *full = getenv("FULL"), *at = getenv("FULL_AT");
     snprintf(link, sizeof link, "/proc/self/fd/%d", file);
     ssize_t count = readlink(link, path, sizeof path - 1);
-    if (!full || count < 4 || memcmp(path + count - 4, ".tmp", 4) || access(full, F_OK)) return 0;
+    if (!full || count < 4) return 0;
+    path[count] = 0;
+    if (at ? strncmp(path, at, strlen(at)) : strcmp(path + count - 4, ".tmp")) return 0;
+    if (access(full, F_OK)) return 0;
     errno = ENOSPC;
     return 1;
 }

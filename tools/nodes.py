@@ -158,7 +158,7 @@ class Node:
                 try:
                     with open(f"{at}/{it}", "rb") as file:
                         found[os.path.relpath(f"{at}/{it}", path)] = file.read()
-                except FileNotFoundError:
+                except (FileNotFoundError, IsADirectoryError, NotADirectoryError):
                     pass
         return found
 
