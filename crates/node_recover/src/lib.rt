@@ -1,0 +1,18 @@
+//! What a run takes over from a state and the journal behind it: the records as they were last told, and the pulls that may
+//! have ended just before.
+#![tactic(auto)]
+
+mod fault;
+mod finding;
+mod finished;
+pub mod laws;
+mod laying;
+mod plan;
+mod recovering;
+mod settling;
+mod told;
+
+pub use fault::{RecoverFault, SettleFault};
+pub use plan::PullPlan;
+pub use recovering::{RecoveredFolder, recover};
+pub use settling::{Disk, is_open, settle};
