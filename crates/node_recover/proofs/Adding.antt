@@ -1,7 +1,6 @@
 -- Lists that a loop has gone through one element further.
 use Rattle.std.proofs.Common.{◌≡◌, ℕ, ◌+◌, ◌<◌, List, [], ◌∷◌, ◌++◌, append_assoc, get_or, length, map, max, take, sym, ap, ◌∙◌}
 use Rattle.std.specs.Prelude.{◌==◌, bytes_eq, filter, flat_map, fold, if◌then◌else◌}
-use Rattle.std.specs.List.{AllByRecursion}
 use Rattle.std.proofs.lemmas.Grind.{flat_map-append}
 use Rattle.std.proofs.lemmas.List.{append-nil, map-append}
 use Rattle.std.proofs.lemmas.List.Elements.{filter-append}

@@ -58,3 +58,7 @@ err-then (Err e) each h = each e h
 pub not-each : {A : Type 0} (xs : List A) → xs ≢ [] → ¬ (AllByRecursion (λ x. ⊥) xs)
 not-each [] some all = some refl
 not-each (x ∷ xs) some all = all.0
+
+-- the same of a list that is another one
+pub not-in : {A E : Type 0} (P : E → A → Type 0) (xs ys : List A) → xs ≡ ys → (i : ℕ) (x : A) → i < length xs → x ≡ get_or xs i x → (e : E) → ¬ (P e x) → ¬ (AllByRecursion (P e) ys)
+not-in P xs ys same i x lt is e refuted all = not-all (P e) xs i x lt is refuted (subst (AllByRecursion (P e)) (sym same) all)

@@ -1,31 +1,27 @@
 -- What is announced once a device announces records too, as a list of announcements.
-use Rattle.std.proofs.Common.{◌≡◌, ◌≢◌, ℕ, Bool, true, false, List, [], ◌∷◌, ◌++◌, refl, sym, ap, subst, ◌∙◌, reverse}
-use Rattle.std.specs.Prelude.{◌&&◌, not, bytes_eq, cond, filter, map, fold, max, pos, Option, Some, None, T, IsTrue}
+use Rattle.std.proofs.Common.{◌≡◌, Bool, true, false, List, [], ◌∷◌, ◌++◌, refl, sym, ap, ◌∙◌, reverse}
+use Rattle.std.specs.Prelude.{◌&&◌, not, cond, filter, map, Option, Some, None, T}
 use Rattle.std.specs.Bool.{passes}
-use Rattle.std.specs.FinMap.{empty, entries, entries-from_sorted, find, from_sorted, get, get-entries, get-from_sorted, get-insert, insert, is_sorted, same_map}
+use Rattle.std.specs.FinMap.{find, from_sorted, get, get-from_sorted, get-insert, insert, is_sorted, same_map}
 use Rattle.std.specs.FinMap.Entries.{below_all}
 use Rattle.std.specs.List.{AllByRecursion, dedup, dedup_from}
 use Rattle.std.specs.List.Sorted.{IsSortedBy, IsStableBy, IsStrictlySortedBy, ties}
 use Rattle.std.specs.Option.{option_or}
 use Rattle.std.specs.Ordering.{eq_by_cmp, is_eq, is_lt, ordering_reverse}
-use Rattle.std.specs.Cmp.{Equal-is, both_ways, on_total, tied_itself}
+use Rattle.std.specs.Cmp.{Equal-is, on_total}
 use Rattle.std.specs.declared.cmp.Ordering.{Ordering}
 use Rattle.std.specs.declared.cmp.Ordering.TheVariants.{Less, Equal, Greater}
-use Rattle.std.proofs.lemmas.Bool.{and_from, and_parts, false_from_ne_true, not-true, true≢false}
 use Rattle.std.proofs.lemmas.Grind.{reverse_onto}
 use Rattle.std.proofs.lemmas.List.{map-append}
 use Rattle.std.proofs.lemmas.List.Kept.{IsStrictlySortedBy-dedup}
 use Rattle.sync_record.specs.Devices.{Identity}
 use Rattle.sync_record.specs.Records.{FileRecord}
 use Rattle.folder_core.specs.declared.announcement.Announcement.{Announcement}
-use Rattle.folder_core.specs.Announced.{Announced, Key, KeyedRecord, announce, by_device, key, key_cmp}
+use Rattle.folder_core.specs.Announced.{Announced, Key, announce, key, key_cmp}
 use Rattle.folder_core.specs.Plain.{Rises, filed}
-use Rattle.folder_core.specs.PlainRestores.{given}
 use Rattle.folder_core.proofs.ListFilters.{join, less_is}
-use Rattle.folder_core.proofs.ListTests.{is_less, parts}
 use Rattle.folder_core.proofs.Orders.{exact_keys, is_true, keys_total}
 use Rattle.folder_core.proofs.PlainRestoreLists.{before, key_at}
-use Rattle.folder_core.proofs.RestoreFolders.{tie}
 use Rattle.node_recover.specs.Laid.{by_me}
 
 abbrev pub found : Key → List Announcement → Option FileRecord

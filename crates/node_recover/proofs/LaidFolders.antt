@@ -1,21 +1,19 @@
 -- The folder that has records laid over those of another, and what it is restored from.
-use Rattle.std.proofs.Common.{◌≡◌, ◌≢◌, ◌<◌, ◌≤◌, ◌^◌, ℕ, ℤ, Bool, true, false, List, [], ◌∷◌, ◌⊎◌, inl, inr, refl, sym, ap, subst, ◌∙◌, arith}
-use Rattle.std.specs.Prelude.{T, bytes_eq, filter, if◌then◌else◌, map, fold, max, pos, Option, Some, None}
+use Rattle.std.proofs.Common.{◌≡◌, ◌≢◌, ℕ, ℤ, true, false, List, [], ◌∷◌, ◌⊎◌, inl, inr, refl, sym, ap, subst, ◌∙◌}
+use Rattle.std.specs.Prelude.{T, bytes_eq, filter, if◌then◌else◌, map, fold, max, pos}
 use Rattle.std.specs.Bool.{passes}
 use Rattle.std.specs.FinMap.{empty, entries, entries-from_sorted, entries_sorted, from_sorted, get, is_sorted, same_map}
-use Rattle.std.specs.List.Sorted.{IsPermutation}
-use Rattle.std.specs.Option.{option_or}
 use Rattle.std.proofs.lemmas.Bool.{cases_Bool, true≢false}
 use Rattle.std.proofs.lemmas.List.Sorted.{IsPermutation-refl}
 use Rattle.sync_record.specs.Devices.{Identity}
 use Rattle.sync_record.specs.Records.{Name, FileRecord}
 use Rattle.folder_core.specs.declared.announcement.Announcement.{Announcement}
-use Rattle.folder_core.specs.Announced.{Announced, Key, KeyedRecord, announce, by_device, is_by, key, key_cmp, last_of}
+use Rattle.folder_core.specs.Announced.{Announced, Key, announce, by_device, is_by, key, key_cmp}
 use Rattle.folder_core.specs.Plain.{Rises, filed}
 use Rattle.folder_core.specs.PlainRestores.{given}
 use Rattle.folder_core.specs.Reads.{known}
 use Rattle.folder_core.specs.Restores.{MayRestore, records_of, restored_folder}
-use Rattle.folder_core.specs.States.{FolderState, IsFolder, local}
+use Rattle.folder_core.specs.States.{FolderState, IsFolder}
 use Rattle.folder_core.proofs.AnnouncedIndexes.{get-announce, get-announce_own}
 use Rattle.folder_core.proofs.ListTests.{alike_bytes, same_bytes}
 use Rattle.folder_core.proofs.Orders.{exact_keys, is_true, keys_total, listed}

@@ -1,12 +1,9 @@
 mod Adding
-mod Advancing
 mod All
 mod Announcing
 mod Clearing
 mod Firsts
 mod LaidFolders
 mod Peers
-mod Placing
 mod Together
-mod Turns
 mod Twice

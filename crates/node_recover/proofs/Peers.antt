@@ -1,11 +1,10 @@
 -- The index numbers of peers, put one by one.
-use Rattle.std.proofs.Common.{◌≡◌, ℕ, ◌+◌, ◌<◌, Bool, true, false, List, [], ◌∷◌, ◌++◌, get_or, length, map, take, refl, sym, ap, subst, ◌∙◌, inl, inr}
+use Rattle.std.proofs.Common.{◌≡◌, ℕ, ◌+◌, ◌<◌, true, false, List, [], ◌∷◌, ◌++◌, get_or, length, map, take, refl, sym, ap, subst, ◌∙◌}
 use Rattle.std.specs.Prelude.{cond, Option, Some, None}
 use Rattle.std.specs.Cmp.{Equal-is}
-use Rattle.std.specs.FinMap.{empty, entries, find, get, get-empty, get-entries, get-insert, insert, same_map}
+use Rattle.std.specs.FinMap.{entries, find, get, get-entries, get-insert, insert, same_map}
 use Rattle.std.specs.Option.{option_or}
 use Rattle.std.specs.Ordering.{eq_by_cmp}
-use Rattle.std.proofs.lemmas.List.{map-append}
 use Rattle.folder_core.proofs.ListTests.{In, find_in, in_get, in_map, inside, of_map}
 use Rattle.folder_core.proofs.Orders.{bytes_total, exact_names}
 use Rattle.folder_core.proofs.ReadAnswers.{in_take}

@@ -1,9 +1,9 @@
 -- What is recovered of more frames is what is recovered by them over what was recovered before.
-use Rattle.std.proofs.Common.{◌≡◌, ◌≢◌, ℕ, Bool, true, false, List, [], ◌∷◌, ◌++◌, ◌⊎◌, inl, inr, map, refl, reverse, sym, ap, subst, ◌∙◌, append_assoc}
+use Rattle.std.proofs.Common.{◌≡◌, ℕ, Bool, true, false, List, [], ◌∷◌, ◌++◌, map, refl, reverse, sym, ap, subst, ◌∙◌, append_assoc}
 use Rattle.std.specs.Prelude.{◌==◌, ◌&&◌, ◌||◌, if◌then◌else◌, bytes_eq, cond, filter, find, flat_map, fold, max, not, Option, Some, None, option_map}
-use Rattle.std.specs.List.{AllByRecursion, list_any}
+use Rattle.std.specs.List.{list_any}
 use Rattle.std.specs.Option.{option_map_or, option_or}
-use Rattle.std.proofs.lemmas.Bool.{cases_Bool, or_cases, true≢false}
+use Rattle.std.proofs.lemmas.Bool.{true≢false}
 use Rattle.std.proofs.lemmas.Grind.{flat_map-append}
 use Rattle.std.proofs.lemmas.List.{map-append, reverse-append}
 use Rattle.std.proofs.lemmas.List.Elements.{filter-append}
@@ -13,7 +13,7 @@ use Rattle.std.proofs.lemmas.Option.{none-some}
 use Rattle.folder_core.specs.Announced.{last_of}
 use Rattle.folder_core.specs.States.{FolderState, local}
 use Rattle.folder_core.proofs.ListFilters.{any_map, filter_filter, filter_swap}
-use Rattle.folder_core.proofs.ListTests.{In, found_in, same_bytes}
+use Rattle.folder_core.proofs.ListTests.{found_in, same_bytes}
 use Rattle.folder_core.proofs.ReadAnswers.{all_at}
 use Rattle.node_journal.specs.declared.frame.Frame.{Frame}
 use Rattle.node_journal.specs.declared.part.Part.{Part}
@@ -23,8 +23,8 @@ use Rattle.sync_record.specs.Devices.{Identity}
 use Rattle.sync_record.specs.Infos.{natural, record_of}
 use Rattle.sync_record.specs.Records.{Name, FileRecord}
 use Rattle.node_recover.specs.declared.recovering.RecoveredFolder.{RecoveredFolder}
-use Rattle.node_recover.specs.Recovered.{IsRecovered, IsRecoveredFolder, IsRecoveredFrom, IsRecovery, firsts, folder_stored, ids_of, number_stored, plans_in, state_after, stored_of, with_plans}
-use Rattle.node_recover.specs.Told.{lasts_told, number_after, parts_of, plan_of, plans_told, records_told}
+use Rattle.node_recover.specs.Recovered.{IsRecovered, IsRecoveredFolder, IsRecoveredFrom, IsRecovery, firsts, folder_stored, ids_of, number_stored, state_after, stored_of, with_plans}
+use Rattle.node_recover.specs.Told.{lasts_told, number_after, parts_of, plan_of, records_told}
 use Rattle.node_recover.proofs.All.{all-map, all-then}
 use Rattle.node_recover.proofs.Firsts.{any-firsts}
 

@@ -1,14 +1,13 @@
 -- Plans that change nothing.
-use Rattle.std.proofs.Common.{◌≡◌, ◌+◌, Bool, true, false, [], ◌⊎◌, inl, inr, refl, sym, ap, subst, ◌∙◌}
+use Rattle.std.proofs.Common.{◌≡◌, ◌+◌, Bool, true, false, [], refl, sym, ap, ◌∙◌}
 use Rattle.std.specs.Prelude.{◌&&◌, Option, Some, None, option_map, unwrap_or, if◌then◌else◌}
-use Rattle.std.specs.FinMap.{get}
-use Rattle.std.proofs.lemmas.Bool.{cases_Bool, false_from_ne_true, true≢false}
+use Rattle.std.proofs.lemmas.Bool.{false_from_ne_true, true≢false}
 use Rattle.sync_record.specs.Records.{FileRecord}
 use Rattle.sync_version.specs.Computed.{covers, merge, same_version}
 use Rattle.sync_version.specs.Versions.{IsCanonical, Vector}
 use Rattle.sync_version.proofs.Lemmas.{merge_right, same_version_tells}
 use Rattle.folder_core.specs.Announced.{key}
-use Rattle.folder_core.specs.States.{FolderState, local, local_version, same_local_version}
+use Rattle.folder_core.specs.States.{FolderState, local_version, same_local_version}
 use Rattle.folder_core.specs.Steps.{committed_record, with_local}
 use Rattle.folder_core.proofs.AnnouncedMaps.{insert_here}
 use Rattle.folder_core.proofs.Orders.{exact_keys, keys_total}

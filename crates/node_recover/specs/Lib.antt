@@ -8,5 +8,3 @@ pub mod Clear
 pub mod Laid
 -- what becomes of plans
 pub mod Settled
--- where finished records are
-pub mod Places

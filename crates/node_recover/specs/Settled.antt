@@ -1,5 +1,5 @@
 -- What becomes of the plans of pulls (own rule).
-use Rattle.std.specs.Prelude.{◌≡◌, ℕ, ◌+◌, ◌<◌, Bool, true, false, ◌&&◌, if◌then◌else◌, List, [], ◌∷◌, ◌++◌, length, map, fold, Some}
+use Rattle.std.specs.Prelude.{◌≡◌, ◌+◌, ◌<◌, Bool, true, false, ◌&&◌, if◌then◌else◌, List, [], ◌∷◌, ◌++◌, length, map, fold, Some}
 use Rattle.folder_core.specs.Announced.{announce}
 use Rattle.folder_core.specs.States.{FolderState, local_version, max_sequence, same_local_version}
 use Rattle.folder_core.specs.Steps.{committed_record, with_local}

@@ -1,4 +1,4 @@
-use Rattle.std.proofs.Common.{◌≡◌, ◌++◌, ◌∙◌, map, take, sym, ap, arith}
+use Rattle.std.proofs.Common.{◌≡◌, ◌++◌, ◌∙◌, take, sym, ap, arith}
 use Rattle.std.specs.Prelude.{bytes_eq, filter}
 use Rattle.std.proofs.lemmas.Grind.{common_steps}
 use Rattle.node_journal.specs.declared.part.Part.{Part}

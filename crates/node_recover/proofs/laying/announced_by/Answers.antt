@@ -1,4 +1,4 @@
-use Rattle.std.proofs.Common.{◌≡◌, ◌++◌, ◌∷◌, ◌∙◌, [], List, append_assoc, map, sym, ap, rules}
+use Rattle.std.proofs.Common.{◌≡◌, ◌++◌, ◌∷◌, ◌∙◌, [], List, append_assoc, sym, ap, rules}
 use Rattle.std.proofs.lemmas.List.{map-append}
 use Rattle.folder_core.specs.declared.announcement.Announcement.{Announcement}
 use Rattle.node_recover.specs.Laid.{by_me}

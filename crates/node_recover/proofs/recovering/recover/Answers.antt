@@ -1,4 +1,4 @@
-use Rattle.std.proofs.Common.{◌≡◌, ◌++◌, ◌∷◌, ◌∙◌, [], List, ℕ, map, take, refl, sym, ap, subst, arith}
+use Rattle.std.proofs.Common.{◌≡◌, ◌++◌, ◌∷◌, ◌∙◌, [], map, take, sym, ap, subst, arith}
 use Rattle.std.specs.List.{AllByRecursion}
 use Rattle.std.proofs.lemmas.Grind.{common_steps}
 use Rattle.std.proofs.lemmas.List.{map-append}
@@ -7,12 +7,12 @@ use Rattle.node_recover.specs.declared.fault.RecoverFault.TheVariants.{OutOfMemo
 use Rattle.node_recover.specs.declared.recovering.RecoveredFolder.{RecoveredFolder}
 use Rattle.node_recover.specs.Clear.{IsClear}
 use Rattle.node_recover.specs.Recovered.{IsRecoveredFolder, ids_of}
-use Rattle.node_recover.proofs.All.{all-more, all-push, more, not-all, not-each}
+use Rattle.node_recover.proofs.All.{all-more, all-push, more, not-each, not-in}
 use Rattle.node_recover.proofs.recovering.recover.Goals as goal
 
 pub loop-id-preserved : goal.loop-id-preserved
 loop-id-preserved c =
-    let ids = c.in_ok-ids.ids.items in
+    let ids = c.deref-id-items.result.now in
     let i = c.loop-id.id-index in
     let new = c.in_ok-folder.folder in
     record {
@@ -28,13 +28,13 @@ loop-id-preserved c =
 
 pub returns-clause-recovered : goal.returns-clause-recovered
 returns-clause-recovered c =
-    let all : take c.loop-id.id-index c.in_ok-ids.ids.items ≡ c.in_ok-ids.ids.items = grind (arith, common_steps) in
-    record { ids = c.loop-id.invariant.ids ∙ all ∙ c.in_ok-ids.ensures.ids; each = c.loop-id.invariant.each }
+    let all : take c.loop-id.id-index c.deref-id-items.result.now ≡ c.deref-id-items.result.now = grind (arith, common_steps) in
+    record { ids = c.loop-id.invariant.ids ∙ all ∙ c.deref-id-items.ensures.value ∙ c.in_ok-ids.ensures.ids; each = c.loop-id.invariant.each }
 
 pub returns-clause-clear : goal.returns-clause-clear
 returns-clause-clear c = λ e ne.
-    let all : take c.loop-id.id-index c.in_ok-ids.ids.items ≡ c.in_ok-ids.ids.items = grind (arith, common_steps) in
-    subst (AllByRecursion (IsClear e c.args.me c.args.state.now c.args.frames.now)) (all ∙ c.in_ok-ids.ensures.ids) (c.loop-id.invariant.clear e ne)
+    let all : take c.loop-id.id-index c.deref-id-items.result.now ≡ c.deref-id-items.result.now = grind (arith, common_steps) in
+    subst (AllByRecursion (IsClear e c.args.me c.args.state.now c.args.frames.now)) (all ∙ c.deref-id-items.ensures.value ∙ c.in_ok-ids.ensures.ids) (c.loop-id.invariant.clear e ne)
 
 pub returns-in_err-ids-clause-err : goal.returns-in_err-ids-clause-err
 returns-in_err-ids-clause-err c =
@@ -44,10 +44,11 @@ returns-in_err-ids-clause-err c =
 pub returns-in_err-folder-clause-err : goal.returns-in_err-folder-clause-err
 returns-in_err-folder-clause-err c =
     let p = err_from_is_err_and c.from_residual-in_err-folder.result c.from_residual-in_err-folder.ensures.1 in
-    rw (p.1, p.2, sym c.in_ok-ids.ensures.ids) (not-all _ c.in_ok-ids.ids.items c.loop-id.id-index c.id-item.result c.loop-id-test.true c.id-item.is c.in_err-folder.ensures.err)
+    rw (p.1, p.2) (not-in (λ e. IsClear e c.args.me c.args.state.now c.args.frames.now) c.deref-id-items.result.now (ids_of c.args.state.now c.args.frames.now) (c.deref-id-items.ensures.value ∙ c.in_ok-ids.ensures.ids)
+    c.loop-id.id-index c.id-item.result c.loop-id-test.true c.id-item.is _ c.in_err-folder.ensures.err)
 
 pub returns-in_err-push-clause-err : goal.returns-in_err-push-clause-err
 returns-in_err-push-clause-err c =
     let p = err_from_is_err_and c.from_residual-in_err-push.result c.from_residual-in_err-push.ensures.1 in
-    let no = not-all (IsClear OutOfMemory c.args.me c.args.state.now c.args.frames.now) c.in_ok-ids.ids.items c.loop-id.id-index c.id-item.result c.loop-id-test.true c.id-item.is (λ x. x) in
-    rw (p.1, p.2) (subst (λ l. ¬ (AllByRecursion (IsClear OutOfMemory c.args.me c.args.state.now c.args.frames.now) l)) c.in_ok-ids.ensures.ids no)
+    rw (p.1, p.2) (not-in (λ e. IsClear e c.args.me c.args.state.now c.args.frames.now) c.deref-id-items.result.now (ids_of c.args.state.now c.args.frames.now) (c.deref-id-items.ensures.value ∙ c.in_ok-ids.ensures.ids)
+    c.loop-id.id-index c.id-item.result c.loop-id-test.true c.id-item.is OutOfMemory (λ x. x))

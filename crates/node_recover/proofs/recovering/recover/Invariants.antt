@@ -9,7 +9,7 @@ use Rattle.node_recover.proofs.recovering.recover.Given as goal
 
 abbrev pub invariant-loop-id : goal.invariant-loop-id
 invariant-loop-id l = record {
-  ids : map (λ r. r.stored.id) l.folders ≡ take l.id-index l.ids.items;
+  ids : map (λ r. r.stored.id) l.folders ≡ take l.id-index l.id-items;
   each : AllByRecursion (IsRecoveredFolder l.me l.state l.frames) l.folders;
-  clear : (e : RecoverFault) → e ≢ OutOfMemory → AllByRecursion (IsClear e l.me l.state l.frames) (take l.id-index l.ids.items);
+  clear : (e : RecoverFault) → e ≢ OutOfMemory → AllByRecursion (IsClear e l.me l.state l.frames) (take l.id-index l.id-items);
 }

@@ -1,12 +1,10 @@
-use Rattle.std.proofs.Common.{◌≡◌, ◌≢◌, ◌∙◌, List, map, sym, ap, subst}
+use Rattle.std.proofs.Common.{◌∙◌, List, map, sym, ap, subst}
 use Rattle.std.specs.Prelude.{option_copied}
 use Rattle.std.proofs.lemmas.Result.{err_from_is_err_and}
-use Rattle.node_journal.specs.declared.part.Part.{Part}
 use Rattle.sync_record.specs.Records.{FileRecord}
-use Rattle.node_recover.specs.Clear.{IsNoFolder}
-use Rattle.node_recover.specs.Recovered.{IsRecovered, folder_stored, number_stored}
+use Rattle.node_recover.specs.Recovered.{IsRecovered, folder_stored}
 use Rattle.node_recover.specs.Told.{lasts_told, number_after}
-use Rattle.node_recover.proofs.Clearing.{all-clear, of-folder, of-parts}
+use Rattle.node_recover.proofs.Clearing.{all-clear, of-parts, of-told}
 use Rattle.node_recover.proofs.recovering.recovered_from.Goals as goal
 
 pub returns-then-index_id-eq0-clause-err : goal.returns-then-index_id-eq0-clause-err
@@ -23,7 +21,7 @@ returns-in_err-folder-clause-err c =
     let p = err_from_is_err_and c.from_residual-in_err-folder.result c.from_residual-in_err-folder.ensures.1 in
     let st = option_copied c.args.stored in
     let ps = map (λ p. p.now) c.args.parts.now in
-    rw (p.1, p.2) (of-folder c.args.me st ps _ (subst (λ (rs : List FileRecord). IsNoFolder rs (lasts_told ps) (folder_stored c.args.me st) _) c.in_ok-told.ensures.records c.in_err-folder.ensures.err))
+    rw (p.1, p.2) (of-told c.args.me st ps c.in_ok-told.told.records.items c.in_ok-told.ensures.records _ c.in_err-folder.ensures.err)
 
 pub returns-in_err-peers-clause-err : goal.returns-in_err-peers-clause-err
 returns-in_err-peers-clause-err c =
