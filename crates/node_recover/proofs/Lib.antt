@@ -1,0 +1,9 @@
+mod Adding
+mod All
+mod Announcing
+mod Clearing
+mod Firsts
+mod LaidFolders
+mod Peers
+mod Together
+mod Twice

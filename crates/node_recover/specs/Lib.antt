@@ -1,0 +1,10 @@
+-- what a journal tells of a folder
+pub mod Told
+-- what is recovered of it
+pub mod Recovered
+-- and why something is not
+pub mod Clear
+-- records of this device among what is announced
+pub mod Laid
+-- what becomes of plans
+pub mod Settled
