@@ -7,14 +7,14 @@ use Rattle.node_threads.specs.Left.{AreLeft}
 use Rattle.bepd_run.specs.Starts.{AreEach}
 
 -- one more
-pub each-more : {A B C : Type 0} (P : A → B → C → Type 0) (as : List A) (bs : List B) (cs : List C) (a : A) (b : B) (c : C)
-    → AreEach P as bs cs → length bs < length cs → c ≡ get_or cs (length bs) c → P a b c → AreEach P (as ++ a ∷ []) (bs ++ b ∷ []) cs
-each-more P [] [] [] a b c all lt at is = absurd (omega arith)
-each-more P [] [] (z ∷ cs) a b c all lt at is = (subst (P a b) at is, tt)
-each-more P [] (y ∷ bs) cs a b c all lt at is = absurd all
-each-more P (x ∷ as) [] cs a b c all lt at is = absurd all
-each-more P (x ∷ as) (y ∷ bs) [] a b c all lt at is = absurd all
-each-more P (x ∷ as) (y ∷ bs) (z ∷ cs) a b c all lt at is = (all.0, each-more P as bs cs a b c all.1 (omega arith) at is)
+pub each-more : {A B C : Type 0} (P : A → B → C → Type 0) (xs : List A) (ys : List B) (zs : List C) (x : A) (y : B) (z : C)
+    → AreEach P xs ys zs → length ys < length zs → z ≡ get_or zs (length ys) z → P x y z → AreEach P (xs ++ x ∷ []) (ys ++ y ∷ []) zs
+each-more P [] [] [] x y z all lt at is = absurd (omega arith)
+each-more P [] [] (c ∷ zs) x y z all lt at is = (subst (P x y) at is, tt)
+each-more P [] (b ∷ ys) zs x y z all lt at is = absurd all
+each-more P (a ∷ xs) [] zs x y z all lt at is = absurd all
+each-more P (a ∷ xs) (b ∷ ys) [] x y z all lt at is = absurd all
+each-more P (a ∷ xs) (b ∷ ys) (c ∷ zs) x y z all lt at is = (all.0, each-more P xs ys zs x y z all.1 (omega arith) at is)
 
 -- what comes after some elements is at their number
 pub comes-below : {A : Type 0} (all xs : List A) (y : A) (ys : List A) → all ≡ xs ++ y ∷ ys → length xs < length all

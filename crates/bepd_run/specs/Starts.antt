@@ -31,11 +31,11 @@ IsFolder folder resumed start =
 
 -- one of the configuration's stands at the place of each of these, which belong together
 abbrev pub AreEach : {A B C : Type 0} → (A → B → C → Type 0) → List A → List B → List C → Type 0
-AreEach P [] [] cs = ⊤
-AreEach P [] (b ∷ bs) cs = ⊥
-AreEach P (a ∷ as) [] cs = ⊥
-AreEach P (a ∷ as) (b ∷ bs) [] = ⊥
-AreEach P (a ∷ as) (b ∷ bs) (c ∷ cs) = P a b c × AreEach P as bs cs
+AreEach P [] [] zs = ⊤
+AreEach P [] (y ∷ ys) zs = ⊥
+AreEach P (x ∷ xs) [] zs = ⊥
+AreEach P (x ∷ xs) (y ∷ ys) [] = ⊥
+AreEach P (x ∷ xs) (y ∷ ys) (z ∷ zs) = P x y z × AreEach P xs ys zs
 
 -- each of these is the configuration's folder at its place
 abbrev pub AreFolders : List Resumed → List (StartFolder IndexedFolder) → List FolderConfig → Type 0
