@@ -1,9 +1,12 @@
 mod Adding
+mod Advancing
 mod All
 mod Announcing
 mod Clearing
 mod Firsts
 mod LaidFolders
 mod Peers
+mod Placing
 mod Together
+mod Turns
 mod Twice

@@ -8,3 +8,5 @@ pub mod Clear
 pub mod Laid
 -- what becomes of plans
 pub mod Settled
+-- where finished records are
+pub mod Places

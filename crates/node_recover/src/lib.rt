@@ -4,12 +4,17 @@
 
 mod fault;
 mod finding;
+mod finished;
 pub mod laws;
 mod laying;
 mod plan;
 mod recovering;
+mod settling;
 mod told;
+mod written;
 
 pub use fault::{RecoverFault, SettleFault};
 pub use plan::PullPlan;
 pub use recovering::{RecoveredFolder, recover};
+pub use settling::{Disk, is_open, settle};
+pub use written::plan_message;

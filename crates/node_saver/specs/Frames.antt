@@ -1,5 +1,5 @@
 -- The frames of a folder (own rule).
-use Rattle.std.specs.Prelude.{ℤ, pos, true, false, List, [], ◌∷◌, map}
+use Rattle.std.specs.Prelude.{ℤ, pos, true, false, List, [], ◌∷◌, map, Option, Some, None}
 use Rattle.index_sender.specs.Pages.{last_sequence}
 use Rattle.node_journal.specs.declared.frame.Frame.{Frame}
 use Rattle.node_journal.specs.declared.part.Part.{Part}
@@ -23,6 +23,11 @@ records_frame f rs = frame_of (record { id = f.id; index_id = f.index_id; last =
 -- pulls that may put their targets in place once the frame is kept
 abbrev pub plans_frame : SavedFolder → List Plan → Frame
 plans_frame f plans = frame_of (record { id = f.id; index_id = f.index_id; last = pos 0; records = []; plans = plans })
+
+-- a pull over this local record, or over none
+abbrev pub plan_over : Option FileRecord → FileRecord → Plan
+plan_over None target = record { has_base = false; base = record { counters = [] }; target = info_of target }
+plan_over (Some base) target = record { has_base = true; base = (info_of base).version; target = info_of target }
 
 -- the frames before it count from then on
 abbrev pub closing_frame : Frame

@@ -1,8 +1,8 @@
 //! The frames of a folder.
-ghost use Rattle.std.specs.Prelude.{◌≡◌, IfOk};
-ghost use Rattle.node_saver.specs.Frames.{closing_frame, frame_of, last_of, plans_frame, records_frame};
+ghost use Rattle.std.specs.Prelude.{◌≡◌, IfOk, option_copied};
+ghost use Rattle.node_saver.specs.Frames.{closing_frame, frame_of, last_of, plan_over, plans_frame, records_frame};
 
-use bep_messages::{Items, ShortOctets, Text};
+use bep_messages::{FileInfo, Items, ShortOctets, Text, Vector};
 use index_sender::file_infos;
 use node_journal::{Frame, Part, Plan};
 use std::alloc::{AllocError, Global};
@@ -54,6 +54,30 @@ pub fn plans_frame(
             plans,
         },
     )
+}
+
+/// The plan of a pull that began over this local record, if there was one, and fetches the target. O(n) for n bytes of names, counters and blocks.
+pub fn plan_over(alloc: Global, base: Option<&Record>, target: &Record) -> Result<Plan, AllocError>
+    ensures { IfOk result (λ plan. plan ≡ plan_over (option_copied base.entry) target.now) }
+{
+    let target = target.to_info()?;
+    Ok(match base {
+        Some(base) => {
+            let FileInfo { version, .. } = base.to_info()?;
+            Plan {
+                has_base: true,
+                base: version,
+                target,
+            }
+        }
+        None => Plan {
+            has_base: false,
+            base: Vector {
+                counters: Items::new(alloc),
+            },
+            target,
+        },
+    })
 }
 
 /// The frame that ends a batch: those before it count from then on. Does not allocate.

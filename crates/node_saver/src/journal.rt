@@ -13,3 +13,15 @@ pub trait FrameJournal {
     fn append(&mut self, frame: &Frame) -> Result<(), SaveFault>
         ensures { OnOk result (appends self.old frame.now self.new) };
 }
+
+/// A journal on a disk: what is appended counts once it is there.
+pub trait DiskJournal: FrameJournal {
+    /// What was appended since this was called last is on the disk, and counts. After an error none of it counts.
+    fn sync(&mut self) -> Result<(), SaveFault>;
+
+    /// None of what was appended since the last sync will count.
+    fn take_back(&mut self);
+
+    /// Whatever is on the disk is written anew in less room, if it has become long. What counts stays the same.
+    fn fold(&mut self);
+}

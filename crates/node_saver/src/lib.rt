@@ -10,6 +10,6 @@ mod journal;
 mod saving;
 
 pub use fault::SaveFault;
-pub use frames::{SavedFolder, closing_frame, plans_frame};
-pub use journal::FrameJournal;
+pub use frames::{SavedFolder, closing_frame, plan_over, plans_frame};
+pub use journal::{DiskJournal, FrameJournal};
 pub use saving::save_records;

@@ -1,0 +1,5 @@
+pub mod LastRecords
+pub mod Frames
+pub mod LastSequences
+pub mod Points
+pub mod Joins

@@ -1,0 +1,49 @@
+-- What a journal has of a folder's own records (own rule).
+use Rattle.std.specs.Prelude.{◌≡◌, ⊤, ℕ, List, [], ◌∷◌, flat_map, map}
+use Rattle.std.specs.List.{AllByRecursion}
+use Rattle.std.specs.List.Sorted.{IsStrictlySortedBy}
+use Rattle.std.specs.Ordering.{nat_cmp}
+use Rattle.index_sender.specs.Pages.{records_of}
+use Rattle.index_sender.specs.declared.page.Page.{Page}
+use Rattle.index_sender.specs.declared.page.Page.TheVariants.{Index, IndexUpdate, Nothing}
+use Rattle.node_journal.specs.declared.frame.Frame.{Frame}
+use Rattle.node_journal.specs.declared.part.Part.{Part}
+use Rattle.node_recover.specs.Told.{parts_of}
+use Rattle.node_saver.specs.Frames.{records_frame}
+use Rattle.node_saver.specs.declared.frames.SavedFolder.{SavedFolder}
+use Rattle.sync_record.specs.Infos.{info_of, natural, record_of}
+use Rattle.sync_record.specs.Records.{FileRecord}
+
+-- the records of these pages, one page after the other
+abbrev pub records_in : List Page → List FileRecord
+records_in pages = flat_map records_of pages
+
+-- the page adds to those before it
+abbrev pub IsUpdate : Page → Type 0
+IsUpdate (Index rs) = ⊥
+IsUpdate (IndexUpdate rs) = ⊤
+IsUpdate Nothing = ⊤
+
+-- the record is read from its message as it was
+abbrev pub IsReadAgain : FileRecord → Type 0
+IsReadAgain r = record_of (info_of r) ≡ r
+
+-- Pages as a sender with a start gives them: updates alone, of records in rising sequence, which are read again as they were.
+pub record AreUpdates (pages : List Page) : Type 0 where
+  pub updates : AllByRecursion IsUpdate pages
+  pub rise : IsStrictlySortedBy nat_cmp (map (λ r. r.sequence) (records_in pages))
+  pub again : AllByRecursion IsReadAgain (records_in pages)
+
+-- the part tells no record, and no last sequence
+abbrev pub IsSilent : Part → Type 0
+IsSilent p = (p.records ≡ []) × (natural p.last ≡ 0)
+
+-- the frame tells no record of the folder of this id
+abbrev pub TellsNone : List ℕ → Frame → Type 0
+TellsNone id frame = AllByRecursion IsSilent (parts_of id (frame ∷ []))
+
+-- These frames have these pages of the folder, in their order, and between them only frames that tell none of its records.
+pub data HavePages (f : SavedFolder) : List Page → List Frame → Type 0 where
+  no_page : HavePages f [] []
+  one_page : (page : Page) (pages : List Page) (frames : List Frame) → HavePages f pages frames → HavePages f (page ∷ pages) (records_frame f (records_of page) ∷ frames)
+  other : (frame : Frame) (pages : List Page) (frames : List Frame) → TellsNone f.id frame → HavePages f pages frames → HavePages f pages (frame ∷ frames)

@@ -1,0 +1,4 @@
+-- what stands in a journal
+pub mod Appended
+-- and what it is to be recovered
+pub mod Own

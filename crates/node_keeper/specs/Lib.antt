@@ -1,0 +1,2 @@
+-- which plans of pulls are on the disk
+pub mod Plans

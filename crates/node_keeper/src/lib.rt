@@ -1,0 +1,13 @@
+//! What is on the disk of a node's folders, and who waits for that: peers for records that they may then be told, and pulls for their plans, without
+//! which they put nothing in place.
+//!
+//! Which plans are on the disk is decided by a value, `Plans`, whose contracts say it (`specs/Plans.antt`); the locks and the waiting are around it.
+#![tactic(auto)]
+
+mod calls;
+mod keeper;
+mod plans;
+
+pub use calls::{FolderKeeper, PlannedCalls};
+pub use keeper::{Keeper, Unsaved};
+pub use plans::PlannedPull;
