@@ -7,13 +7,16 @@ use Rattle.node_keeper.specs.declared.plans.Readiness.{Readiness}
 use Rattle.node_keeper.specs.declared.plans.Readiness.TheVariants.{Ready, Waiting, Refused}
 
 -- the open pulls, how many batches of plans began, before which of them all that was noted is on the disk, whether the last one could not be written, and
--- whether a plan was lost for want of memory
+-- whether a plan could not be noted, out of memory
 pub record PlanBook : Type 0 where
   pub pulls : List OpenPull
   pub batch : ℕ
   pub kept : ℕ
   pub is_failing : Bool
   pub has_lost : Bool
+
+abbrev pub no_plans : PlanBook
+no_plans = record { pulls = []; batch = 0; kept = 0; is_failing = false; has_lost = false }
 
 abbrev pub first_of : Name → List OpenPull → Option OpenPull
 first_of n pulls = find (λ p. bytes_eq p.plan.target.name n) pulls

@@ -31,7 +31,8 @@ impl<'a, R: Wait> FolderKeeper<'a, R> {
         FolderKeeper { rt, keeper, place }
     }
 
-    /// Waits until the plan of a name's pull is on the disk, if one is open. Returns whether it is: `false` where it could not be written.
+    /// Waits until the plan of a name's pull is on the disk, if one is open. Returns `false` where it could not be written, or noted: what was prepared for the name
+    /// may not be put in place then.
     pub fn is_ready(&self, name: &SafeName) -> bool {
         self.keeper.is_ready(self.rt, self.place, name)
     }

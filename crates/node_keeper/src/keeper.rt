@@ -31,6 +31,19 @@ struct KeptFolder {
     plans: Plans,
 }
 
+impl KeptFolder {
+    // A pull with this number began. Without its plan nothing of the folder is put in place any more.
+    fn note(&mut self, number: u64, plan: Result<PlannedPull, AllocError>) {
+        let noted = match plan {
+            Ok(plan) => self.plans.note(number, plan),
+            Err(failed) => Err(failed),
+        };
+        if noted.is_err() {
+            self.plans.lose();
+        }
+    }
+}
+
 impl Inner {
     fn readiness(&self, place: usize, name: &SafeName) -> Readiness {
         match self.folders.get(place) {
@@ -94,7 +107,7 @@ impl Keeper {
     ) {
         let mut inner = self.inner.lock(rt);
         if let Some(folder) = inner.folders.get_mut(place) {
-            folder.plans.note(number, plan);
+            folder.note(number, plan);
         }
         inner.is_asked = true;
         drop(inner);
@@ -108,7 +121,8 @@ impl Keeper {
         }
     }
 
-    /// Waits until the plan of a name's pull is on the disk, if one is open. Returns whether it is: `false` where it could not be written.
+    /// Waits until the plan of a name's pull is on the disk, if one is open. Returns `false` where it could not be written, or noted: what was prepared for the name
+    /// may not be put in place then.
     pub fn is_ready<R: Wait>(&self, rt: &R, place: usize, name: &SafeName) -> bool {
         let inner = self.inner.lock(rt);
         let inner = self.saved.wait_while(rt, inner, |inner| {

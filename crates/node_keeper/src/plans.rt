@@ -1,7 +1,6 @@
 //! The open pulls of a folder, and which of their plans are on the disk.
-ghost use Rattle.std.specs.Prelude.{◌≡◌, ◌++◌, [], false, true, filter, map, nat_eq, nat_le, not, IfOk, Ok, OnOk, option_copied};
-ghost use Rattle.node_keeper.specs.Plans.{after_batch, first_of, next_batch, noted, readiness_of, unsaved, without};
-ghost use Rattle.node_keeper.specs.declared.plans.PlannedPull.{PlannedPull as Planned};
+ghost use Rattle.std.specs.Prelude.{◌≡◌, ◌++◌, true, filter, map, nat_eq, nat_le, not, IfOk, OnErr, OnOk, option_copied};
+ghost use Rattle.node_keeper.specs.Plans.{after_batch, first_of, next_batch, no_plans, noted, readiness_of, unsaved, without};
 
 use std::alloc::{AllocError, Global};
 use std::marker::Model;
@@ -61,7 +60,7 @@ pub(crate) struct Plans {
     kept: u64,
     // Whether the last batch could not be written.
     is_failing: bool,
-    // Whether a plan was lost, since there was no memory for it.
+    // Whether a plan could not be noted, out of memory.
     has_lost: bool,
 }
 
@@ -83,10 +82,9 @@ impl Model for Plans {
 }
 
 impl Plans {
-    /// None, with room for so many. Fails only if out of memory.
+    /// None, with room for so many. Returns `Err` only if out of memory.
     pub(crate) fn with_capacity(alloc: Global, count: usize) -> Result<Plans, AllocError>
-        ensures { IfOk result (λ plans.
-            (plans.pulls ≡ []) × (plans.is_failing ≡ false) × (plans.has_lost ≡ false)) }
+        ensures { IfOk result (λ plans. plans ≡ no_plans) }
     {
         Ok(Plans {
             pulls: Vec::with_capacity(alloc, count)?,
@@ -97,22 +95,25 @@ impl Plans {
         })
     }
 
-    /// A pull with this number began, with this plan. Where there was no memory for it, nothing of the folder is put in place any more.
-    pub(crate) fn note(&mut self, number: u64, plan: Result<PlannedPull, AllocError>)
-        ensures noted { self.new.has_lost ≡ false → (it : Planned) × (plan ≡ Ok it) × (self.new ≡ noted number it self.old) }
+    /// A pull with this number began, with this plan. Returns `Err` only if out of memory; does not allocate while there is room. O(1), amortized.
+    pub(crate) fn note(&mut self, number: u64, plan: PlannedPull) -> Result<(), AllocError>
+        ensures noted { OnOk result (self.new ≡ noted number plan self.old) }
+        ensures err { OnErr result (self.new ≡ self.old) }
     {
-        let Ok(plan) = plan else {
-            self.has_lost = true;
-            return;
-        };
         let pull = OpenPull {
             number,
             batch: self.batch,
             plan,
         };
-        if self.pulls.push(pull).is_err() {
-            self.has_lost = true;
-        }
+        self.pulls.push(pull)?;
+        Ok(())
+    }
+
+    /// A plan could not be noted: nothing of the folder is put in place any more.
+    pub(crate) fn lose(&mut self)
+        ensures { self.new ≡ record self.old { has_lost = true } }
+    {
+        self.has_lost = true;
     }
 
     /// The pull with this number ends.
@@ -157,9 +158,9 @@ impl Plans {
         alloc: Global,
     ) -> Result<(u64, Vec<PlannedPull>), AllocError>
         ensures plans { IfOk result (λ batch. batch.1.items ≡ unsaved self.old) }
-        ensures number { IfOk result (λ batch. batch.0 ≡ self.new.batch) }
-        ensures state { self.new ≡ record self.old { batch = self.new.batch } }
-        ensures begins { IfOk result (λ _. self.new.batch ≡ next_batch self.old) }
+        ensures number { IfOk result (λ batch. batch.0 ≡ next_batch self.old) }
+        ensures begins { OnOk result (self.new ≡ record self.old { batch = next_batch self.old }) }
+        ensures err { OnErr result (self.new ≡ self.old) }
     {
         let mut plans = Vec::new(alloc);
         let pulls = self.pulls.as_slice();
