@@ -1,4 +1,5 @@
 """Nodes of the program `bepd` on this machine, and what tools/node_runs and tools/peer_runs share besides."""
+import hashlib
 import os
 import re
 import shutil
@@ -39,16 +40,24 @@ def identity(number):
     return f"{number:02x}" * 32
 
 
+def journal_of(number, state):
+    """A journal behind a state with these bytes, in which nothing stands yet."""
+    return b"bepd journal 1\n" + bytes([number]) * 32 + hashlib.sha256(state).digest()
+
+
 class Node:
     """The program, over folders of its own. A peer is (number, "dial" or "listen", port, ids of folders)."""
 
-    def __init__(self, me, peers, folders=("f",), text=None, state=None, starts=True, **settings):
+    def __init__(self, me, peers, folders=("f",), text=None, state=None, journal=None, starts=True, **settings):
         self.path = tempfile.mkdtemp(dir=work)
         self.me, self.settings = me, settings
         self.configure(peers, folders, text)
         if state is not None:
             with open(f"{self.path}/state", "wb") as out:
                 out.write(state)
+        if journal is not None:
+            with open(f"{self.path}/state.journal", "wb") as out:
+                out.write(journal)
         if starts:
             self.start()
 
@@ -75,6 +84,10 @@ class Node:
 
     def state(self):
         with open(f"{self.path}/state", "rb") as it:
+            return it.read()
+
+    def journal(self):
+        with open(f"{self.path}/state.journal", "rb") as it:
             return it.read()
 
     def __enter__(self):

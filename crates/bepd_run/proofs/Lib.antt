@@ -1,2 +1,3 @@
+mod Beginning
 mod Unread
 pub mod Starting

@@ -1,5 +1,5 @@
 -- What a node begins with, by its configuration and its state, and what is left of it (own rule).
-use Rattle.std.specs.Prelude.{◌≡◌, ⊤, ℕ, Bool, List, [], ◌∷◌, length, map}
+use Rattle.std.specs.Prelude.{◌≡◌, ⊤, ℕ, Bool, false, List, [], ◌∷◌, length, map}
 use Rattle.folder_db.specs.declared.folder.IndexedFolder.{IndexedFolder}
 use Rattle.node_config.specs.declared.config.Config.{Config}
 use Rattle.node_config.specs.declared.config.FolderConfig.{FolderConfig}
@@ -16,7 +16,7 @@ use Rattle.node_threads.specs.Left.{AreLeft}
 use Rattle.bepd_run.specs.Addresses.{IsReadAs}
 use Rattle.bepd_run.specs.declared.nodes.NextNode.{NextNode}
 
--- a folder is kept as its configuration says, with the index number and the records that were resumed
+-- a folder is kept as its configuration says, with the index number and the records that were resumed, which are all on the disk
 abbrev pub IsFolder : FolderConfig → Resumed → StartFolder IndexedFolder → Type 0
 IsFolder folder resumed start =
     (start.settings ≡ record {
@@ -27,7 +27,7 @@ IsFolder folder resumed start =
       max_conflicts = folder.max_conflicts;
       rescan = folder.rescan;
     })
-    × (start.core.folder ≡ resumed.folder)
+    × (start.core.folder ≡ resumed.folder) × (start.kept ≡ resumed.folder.last) × (start.is_unsettled ≡ false)
 
 -- one of the configuration's stands at the place of each of these, which belong together
 abbrev pub AreEach : {A B C : Type 0} → (A → B → C → Type 0) → List A → List B → List C → Type 0

@@ -1,16 +1,13 @@
 //! The files that a node reads and writes.
 use crate::failure::RunFailure;
-use bep_messages::Items;
-use node_state::{State, read_state, write_state};
 use std::alloc::Global;
-use std::fs::{self, File, Files, OpenFile};
-use std::io::{ErrorKind, Read, Write};
-use sync_record::DeviceId;
+use std::fs::{self, File, Files, OpenFile, OpenOptions};
+use std::io::{ErrorKind, Read, Seek, SeekFrom, Write};
 
 /// The most bytes of a configuration.
 const MAX_CONFIG_BYTES: u64 = 16_777_216;
 
-/// The most bytes of a state file.
+/// The most bytes of a state file, and of its journal.
 const MAX_STATE_BYTES: u64 = 1 << 40;
 
 /// The bytes of a configuration; one of more than 16 MiB is cut.
@@ -26,59 +23,81 @@ pub(crate) fn read_config_file<R: Files>(
     Ok(bytes)
 }
 
-/// The state that the last run left; one without folders where there is no file.
-pub(crate) fn read_state_file<R: Files>(
-    rt: &R,
-    alloc: Global,
-    me: DeviceId,
-    path: &str,
-) -> Result<State, RunFailure> {
-    let file = match File::open(rt, path) {
-        Ok(file) => file,
-        Err(error) if error.kind() == ErrorKind::NotFound => {
-            return Ok(State {
-                folders: Items::new(alloc),
-            });
-        }
-        Err(error) => return Err(RunFailure::from(error)),
-    };
-    let mut bytes = Vec::new(alloc);
-    file.take(MAX_STATE_BYTES).read_to_end(&mut bytes)?;
-    Ok(read_state(alloc, me, bytes.as_slice())?)
-}
-
-/// What writes state files. Each handle that has [`Files`] does; a thread takes it by this trait.
+/// What reads and writes a state file and its journal. Each handle that has [`Files`] does; a thread takes it by this trait.
 pub trait StateFiles {
-    /// Writes the state to the file `<path>.new`, and then puts that in place of the one at the path, so that there is always a whole one. It reaches the
-    /// disk before it takes its name.
-    fn write_state(&self, alloc: Global, path: &str, state: &State) -> Result<(), RunFailure>;
+    /// The bytes of the file at the path; `None` where there is none.
+    fn read_file(&self, alloc: Global, path: &str) -> Result<Option<Vec<u8>>, RunFailure>;
+
+    /// Makes a file at the path with these bytes, in place of any that is there. They are on the disk, under that name.
+    fn make_file(&self, path: &str, bytes: &[u8]) -> Result<File, RunFailure>;
+
+    /// Opens the file at the path to write behind so many bytes of it. What follows them is cut.
+    fn open_behind(&self, path: &str, len: u64) -> Result<File, RunFailure>;
+
+    /// Gives the file at `new` the path, in place of any that is there, so that there is always a whole one. On the disk, too.
+    fn put_in_place(&self, new: &str, path: &str) -> Result<(), RunFailure>;
+
+    /// Removes the file at the path, if one is there.
+    fn remove(&self, path: &str);
 }
 
-impl<R: Files> StateFiles for R {
-    fn write_state(&self, alloc: Global, path: &str, state: &State) -> Result<(), RunFailure> {
-        write_state_file(self, alloc, path, state)
+impl<R: Files<File = File>> StateFiles for R {
+    fn read_file(&self, alloc: Global, path: &str) -> Result<Option<Vec<u8>>, RunFailure> {
+        let file = match File::open(self, path) {
+            Ok(file) => file,
+            Err(error) if error.kind() == ErrorKind::NotFound => return Ok(None),
+            Err(error) => return Err(RunFailure::from(error)),
+        };
+        let mut bytes = Vec::new(alloc);
+        file.take(MAX_STATE_BYTES).read_to_end(&mut bytes)?;
+        Ok(Some(bytes))
+    }
+
+    fn make_file(&self, path: &str, bytes: &[u8]) -> Result<File, RunFailure> {
+        let mut file = File::create(self, path)?;
+        file.write_all(bytes)?;
+        file.sync_all()?;
+        sync_directory_of(self, path)?;
+        Ok(file)
+    }
+
+    fn open_behind(&self, path: &str, len: u64) -> Result<File, RunFailure> {
+        let mut options = OpenOptions::new();
+        options.write(true);
+        let file = options.open(self, path)?;
+        if file.metadata()?.len() > len {
+            file.set_len(len)?;
+            file.sync_all()?;
+        }
+        Ok(file)
+    }
+
+    fn put_in_place(&self, new: &str, path: &str) -> Result<(), RunFailure> {
+        fs::rename(self, new, path)?;
+        sync_directory_of(self, path)
+    }
+
+    fn remove(&self, path: &str) {
+        // (what stays is taken for nothing)
+        let _ = fs::remove_file(self, path);
     }
 }
 
-fn write_state_file<R: Files>(
-    rt: &R,
-    alloc: Global,
-    path: &str,
-    state: &State,
-) -> Result<(), RunFailure> {
-    let mut bytes = Vec::new(alloc);
-    write_state(state, &mut bytes)?;
-    let new = format!(in alloc; "{path}.new")?;
-    let mut file = File::create(rt, new.as_str())?;
-    file.write_all(bytes.as_slice())?;
-    file.sync_all()?;
-    drop(file);
-    fs::rename(rt, new.as_str(), path)?;
-    let folder = match path.rsplit_once('/') {
+// What the directory of the path names is on the disk.
+fn sync_directory_of<R: Files>(rt: &R, path: &str) -> Result<(), RunFailure> {
+    let directory = match path.rsplit_once('/') {
         Some(("", _)) => "/",
-        Some((folder, _)) => folder,
+        Some((directory, _)) => directory,
         None => ".",
     };
-    File::open(rt, folder)?.sync_all()?;
+    File::open(rt, directory)?.sync_all()?;
+    Ok(())
+}
+
+/// Writes these bytes behind so many of the file. They are on the disk.
+pub(crate) fn write_behind(file: &mut File, len: u64, bytes: &[u8]) -> Result<(), RunFailure> {
+    file.seek(SeekFrom::Start(len))?;
+    file.write_all(bytes)?;
+    file.sync_data()?;
     Ok(())
 }

@@ -6,11 +6,13 @@ mod checking;
 mod failure;
 mod files;
 mod fresh;
+mod journal;
+mod last_run;
 mod lock;
 mod nodes;
 mod paths;
+mod plans;
 mod run;
-mod saver;
 mod starts;
 
 pub use checking::check_config;

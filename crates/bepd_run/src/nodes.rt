@@ -1,11 +1,14 @@
 //! Nodes, one after another, and the state that each leaves.
-ghost use Rattle.std.specs.Prelude.{◌≢◌, ℕ, IfOk};
+ghost use Rattle.std.specs.Prelude.{◌≡◌, ◌≢◌, ℕ, IfOk};
+ghost use Rattle.bepd_run.specs.Renumbered.{all_renumbered};
 ghost use Rattle.bepd_run.specs.Starts.{IsLeft, IsStart};
 
 use crate::failure::RunFailure;
 use crate::files::StateFiles;
-use crate::saver::StateSaver;
-use crate::starts::{Core, all_shares, folders_of, index_ids_of, peers_of};
+use crate::journal::StateJournal;
+use crate::last_run::FolderPlans;
+use crate::plans::settle_all;
+use crate::starts::{Core, all_shares, folders_of, index_ids_of, peers_of, renumbered};
 use file_store::OpenGate;
 use node_commands::{CommandLines, CommandsEnd};
 use node_config::Config;
@@ -16,7 +19,7 @@ use node_state::State;
 use node_threads::{
     Listeners, NodeEnd, NodeOutside, NodePeer, NodeStart, StartFolder, listen_all, run_node,
 };
-use std::alloc::Global;
+use std::alloc::{AllocError, Global};
 use std::io::{self, Write};
 use std::net::{Net, TcpListener, TcpStream};
 use std::sync::Wait;
@@ -27,15 +30,17 @@ use std::time::Clock;
 #[derive(Drop)]
 pub(crate) struct NextNode {
     pub(crate) folders: Vec<StartFolder<Core>>,
-    index_ids: Vec<u64>,
+    pub(crate) index_ids: Vec<u64>,
     peers: Vec<NodePeer>,
     // The folders that are shared with each peer.
     shares: Vec<Vec<Share>>,
     listeners: Listeners,
+    // Whether its peers are believed what they say that they were told.
+    believes_all: bool,
 }
 
 impl NextNode {
-    /// By the configuration and the state. Where the last run did not end well (`is_left`), all indexes have a new number.
+    /// By the configuration and the state. Where something may be missing that peers were told (`is_left`), all indexes have a new number.
     pub(crate) fn new<R: Clock + Net<Listener = TcpListener, Stream = TcpStream>>(
         rt: &R,
         alloc: Global,
@@ -57,6 +62,7 @@ impl NextNode {
             peers,
             shares,
             listeners,
+            believes_all: false,
         })
     }
 }
@@ -71,24 +77,36 @@ fn new_index_id<R: Clock>(rt: &R) -> u64
     }
 }
 
-/// What nodes read and write beside the state.
+/// What nodes read and write.
 #[derive(Drop)]
-pub(crate) struct Outside<'a, T> {
+pub(crate) struct Outside<'a, T, R> {
     /// Where their folders are.
     pub(crate) stores: &'a T,
     /// What is told of them.
     pub(crate) log: &'a Log,
+    /// What happens is written there.
+    pub(crate) journal: StateJournal<'a, R>,
+    /// The plans of folders that are away.
+    pub(crate) plans: Vec<FolderPlans>,
+}
+
+// Where one of them reads and writes.
+#[derive(Drop)]
+struct NodePlace<'a, 'j, T, R> {
+    stores: &'a T,
+    log: &'a Log,
+    journal: &'j mut StateJournal<'a, R>,
 }
 
 /// Runs nodes, one after another, until the commands were read to `quit` or to their end, or can't be read or answered any more. (A node ends before that
-/// where a history is full.) Each one's state is written. Returns whether all commands were answered. What reads the commands then ends too, since nobody
-/// takes them.
+/// where a history is full, or a folder is back in which the last run may have left something, or the state is an older one than a peer was told of.) Then the
+/// state is written. Returns whether all commands were answered. What reads the commands then ends too, since nobody takes them.
 pub(crate) fn run_nodes<R, T, L, O>(
     rt: &R,
     alloc: Global,
     config: &Config,
     node: NextNode,
-    outside: &Outside<T>,
+    outside: Outside<T, R>,
     lines: L,
     output: &mut O,
 ) -> Result<io::Result<()>, RunFailure>
@@ -99,41 +117,109 @@ where
     L: CommandLines + Drop,
     O: Write,
 {
+    let Outside {
+        stores,
+        log,
+        mut journal,
+        mut plans,
+    } = outside;
     let (mut node, mut lines) = (node, lines);
+    let mut was_behind = false;
     for _ in rt.forever() {
+        let place = NodePlace {
+            stores,
+            log,
+            journal: &mut journal,
+        };
         let NodeLeft {
             state,
+            saved,
+            is_behind,
             answered,
             lines: rest,
-        } = run_once(rt, alloc, config, node, outside, lines, output)?;
-        match answered {
-            Ok(CommandsEnd::Stopped) => {}
-            Ok(CommandsEnd::Read) => return Ok(Ok(())),
-            Err(error) => return Ok(Err(error)),
-        }
-        node = NextNode::new(rt, alloc, config, &state, false)?;
-        lines = rest;
+        } = run_once(rt, alloc, config, node, place, lines, output)?;
+        let state = if is_behind {
+            let state = with_new_number(rt, alloc, config, state)?;
+            journal.replace(&state, plans.as_slice())?;
+            state
+        } else {
+            state
+        };
+        was_behind |= is_behind;
+        let answered = match answered {
+            Ok(CommandsEnd::Stopped) => {
+                node = NextNode::new(rt, alloc, config, &state, false)?;
+                // (a peer that says so once more is a bad one, and harms itself alone)
+                node.believes_all = was_behind;
+                begin_again(alloc, stores, node.folders.as_slice());
+                let folders = settle_all(alloc, stores, node.folders, &mut plans)?;
+                node.folders = saved_up_to(folders, saved.as_slice());
+                lines = rest;
+                continue;
+            }
+            Ok(CommandsEnd::Read) => Ok(()),
+            Err(error) => Err(error),
+        };
+        journal.replace(&state, plans.as_slice())?;
+        return Ok(answered);
     }
     unreachable!()
+}
+
+// The state, in which the index of each folder has a new number.
+fn with_new_number<R: Clock>(
+    rt: &R,
+    alloc: Global,
+    config: &Config,
+    state: State,
+) -> Result<State, AllocError>
+    ensures { IfOk result (λ all. (new_index_id : ℕ) × (new_index_id ≢ 0) × (all.folders ≡ all_renumbered config.now new_index_id state.folders)) }
+{
+    let numbers = vec![in alloc; new_index_id(rt); config.folders.as_slice().len()]?;
+    renumbered(alloc, config, numbers.as_slice(), state)
+}
+
+// What a killed run left of its temporary files is removed also of folders that were away when this run began.
+fn begin_again<T: Stores>(alloc: Global, stores: &T, folders: &[StartFolder<Core>]) {
+    for folder in folders {
+        // (one that is away still is begun once it is back)
+        let _ = stores.begin(alloc, folder.settings.path.as_str(), false);
+    }
+}
+
+// The folders, whose records are on the disk up to these sequences.
+fn saved_up_to(folders: Vec<StartFolder<Core>>, saved: &[u64]) -> Vec<StartFolder<Core>> {
+    let mut folders = folders;
+    for (place, folder) in folders.iter_mut().enumerate() {
+        folder.kept = match saved.get(place) {
+            Some(saved) => folder.kept.min(*saved),
+            None => 0,
+        };
+    }
+    folders
 }
 
 // What a node leaves.
 #[derive(Drop)]
 pub(crate) struct NodeLeft<L> {
     state: State,
+    // The sequences up to which its records are in the journal.
+    saved: Vec<u64>,
+    // Whether a peer was told more than was on the disk.
+    is_behind: bool,
     // How the commands ended.
     answered: io::Result<CommandsEnd>,
     // The lines that are left.
     lines: L,
 }
 
-// Runs a node, and writes its state.
+// Runs a node.
 fn run_once<R, T, L, O>(
     rt: &R,
     alloc: Global,
     config: &Config,
     node: NextNode,
-    outside: &Outside<T>,
+    place: NodePlace<T, R>,
     lines: L,
     output: &mut O,
 ) -> Result<NodeLeft<L>, RunFailure>
@@ -151,24 +237,35 @@ where
         peers,
         shares,
         listeners,
+        believes_all,
     } = node;
     let count = config.folders.as_slice().len();
     if folders.len() != count || index_ids.len() != count {
         return Err(RunFailure::from(NodeFault::NoFolder));
     }
-    let saver = StateSaver::new(rt, alloc, config, index_ids.as_slice());
-    let start = NodeStart { folders, listeners };
+    let start = NodeStart {
+        folders,
+        listeners,
+        believes_all,
+    };
+    let NodePlace {
+        stores,
+        log,
+        journal,
+    } = place;
     let outside = NodeOutside {
         name: config.name.as_str(),
         peers: peers.as_slice(),
         gate: &OpenGate,
-        saver: &saver,
-        stores: outside.stores,
-        log: outside.log,
+        journal,
+        stores,
+        log,
     };
     let NodeEnd {
         cores,
         kept,
+        saved,
+        is_behind,
         answered,
         lines,
     } = run_node(rt, alloc, start, outside, lines, output)?;
@@ -180,9 +277,10 @@ where
         cores,
         kept.as_slice(),
     )?;
-    rt.write_state(alloc, config.state.as_str(), &state)?;
     Ok(NodeLeft {
         state,
+        saved,
+        is_behind,
         answered,
         lines,
     })

@@ -1,12 +1,16 @@
 //! A run of `bepd run`, from its configuration to its end.
 ghost use Rattle.std.specs.Prelude.{◌≡◌, Err, IfErr, IfOk, IsErr, None, OnErr};
+ghost use Rattle.std.specs.Thread.{IsSend};
 
 use crate::failure::RunFailure;
-use crate::files::{StateFiles, read_config_file, read_state_file};
-use crate::lock::Locked;
+use crate::files::{StateFiles, read_config_file};
+use crate::journal::StateJournal;
+use crate::last_run::{FolderPlans, StatePaths, read_last_run};
+use crate::lock::lock_state;
 use crate::nodes::{NextNode, Outside, run_nodes};
 use crate::paths::require_apart;
-use crate::starts::Core;
+use crate::plans::settle_all;
+use crate::starts::{Core, renumbered};
 use bep_messages::Text;
 use crossbeam_channel::{Receiver, Sender, bounded};
 use file_dir::LockRefusal;
@@ -24,12 +28,13 @@ use std::sync::Wait;
 use std::thread::{self, Threads, join};
 use std::time::{Clock, Duration};
 
-/// How many seconds a run waits first where the last one did not end well. What that one recorded in its last seconds may be forgotten, and must not get
-/// the same version again: a version is the second of its scan, or one or two more where scans of a name met.
-const AFTER_BAD_END: u64 = 3;
+/// How many seconds a run waits first where something may be missing that peers were told. What the last run recorded in its last seconds must not get the
+/// same version again: a version is the second of its scan, or one or two more where scans of a name met.
+const IN_DOUBT: u64 = 3;
 
 /// Keeps the folders of the configuration at the path alike with its peers, and answers the commands of the input, a line each, until
-/// `quit` or its end: then the connections end, and the state file is written.
+/// `quit` or its end: then the connections end, and the state file is written. What happens until then is in the journal beside it, so that a kill undoes
+/// nothing: the next run reads both.
 ///
 /// | Command | Answer |
 /// |---|---|
@@ -46,7 +51,7 @@ const AFTER_BAD_END: u64 = 3;
 ///
 /// Fails by the configuration, the state file and the addresses, in this order, before anything is read from or written to a folder or a
 /// connection; where the commands can't be read or an answer can't be written, after the state file is written; and where memory runs out or the
-/// state file can't be written, which then is the one of before.
+/// state file can't be written, which then is the one of before, with the journal behind it.
 ///
 /// With a style of progress it tells on `errors` what happens, a line each: the time in UTC, and
 ///
@@ -63,7 +68,8 @@ const AFTER_BAD_END: u64 = 3;
 /// | `conflict copy F NAME` | what was there before is kept under this name |
 /// | `failed F NAME: WHY` | the name could not be pulled; it is tried again, and told again where it is for another reason |
 /// | `history full F: ..` | the node ends, and begins anew |
-/// | `state not written: ..` | it is tried again within a minute |
+/// | `older state: ..` | a peer was told more than the state has; the node ends, and begins anew, and tells everything again |
+/// | `state not written: ..` | the journal can't be written: nothing is put in place, and peers are told nothing; it is tried again within 30 seconds |
 /// | `no room F: ..` | the disk is full; it is tried again each minute |
 /// | `scanning F N of N`, `pulling F N of N` | how far a scan or a pull of many names is |
 pub fn run_config<R, T, I, O, E>(
@@ -93,39 +99,49 @@ where
 {
     let alloc = rt.alloc();
     let config = config_at(rt, alloc, path)?;
-    let mut lock = Locked::take(rt, alloc, config.state.as_str())?;
-    let ready = Ready::new(rt, alloc, stores, &config, lock.is_left)?;
-    lock.begin()?;
+    let paths = StatePaths::new(alloc, config.state.as_str())?;
+    let _lock = lock_state(rt, alloc, config.state.as_str())?;
+    let ready = Ready::new(rt, alloc, stores, &config, &paths)?;
     let log = match progress {
         Some(progress) => Log::new(alloc, progress),
         None => Log::quiet(alloc),
     };
-    let outside = Outside { stores, log: &log };
+    let place = Place {
+        config: &config,
+        stores,
+        log: &log,
+    };
     if progress.is_none() {
-        return end(
-            &lock,
-            run_ready(rt, alloc, &config, ready, &outside, input, output),
-        );
+        return end(run_ready(rt, alloc, &place, ready, input, output));
     }
     let (ended, ()) = join(
         rt,
-        || {
-            let ended = run_ready(rt, alloc, &config, ready, &outside, input, output);
+        || -> Result<io::Result<()>, RunFailure>
+            requires { IsSend I.row × IsSend O.row × IsSend T.Store.row }
+        {
+            let ended = run_ready(rt, alloc, &place, ready, input, output);
             log.end(rt);
             ended
         },
         || write_log(rt, &log, errors),
     );
-    end(&lock, ended)
+    end(ended)
+}
+
+// What a run is told, and where it works.
+#[derive(Drop)]
+struct Place<'a, T> {
+    config: &'a Config,
+    stores: &'a T,
+    log: &'a Log,
 }
 
 // Runs nodes until the commands end. Returns whether all were answered.
-fn run_ready<R, T, I, O>(
+fn run_ready<'a, R, T, I, O>(
     rt: &R,
     alloc: Global,
-    config: &Config,
-    ready: Ready,
-    outside: &Outside<T>,
+    place: &Place<'a, T>,
+    ready: Ready<'a, R>,
     input: &mut I,
     output: &mut O,
 ) -> Result<io::Result<()>, RunFailure>
@@ -138,9 +154,18 @@ where
 {
     let Ready {
         node,
+        journal,
+        plans,
         sender,
         lines,
     } = ready;
+    let outside = Outside {
+        stores: place.stores,
+        log: place.log,
+        journal,
+        plans,
+    };
+    let config = place.config;
     let ((), ended) = join(
         rt,
         || read_commands(rt, alloc, input, sender),
@@ -158,37 +183,53 @@ fn config_at<R: Files>(rt: &R, alloc: Global, path: &str) -> Result<Config, RunF
 
 // What a run has before its threads begin.
 #[derive(Drop)]
-struct Ready {
+struct Ready<'a, R> {
     node: NextNode,
+    journal: StateJournal<'a, R>,
+    plans: Vec<FolderPlans>,
     sender: Sender<InputLine>,
     lines: Receiver<InputLine>,
 }
 
-impl Ready {
-    fn new<R, T>(
-        rt: &R,
+impl<'a, R> Ready<'a, R> {
+    fn new<T>(
+        rt: &'a R,
         alloc: Global,
         stores: &T,
         config: &Config,
-        is_left: bool,
-    ) -> Result<Ready, RunFailure>
+        paths: &'a StatePaths<'a>,
+    ) -> Result<Ready<'a, R>, RunFailure>
     where
-        R: Clock
-            + Files<File = File>
-            + Net<Listener = TcpListener, Stream = TcpStream>
-            + Threads
-            + Wait,
+        R: Clock + Net<Listener = TcpListener, Stream = TcpStream> + StateFiles + Wait,
         T: Stores,
     {
-        if is_left {
-            thread::sleep(rt, Duration::from_secs(AFTER_BAD_END));
+        let last = read_last_run(rt, alloc, config.device, paths)?;
+        if last.is_in_doubt {
+            thread::sleep(rt, Duration::from_secs(IN_DOUBT));
         }
-        let state = read_state_file(rt, alloc, config.device, config.state.as_str())?;
-        let node = NextNode::new(rt, alloc, config, &state, is_left)?;
+        let mut node = NextNode::new(rt, alloc, config, &last.state, last.is_in_doubt)?;
         make_ready(alloc, stores, node.folders.as_slice())?;
+        let mut plans = last.plans;
+        node.folders = settle_all(alloc, stores, node.folders, &mut plans)?;
+        let journal = match &last.journal {
+            Some(found) if !last.is_in_doubt => StateJournal::behind(
+                rt,
+                alloc,
+                config.device,
+                paths,
+                found,
+                last.state_len,
+            )?,
+            _ => {
+                let state = renumbered(alloc, config, node.index_ids.as_slice(), last.state)?;
+                StateJournal::anew(rt, alloc, config.device, paths, &state, plans.as_slice())?
+            }
+        };
         let (sender, lines) = bounded::<InputLine, Global>(alloc, 1)?;
         Ok(Ready {
             node,
+            journal,
+            plans,
             sender,
             lines,
         })
@@ -233,12 +274,11 @@ fn begin_folders<T: Stores>(
     Ok(())
 }
 
-// The run ended well where all was answered or could not be, and its state is written.
-fn end(lock: &Locked, ended: Result<io::Result<()>, RunFailure>) -> Result<(), RunFailure>
+// The run ended well where all was answered.
+fn end(ended: Result<io::Result<()>, RunFailure>) -> Result<(), RunFailure>
     ensures failed { IfErr ended (λ failure. result ≡ Err failure) }
     ensures not_answered { IfOk ended (λ answered. OnErr answered (IsErr result)) }
 {
     let answered = ended?;
-    lock.end()?;
     Ok(answered?)
 }

@@ -1,18 +1,20 @@
 //! What a node begins with, by its configuration and its state.
 ghost use Rattle.std.specs.Prelude.{◌≡◌, length, map, IfOk};
 ghost use Rattle.node_resume.specs.Resumed.{taken};
+ghost use Rattle.bepd_run.specs.Renumbered.{number_of, place_of, renumbered};
 ghost use Rattle.bepd_run.specs.Starts.{AreFolders, ArePeers, IsFolder, IsPeer, are_shares, told};
 
 use crate::addresses::address_of;
 use crate::failure::RunFailure;
-use bep_messages::Text;
+use bep_messages::{Items, Text};
+use folder_core::FolderCore;
 use folder_db::IndexedFolder;
 use node_config::{
     Config, ConfigFault, FolderConfig, FolderNumber, NumberRule, PeerConfig, Place, Problem,
 };
 use node_folder::FolderSettings;
 use node_resume::{ResumedFolder, Share, shares_of};
-use node_state::State;
+use node_state::{State, StoredFolder};
 use node_threads::{NodePeer, StartFolder};
 use std::alloc::{AllocError, Global};
 use sync_pull::MaxConflicts;
@@ -59,9 +61,13 @@ fn folder_of(
         max_conflicts,
         rescan: folder.rescan,
     };
+    let core = resumed.records;
+    let kept = core.known(core.me());
     Ok(StartFolder {
         settings,
-        core: resumed.records,
+        core,
+        kept,
+        is_unsettled: false,
     })
 }
 
@@ -147,4 +153,53 @@ pub(crate) fn index_ids_of(
         ids.push(folder.settings.index_id)?;
     }
     Ok(ids)
+}
+
+/// The state, in which each folder of the configuration has the index number at its place. Returns `Err` only if out of memory. O(f s) for f folders and s
+/// stored ones.
+pub(crate) fn renumbered(
+    alloc: Global,
+    config: &Config,
+    index_ids: &[u64],
+    state: State,
+) -> Result<State, AllocError>
+    ensures { IfOk result (λ all. all.folders ≡ map (renumbered config.now index_ids.now) state.folders) }
+{
+    let mut folders = Vec::with_capacity(alloc, state.folders.as_slice().len())?;
+    for folder in state.folders.into_vec() {
+        folders.push(renumber(config, index_ids, folder))?;
+    }
+    Ok(State {
+        folders: Items::from_vec(folders),
+    })
+}
+
+// The stored folder with the index number at its place.
+fn renumber(config: &Config, index_ids: &[u64], folder: StoredFolder) -> StoredFolder
+    ensures { result ≡ renumbered config.now index_ids.now folder }
+{
+    let mut folder = folder;
+    if let Some(index_id) = number_of(config, index_ids, &folder.id) {
+        folder.index_id = index_id;
+    }
+    folder
+}
+
+// The index number at the place of the folder with this id.
+fn number_of(config: &Config, index_ids: &[u64], id: &Text) -> Option<u64>
+    ensures { result ≡ number_of config.now index_ids.now id.now }
+{
+    match place_of(config.folders.as_slice(), id) {
+        Some(place) => index_ids.get(place).copied(),
+        None => None,
+    }
+}
+
+// The place of the folder with this id.
+fn place_of(folders: &[FolderConfig], id: &Text) -> Option<usize>
+    ensures { result ≡ place_of id.now folders.now }
+{
+    folders
+        .iter()
+        .position(|folder| folder.id.as_str() == id.as_str())
 }

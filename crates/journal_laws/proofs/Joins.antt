@@ -42,6 +42,13 @@ none-behind f frame tells pages frames no_page = other frame [] [] tells no_page
 none-behind f frame tells pages frames (one_page p before behind have) = one_page p _ _ (none-behind f frame tells before behind have)
 none-behind f frame tells pages frames (other x before behind none have) = other x _ _ none (none-behind f frame tells before behind have)
 
+-- frames behind others
+pub joined-have : (f : SavedFolder) (told : List Page) (front : List Frame) (pages : List Page) (frames : List Frame) → HavePages f told front → HavePages f pages frames
+    → HavePages f (told ++ pages) (front ++ frames)
+joined-have f told front pages frames no_page have = have
+joined-have f told front pages frames (one_page p before behind had) have = one_page p _ _ (joined-have f before behind pages frames had have)
+joined-have f told front pages frames (other x before behind none had) have = other x _ _ none (joined-have f before behind pages frames had have)
+
 module _ {J : Type 0} (appends : J → Frame → J → Type 0) (frames_of : J → List Frame)
     (grows : (old new : J) (frame : Frame) → appends old frame new → frames_of new ≡ frames_of old ++ frame ∷ [])
     (f : SavedFolder) (told : List Page) (first : J) (had : HavePages f told (frames_of first)) where

@@ -3,3 +3,4 @@ pub mod Frames
 pub mod LastSequences
 pub mod Points
 pub mod Joins
+pub mod Batches

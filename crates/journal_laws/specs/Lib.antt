@@ -2,3 +2,5 @@
 pub mod Appended
 -- and what it is to be recovered
 pub mod Own
+-- what is saved at once
+pub mod Batches

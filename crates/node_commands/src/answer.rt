@@ -215,7 +215,7 @@ fn scan<R: Host, S: FileStore + Marked, W: FolderCalls, G: Gate, O: Write>(
     worker: &mut FolderWorker<S, W>,
     output: &mut O,
 ) -> Result<(), Refusal> {
-    if worker.store.look() != Whereabouts::There {
+    if worker.look() != Whereabouts::There {
         return Err(Refusal::FolderMissing);
     }
     let sum = scan_folder(cx, worker, false);

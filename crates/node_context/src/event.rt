@@ -46,6 +46,8 @@ pub enum Event<'a> {
     Unsupported(&'a str, &'a SafeName),
     /// The history of a folder is full, and the node begins anew.
     HistoryFull(&'a str),
+    /// The state is an older one than a peer was told of, and the node begins anew.
+    OlderState,
     /// The state could not be written while the node runs.
     NotKept,
     /// A file of a folder could not be written, since the disk is full.

@@ -65,6 +65,12 @@ pub(crate) fn push_event(line: &mut Vec<u8>, event: &Event) -> io::Result<()> {
         Event::HistoryFull(folder) => {
             write!(line, "history full {folder}: the node begins anew")
         }
+        Event::OlderState => {
+            line.extend_from_slice(
+                b"older state: a peer was told more than it has: the node begins anew, and tells all again",
+            )?;
+            Ok(())
+        }
         Event::NotKept => {
             line.extend_from_slice(b"state not written: it is tried again")?;
             Ok(())

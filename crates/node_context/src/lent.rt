@@ -6,7 +6,6 @@ use folder_calls::{
     Ticket,
 };
 use folder_core::{Best, Counts, Finding, Place, ScanAnswer, Stray};
-use peer_conn::KeptCalls;
 use std::alloc::{AllocError, Global};
 use std::vec::IntoIter;
 use sync_names::SafeName;
@@ -162,17 +161,4 @@ impl<W: FolderCalls> FolderCalls for Lent<'_, W> {
     fn counts(&mut self) -> At<Counts> {
         self.calls.counts()
     }
-}
-
-/// All records count as kept: nobody waits for any.
-impl<W: FolderCalls> KeptCalls for Lent<'_, W> {
-    ghost use Rattle.std.specs.Prelude.{◌≡◌, ◌-◌, ◌^◌};
-
-    ghost says = { λ _ kept. kept ≡ 2 ^ 64 - 1 };
-
-    fn kept_up_to(&self) -> u64 {
-        u64::MAX
-    }
-
-    fn ask_to_keep(&self) {}
 }

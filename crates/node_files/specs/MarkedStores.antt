@@ -35,6 +35,20 @@ may_end (Remove n) = false
 may_end (MakeDir n) = false
 may_end (RemoveDir n) = false
 
+-- It changes what is at a name: it may be refused while that is not to be changed.
+abbrev pub may_hold : Call → Bool
+may_hold ListAll = false
+may_hold (StatAt n) = false
+may_hold (ReadAt n offset before after) = false
+may_hold (MakeTemp n) = false
+may_hold (WriteAt n offset piece) = false
+may_hold (CommitTemp n) = true
+may_hold (DropTemp n) = false
+may_hold (Rename from to) = true
+may_hold (Remove n) = true
+may_hold (MakeDir n) = true
+may_hold (RemoveDir n) = true
+
 -- The answer says that nothing is at a name, or at none but those that are listed.
 abbrev pub tells_absence : (call : Call) → Result (Value call) StoreRefusal → Bool
 tells_absence ListAll (Ok listing) = true
@@ -94,7 +108,8 @@ module _ {S : Type 0} (opens : List ℕ → Result S StoreRefusal → Type 0) (l
       ((refusal : StoreRefusal) × (answer ≡ Err refusal) × Refuses opens looks takes path before (is_change call) refusal after)
       ⊎ ((s : S) × IsOpened opens path before s × Makes (is_change call) path s call answer after)
 
-  -- Once the node stops some calls are refused so, and nothing is called.
-  abbrev pub AnswersOrEnds : Type 0 → List ℕ → Option S → (call : Call) → Result (Value call) StoreRefusal → Option S → Type 0
-  AnswersOrEnds ends path before call answer after =
-      (ends × IsTrue (may_end call) × (answer ≡ Err StoreFault) × (after ≡ before)) ⊎ Answers path before call answer after
+  -- Some calls are refused once the node stops, and others while what is at the name is not to be changed; then nothing is called.
+  abbrev pub AnswersOrEnds : Type 0 → Type 0 → List ℕ → Option S → (call : Call) → Result (Value call) StoreRefusal → Option S → Type 0
+  AnswersOrEnds ends holds path before call answer after =
+      (ends × IsTrue (may_end call) × (answer ≡ Err StoreFault) × (after ≡ before))
+      ⊎ (holds × IsTrue (may_hold call) × (answer ≡ Err StoreFault) × (after ≡ before)) ⊎ Answers path before call answer after

@@ -11,6 +11,8 @@ pub enum Whereabouts {
     Away,
     /// Another run has it.
     InUse,
+    /// It is there again, but what pulls of the last run left in it wasn't looked at yet.
+    Unsettled,
     /// Memory ran out before that was known.
     Unknown,
 }

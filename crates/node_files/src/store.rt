@@ -23,7 +23,8 @@ use sync_names::SafeName;
 /// taken for deleted while a disk is away. The folder is looked for again at the next call.
 ///
 /// Each call is the disk's own with its answer, or is refused, and then nothing was called: by the folder that is away, or, of a call that reads or prepares
-/// what is put in place, since the node stops. What puts files in place, moves or removes them is done also then.
+/// what is put in place, since the node stops, or, of one that changes what is at a name, while that is not to be changed (see [`Ends`]). What puts files in
+/// place, moves or removes them is done also once the node stops.
 #[derive(Drop)]
 pub struct FolderStore<'a, T, S, E> {
     ends: E,
@@ -109,7 +110,7 @@ impl<T: Stores<Store = S>, S: FileStore + Drop, E: Ends> FileStore for FolderSto
     ghost use Rattle.node_files.specs.Moved.{IsMoved};
 
     ghost gives = { λ old call answer new.
-        AnswersOrEnds T.opens T.looks T.takes S.gives (E.may_end old.ends) old.root.path.now old.root.store call answer new.root.store
+        AnswersOrEnds T.opens T.looks T.takes S.gives (E.may_end old.ends) (E.may_hold old.ends) old.root.path.now old.root.store call answer new.root.store
         × IsMoved call answer old.moved new.moved × (new.root.path ≡ old.root.path) × (new.ends ≡ old.ends) };
 
     fn faults(&self) -> u64 {
@@ -162,6 +163,9 @@ impl<T: Stores<Store = S>, S: FileStore + Drop, E: Ends> FileStore for FolderSto
     }
 
     fn commit_temp(&mut self, name: &SafeName) -> Result<(), StoreRefusal> {
+        if !self.ends.is_ready(name) {
+            return counted(&mut self.faults, Err(StoreRefusal::StoreFault));
+        }
         let answer = self.root.commit_temp(name);
         counted(&mut self.faults, answer)
     }
@@ -172,6 +176,9 @@ impl<T: Stores<Store = S>, S: FileStore + Drop, E: Ends> FileStore for FolderSto
     }
 
     fn rename(&mut self, from: &SafeName, to: &SafeName) -> Result<(), StoreRefusal> {
+        if !self.ends.is_ready(from) {
+            return counted(&mut self.faults, Err(StoreRefusal::StoreFault));
+        }
         let answer = self.root.rename(from, to);
         let moved = self.moved.take();
         self.moved = moved_last(moved, to, &answer);
@@ -179,16 +186,25 @@ impl<T: Stores<Store = S>, S: FileStore + Drop, E: Ends> FileStore for FolderSto
     }
 
     fn remove(&mut self, name: &SafeName) -> Result<(), StoreRefusal> {
+        if !self.ends.is_ready(name) {
+            return counted(&mut self.faults, Err(StoreRefusal::StoreFault));
+        }
         let answer = self.root.remove(name);
         counted(&mut self.faults, answer)
     }
 
     fn make_dir(&mut self, name: &SafeName) -> Result<(), StoreRefusal> {
+        if !self.ends.is_ready(name) {
+            return counted(&mut self.faults, Err(StoreRefusal::StoreFault));
+        }
         let answer = self.root.make_dir(name);
         counted(&mut self.faults, answer)
     }
 
     fn remove_dir(&mut self, name: &SafeName) -> Result<(), StoreRefusal> {
+        if !self.ends.is_ready(name) {
+            return counted(&mut self.faults, Err(StoreRefusal::StoreFault));
+        }
         let answer = self.root.remove_dir(name);
         counted(&mut self.faults, answer)
     }

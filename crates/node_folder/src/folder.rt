@@ -4,6 +4,7 @@ ghost use Rattle.std.specs.Prelude.{◌≡◌};
 use crate::scan_times::ScanTimes;
 use crate::skips::Skips;
 use bep_messages::Text;
+use node_files::{Marked, Whereabouts};
 use std::alloc::Global;
 use sync_pull::MaxConflicts;
 
@@ -33,17 +34,20 @@ pub struct NodeFolder {
     pub times: ScanTimes,
     /// What its scans leave out.
     pub skips: Skips,
+    /// Whether pulls of the last run may have put something in place that wasn't looked at yet, since the folder was away.
+    pub is_unsettled: bool,
 }
 
 impl NodeFolder {
     /// One that was not scanned yet. Does not allocate.
-    pub fn new(alloc: Global, settings: FolderSettings) -> NodeFolder
+    pub fn new(alloc: Global, settings: FolderSettings, is_unsettled: bool) -> NodeFolder
         ensures { result.settings ≡ settings }
     {
         NodeFolder {
             settings,
             times: ScanTimes::new(),
             skips: Skips::new(alloc),
+            is_unsettled,
         }
     }
 
@@ -64,4 +68,14 @@ pub struct FolderWorker<'x, S, W> {
     pub store: S,
     /// Its records, as the worker reads and changes them.
     pub calls: W,
+}
+
+impl<S: Marked, W> FolderWorker<'_, S, W> {
+    /// Where the folder is now. One that is to be looked at first is neither scanned nor pulled.
+    pub fn look(&mut self) -> Whereabouts {
+        match self.store.look() {
+            Whereabouts::There if self.folder.is_unsettled => Whereabouts::Unsettled,
+            at => at,
+        }
+    }
 }

@@ -3,7 +3,6 @@
 
 mod ends;
 mod folder;
-mod records;
 mod scan_times;
 mod scanner;
 mod schedule;
@@ -11,7 +10,6 @@ mod skips;
 
 pub use ends::{GivesUp, WorkerEnds};
 pub use folder::{FolderSettings, FolderWorker, NodeFolder};
-pub use records::{LocalRecords, local_records};
 pub use scan_times::ScanTimes;
 pub use scanner::{ScannedFolder, run_scanner, scan_due, scan_folder};
 pub use schedule::{ScanOutcome, ScanSchedule};

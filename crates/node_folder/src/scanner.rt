@@ -74,7 +74,7 @@ where
     }
 }
 
-// Scans a folder, if it is there.
+// Scans a folder, if it is there. Where what the last run left in it is to be looked at first, the node stops, to begin anew.
 fn scan_if_there<R, S, W, G>(cx: &Context<R, G>, folder: &mut ScannedFolder<S, W>) -> ScanOutcome
 where
     R: Host,
@@ -82,10 +82,13 @@ where
     W: FolderCalls,
     G: Gate,
 {
-    let at = folder.worker.store.look();
+    let at = folder.worker.look();
     if folder.at != at && at != Whereabouts::Unknown {
         folder.at = at;
         tell_whereabouts(cx, folder.worker.folder.id(), at);
+    }
+    if at == Whereabouts::Unsettled {
+        cx.stop();
     }
     if at != Whereabouts::There {
         return ScanOutcome::Away;
@@ -134,7 +137,7 @@ where
 
 fn tell_whereabouts<R: Clock + Wait, G>(cx: &Context<R, G>, id: &str, at: Whereabouts) {
     match at {
-        Whereabouts::There => cx.tell(&Event::Back(id)),
+        Whereabouts::There | Whereabouts::Unsettled => cx.tell(&Event::Back(id)),
         Whereabouts::Away => cx.tell(&Event::Away(id)),
         Whereabouts::InUse => cx.tell(&Event::InUse(id)),
         Whereabouts::Unknown => {}

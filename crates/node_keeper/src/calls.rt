@@ -37,6 +37,10 @@ impl<'a, R: Wait> FolderKeeper<'a, R> {
         self.keeper.is_ready(self.rt, self.place, name)
     }
 
+    fn may_be_told(&self, told: u64, claimed: u64) -> bool {
+        self.keeper.may_be_told(self.rt, self.place, told, claimed)
+    }
+
     fn note(&self, number: u64, plan: Result<PlannedPull, AllocError>) {
         self.keeper.note(self.rt, self.place, number, plan);
     }
@@ -46,11 +50,14 @@ impl<'a, R: Wait> FolderKeeper<'a, R> {
     }
 }
 
-/// The calls of a folder that tell a keeper which pulls are open, before any of them can put something in place. Else they are the calls that they are made of.
+/// The calls of a folder that tell a keeper which pulls are open, before any of them can put something in place, and where a peer goes on behind records that it
+/// was not told: then they give none. Else they are the calls that they are made of.
 #[derive(Drop)]
 pub struct PlannedCalls<'a, W, R> {
     calls: W,
     keeper: FolderKeeper<'a, R>,
+    // The greatest sequence of a local record that they gave.
+    told: u64,
 }
 
 impl<'a, W, R> PlannedCalls<'a, W, R> {
@@ -58,7 +65,11 @@ impl<'a, W, R> PlannedCalls<'a, W, R> {
     pub fn new(calls: W, keeper: FolderKeeper<'a, R>) -> PlannedCalls<'a, W, R>
         ensures { result.calls ≡ calls }
     {
-        PlannedCalls { calls, keeper }
+        PlannedCalls {
+            calls,
+            keeper,
+            told: 0,
+        }
     }
 }
 
@@ -193,7 +204,14 @@ impl<W: FolderCalls, R: Wait> FolderCalls for PlannedCalls<'_, W, R> {
         sequence: u64,
         limit: usize,
     ) -> Result<At<Items<Record>>, AllocError> {
-        self.calls.local_since(sequence, limit)
+        if sequence > self.told && !self.keeper.may_be_told(self.told, sequence) {
+            return Err(AllocError);
+        }
+        let page = self.calls.local_since(sequence, limit)?;
+        if let Some(last) = page.value.as_slice().last() {
+            self.told = self.told.max(last.sequence());
+        }
+        Ok(page)
     }
 
     fn find_block(&mut self, hash: &[u8; 32]) -> Result<At<Option<Place>>, AllocError> {

@@ -1,4 +1,5 @@
 //! What is on the disk of a node's folders, for all its threads.
+use crate::claims::may_be_told;
 use crate::plans::{PlannedPull, Plans, Readiness};
 use std::alloc::{AllocError, Global};
 use std::sync::{Condvar, Mutex, Wait};
@@ -20,12 +21,16 @@ pub struct Keeper {
 struct Inner {
     folders: Vec<KeptFolder>,
     is_asked: bool,
+    // Whether a peer says that it was told of more than was on the disk when the node began.
+    is_behind: bool,
     is_over: bool,
 }
 
 // What is on the disk of a folder.
 #[derive(Drop)]
 struct KeptFolder {
+    // The sequence up to which peers may have been told of its local records before the node began.
+    opened: u64,
     // The sequence up to which its local records are.
     kept: u64,
     plans: Plans,
@@ -63,11 +68,18 @@ pub struct Unsaved {
 }
 
 impl Keeper {
-    /// Of folders whose records are on the disk up to these sequences, in their order, each with room for so many open pulls. Fails only if out of memory.
-    pub fn new(alloc: Global, kept: &[u64], pulls: usize) -> Result<Keeper, AllocError> {
+    /// Of folders whose records are on the disk up to these sequences, in their order, each with room for so many open pulls. Peers may be believed all that they
+    /// say they were told of them. Fails only if out of memory.
+    pub fn new(
+        alloc: Global,
+        kept: &[u64],
+        pulls: usize,
+        believes_all: bool,
+    ) -> Result<Keeper, AllocError> {
         let mut folders = Vec::with_capacity(alloc, kept.len())?;
         for kept in kept {
             folders.push(KeptFolder {
+                opened: if believes_all { u64::MAX } else { *kept },
                 kept: *kept,
                 plans: Plans::with_capacity(alloc, pulls)?,
             })?;
@@ -76,6 +88,7 @@ impl Keeper {
             inner: Mutex::new(Inner {
                 folders,
                 is_asked: false,
+                is_behind: false,
                 is_over: false,
             }),
             asked: Condvar::new(),
@@ -89,6 +102,30 @@ impl Keeper {
             Some(folder) => folder.kept,
             None => 0,
         }
+    }
+
+    /// Whether a peer may have been told of this device's records of the folder at a place up to `claimed`, of which this node told it up to `told`. If not, the
+    /// disk is an older one, and is [behind](Keeper::is_behind).
+    pub fn may_be_told<R: Wait>(&self, rt: &R, place: usize, told: u64, claimed: u64) -> bool {
+        let mut inner = self.inner.lock(rt);
+        let opened = match inner.folders.get(place) {
+            Some(folder) => folder.opened,
+            None => 0,
+        };
+        if may_be_told(opened, told, claimed) {
+            return true;
+        }
+        inner.is_behind = true;
+        inner.is_asked = true;
+        drop(inner);
+        self.asked.notify_all();
+        false
+    }
+
+    /// Whether a peer was told of more than was on the disk when the node began. Then the disk is an older one, put back, say, and what the peer was told can't be
+    /// known: it is to be told all, under another index number.
+    pub fn is_behind<R: Wait>(&self, rt: &R) -> bool {
+        self.inner.lock(rt).is_behind
     }
 
     /// Asks that what is not on the disk is written soon.

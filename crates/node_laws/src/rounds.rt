@@ -13,7 +13,7 @@ ghost use Rattle.sync_record.specs.Devices.{Identity};
 ghost use Rattle.sync_record.specs.Records.{Name};
 ghost use Rattle.node_laws.specs.Takeovers.{HaveOwnDevices, HaveOwnIds, IsSharedWith, state_left};
 
-/// Where no two folders have one id, and the last run ended well, the next one has the index numbers that it left, and in the place of each
+/// Where no two folders have one id, and nothing may be missing, the next run has the index numbers that it left, and in the place of each
 /// folder its device, its last sequence and its records: its own, and those of the devices with which it is shared.
 ///
 /// False where what is left and what is taken over don't fit each other, as where one goes by ids and the other by places.

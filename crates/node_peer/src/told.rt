@@ -4,7 +4,7 @@ ghost use Rattle.node_peer.specs.Told.{IsKnown};
 
 use bep_messages::{ClusterConfig, Hello, Items, Text};
 use folder_calls::FolderCalls;
-use peer_conn::{FolderTold, IndexedFolder, cluster_config};
+use peer_conn::{FolderTold, IndexedFolder, KeptCalls, cluster_config};
 use peer_link::LinkFolders;
 use peer_reader::PeerFolder;
 use std::alloc::{AllocError, Global};
@@ -20,7 +20,7 @@ pub(crate) fn hello_of(alloc: Global, name: &str) -> Result<Hello, AllocError> {
 }
 
 /// The ClusterConfig of this device for the peer.
-pub(crate) fn own_config<S, W: FolderCalls>(
+pub(crate) fn own_config<S, W: KeptCalls>(
     alloc: Global,
     peer: DeviceId,
     name: &str,
@@ -67,14 +67,14 @@ fn folder_told<'a, W>(
     }
 }
 
-/// The greatest sequences of a folder that this device knows.
+/// The greatest sequences of a folder that this device knows: of its own records as far as they are kept, and of the peer's.
 #[derive(Clone, Copy)]
 pub(crate) struct Known {
     own: u64,
     peers: u64,
 }
 
-fn known_of<W: FolderCalls>(
+fn known_of<W: KeptCalls>(
     alloc: Global,
     peer: DeviceId,
     read: &mut [PeerFolder<W>],
@@ -87,12 +87,16 @@ fn known_of<W: FolderCalls>(
 }
 
 // What the folder knows, of this device and of the peer.
-fn known_by<W: FolderCalls>(peer: DeviceId, calls: &mut W) -> Known
+fn known_by<W: KeptCalls>(peer: DeviceId, calls: &mut W) -> Known
     ensures folder { W.folder calls.new ≡ W.folder calls.old }
-    ensures known { IsKnown peer (W.view calls.old) result (W.view calls.new) }
+    ensures known { IsKnown (W.says (W.folder calls.old)) peer (W.view calls.old) result (W.view calls.new) }
 {
+    let kept = calls.kept_up_to();
     let me = calls.me();
     let own = calls.known(me).value;
     let peers = calls.known(peer).value;
-    Known { own, peers }
+    Known {
+        own: own.min(kept),
+        peers,
+    }
 }

@@ -205,7 +205,7 @@ where
         *idle_at = Some(at);
         return Ok(None);
     }
-    if puller.worker.store.look() != Whereabouts::There {
+    if puller.worker.look() != Whereabouts::There {
         return Ok(None);
     }
     let calls = &mut puller.worker.calls;

@@ -5,6 +5,7 @@ mod Announcing
 mod Clearing
 mod Firsts
 mod LaidFolders
+mod LastPlans
 mod Peers
 mod Placing
 mod Together

@@ -6,7 +6,8 @@ pub mod Recovered
 pub mod Clear
 -- records of this device among what is announced
 pub mod Laid
--- what becomes of plans
+-- what becomes of plans, and which of them are looked at
 pub mod Settled
+pub mod Open
 -- where finished records are
 pub mod Places

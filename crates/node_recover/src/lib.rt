@@ -7,6 +7,7 @@ mod finding;
 mod finished;
 pub mod laws;
 mod laying;
+mod opening;
 mod plan;
 mod recovering;
 mod settling;
@@ -14,6 +15,7 @@ mod told;
 mod written;
 
 pub use fault::{RecoverFault, SettleFault};
+pub use opening::open_plans;
 pub use plan::PullPlan;
 pub use recovering::{RecoveredFolder, recover};
 pub use settling::{Disk, is_open, settle};

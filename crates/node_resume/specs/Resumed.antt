@@ -46,7 +46,7 @@ abbrev pub taken : ResumedFolder → Resumed
 taken r = record { index_id = r.index_id; folder = r.records.folder }
 
 -- Where nothing is stored of the folder, it is empty, under the new index number. Else it has its records, under its number, or under the new
--- one where the last run did not end well.
+-- one where something may be missing that peers were told.
 abbrev pub resumed_from : Config → ℕ → Bool → ℕ → Option StoredFolder → Resumed
 resumed_from config new_index_id is_left place None = record { index_id = new_index_id; folder = empty_folder config.device }
 resumed_from config new_index_id is_left place (Some stored) = record {

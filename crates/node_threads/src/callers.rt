@@ -3,7 +3,8 @@ use crate::peers::NodePeer;
 use folder_core::FolderCore;
 use folder_shared::{Member, SharedFolder};
 use node_commands::Histories;
-use node_context::NodeFault;
+use node_context::{Lent, LentCalls, NodeFault, lend_all, next_of};
+use node_keeper::{FolderKeeper, Keeper, PlannedCalls};
 use node_pull::PULLERS;
 use std::alloc::Global;
 use std::sync::Wait;
@@ -70,6 +71,41 @@ fn add_caller<'a, C: FolderCore + Drop, R: Wait>(
     match callers.push(Member::new(folder, rt, pass)) {
         Ok(()) => Ok(()),
         Err(_) => Err(NodeFault::OutOfMemory),
+    }
+}
+
+/// Calls that are lent to workers, one after the other, each with the keeper of its folder.
+#[derive(Drop)]
+pub(crate) struct Lender<'x, 'b, W, R> {
+    rt: &'x R,
+    keeper: &'x Keeper,
+    callers: LentCalls<'b, W>,
+}
+
+/// A worker's calls, which are lent to it, and whose pulls wait for their plans.
+pub(crate) type WorkerCalls<'x, 'b, W, R> = PlannedCalls<'x, Lent<'b, W>, R>;
+
+impl<'x, 'b, W, R: Wait> Lender<'x, 'b, W, R> {
+    /// Lends these. Fails only if out of memory.
+    pub(crate) fn new(
+        rt: &'x R,
+        alloc: Global,
+        keeper: &'x Keeper,
+        callers: &'b mut [W],
+    ) -> Result<Lender<'x, 'b, W, R>, NodeFault> {
+        let callers = lend_all(alloc, callers)?;
+        Ok(Lender {
+            rt,
+            keeper,
+            callers,
+        })
+    }
+
+    /// The next of them, for the folder at this place. Fails where there are fewer than workers.
+    pub(crate) fn next(&mut self, place: usize) -> Result<WorkerCalls<'x, 'b, W, R>, NodeFault> {
+        let calls = next_of(&mut self.callers)?;
+        let keeper = FolderKeeper::new(self.rt, self.keeper, place);
+        Ok(PlannedCalls::new(calls, keeper))
     }
 }
 

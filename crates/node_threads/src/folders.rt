@@ -6,6 +6,8 @@ use folder_core::FolderCore;
 use folder_shared::{Pass, SharedFolder};
 use node_context::{Connections, NodeFault};
 use node_folder::{FolderSettings, NodeFolder};
+use node_keeper::Keeper;
+use node_pull::PULLERS;
 use peer_asks::AskBook;
 use std::alloc::{AllocError, Global};
 use std::sync::Wait;
@@ -17,6 +19,10 @@ pub struct StartFolder<C> {
     pub settings: FolderSettings,
     /// Its records, without open pulls.
     pub core: C,
+    /// The sequence up to which this device's records are on the disk.
+    pub kept: u64,
+    /// Whether pulls of the last run may have put something in place that wasn't looked at yet, since the folder is away.
+    pub is_unsettled: bool,
 }
 
 /// What a node shares among its threads.
@@ -26,23 +32,31 @@ pub(crate) struct Opened<C: FolderCore + Drop> {
     pub(crate) shared: Vec<SharedFolder<C>>,
     pub(crate) books: Vec<AskBook>,
     pub(crate) connections: Connections,
+    pub(crate) keeper: Keeper,
 }
 
-/// Opens each folder, with an empty history. There is no connection with any of so many peers yet.
+/// Opens each folder, with an empty history. There is no connection with any of so many peers yet, which may be believed all that they say they were told.
 pub(crate) fn open_all<R: Wait, C: FolderCore + Drop>(
     rt: &R,
     alloc: Global,
     folders: Vec<StartFolder<C>>,
     peers: usize,
+    believes_all: bool,
 ) -> Result<Opened<C>, NodeFault>
     ensures opened { IfOk result (λ opened. AreOpened C.state folders.items opened.shared.items) }
 {
+    let keeper = keeper_of(alloc, folders.as_slice(), believes_all)?;
     let mut opened = Vec::with_capacity(alloc, folders.len())?;
     let mut shared = Vec::with_capacity(alloc, folders.len())?;
     for folder in folders {
-        let StartFolder { settings, core } = folder;
+        let StartFolder {
+            settings,
+            core,
+            is_unsettled,
+            ..
+        } = folder;
         let history_limit = settings.history_limit;
-        opened.push(NodeFolder::new(alloc, settings))?;
+        opened.push(NodeFolder::new(alloc, settings, is_unsettled))?;
         shared.push(open_folder(rt, alloc, core, history_limit)?)?;
     }
     Ok(Opened {
@@ -50,7 +64,21 @@ pub(crate) fn open_all<R: Wait, C: FolderCore + Drop>(
         shared,
         books: books_for(alloc, peers)?,
         connections: Connections::new(alloc, peers)?,
+        keeper,
     })
+}
+
+// What is on the disk of each folder.
+fn keeper_of<C>(
+    alloc: Global,
+    folders: &[StartFolder<C>],
+    believes_all: bool,
+) -> Result<Keeper, AllocError> {
+    let mut kept = Vec::with_capacity(alloc, folders.len())?;
+    for folder in folders {
+        kept.push(folder.kept)?;
+    }
+    Keeper::new(alloc, kept.as_slice(), PULLERS, believes_all)
 }
 
 // A book for each of so many peers.

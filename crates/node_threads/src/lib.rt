@@ -12,4 +12,3 @@ mod workers;
 pub use folders::StartFolder;
 pub use peers::{Listeners, NodeAddress, NodePeer, Share, listen_all};
 pub use run::{NodeEnd, NodeOutside, NodeStart, run_node};
-pub use saver::SaveState;

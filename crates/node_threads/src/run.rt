@@ -6,7 +6,7 @@ ghost use Rattle.node_threads.specs.Left.{AreLeft};
 use crate::callers::{Callers, SharedHistories, each_caller, work_callers};
 use crate::folders::{Opened, StartFolder, close_all, open_all, rooms_for};
 use crate::peers::{Listeners, NodePeer, end_at_stop};
-use crate::saver::SaveState;
+use crate::saver::{Saver, saved_first};
 use crate::threads::{Answered, Kept, Left, Work, answer_by_members, work_and_save};
 use crate::workers::{Files, FolderFiles, Node};
 use file_store::Gate;
@@ -16,7 +16,8 @@ use node_commands::{CommandLines, CommandsEnd};
 use node_context::{Context, Host, Log, NodeFault};
 use node_files::Stores;
 use node_peer::Reach;
-use std::alloc::Global;
+use node_saver::DiskJournal;
+use std::alloc::{AllocError, Global};
 use std::io::{self, Write};
 use std::net::{Net, TcpListener, TcpStream};
 use std::sync::Wait;
@@ -30,19 +31,21 @@ pub struct NodeStart<C> {
     pub folders: Vec<StartFolder<C>>,
     /// How the connections with the peers come about.
     pub listeners: Listeners,
+    /// Whether peers are believed what they say that they were told of this device's records. If not, the node ends where one was told more than is on the disk.
+    pub believes_all: bool,
 }
 
 /// What a node is told, and what it reads and writes beside its folders.
 #[derive(Drop)]
-pub struct NodeOutside<'a, G, K, T> {
+pub struct NodeOutside<'a, G, J, T> {
     /// The name of this device.
     pub name: &'a str,
     /// The peers.
     pub peers: &'a [NodePeer],
     /// Where a test may hold what its workers do.
     pub gate: &'a G,
-    /// Who saves its records.
-    pub saver: &'a K,
+    /// What happens is written there, and is on the disk before peers are told of it.
+    pub journal: &'a mut J,
     /// Where its folders are.
     pub stores: &'a T,
     /// What is told of it.
@@ -57,26 +60,31 @@ pub struct NodeEnd<C, L> {
     /// For each peer, in their order, the numbers of its index of each folder that is shared with it, of which there are records; none where memory
     /// for them ran out.
     pub kept: Vec<Vec<u64>>,
+    /// For each folder, in their order, the sequence up to which this device's records are in the journal; none where memory for them ran out.
+    pub saved: Vec<u64>,
+    /// Whether a peer says that it was told more of this device's records than were on the disk when the node began.
+    pub is_behind: bool,
     /// How the commands ended; an error where one can't be read, or an answer can't be written.
     pub answered: io::Result<CommandsEnd>,
     /// The lines that are left.
     pub lines: L,
 }
 
-/// Keeps folders alike with peers, and answers the commands of the lines, until `quit` or their end, or until the history of a folder is full: then the
-/// connections end, and the node's threads with them.
+/// Keeps folders alike with peers, and answers the commands of the lines, until `quit` or their end, or until the history of a folder is full or a peer was told
+/// more than is on the disk: then the connections end, and the node's threads with them.
 ///
 /// Each folder is scanned once, and then as often as it asks for. Then one thread pulls what is needed of each folder in turn, once a second; each peer has a
 /// connection, whose workers are those of [`run_link`](peer_link::run_link): one that this device makes is made again 10 seconds after it ended, and of one
-/// that the peer makes there is one at a time; a further one is closed at once. A connection that ends ends nothing else. What is recorded is saved
-/// within a minute.
+/// that the peer makes there is one at a time; a further one is closed at once. A connection that ends ends nothing else. What is recorded is written to the
+/// journal, and peers are told of it once it is there; a pull puts a file in place once the journal has its plan. All of it is there at the end, unless the
+/// journal can't be written.
 ///
 /// Fails before anything is read or written where a folder has open pulls, or memory or threads run out.
-pub fn run_node<R, T, C, G, K, L, O>(
+pub fn run_node<R, T, C, G, J, L, O>(
     rt: &R,
     alloc: Global,
     start: NodeStart<C>,
-    outside: NodeOutside<G, K, T>,
+    outside: NodeOutside<G, J, T>,
     lines: L,
     output: &mut O,
 ) -> Result<NodeEnd<C, L>, NodeFault>
@@ -86,7 +94,7 @@ where
     T::Store: Send,
     C: FolderCore + Drop + Send + Sync,
     G: Gate + Sync,
-    K: SaveState + Sync,
+    J: DiskJournal + Send,
     L: CommandLines + Drop,
     O: Write,
     ensures left { IfOk result (λ end. AreLeft C.state start.folders.items end.cores.items) }
@@ -94,8 +102,9 @@ where
     let NodeStart {
         folders,
         listeners: Listeners { reaches },
+        believes_all,
     } = start;
-    let opened = open_all(rt, alloc, folders, outside.peers.len())?;
+    let opened = open_all(rt, alloc, folders, outside.peers.len(), believes_all)?;
     for reach in reaches.iter() {
         end_at_stop(rt, &opened.connections, reach)?;
     }
@@ -103,6 +112,8 @@ where
     let cores = Vec::with_capacity(alloc, opened.shared.len())?;
     let rooms = rooms_for(alloc, opened.shared.len())?;
     let left = run_opened(rt, alloc, &opened, reaches, outside, lines, output)?;
+    let saved = saved_of(rt, alloc, &opened).unwrap_or(Vec::new(alloc));
+    let is_behind = opened.keeper.is_behind(rt);
     let Opened { shared, .. } = opened;
     let cores = close_all(rt, alloc, cores, rooms, shared)?;
     let Left {
@@ -112,18 +123,34 @@ where
     Ok(NodeEnd {
         cores,
         kept,
+        saved,
+        is_behind,
         answered: end,
         lines,
     })
 }
 
+// Up to which sequences the records of the folders are in the journal.
+fn saved_of<R: Wait, C: FolderCore + Drop>(
+    rt: &R,
+    alloc: Global,
+    opened: &Opened<C>,
+) -> Result<Vec<u64>, AllocError> {
+    let count = opened.folders.len();
+    let mut saved = Vec::with_capacity(alloc, count)?;
+    for place in 0..count {
+        saved.push(opened.keeper.kept_up_to(rt, place))?;
+    }
+    Ok(saved)
+}
+
 // Runs the threads of a node over its folders.
-fn run_opened<'x, R, T, C, G, K, L, O>(
+fn run_opened<'x, R, T, C, G, J, L, O>(
     rt: &'x R,
     alloc: Global,
     opened: &'x Opened<C>,
     reaches: Vec<Reach>,
-    outside: NodeOutside<'x, G, K, T>,
+    outside: NodeOutside<'x, G, J, T>,
     lines: L,
     output: &mut O,
 ) -> Result<Left<L>, NodeFault>
@@ -133,7 +160,7 @@ where
     T::Store: Send,
     C: FolderCore + Drop + Send + Sync,
     G: Gate + Sync,
-    K: SaveState + Sync,
+    J: DiskJournal + Send,
     L: CommandLines + Drop,
     O: Write,
 {
@@ -150,6 +177,7 @@ where
         folders,
         peers: outside.peers,
         books: opened.books.as_slice(),
+        keeper: &opened.keeper,
     };
     let files = Files {
         rt,
@@ -157,21 +185,23 @@ where
         connections: &opened.connections,
         stores: outside.stores,
         folders,
+        keeper: &opened.keeper,
     };
     let work = Work {
         files: &files,
         node,
-        saver: outside.saver,
     };
-    run_members(&cx, &work, reaches, opened.shared.as_slice(), lines, output)
+    let shared = opened.shared.as_slice();
+    run_members(&cx, &work, reaches, shared, outside.journal, lines, output)
 }
 
 // Does all that a node does, by members of the shared folders.
-fn run_members<'x, R, G, F, C, K, L, O>(
+fn run_members<'x, R, G, F, C, J, L, O>(
     cx: &Context<'x, R, G>,
-    work: &Work<'_, 'x, F, K>,
+    work: &Work<'_, 'x, F>,
     reaches: Vec<Reach>,
     shared: &'x [SharedFolder<C>],
+    journal: &mut J,
     lines: L,
     output: &mut O,
 ) -> Result<Left<L>, NodeFault>
@@ -181,29 +211,42 @@ where
     F: FolderFiles + Sync,
     F::Store: Send,
     C: FolderCore + Drop + Send + Sync,
-    K: SaveState + Sync,
+    J: DiskJournal + Send,
     L: CommandLines + Drop,
     O: Write,
 {
     let (rt, alloc) = (cx.rt, cx.alloc);
+    let (keeper, folders) = (work.node.keeper, work.node.folders);
     let mut callers = Callers {
         workers: work_callers(rt, alloc, shared, work.node.peers)?,
         savers: each_caller(rt, alloc, shared)?,
         answerers: each_caller(rt, alloc, shared)?,
     };
+    let saver = Saver {
+        folders: saved_first(rt, alloc, keeper, folders)?,
+        journal,
+    };
     let histories = SharedHistories {
         rt,
         folders: shared,
     };
-    run_threads(cx, work, reaches, &histories, &mut callers, lines, output)
+    let tools = Tools { histories, saver };
+    run_threads(cx, work, reaches, tools, &mut callers, lines, output)
+}
+
+// What verifies the histories of a node's folders, and what saves them.
+#[derive(Drop)]
+struct Tools<'a, 'j, C: FolderCore + Drop, R, J> {
+    histories: SharedHistories<'a, C, R>,
+    saver: Saver<'j, J>,
 }
 
 // Works, saves the records and answers the commands, each on threads of its own. The node stops once the commands end.
-fn run_threads<'x, R, G, F, C, K, L, O>(
+fn run_threads<'x, R, G, F, C, J, L, O>(
     cx: &Context<'x, R, G>,
-    work: &Work<'_, 'x, F, K>,
+    work: &Work<'_, 'x, F>,
     reaches: Vec<Reach>,
-    histories: &SharedHistories<'x, C, R>,
+    tools: Tools<'x, '_, C, R, J>,
     callers: &mut Callers<Member<'x, C, R>>,
     lines: L,
     output: &mut O,
@@ -214,10 +257,14 @@ where
     F: FolderFiles + Sync,
     F::Store: Send,
     C: FolderCore + Drop + Send + Sync,
-    K: SaveState + Sync,
+    J: DiskJournal + Send,
     L: CommandLines + Drop,
     O: Write,
 {
+    let Tools {
+        histories,
+        mut saver,
+    } = tools;
     let Callers {
         workers,
         savers,
@@ -227,13 +274,14 @@ where
     let (kept, answered) = join(
         cx.rt,
         || -> Result<Kept, NodeFault>
-            requires { IsSync R.row × IsSync G.row × IsSync F.row × IsSync K.row × IsSync C.row × IsSend C.row × IsSend F.Store.row }
+            requires { IsSync R.row × IsSync G.row × IsSync F.row × IsSend J.row × IsSync C.row × IsSend C.row × IsSend F.Store.row }
         {
             work_and_save(
                 cx,
                 work,
                 reaches,
                 workers.as_mut_slice(),
+                &mut saver,
                 savers.as_mut_slice(),
             )
         },
@@ -241,7 +289,7 @@ where
             let answered = answer_by_members(
                 cx,
                 files,
-                histories,
+                &histories,
                 node,
                 answerers.as_mut_slice(),
                 lines,

@@ -3,18 +3,21 @@ ghost use Rattle.std.specs.Prelude.{◌≡◌, map, IfOk};
 ghost use Rattle.node_commands.specs.Read.{AreReadTo};
 ghost use Rattle.node_threads.specs.Workers.{kept_numbers};
 
-use crate::saver::{SaveState, run_saver};
+use crate::callers::Lender;
+use crate::saver::{Saver, run_saver};
 use crate::workers::{FolderFiles, Node, Workers, answered_of, devices_of, workers_of};
 use file_store::{FileStore, Gate};
 use folder_calls::FolderCalls;
 use folder_core::FolderCore;
 use folder_shared::Member;
 use node_commands::{Answerer, CommandLines, CommandsEnd, Histories, answer_commands};
-use node_context::{Context, Host, NodeFault, lend_all};
+use node_context::{Context, Host, NodeFault};
 use node_files::Marked;
 use node_folder::{run_scanner, scan_due};
+use node_keeper::Keeper;
 use node_peer::{Reach, run_peer};
 use node_pull::run_rounds;
+use node_saver::DiskJournal;
 use peer_conn::KeptCalls;
 use peer_link::LinkFolders;
 use peer_reader::PeerFolder;
@@ -25,12 +28,11 @@ use std::thread::{join, map_vec};
 /// For each peer, the numbers of its indexes that are kept.
 pub(crate) type Kept = Vec<Vec<u64>>;
 
-/// What a node works with: its folders' files, what it is told, and who saves its records.
+/// What a node works with: its folders' files, and what it is told.
 #[derive(Drop)]
-pub(crate) struct Work<'f, 'x, F, K> {
+pub(crate) struct Work<'f, 'x, F> {
     pub(crate) files: &'f F,
     pub(crate) node: Node<'x>,
-    pub(crate) saver: &'x K,
 }
 
 /// What the threads leave.
@@ -47,12 +49,13 @@ pub(crate) struct Answered<L> {
     pub(crate) lines: L,
 }
 
-/// Works, and has the records saved meanwhile. Where it can't work, the node stops.
-pub(crate) fn work_and_save<'x, R, G, F, K, C>(
+/// Works, and has what happens written to the journal, until nothing happens any more. Where it can't work, the node stops.
+pub(crate) fn work_and_save<'x, R, G, F, J, C>(
     cx: &Context<'x, R, G>,
-    work: &Work<'_, 'x, F, K>,
+    work: &Work<'_, 'x, F>,
     reaches: Vec<Reach>,
     workers: &mut [Member<'x, C, R>],
+    saver: &mut Saver<'_, J>,
     savers: &mut [Member<'x, C, R>],
 ) -> Result<Kept, NodeFault>
 where
@@ -60,10 +63,10 @@ where
     G: Gate + Sync,
     F: FolderFiles + Sync,
     F::Store: Send,
-    K: SaveState + Sync,
+    J: DiskJournal + Send,
     C: FolderCore + Drop + Send + Sync,
 {
-    let (files, node, saver) = (work.files, work.node, work.saver);
+    let (files, node, keeper) = (work.files, work.node, work.node.keeper);
     let (kept, ()) = join(
         cx.rt,
         || {
@@ -71,9 +74,10 @@ where
             if kept.is_err() {
                 cx.stop();
             }
+            keeper.end(cx.rt);
             kept
         },
-        || save_by_members(cx, saver, savers),
+        || save_by_members(cx, keeper, saver, savers),
     );
     kept
 }
@@ -96,17 +100,18 @@ where
     work_by(cx, files, node, reaches, callers)
 }
 
-fn save_by_members<'x, R, G, K, C>(
+fn save_by_members<'x, R, G, J, C>(
     cx: &Context<'x, R, G>,
-    saver: &'x K,
+    keeper: &Keeper,
+    saver: &mut Saver<'_, J>,
     callers: &mut [Member<'x, C, R>],
 )
 where
     R: Host,
-    K: SaveState,
+    J: DiskJournal,
     C: FolderCore + Drop,
 {
-    run_saver(cx, saver, callers)
+    run_saver(cx, keeper, saver, callers)
 }
 
 /// Answers the commands by these callers, one of each folder.
@@ -154,7 +159,7 @@ where
     O: Write,
     ensures { IfOk result (λ end. AreReadTo L.gives lines.old end lines.new) }
 {
-    let mut callers = lend_all(cx.alloc, callers).map_err(no_answerer)?;
+    let mut callers = Lender::new(cx.rt, cx.alloc, node.keeper, callers).map_err(no_answerer)?;
     let folders = answered_of(cx.alloc, files, node, &mut callers).map_err(no_answerer)?;
     let devices = devices_of(cx.alloc, node.peers)?;
     let mut answerer = Answerer {
@@ -184,7 +189,7 @@ where
     F::Store: Send,
     W: FolderCalls + Send,
 {
-    let mut callers = lend_all(cx.alloc, callers)?;
+    let mut callers = Lender::new(cx.rt, cx.alloc, node.keeper, callers)?;
     let workers = workers_of(cx.alloc, files, node, reaches, &mut callers)?;
     // (out of memory they are forgotten, and the peers send their indexes anew)
     Ok(match run_workers(cx, workers) {

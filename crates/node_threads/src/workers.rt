@@ -2,13 +2,15 @@
 ghost use Rattle.std.specs.Prelude.{◌≡◌, IfOk};
 ghost use Rattle.node_threads.specs.Workers.{IsShared};
 
+use crate::callers::{Lender, WorkerCalls};
 use crate::peers::{NodePeer, Share};
 use bep_messages::Text;
 use file_store::FileStore;
 use folder_calls::FolderCalls;
-use node_context::{Connections, Lent, LentCalls, NodeFault, next_of};
+use node_context::{Connections, NodeFault};
 use node_files::{FolderStore, Marked, Stores};
 use node_folder::{FolderWorker, GivesUp, NodeFolder, ScannedFolder, WorkerEnds};
+use node_keeper::{FolderKeeper, Keeper};
 use node_peer::{Peer, PeerWorker, Reach};
 use node_pull::{PULLERS, PulledFolder, Puller};
 use peer_asks::{AskBook, PeerBook};
@@ -29,6 +31,8 @@ pub(crate) struct Node<'x> {
     pub(crate) peers: &'x [NodePeer],
     /// The Requests to each peer.
     pub(crate) books: &'x [AskBook],
+    /// What is on the disk of its folders.
+    pub(crate) keeper: &'x Keeper,
 }
 
 /// How the workers of a node read and write its folders.
@@ -54,6 +58,7 @@ pub(crate) struct Files<'x, R, T> {
     pub(crate) connections: &'x Connections,
     pub(crate) stores: &'x T,
     pub(crate) folders: &'x [NodeFolder],
+    pub(crate) keeper: &'x Keeper,
 }
 
 impl<'x, R: Wait, T: Stores> FolderFiles for Files<'x, R, T> {
@@ -75,7 +80,8 @@ impl<'x, R: Wait, T: Stores> FolderFiles for Files<'x, R, T> {
         let Some(folder) = folders.get(place) else {
             return Err(NodeFault::NoFolder);
         };
-        let ends = WorkerEnds::new(self.rt, self.connections, gives_up);
+        let keeper = FolderKeeper::new(self.rt, self.keeper, place);
+        let ends = WorkerEnds::new(self.rt, self.connections, gives_up, keeper);
         Ok(FolderStore::new(self.alloc, ends, self.stores, folder.settings.path.as_str()))
     }
 }
@@ -89,13 +95,13 @@ pub(crate) struct Workers<'x, S, W> {
 }
 
 /// The workers of a node. The callers are taken in the order in which they are made (`callers.rt`).
-pub(crate) fn workers_of<'x, 'b, F: FolderFiles, W: FolderCalls>(
+pub(crate) fn workers_of<'x, 'b, F: FolderFiles, W: FolderCalls, R: Wait>(
     alloc: Global,
     files: &F,
     node: Node<'x>,
     reaches: Vec<Reach>,
-    callers: &mut LentCalls<'b, W>,
-) -> Result<Workers<'x, F::Store, Lent<'b, W>>, NodeFault> {
+    callers: &mut Lender<'x, 'b, W, R>,
+) -> Result<Workers<'x, F::Store, WorkerCalls<'x, 'b, W, R>>, NodeFault> {
     let scanned = scanned_of(alloc, files, node, callers)?;
     let pulled = pulled_of(alloc, files, node, callers)?;
     let peers = peers_of(alloc, files, node, reaches, callers)?;
@@ -107,15 +113,15 @@ pub(crate) fn workers_of<'x, 'b, F: FolderFiles, W: FolderCalls>(
 }
 
 // A worker of the folder at a place.
-fn worker_of<'x, 'b, F: FolderFiles, W: FolderCalls>(
+fn worker_of<'x, 'b, F: FolderFiles, W: FolderCalls, R: Wait>(
     files: &F,
     folder: &'x NodeFolder,
     place: usize,
     gives_up: GivesUp,
-    callers: &mut LentCalls<'b, W>,
-) -> Result<FolderWorker<'x, F::Store, Lent<'b, W>>, NodeFault> {
+    callers: &mut Lender<'x, 'b, W, R>,
+) -> Result<FolderWorker<'x, F::Store, WorkerCalls<'x, 'b, W, R>>, NodeFault> {
     let store = files.at(place, gives_up)?;
-    let calls = next_of(callers)?;
+    let calls = callers.next(place)?;
     Ok(FolderWorker {
         folder,
         store,
@@ -124,12 +130,12 @@ fn worker_of<'x, 'b, F: FolderFiles, W: FolderCalls>(
 }
 
 /// A worker of each folder, in their order, by these callers, for the commands.
-pub(crate) fn answered_of<'x, 'b, F: FolderFiles, W: FolderCalls>(
+pub(crate) fn answered_of<'x, 'b, F: FolderFiles, W: FolderCalls, R: Wait>(
     alloc: Global,
     files: &F,
     node: Node<'x>,
-    callers: &mut LentCalls<'b, W>,
-) -> Result<Vec<FolderWorker<'x, F::Store, Lent<'b, W>>>, NodeFault> {
+    callers: &mut Lender<'x, 'b, W, R>,
+) -> Result<Vec<FolderWorker<'x, F::Store, WorkerCalls<'x, 'b, W, R>>>, NodeFault> {
     let mut workers = Vec::with_capacity(alloc, node.folders.len())?;
     for (place, folder) in node.folders.iter().enumerate() {
         workers.push(worker_of(files, folder, place, GivesUp::Never, callers)?)?;
@@ -137,12 +143,12 @@ pub(crate) fn answered_of<'x, 'b, F: FolderFiles, W: FolderCalls>(
     Ok(workers)
 }
 
-fn scanned_of<'x, 'b, F: FolderFiles, W: FolderCalls>(
+fn scanned_of<'x, 'b, F: FolderFiles, W: FolderCalls, R: Wait>(
     alloc: Global,
     files: &F,
     node: Node<'x>,
-    callers: &mut LentCalls<'b, W>,
-) -> Result<Vec<ScannedFolder<'x, F::Store, Lent<'b, W>>>, NodeFault> {
+    callers: &mut Lender<'x, 'b, W, R>,
+) -> Result<Vec<ScannedFolder<'x, F::Store, WorkerCalls<'x, 'b, W, R>>>, NodeFault> {
     let mut scanned = Vec::with_capacity(alloc, node.folders.len())?;
     for (place, folder) in node.folders.iter().enumerate() {
         let worker = worker_of(files, folder, place, GivesUp::AtStop, callers)?;
@@ -151,12 +157,12 @@ fn scanned_of<'x, 'b, F: FolderFiles, W: FolderCalls>(
     Ok(scanned)
 }
 
-fn pulled_of<'x, 'b, F: FolderFiles, W: FolderCalls>(
+fn pulled_of<'x, 'b, F: FolderFiles, W: FolderCalls, R: Wait>(
     alloc: Global,
     files: &F,
     node: Node<'x>,
-    callers: &mut LentCalls<'b, W>,
-) -> Result<Vec<PulledFolder<'x, F::Store, Lent<'b, W>>>, NodeFault> {
+    callers: &mut Lender<'x, 'b, W, R>,
+) -> Result<Vec<PulledFolder<'x, F::Store, WorkerCalls<'x, 'b, W, R>>>, NodeFault> {
     let mut pulled = Vec::with_capacity(alloc, node.folders.len())?;
     for (place, folder) in node.folders.iter().enumerate() {
         let mut pullers = Vec::with_capacity(alloc, PULLERS)?;
@@ -191,13 +197,13 @@ fn books_of<'x>(
     Ok((books, places))
 }
 
-fn peers_of<'x, 'b, F: FolderFiles, W: FolderCalls>(
+fn peers_of<'x, 'b, F: FolderFiles, W: FolderCalls, R: Wait>(
     alloc: Global,
     files: &F,
     node: Node<'x>,
     reaches: Vec<Reach>,
-    callers: &mut LentCalls<'b, W>,
-) -> Result<Vec<PeerWorker<'x, F::Store, Lent<'b, W>>>, NodeFault> {
+    callers: &mut Lender<'x, 'b, W, R>,
+) -> Result<Vec<PeerWorker<'x, F::Store, WorkerCalls<'x, 'b, W, R>>>, NodeFault> {
     let mut workers = Vec::with_capacity(alloc, node.peers.len())?;
     let mut place = 0usize;
     for reach in reaches {
@@ -220,13 +226,13 @@ fn peers_of<'x, 'b, F: FolderFiles, W: FolderCalls>(
     Ok(workers)
 }
 
-fn link_folders<'b, F: FolderFiles, W: FolderCalls>(
+fn link_folders<'x, 'b, F: FolderFiles, W: FolderCalls, R: Wait>(
     alloc: Global,
     files: &F,
     node: Node,
     peer: &NodePeer,
-    callers: &mut LentCalls<'b, W>,
-) -> Result<LinkFolders<F::Store, Lent<'b, W>>, NodeFault> {
+    callers: &mut Lender<'x, 'b, W, R>,
+) -> Result<LinkFolders<F::Store, WorkerCalls<'x, 'b, W, R>>, NodeFault> {
     let count = peer.shares.len();
     let mut read = Vec::with_capacity(alloc, count)?;
     let mut served = Vec::with_capacity(alloc, count)?;
@@ -253,13 +259,13 @@ pub(crate) struct SharedWith<S, W> {
 }
 
 // The folder of a share: under its id to the peer, from its files, with its index number and the peer's.
-fn share_folder<'b, F: FolderFiles, W: FolderCalls>(
+fn share_folder<'x, 'b, F: FolderFiles, W: FolderCalls, R: Wait>(
     alloc: Global,
     files: &F,
     folders: &[NodeFolder],
     share: &Share,
-    callers: &mut LentCalls<'b, W>,
-) -> Result<SharedWith<F::Store, Lent<'b, W>>, NodeFault>
+    callers: &mut Lender<'x, 'b, W, R>,
+) -> Result<SharedWith<F::Store, WorkerCalls<'x, 'b, W, R>>, NodeFault>
     ensures { IfOk result (IsShared (F.is_at files.now) folders.now share.now) }
 {
     let Some(folder) = folders.get(share.folder) else {
@@ -270,7 +276,12 @@ fn share_folder<'b, F: FolderFiles, W: FolderCalls>(
         Text::from_str(alloc, folder.id())?,
     );
     let store = files.at(share.folder, GivesUp::Never)?;
-    let (reader, server, indexer) = (next_of(callers)?, next_of(callers)?, next_of(callers)?);
+    let place = share.folder;
+    let (reader, server, indexer) = (
+        callers.next(place)?,
+        callers.next(place)?,
+        callers.next(place)?,
+    );
     Ok(SharedWith {
         read: PeerFolder {
             id,

@@ -105,7 +105,10 @@ time in UTC, and
     no room F: WHY                     the disk is full; it is tried again each minute
     away F: WHY, back F                the folder lacks its marker; it has it again
     history full F: WHY                the node ends, and begins anew
-    state not written: WHY
+    older state: WHY                   a peer was told more than the state has: the node
+                                       ends, begins anew, and tells everything again
+    state not written: WHY             nothing is put in place, and peers are told
+                                       nothing, until it can be
 
 and each ten seconds, or on a terminal each second in place, how far a long scan or
 pull is.

@@ -10,13 +10,13 @@ state_left-requires-clause-records g c =
 
 pub returns : goal.returns
 returns g c =
-    let kept : List (List ℕ) = map (λ k. k.items) c.as_slice-5.result.now in
+    let kept : List (List ℕ) = map (λ k. k.items) c.as_slice-4.result.now in
     record {
       left = (
         c.in_ok-cores.field-0.cores.items,
         kept,
         c.in_ok-cores.ensures.left,
         c.in_ok-state.ensures
-            ∙ (λ j. folders_left c.args.config.now (c.as_slice-3.ensures.value j) (map (λ s. s.items) (c.as_slice-4.ensures.value j)) (map (λ r. r.folder) c.in_ok-cores.field-0.cores.items) kept),
+            ∙ (λ j. folders_left c.args.config.now (c.as_slice-2.ensures.value j) (map (λ s. s.items) (c.as_slice-3.ensures.value j)) (map (λ r. r.folder) c.in_ok-cores.field-0.cores.items) kept),
       );
     }

@@ -1,0 +1,285 @@
+//! The journal beside the state file, which is written while a node runs.
+ghost use Rattle.std.specs.Prelude.{◌≡◌, ◌⊎◌, ◌++◌, ◌+◌, [], length, IfOk, OnOk};
+ghost use Rattle.node_journal.specs.Format.{frame_bytes, header_bytes};
+ghost use Rattle.node_saver.specs.Frames.{closing_frame};
+ghost use Rattle.bepd_run.specs.Begun.{Begins, IsPlansFrame};
+
+use crate::failure::RunFailure;
+use crate::files::{StateFiles, write_behind};
+use crate::last_run::{FolderPlans, FoundJournal, LastRun, StatePaths, read_last_run};
+use crate::plans::{open_in, written_plans};
+use bep_messages::Copied;
+use node_journal::{Frame, JournalHeader, push_frame, push_header};
+use node_saver::{DiskJournal, FrameJournal, SaveFault, SavedFolder, closing_frame, plans_frame};
+use node_state::{State, write_state};
+use sha2::{Digest, Sha256};
+use std::alloc::{AllocError, Global};
+use std::fs::File;
+use sync_record::DeviceId;
+
+/// How many bytes a journal has at least before it is folded into the state.
+const FOLD_BYTES: u64 = 1_048_576;
+
+/// The journal of a node, in the file `<state>.journal`. It is folded into the state once it has more bytes than that, so that for each byte appended at most
+/// three are written.
+#[derive(Drop)]
+pub(crate) struct StateJournal<'a, R> {
+    files: &'a R,
+    alloc: Global,
+    device: DeviceId,
+    paths: &'a StatePaths<'a>,
+    header: JournalHeader,
+    // Where it is written; `None` after a write that could not be taken back, or was not known to be on the disk: then another file is made.
+    file: Option<File>,
+    // How many of its bytes count, and what is to follow them.
+    len: u64,
+    waiting: Vec<u8>,
+    // From how many bytes on it is folded.
+    fold_at: u64,
+}
+
+impl<'a, R: StateFiles> StateJournal<'a, R> {
+    /// One that goes on behind what was found of it.
+    pub(crate) fn behind(
+        files: &'a R,
+        alloc: Global,
+        device: DeviceId,
+        paths: &'a StatePaths<'a>,
+        found: &FoundJournal,
+        state_len: u64,
+    ) -> Result<StateJournal<'a, R>, RunFailure> {
+        if found.is_new {
+            files.put_in_place(paths.new_journal.as_str(), paths.journal.as_str())?;
+        }
+        let file = files.open_behind(paths.journal.as_str(), found.len)?;
+        Ok(StateJournal {
+            files,
+            alloc,
+            device,
+            paths,
+            header: found.header,
+            file: Some(file),
+            len: found.len,
+            waiting: Vec::new(alloc),
+            fold_at: state_len.max(FOLD_BYTES),
+        })
+    }
+
+    /// A new one, with a new state file and these plans.
+    pub(crate) fn anew(
+        files: &'a R,
+        alloc: Global,
+        device: DeviceId,
+        paths: &'a StatePaths<'a>,
+        state: &State,
+        plans: &[FolderPlans],
+    ) -> Result<StateJournal<'a, R>, RunFailure> {
+        let mut journal = StateJournal {
+            files,
+            alloc,
+            device,
+            paths,
+            header: JournalHeader {
+                device,
+                state_digest: Sha256::digest(b""),
+            },
+            file: None,
+            len: 0,
+            waiting: Vec::new(alloc),
+            fold_at: FOLD_BYTES,
+        };
+        journal.replace(state, plans)?;
+        Ok(journal)
+    }
+
+    /// Puts a new state file in place, and then a new journal, which has these plans. A start finds the one pair or the other, whenever it is cut off: the new
+    /// journal is on the disk before the state that it continues is in place, and is then found under its first name.
+    pub(crate) fn replace(
+        &mut self,
+        state: &State,
+        plans: &[FolderPlans],
+    ) -> Result<(), RunFailure> {
+        let (new_state, new_journal) = (
+            self.paths.new_state.as_str(),
+            self.paths.new_journal.as_str(),
+        );
+        let mut bytes = Vec::new(self.alloc);
+        write_state(state, &mut bytes)?;
+        let header = JournalHeader {
+            device: self.device,
+            state_digest: Sha256::digest(bytes.as_slice()),
+        };
+        let begun = begun_journal(self.alloc, &header, plans)?;
+        let made = match self.files.make_file(new_state, bytes.as_slice()) {
+            Ok(_) => self.files.make_file(new_journal, begun.as_slice()),
+            Err(failure) => Err(failure),
+        };
+        let file = match made {
+            Ok(file) => file,
+            Err(failure) => {
+                self.files.remove(new_state);
+                self.files.remove(new_journal);
+                return Err(failure);
+            }
+        };
+        // (if this fails, it isn't known which state is in place, so what is written next is written anew)
+        self.file = None;
+        self.files.put_in_place(new_state, self.paths.state)?;
+        self.header = header;
+        self.file = Some(file);
+        self.len = begun.len() as u64;
+        self.fold_at = FOLD_BYTES.max(bytes.len() as u64);
+        // (where this fails, the next start finds it under its first name)
+        let _ = self
+            .files
+            .put_in_place(new_journal, self.paths.journal.as_str());
+        Ok(())
+    }
+
+    // Writes the state and the journal on the disk anew, as one state. Fails where they don't belong together any more.
+    fn fold_all(&mut self) -> Result<(), RunFailure> {
+        let LastRun {
+            state,
+            plans,
+            journal,
+            ..
+        } = read_last_run(self.files, self.alloc, self.device, self.paths)?;
+        if journal.is_none() {
+            return Err(RunFailure::ReadOrWrite);
+        }
+        let plans = open_in(self.alloc, &state, plans)?;
+        self.replace(&state, plans.as_slice())
+    }
+
+    // Makes another file, if there is none. What waited for the one before is left out.
+    fn have_file(&mut self) -> Result<(), SaveFault>
+        ensures { OnOk result ((self.new.waiting.items ≡ self.old.waiting.items) ⊎ (self.new.waiting.items ≡ [])) }
+    {
+        if self.file.is_some() {
+            return Ok(());
+        }
+        if self.fold_all().is_err() {
+            return Err(SaveFault::Refused);
+        }
+        self.waiting.clear();
+        Ok(())
+    }
+
+    // Adds a frame to what waits, as of the place where it will stand.
+    fn push_waiting(&mut self, frame: &Frame) -> Result<(), SaveFault>
+        ensures { OnOk result (self.new.waiting.items
+            ≡ self.old.waiting.items ++ frame_bytes (header_bytes self.new.header) (self.new.len + length self.old.waiting.items) frame.now) }
+    {
+        let Some(offset) = self.len.checked_add(self.waiting.len() as u64) else {
+            return Err(SaveFault::Refused);
+        };
+        match push_frame(&self.header, offset, frame, &mut self.waiting) {
+            Ok(()) => Ok(()),
+            Err(_) => Err(SaveFault::OutOfMemory),
+        }
+    }
+
+    // What is to follow, closed; written behind what counts.
+    fn write_waiting(&mut self) -> Result<(), SaveFault> {
+        let closing = closing_frame(self.alloc);
+        self.append(&closing)?;
+        let Some(file) = &mut self.file else {
+            return Err(SaveFault::Refused);
+        };
+        if write_behind(file, self.len, self.waiting.as_slice()).is_err() {
+            self.file = None;
+            return Err(SaveFault::Refused);
+        }
+        self.len = self.len.saturating_add(self.waiting.len() as u64);
+        Ok(())
+    }
+}
+
+impl<R: StateFiles> FrameJournal for StateJournal<'_, R> {
+    ghost use Rattle.std.specs.Prelude.{◌≡◌, ◌⊎◌, ◌++◌, ◌+◌, ℕ, [], List, length};
+    ghost use Rattle.node_journal.specs.Format.{frame_bytes, header_bytes};
+
+    // Its bytes follow what waits, as of the place in the file where they will stand. What waited for another file is left out.
+    ghost appends = { λ old frame new.
+        (before : List ℕ) × ((before ≡ old.waiting.items) ⊎ (before ≡ []))
+        × (new.waiting.items ≡ before ++ frame_bytes (header_bytes new.header) (new.len + length before) frame) };
+
+    fn append(&mut self, frame: &Frame) -> Result<(), SaveFault> {
+        self.have_file()?;
+        self.push_waiting(frame)
+    }
+}
+
+impl<R: StateFiles> DiskJournal for StateJournal<'_, R> {
+    fn sync(&mut self) -> Result<(), SaveFault> {
+        let written = self.write_waiting();
+        self.waiting.clear();
+        written
+    }
+
+    fn take_back(&mut self) {
+        self.waiting.clear();
+    }
+
+    fn fold(&mut self) {
+        if self.len > self.fold_at && self.fold_all().is_err() {
+            self.fold_at = self.len.saturating_add(FOLD_BYTES);
+        }
+    }
+}
+
+// The bytes of a journal that begins with these plans.
+fn begun_journal(
+    alloc: Global,
+    header: &JournalHeader,
+    plans: &[FolderPlans],
+) -> Result<Vec<u8>, RunFailure>
+    ensures { IfOk result (λ bytes. Begins header.now plans.now bytes.items) }
+{
+    let mut bytes = Vec::new(alloc);
+    push_header(header, &mut bytes)?;
+    for folder in plans {
+        let frame = frame_of(alloc, folder)?;
+        push(header, &frame, &mut bytes)?;
+    }
+    if plans.is_empty() {
+        return Ok(bytes);
+    }
+    push_closing(alloc, header, &mut bytes)?;
+    Ok(bytes)
+}
+
+// Appends the frame that ends a batch.
+fn push_closing(
+    alloc: Global,
+    header: &JournalHeader,
+    bytes: &mut Vec<u8>,
+) -> Result<(), RunFailure>
+    ensures { OnOk result (bytes.new.items
+        ≡ bytes.old.items ++ frame_bytes (header_bytes header.now) (length bytes.old.items) closing_frame) }
+{
+    push(header, &closing_frame(alloc), bytes)
+}
+
+// The frame of a folder's plans.
+fn frame_of(alloc: Global, folder: &FolderPlans) -> Result<Frame, AllocError>
+    ensures { IfOk result (λ frame. IsPlansFrame folder.now frame) }
+{
+    let saved = SavedFolder {
+        id: folder.id.copy()?,
+        index_id: folder.index_id,
+    };
+    plans_frame(alloc, &saved, written_plans(alloc, &folder.plans)?)
+}
+
+// Appends a frame.
+fn push(header: &JournalHeader, frame: &Frame, bytes: &mut Vec<u8>) -> Result<(), RunFailure>
+    ensures { OnOk result (bytes.new.items
+        ≡ bytes.old.items ++ frame_bytes (header_bytes header.now) (length bytes.old.items) frame.now) }
+{
+    let offset = bytes.len() as u64;
+    match push_frame(header, offset, frame, bytes) {
+        Ok(()) => Ok(()),
+        Err(_) => Err(RunFailure::OutOfMemory),
+    }
+}
