@@ -1,5 +1,5 @@
 //! The journal beside the state file, which is written while a node runs.
-ghost use Rattle.std.specs.Prelude.{◌≡◌, ◌⊎◌, ◌++◌, ◌+◌, [], length, IfOk, OnOk};
+ghost use Rattle.std.specs.Prelude.{◌≡◌, ◌⊎◌, ◌++◌, ◌+◌, [], None, length, IfOk, OnOk};
 ghost use Rattle.node_journal.specs.Format.{frame_bytes, header_bytes};
 ghost use Rattle.node_saver.specs.Frames.{closing_frame};
 ghost use Rattle.bepd_run.specs.Begun.{Begins, IsPlansFrame};
@@ -153,7 +153,8 @@ impl<'a, R: StateFiles> StateJournal<'a, R> {
 
     // Makes another file, if there is none. What waited for the one before is left out.
     fn have_file(&mut self) -> Result<(), SaveFault>
-        ensures { OnOk result ((self.new.waiting.items ≡ self.old.waiting.items) ⊎ (self.new.waiting.items ≡ [])) }
+        ensures { OnOk result ((self.new.waiting.items ≡ self.old.waiting.items)
+            ⊎ ((self.old.file ≡ None) × (self.new.waiting.items ≡ []))) }
     {
         if self.file.is_some() {
             return Ok(());
@@ -196,12 +197,13 @@ impl<'a, R: StateFiles> StateJournal<'a, R> {
 }
 
 impl<R: StateFiles> FrameJournal for StateJournal<'_, R> {
-    ghost use Rattle.std.specs.Prelude.{◌≡◌, ◌⊎◌, ◌++◌, ◌+◌, ℕ, [], List, length};
+    ghost use Rattle.std.specs.Prelude.{◌≡◌, ◌⊎◌, ◌++◌, ◌+◌, ℕ, [], List, None, length};
     ghost use Rattle.node_journal.specs.Format.{frame_bytes, header_bytes};
 
-    // Its bytes follow what waits, as of the place in the file where they will stand. What waited for another file is left out.
+    // Its bytes follow what waits, as of the place in the file where they will stand. Only where there was no file, what waited is left out: another one is
+    // made then, which has none of it.
     ghost appends = { λ old frame new.
-        (before : List ℕ) × ((before ≡ old.waiting.items) ⊎ (before ≡ []))
+        (before : List ℕ) × ((before ≡ old.waiting.items) ⊎ ((old.file ≡ None) × (before ≡ [])))
         × (new.waiting.items ≡ before ++ frame_bytes (header_bytes new.header) (new.len + length before) frame) };
 
     fn append(&mut self, frame: &Frame) -> Result<(), SaveFault> {

@@ -1,59 +1,49 @@
--- The last plan of each name.
-use Rattle.std.proofs.Common.{◌≡◌, Bool, true, false, List, [], ◌∷◌, ◌++◌, refl, sym, ap, ◌∙◌}
-use Rattle.std.specs.Prelude.{◌||◌, bytes_eq, cond, filter, not}
+-- The last plan of each name, from the last one on.
+use Rattle.std.proofs.Common.{◌≡◌, Bool, true, false, List, [], ◌∷◌, ◌++◌, reverse, refl, sym, ap, ◌∙◌}
+use Rattle.std.specs.Prelude.{◌&&◌, ◌||◌, bytes_eq, cond, filter, not}
+use Rattle.std.specs.BTreeSet.{BTreeSet, Updates, contains}
 use Rattle.std.specs.List.{list_any}
-use Rattle.std.proofs.lemmas.Bool.{false_from_ne_true, true≢false}
-use Rattle.std.proofs.lemmas.List.Elements.{filter-append}
-use Rattle.std.proofs.lemmas.List.Folds.{list_any-append}
-use Rattle.folder_core.proofs.ListTests.{alike_bytes, same_bytes}
+use Rattle.std.proofs.lemmas.List.{reverse-append}
+use Rattle.std.proofs.lemmas.Map.Text.{is_eq-slice_cmp}
 use Rattle.folder_core.specs.States.{FolderState}
+use Rattle.sync_record.specs.Devices.{bytes_cmp}
+use Rattle.sync_record.specs.Records.{Name}
 use Rattle.node_recover.specs.Open.{lasts, open_plans}
 use Rattle.node_recover.specs.Settled.{is_open}
 use Rattle.node_recover.specs.declared.plan.PullPlan.{PullPlan}
 
--- it is of another name than the plan
-abbrev pub is_apart : PullPlan → PullPlan → Bool
-is_apart p q = not (bytes_eq q.target.name p.target.name)
+-- a plan of the name is among these
+abbrev pub is_among : List PullPlan → Name → Bool
+is_among ps n = list_any (λ (q : PullPlan). bytes_eq q.target.name n) ps
 
-abbrev same : PullPlan → PullPlan → Bool
-same p q = bytes_eq q.target.name p.target.name
+-- the set has the names of these plans
+abbrev pub HasNames : BTreeSet Name → List PullPlan → Type 0
+HasNames names ps = (n : Name) → contains bytes_cmp names n ≡ is_among ps n
 
-turned : (p q : PullPlan) (b : Bool) → same q p ≡ b → same p q ≡ b
-turned p q true t = alike_bytes q.target.name p.target.name (sym (same_bytes p.target.name q.target.name t))
-turned p q false f =
-    false_from_ne_true (same p q) (λ t. true≢false (sym (alike_bytes p.target.name q.target.name (sym (same_bytes q.target.name p.target.name t))) ∙ f))
+either : (a b : Bool) → cond a true b ≡ (a || b)
+either true b = refl
+either false b = refl
 
--- one more plan behind these, whether one of the first one's name is among the rest (a), and whether the new one has its name (b)
-one_more : (p q : PullPlan) (ls : List PullPlan) (a b : Bool) → same q p ≡ b
-    → cond (a || (b || false)) (filter (is_apart p) ls ++ p ∷ []) (q ∷ (filter (is_apart p) ls ++ p ∷ [])) ≡ filter (is_apart p) (cond a ls (q ∷ ls)) ++ p ∷ []
-one_more p q ls true b e = refl
-one_more p q ls false true e = ap (λ t. cond (not t) (q ∷ filter (is_apart p) ls) (filter (is_apart p) ls) ++ p ∷ []) (sym (turned p q true e))
-one_more p q ls false false e = ap (λ t. cond (not t) (q ∷ filter (is_apart p) ls) (filter (is_apart p) ls) ++ p ∷ []) (sym (turned p q false e))
+module _ (p : PullPlan) (ps : List PullPlan) (names : BTreeSet Name) where
+  pub has-more : (more : BTreeSet Name) → HasNames names ps → Updates bytes_cmp names more p.target.name true → HasNames more (p ∷ ps)
+  has-more more has updates n =
+      updates.0 n ∙ ap (λ b. cond b true (contains bytes_cmp names n)) (is_eq-slice_cmp p.target.name n)
+      ∙ either (bytes_eq p.target.name n) (contains bytes_cmp names n) ∙ ap (λ b. bytes_eq p.target.name n || b) (has n)
 
-lasts-push : (p : PullPlan) (ps : List PullPlan) → lasts (ps ++ p ∷ []) ≡ filter (is_apart p) (lasts ps) ++ p ∷ []
-lasts-push p [] = refl
-lasts-push p (q ∷ ps) =
-    ap (λ b. cond b (lasts (ps ++ p ∷ [])) (q ∷ lasts (ps ++ p ∷ []))) (list_any-append (same q) ps (p ∷ []))
-    ∙ ap (λ ls. cond (list_any (same q) ps || (same q p || false)) ls (q ∷ ls)) (lasts-push p ps)
-    ∙ one_more p q (lasts ps) (list_any (same q) ps) (same q p) refl
+module _ (s : FolderState) (p : PullPlan) (ps : List PullPlan) where
+  chosen : (a b : Bool) → is_open s p ≡ b → cond (not a && b) (p ∷ []) [] ++ filter (is_open s) (lasts ps) ≡ filter (is_open s) (cond a (lasts ps) (p ∷ lasts ps))
+  chosen true b e = refl
+  chosen false true e = ap (λ b. cond b (p ∷ filter (is_open s) (lasts ps)) (filter (is_open s) (lasts ps))) (sym e)
+  chosen false false e = ap (λ b. cond b (p ∷ filter (is_open s) (lasts ps)) (filter (is_open s) (lasts ps))) (sym e)
 
--- two tests in either order
-filter-turned : {X : Type 0} (f g : X → Bool) (xs : List X) → filter f (filter g xs) ≡ filter g (filter f xs)
-filter-turned f g [] = refl
-filter-turned f g (x ∷ xs) =
-    elim (f x) as (λ a. f x ≡ a → filter f (cond (g x) (x ∷ filter g xs) (filter g xs)) ≡ filter g (cond a (x ∷ filter f xs) (filter f xs))) [
-      | true ↦ λ t. elim (g x) as (λ b. g x ≡ b → filter f (cond b (x ∷ filter g xs) (filter g xs)) ≡ cond b (x ∷ filter g (filter f xs)) (filter g (filter f xs))) [
-        | true ↦ λ u. ap (λ a. cond a (x ∷ filter f (filter g xs)) (filter f (filter g xs))) t ∙ ap (λ l. x ∷ l) (filter-turned f g xs)
-        | false ↦ λ u. filter-turned f g xs
-      ] refl
-      | false ↦ λ t. elim (g x) as (λ b. g x ≡ b → filter f (cond b (x ∷ filter g xs) (filter g xs)) ≡ filter g (filter f xs)) [
-        | true ↦ λ u. ap (λ a. cond a (x ∷ filter f (filter g xs)) (filter f (filter g xs))) t ∙ filter-turned f g xs
-        | false ↦ λ u. filter-turned f g xs
-      ] refl
-    ] refl
+  single : (b : Bool) → reverse (cond b (p ∷ []) []) ≡ cond b (p ∷ []) []
+  single true = refl
+  single false = refl
 
-pub open-push : (s : FolderState) (p : PullPlan) (ps : List PullPlan)
-    → filter (is_apart p) (open_plans s ps) ++ cond (is_open s p) (p ∷ []) [] ≡ open_plans s (ps ++ p ∷ [])
-open-push s p ps =
-    sym (ap (filter (is_open s)) (lasts-push p ps) ∙ filter-append (is_open s) (filter (is_apart p) (lasts ps)) (p ∷ [])
-    ∙ ap (λ l. l ++ cond (is_open s p) (p ∷ []) []) (filter-turned (is_open s) (is_apart p) (lasts ps)))
+  pub open-before : (names : BTreeSet Name) (left : List PullPlan) → HasNames names ps → reverse left ≡ open_plans s ps
+      → reverse (left ++ cond (not (contains bytes_cmp names p.target.name) && is_open s p) (p ∷ []) []) ≡ open_plans s (p ∷ ps)
+  open-before names left has e =
+      let is_new = not (contains bytes_cmp names p.target.name) && is_open s p in
+      reverse-append left (cond is_new (p ∷ []) []) ∙ ap (λ l. l ++ reverse left) (single is_new) ∙ ap (λ l. cond is_new (p ∷ []) [] ++ l) e
+      ∙ ap (λ a. cond (not a && is_open s p) (p ∷ []) [] ++ open_plans s ps) (has p.target.name)
+      ∙ chosen (is_among ps p.target.name) (is_open s p) refl

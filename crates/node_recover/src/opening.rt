@@ -1,17 +1,20 @@
 //! Which plans may still be of a pull that put something in place.
-ghost use Rattle.std.specs.Prelude.{◌≡◌, ◌++◌, ◌∷◌, [], IfOk, OnOk, cond, filter, not, bytes_eq};
+ghost use Rattle.std.specs.Prelude.{◌≡◌, ◌++◌, ◌∷◌, ◌&&◌, [], true, IfOk, OnOk, cond, not};
+ghost use Rattle.std.specs.BTreeSet.{Updates, contains};
 ghost use Rattle.node_recover.specs.Settled.{is_open};
 ghost use Rattle.node_recover.specs.Open.{open_plans};
+ghost use Rattle.sync_record.specs.Devices.{bytes_cmp};
 
 use crate::plan::PullPlan;
 use crate::settling::is_open;
 use bep_messages::Items;
 use folder_core::FolderCore;
 use std::alloc::{AllocError, Global};
+use std::collections::BTreeSet;
 use sync_names::SafeName;
 
 /// Of the plans the last one of each name, if its base is still the local version, in their order: the others changed nothing, or are
-/// what this device has by now. Returns `Err` only if out of memory. O(p (k + log n)) for p plans, of which k are open, and n names.
+/// what this device has by now. Returns `Err` only if out of memory. O(p log n) for p plans and n names of the folder and the plans.
 pub fn open_plans<F: FolderCore>(
     alloc: Global,
     folder: &F,
@@ -19,32 +22,31 @@ pub fn open_plans<F: FolderCore>(
 ) -> Result<Items<PullPlan>, AllocError>
     ensures { IfOk result (λ left. left ≡ open_plans (F.state folder.now) plans) }
 {
-    let mut left = Vec::new(alloc);
-    for plan in plans.into_vec() {
-        add(folder, plan, &mut left)?;
+    let (mut names, mut left) = (BTreeSet::new(alloc), Vec::new(alloc));
+    let mut plans = plans.into_vec();
+    // (from the last one on, so that the first one that comes of a name is its last)
+    plans.reverse();
+    for plan in plans {
+        add(folder, plan, &mut names, &mut left)?;
     }
+    left.reverse();
     Ok(Items::from_vec(left))
 }
 
-// Adds a plan in the place of those of its name, if it is open.
+// Adds a plan, if none of its name came before and it is open.
 fn add<F: FolderCore>(
     folder: &F,
     plan: PullPlan,
+    names: &mut BTreeSet<SafeName>,
     left: &mut Vec<PullPlan>,
 ) -> Result<(), AllocError>
-    ensures { OnOk result (left.new.items
-        ≡ filter (λ p. not (bytes_eq p.target.name plan.target.name)) left.old.items ++ cond (is_open (F.state folder.now) plan) (plan ∷ []) []) }
+    ensures names { OnOk result (Updates bytes_cmp names.old names.new plan.target.name true) }
+    ensures left { OnOk result (left.new.items ≡ left.old.items
+        ++ cond (not (contains bytes_cmp names.old plan.target.name) && is_open (F.state folder.now) plan) (plan ∷ []) []) }
 {
-    leave_out(plan.target.name(), left);
-    if is_open(folder, &plan)? {
+    let is_new = names.insert(plan.target.name().copy()?)?;
+    if is_new && is_open(folder, &plan)? {
         left.push(plan)?;
     }
     Ok(())
-}
-
-// Leaves out the plans of this name.
-fn leave_out(name: &SafeName, left: &mut Vec<PullPlan>)
-    ensures { left.new.items ≡ filter (λ p. not (bytes_eq p.target.name name.now)) left.old.items }
-{
-    left.retain(|plan| plan.target.name().as_str() != name.as_str());
 }

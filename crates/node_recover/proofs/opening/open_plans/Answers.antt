@@ -1,17 +1,29 @@
-use Rattle.std.proofs.Common.{◌≡◌, ◌++◌, ◌∷◌, [], ◌∙◌, rules, append_assoc, ap, sym}
-use Rattle.std.specs.Prelude.{bytes_eq, cond, filter, not}
+use Rattle.std.proofs.Common.{◌≡◌, ◌++◌, ◌∷◌, [], ◌∙◌, rules, append_assoc, append-nil, ap, reverse, sym, subst}
+use Rattle.std.proofs.lemmas.List.{reverse-append, reverse-reverse}
+use Rattle.std.specs.Prelude.{◌&&◌, cond, not}
+use Rattle.std.specs.BTreeSet.{contains}
+use Rattle.node_recover.specs.Open.{open_plans}
 use Rattle.node_recover.specs.Settled.{is_open}
-use Rattle.node_recover.proofs.LastPlans.{open-push}
+use Rattle.node_recover.proofs.LastPlans.{HasNames, has-more, open-before}
 use Rattle.node_recover.proofs.opening.open_plans.Goals as goal
 
 pub loop-plan-preserved : goal.loop-plan-preserved
 loop-plan-preserved g c =
     let s = g.F.FolderCore.state c.args.folder.now in
     let plan = c.in-Some.plan in
+    let before = reverse c.loop-plan.yielded in
     let step : c.loop-plan.plan-iterator.rest.items ≡ plan ∷ c.next.new.self.rest.items = search rules in
     let came = c.loop-plan.invariant.divided ∙ ap (λ l. c.loop-plan.yielded ++ l) step in
+    let turned : reverse (c.loop-plan.yielded ++ plan ∷ []) ≡ plan ∷ before = reverse-append c.loop-plan.yielded (plan ∷ []) in
     record {
-      left = c.in_ok-add.ensures ∙ ap (λ l. filter (λ p. not (bytes_eq p.target.name plan.target.name)) l ++ cond (is_open s plan) (plan ∷ []) []) c.loop-plan.invariant.left
-          ∙ open-push s plan c.loop-plan.yielded;
+      names = subst (HasNames c.add.new.names) (sym turned) (has-more plan before c.loop-plan.names c.add.new.names c.loop-plan.invariant.names c.in_ok-add.ensures.names);
+      left = ap reverse c.in_ok-add.ensures.left ∙ open-before s plan before c.loop-plan.names c.loop-plan.left.items c.loop-plan.invariant.names c.loop-plan.invariant.left
+          ∙ ap (open_plans s) (sym turned);
       divided = came ∙ sym (append_assoc c.loop-plan.yielded (plan ∷ []) c.next.new.self.rest.items);
     }
+
+pub returns-in-Ok : goal.returns-in-Ok
+returns-in-Ok g c =
+    let s = g.F.FolderCore.state c.args.folder.now in
+    let all : reverse c.args.plans ≡ c.loop-plan.yielded = search rules in
+    c.reverse-in-Ok.ensures.after ∙ c.loop-plan.invariant.left ∙ ap (λ l. open_plans s (reverse l)) (sym all) ∙ ap (open_plans s) (reverse-reverse c.args.plans)
