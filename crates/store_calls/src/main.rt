@@ -80,11 +80,21 @@ fn serve_failing(
             let store = MemStore::new(rt.alloc());
             serve(rt, &mut FailingStore::new(store, left, time))
         }
-        "dir" => match DirStore::open(rt, rt.alloc(), word(words, 5)) {
-            Ok(store) => serve(rt, &mut FailingStore::new(store, left, time)),
-            Err(refusal) => print_refusal(rt, refusal),
-        },
+        "dir" => serve_failing_folder(rt, word(words, 5), left, time),
         _ => usage(rt),
+    }
+}
+
+/// Answers the calls by a store in a folder of a disk that fails one of them.
+fn serve_failing_folder(
+    rt: &(impl Files<File = File> + Input + Print + AllocGlobal),
+    folder: &str,
+    left: u64,
+    time: FailureTime,
+) -> io::Result<()> {
+    match DirStore::open(rt, rt.alloc(), folder) {
+        Ok(store) => serve(rt, &mut FailingStore::new(store, left, time)),
+        Err(refusal) => print_refusal(rt, refusal),
     }
 }
 
@@ -93,18 +103,28 @@ fn serve_folder(
     rt: &(impl Files<File = File> + Input + Print + AllocGlobal),
     folder: &str,
 ) -> io::Result<()> {
-    let one = DirStore::open(rt, rt.alloc(), folder);
-    let other = DirStore::open(rt, rt.alloc(), folder);
-    match (one, other) {
-        (Ok(mut one), Ok(mut other)) => serve_both(rt, &mut one, &mut other),
-        (Err(refusal), _) | (_, Err(refusal)) => print_refusal(rt, refusal),
+    match DirStore::open(rt, rt.alloc(), folder) {
+        Ok(mut one) => serve_beside(rt, folder, &mut one),
+        Err(refusal) => print_refusal(rt, refusal),
     }
 }
 
-fn serve_both<R: Files<File = File>>(
+/// The same, by this store and another one in the folder.
+fn serve_beside<R: Files<File = File>>(
+    rt: &(impl Files<File = File> + Input + Print + AllocGlobal),
+    folder: &str,
+    one: &mut DirStore<R>,
+) -> io::Result<()> {
+    match DirStore::open(rt, rt.alloc(), folder) {
+        Ok(mut other) => serve_both(rt, one, &mut other),
+        Err(refusal) => print_refusal(rt, refusal),
+    }
+}
+
+fn serve_both<R: Files<File = File>, Q: Files<File = File>>(
     rt: &(impl Input + Print + AllocGlobal),
     one: &mut DirStore<R>,
-    other: &mut DirStore<R>,
+    other: &mut DirStore<Q>,
 ) -> io::Result<()> {
     for line in rt.lines(rt.alloc()) {
         let line = line?;
