@@ -1,9 +1,6 @@
-use Rattle.std.proofs.Common.{◌≡◌, ◌++◌, ◌∷◌, [], ◌∙◌, rules, append_assoc, append-nil, ap, reverse, sym, subst}
-use Rattle.std.proofs.lemmas.List.{reverse-append, reverse-reverse}
-use Rattle.std.specs.Prelude.{◌&&◌, cond, not}
-use Rattle.std.specs.BTreeSet.{contains}
+use Rattle.std.proofs.Common.{◌≡◌, ◌++◌, ◌∷◌, [], ◌∙◌, rules, append_assoc, append-nil, ap, arith, reverse, sym, subst}
+use Rattle.std.proofs.lemmas.List.{nil_from_length, reverse-append, reverse-reverse}
 use Rattle.node_recover.specs.Open.{open_plans}
-use Rattle.node_recover.specs.Settled.{is_open}
 use Rattle.node_recover.proofs.LastPlans.{HasNames, has-more, open-before}
 use Rattle.node_recover.proofs.opening.open_plans.Goals as goal
 
@@ -22,8 +19,11 @@ loop-plan-preserved g c =
       divided = came ∙ sym (append_assoc c.loop-plan.yielded (plan ∷ []) c.next.new.self.rest.items);
     }
 
-pub returns-in-Ok : goal.returns-in-Ok
-returns-in-Ok g c =
+pub returns : goal.returns
+returns g c =
     let s = g.F.FolderCore.state c.args.folder.now in
-    let all : reverse c.args.plans ≡ c.loop-plan.yielded = search rules in
-    c.reverse-in-Ok.ensures.after ∙ c.loop-plan.invariant.left ∙ ap (λ l. open_plans s (reverse l)) (sym all) ∙ ap (open_plans s) (reverse-reverse c.args.plans)
+    let none : c.loop-plan.plan-iterator.rest.items ≡ [] =
+    nil_from_length c.loop-plan.plan-iterator.rest.items (let len = c.loop-plan.plan-iterator.rest.ok.0 in let none = c.in-None.ensures.steps.0 in omega arith) in
+    let all : reverse c.args.plans ≡ c.loop-plan.yielded =
+    c.loop-plan.invariant.divided ∙ ap (λ l. c.loop-plan.yielded ++ l) none ∙ append-nil c.loop-plan.yielded in
+    c.from_vec.ensures ∙ c.reverse-2.ensures.items ∙ c.loop-plan.invariant.left ∙ ap (λ l. open_plans s (reverse l)) (sym all) ∙ ap (open_plans s) (reverse-reverse c.args.plans)
