@@ -1,6 +1,7 @@
 -- What was appended so far.
 use Rattle.std.proofs.Common.{◌≡◌, ℕ, List, [], ◌∷◌, ◌++◌, refl, sym, ap, ◌∙◌, append_assoc, append-nil, subst}
 use Rattle.std.specs.Prelude.{None, Some}
+use Rattle.std.specs.List.{AllByRecursion}
 use Rattle.std.proofs.lemmas.List.Sums.{fold-append}
 use mathlib.Core.List.{IsPrefix}
 use Rattle.folder_calls.specs.Histories.{own_entries}
@@ -11,7 +12,7 @@ use Rattle.index_sender.specs.Pages.{Progress, records_of}
 use Rattle.index_sender.specs.declared.page.Page.{Page}
 use Rattle.index_sender.specs.declared.page.Page.TheVariants.{Index, IndexUpdate, Nothing}
 use Rattle.node_journal.specs.declared.frame.Frame.{Frame}
-use Rattle.node_saver.specs.Saving.{Saves, told}
+use Rattle.node_saver.specs.Saving.{AreGiven, IsReadAgain, Saves, records_in, told}
 use Rattle.node_saver.specs.declared.frames.SavedFolder.{SavedFolder}
 use Rattle.sync_record.specs.Records.{Name, FileRecord}
 
@@ -24,6 +25,8 @@ GoOn pages old first new last =
 pub record SavesSoFar {J : Type 0} (appends : J → Frame → J → Type 0) (f : SavedFolder) (old new : Progress) (before after : CallerView) (first last : J) : Type 0 where
   pub pages : List Page
   pub saves : Saves appends f first pages last
+  pub given : AreGiven before old pages after new
+  pub again : AllByRecursion IsReadAgain (records_in pages)
   pub on : GoOn pages old before new after
 
 pub goes-itself : (v : CallerView) → GoesOn v v
@@ -54,7 +57,11 @@ told-some Nothing rs e = cc
 
 -- ---- what a caller sees
 
-longer : (a b c : List Entry) → IsPrefix a b → IsPrefix b c → IsPrefix a c
+-- a caller that sees the history go on is at a later point of the folder
+pub sees-on : (before after : CallerView) → Sees before after → GoesOn before after
+sees-on before after s = record { opening = sym (ap (λ (v : CallerView). v.opening) s.same); seen = s.longer }
+
+pub longer : (a b c : List Entry) → IsPrefix a b → IsPrefix b c → IsPrefix a c
 longer a b c x y = (x.0 ++ y.0, sym (append_assoc a x.0 y.0) ∙ ap (λ l. l ++ y.0) x.1 ∙ y.1)
 
 pub sees_together : (a b c : CallerView) → Sees a b → Sees b c → Sees a c

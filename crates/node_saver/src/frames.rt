@@ -1,6 +1,8 @@
 //! The frames of a folder.
-ghost use Rattle.std.specs.Prelude.{◌≡◌, IfOk, option_copied};
+ghost use Rattle.std.specs.Prelude.{◌≡◌, IfOk, OnOk, option_copied};
+ghost use Rattle.std.specs.List.{AllByRecursion};
 ghost use Rattle.node_saver.specs.Frames.{closing_frame, frame_of, last_of, plan_over, plans_frame, records_frame};
+ghost use Rattle.node_saver.specs.Saving.{IsReadAgain};
 
 use bep_messages::{FileInfo, Items, ShortOctets, Text, Vector};
 use index_sender::file_infos;
@@ -22,7 +24,8 @@ pub(crate) fn records_frame(
     folder: &SavedFolder,
     records: &[Record],
 ) -> Result<Frame, AllocError>
-    ensures { IfOk result (λ frame. frame ≡ records_frame folder.now records.now) }
+    ensures value { IfOk result (λ frame. frame ≡ records_frame folder.now records.now) }
+    ensures again { OnOk result (AllByRecursion IsReadAgain records.now) }
 {
     frame_of(
         alloc,

@@ -1,9 +1,11 @@
 //! The records of a folder, saved in pages.
-ghost use Rattle.std.specs.Prelude.{◌≡◌, ◌++◌, ℕ, List, OnOk, option_copied};
+ghost use Rattle.std.specs.Prelude.{◌≡◌, ◌++◌, ◌∷◌, [], ℕ, List, OnOk, option_copied};
+ghost use Rattle.std.specs.List.{AllByRecursion};
 ghost use Rattle.folder_calls.specs.Shared.{CallerView, IsLegalView, Sees, now};
 ghost use Rattle.index_sender.specs.declared.page.Page.{Page as PageOf};
+ghost use Rattle.index_sender.specs.declared.page.Page.TheVariants.{Nothing};
 ghost use Rattle.index_sender.specs.Overlay.{GoesOn, KeepsUp};
-ghost use Rattle.node_saver.specs.Saving.{HasAll, Saves, told};
+ghost use Rattle.node_saver.specs.Saving.{AreGiven, HasAll, IsReadAgain, Saves, records_in, told};
 
 use crate::frames::{SavedFolder, records_frame};
 use crate::{FrameJournal, SaveFault};
@@ -29,8 +31,11 @@ pub fn save_records<W: FolderCalls, J: FrameJournal>(
     ensures folder { W.folder calls.new ≡ W.folder calls.old }
     ensures sees { Sees (W.view calls.old) (W.view calls.new) }
     ensures legal { OnOk result (IsLegalView (W.view calls.new)) }
-    // The pages that were appended keep up with the folder, as those that a peer is told.
+    // What was appended are the pages that the sender gave until nothing was left, in messages that are read again as the same records. They keep up with the
+    // folder, as those that a peer is told.
     ensures saves { OnOk result ((pages : List PageOf) × Saves J.appends folder.now journal.old pages journal.new
+        × AreGiven (W.view calls.old) sender.old (pages ++ Nothing ∷ []) (W.view calls.new) sender.new
+        × AllByRecursion IsReadAgain (records_in pages)
         × ((start : ℕ) (told : List PageOf) (point : CallerView) → GoesOn point (W.view calls.old) →
         KeepsUp start told sender.old point → KeepsUp start (told ++ pages) sender.new (W.view calls.new))) }
     ensures all { OnOk result (HasAll (now (W.view calls.new)) sender.new.cursor) }
