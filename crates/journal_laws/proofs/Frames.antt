@@ -13,10 +13,11 @@ use Rattle.node_journal.specs.declared.frame.Frame.{Frame}
 use Rattle.node_journal.specs.declared.part.Part.{Part}
 use Rattle.node_recover.specs.Told.{lasts_told, parts_of, records_told}
 use Rattle.node_saver.specs.Frames.{last_of, records_frame}
+use Rattle.node_saver.specs.Saving.{IsReadAgain, records_in}
 use Rattle.node_saver.specs.declared.frames.SavedFolder.{SavedFolder}
 use Rattle.sync_record.specs.Infos.{info_of, natural, record_of}
 use Rattle.sync_record.specs.Records.{FileRecord}
-use Rattle.journal_laws.specs.Appended.{HavePages, IsReadAgain, IsSilent, no_page, one_page, other, records_in}
+use Rattle.journal_laws.specs.Appended.{HavePages, IsSilent, no_page, one_page, other}
 use Rattle.journal_laws.proofs.LastRecords.{lasts_in}
 
 -- ---- parts

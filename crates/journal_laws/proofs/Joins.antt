@@ -1,6 +1,7 @@
 -- Frames of pages that are parted, and to which more are appended.
-use Rattle.std.proofs.Common.{◌≡◌, ℕ, List, [], ◌∷◌, ◌++◌, refl, sym, ap, subst, append_assoc, append-nil}
-use Rattle.std.specs.Prelude.{◌≢◌, bytes_eq, cond, filter}
+use Rattle.std.proofs.Common.{◌≡◌, ℕ, List, [], ◌∷◌, ◌++◌, refl, sym, ap, subst, ◌∙◌, append_assoc, append-nil}
+use Rattle.std.specs.Prelude.{◌≢◌, false, bytes_eq, cond, filter}
+use Rattle.std.specs.List.{AllByRecursion}
 use Rattle.std.proofs.lemmas.Bool.{false_from_ne_true}
 use Rattle.folder_core.proofs.ListTests.{same_bytes}
 use Rattle.index_sender.specs.Pages.{records_of}
@@ -10,6 +11,7 @@ use Rattle.node_journal.specs.declared.part.Part.{Part}
 use Rattle.node_saver.specs.Frames.{records_frame}
 use Rattle.node_saver.specs.Saving.{Saves, none as none_saved, one_more}
 use Rattle.node_saver.specs.declared.frames.SavedFolder.{SavedFolder}
+use Rattle.node_saver.proofs.Records.{push-all}
 use Rattle.journal_laws.specs.Appended.{HavePages, TellsNone, no_page, one_page, other}
 
 -- the first frames have the first pages
@@ -51,13 +53,27 @@ joined-have f told front pages frames (other x before behind none had) have = ot
 
 module _ {J : Type 0} (appends : J → Frame → J → Type 0) (frames_of : J → List Frame)
     (grows : (old new : J) (frame : Frame) → appends old frame new → frames_of new ≡ frames_of old ++ frame ∷ [])
-    (f : SavedFolder) (told : List Page) (first : J) (had : HavePages f told (frames_of first)) where
-  pub saved-have : (pages : List Page) (last : J) → Saves appends f first pages last → HavePages f (told ++ pages) (frames_of last)
-  saved-have pages last none_saved = subst (λ ps. HavePages f ps (frames_of first)) (sym (append-nil told)) had
-  saved-have pages last (one_more before page mid end saves more) =
+    (f : SavedFolder) (first : J) where
+  -- behind the frames of others
+  pub saved-have : (told : List Page) → HavePages f told (frames_of first) → (pages : List Page) (last : J) → Saves appends f first pages last → HavePages f (told ++ pages) (frames_of last)
+  saved-have told had pages last none_saved = subst (λ ps. HavePages f ps (frames_of first)) (sym (append-nil told)) had
+  saved-have told had pages last (one_more before page mid end saves more) =
       subst (λ ps. HavePages f ps (frames_of end)) (append_assoc told before (page ∷ []))
       (subst (HavePages f ((told ++ before) ++ page ∷ [])) (sym (grows mid end (records_frame f (records_of page)) more))
-      (page-behind f page (told ++ before) (frames_of mid) (saved-have before mid saves)))
+      (page-behind f page (told ++ before) (frames_of mid) (saved-have told had before mid saves)))
+
+  -- the frames that were appended
+  pub saved-body : (pages : List Page) (last : J) → Saves appends f first pages last
+      → (body : List Frame) × (frames_of last ≡ frames_of first ++ body) × HavePages f pages body × AllByRecursion (λ g. g.is_whole ≡ false) body
+  saved-body pages last none_saved = ([], sym (append-nil (frames_of first)), no_page, tt)
+  saved-body pages last (one_more before page mid end saves more) =
+      let front = saved-body before mid saves in
+      let frame : Frame = records_frame f (records_of page) in (
+        front.0 ++ frame ∷ [],
+        grows mid end frame more ∙ ap (λ l. l ++ frame ∷ []) front.1 ∙ append_assoc (frames_of first) front.0 (frame ∷ []),
+        page-behind f page before front.0 front.2,
+        push-all (λ (g : Frame). g.is_whole ≡ false) front.0 (frame ∷ []) front.3 (refl, tt),
+      )
 
 -- a part of another folder is not among those of this one
 pub no-part : (p : Part) (id : List ℕ) → p.id ≢ id → filter (λ (q : Part). bytes_eq q.id id) (p ∷ []) ≡ []

@@ -1,5 +1,5 @@
 -- The records of pages in rising sequence: the last one of a name, and the greatest sequence.
-use Rattle.std.proofs.Common.{◌≡◌, ℕ, ◌<◌, ◌≤◌, Bool, true, false, List, [], ◌∷◌, ◌++◌, refl, sym, ap, subst, ◌∙◌, arith, append-nil, ◌⊎◌, inl, inr}
+use Rattle.std.proofs.Common.{◌≡◌, ℕ, ◌<◌, ◌≤◌, Bool, true, false, List, [], ◌∷◌, ◌++◌, refl, sym, ap, subst, ◌∙◌, arith, ◌⊎◌, inl, inr}
 use Rattle.std.specs.Prelude.{bytes_eq, Contains, find, fold, map, max, nat_le, reverse, Option, None, Some}
 use Rattle.std.specs.List.{AllByRecursion}
 use Rattle.std.specs.List.Sorted.{IsStrictlySortedBy}
@@ -8,7 +8,6 @@ use Rattle.std.specs.Cmp.{nat_cmp_is}
 use Rattle.std.specs.Ordering.{nat_cmp}
 use Rattle.std.specs.declared.cmp.Ordering.TheVariants.{Less}
 use Rattle.std.proofs.lemmas.Bool.{leb-true, leb-false}
-use Rattle.std.proofs.lemmas.Grind.{flat_map-append}
 use Rattle.std.proofs.lemmas.List.{map-append, reverse-append}
 use Rattle.std.proofs.lemmas.List.Elements.{Contains-append_cases, Contains-append_left, Contains-append_right}
 use Rattle.std.proofs.lemmas.List.Folds.{find-append}
@@ -20,8 +19,10 @@ use Rattle.index_sender.specs.Pages.{Progress, last_sequence, records_of}
 use Rattle.index_sender.specs.declared.page.Page.{Page}
 use Rattle.index_sender.specs.declared.page.Page.TheVariants.{Index, IndexUpdate, Nothing}
 use Rattle.index_sender.proofs.PageRecords.{Rise, above-all, in-cons, in-first, in-rest, last-has, last-in, last-is}
+use Rattle.node_saver.specs.Saving.{records_in}
+use Rattle.node_saver.proofs.Records.{push-all}
 use Rattle.sync_record.specs.Records.{Name, FileRecord}
-use Rattle.journal_laws.specs.Appended.{AreUpdates, IsUpdate, records_in}
+use Rattle.journal_laws.specs.Appended.{AreUpdates, IsUpdate}
 
 -- ---- the last record of a name
 
@@ -96,14 +97,18 @@ last-top n (x ∷ xs) rise q r i named e = by (λ j. last-top n xs rise.1 q r j 
         omega arith
     by rest (Some y) is (inr j) f = rest j (is ∙ f)
 
+pub all-front : {A : Type 0} (P : A → Type 0) (xs ys : List A) → AllByRecursion P (xs ++ ys) → AllByRecursion P xs
+all-front P [] ys all = tt
+all-front P (x ∷ xs) ys all = (all.0, all-front P xs ys all.1)
+
+pub all-rest : {A : Type 0} (P : A → Type 0) (xs ys : List A) → AllByRecursion P (xs ++ ys) → AllByRecursion P ys
+all-rest P [] ys all = all
+all-rest P (x ∷ xs) ys all = all-rest P xs ys all.1
+
 -- a list rises whose front and rest do, where all of the front are below the rest
 all-above : (k : ℕ) (rs : List FileRecord) → ((r : FileRecord) → Contains rs r → k < r.sequence) → AllByRecursion (λ j. nat_cmp k j ≡ Less) (map (λ r. r.sequence) rs)
 all-above k [] each = tt
 all-above k (r ∷ rs) each = (sym (nat_cmp_is k r.sequence Less (each r (in-first r rs))), all-above k rs (λ q i. each q (in-rest r rs q i)))
-
-pub push-all : {A : Type 0} (P : A → Type 0) (xs ys : List A) → AllByRecursion P xs → AllByRecursion P ys → AllByRecursion P (xs ++ ys)
-push-all P [] ys front rest = rest
-push-all P (x ∷ xs) ys front rest = (front.0, push-all P xs ys front.1 rest)
 
 pub rise-join : (xs ys : List FileRecord) → Rise xs → Rise ys → ((q r : FileRecord) → Contains xs q → Contains ys r → q.sequence < r.sequence) → Rise (xs ++ ys)
 unfolding IsStrictlySortedBy
@@ -115,9 +120,6 @@ rise-join (x ∷ xs) ys front rest apart = (
 )
 
 -- ---- pages that keep up with a folder
-
-pub records-push : (pages : List Page) (page : Page) → records_in (pages ++ page ∷ []) ≡ records_in pages ++ records_of page
-records-push pages page = flat_map-append records_of pages (page ∷ []) ∙ ap (λ l. records_in pages ++ l) (append-nil (records_of page))
 
 -- each of their records is up to the cursor
 pub given : (start : ℕ) (pages : List Page) (progress : Progress) (v : CallerView) → KeepsUp start pages progress v → AreUpdates pages

@@ -4,3 +4,4 @@ pub mod LastSequences
 pub mod Points
 pub mod Joins
 pub mod Batches
+pub mod Given

@@ -1,5 +1,5 @@
 -- What is recovered of the first pages, and of all.
-use Rattle.std.proofs.Common.{◌≡◌, ◌<◌, ◌≤◌, Bool, true, false, List, [], ◌∷◌, ◌++◌, refl, sym, ap, subst, ◌∙◌, arith, append-nil, ◌⊎◌, inl, inr}
+use Rattle.std.proofs.Common.{◌≡◌, ◌<◌, ◌≤◌, Bool, true, false, List, [], ◌++◌, refl, sym, ap, subst, ◌∙◌, arith, append-nil, ◌⊎◌, inl, inr}
 use Rattle.std.specs.Prelude.{Contains, fold, max, nat_le, Option, None, Some}
 use Rattle.std.specs.List.{AllByRecursion}
 use Rattle.std.specs.Option.{option_or}
@@ -16,18 +16,14 @@ use Rattle.index_sender.specs.declared.page.Page.{Page}
 use Rattle.index_sender.proofs.KeepingUp.{LocalGoesOn}
 use Rattle.index_sender.proofs.PageRecords.{Rise, last-in}
 use Rattle.node_journal.specs.declared.frame.Frame.{Frame}
-use Rattle.node_saver.specs.Saving.{HasAll}
+use Rattle.node_saver.specs.Saving.{HasAll, IsReadAgain, records_in}
 use Rattle.node_saver.specs.declared.frames.SavedFolder.{SavedFolder}
 use Rattle.sync_record.specs.Records.{Name, FileRecord}
-use Rattle.journal_laws.specs.Appended.{AreUpdates, HavePages, IsReadAgain, records_in}
+use Rattle.journal_laws.specs.Appended.{AreUpdates, HavePages}
 use Rattle.journal_laws.specs.Own.{IsEarlierOwn, IsRecoveredBy, SameOwn}
 use Rattle.journal_laws.proofs.Frames.{told-lasts, told-records}
-use Rattle.journal_laws.proofs.LastRecords.{given, last-append, lasts_in, overlay-is, rise-apart, rise-left, top-above, top-reached}
+use Rattle.journal_laws.proofs.LastRecords.{all-front, given, last-append, lasts_in, overlay-is, rise-apart, rise-left, top-above, top-reached}
 use Rattle.journal_laws.proofs.LastSequences.{HasLast}
-
-all-front : {A : Type 0} (P : A → Type 0) (xs ys : List A) → AllByRecursion P (xs ++ ys) → AllByRecursion P xs
-all-front P [] ys all = tt
-all-front P (x ∷ xs) ys all = (all.0, all-front P xs ys all.1)
 
 -- the first of the pages were appended, and recovered over what was stored
 pub record IsCut (f : SavedFolder) (s t : FolderState) (v : CallerView) (front rest : List Page) (progress : Progress) (frames : List Frame) : Type 0 where

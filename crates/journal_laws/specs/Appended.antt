@@ -1,5 +1,5 @@
 -- What a journal has of a folder's own records (own rule).
-use Rattle.std.specs.Prelude.{◌≡◌, ⊤, ℕ, List, [], ◌∷◌, flat_map, map}
+use Rattle.std.specs.Prelude.{◌≡◌, ⊤, ℕ, List, [], ◌∷◌, map}
 use Rattle.std.specs.List.{AllByRecursion}
 use Rattle.std.specs.List.Sorted.{IsStrictlySortedBy}
 use Rattle.std.specs.Ordering.{nat_cmp}
@@ -10,23 +10,15 @@ use Rattle.node_journal.specs.declared.frame.Frame.{Frame}
 use Rattle.node_journal.specs.declared.part.Part.{Part}
 use Rattle.node_recover.specs.Told.{parts_of}
 use Rattle.node_saver.specs.Frames.{records_frame}
+use Rattle.node_saver.specs.Saving.{IsReadAgain, records_in}
 use Rattle.node_saver.specs.declared.frames.SavedFolder.{SavedFolder}
-use Rattle.sync_record.specs.Infos.{info_of, natural, record_of}
-use Rattle.sync_record.specs.Records.{FileRecord}
-
--- the records of these pages, one page after the other
-abbrev pub records_in : List Page → List FileRecord
-records_in pages = flat_map records_of pages
+use Rattle.sync_record.specs.Infos.{natural}
 
 -- the page adds to those before it
 abbrev pub IsUpdate : Page → Type 0
 IsUpdate (Index rs) = ⊥
 IsUpdate (IndexUpdate rs) = ⊤
 IsUpdate Nothing = ⊤
-
--- the record is read from its message as it was
-abbrev pub IsReadAgain : FileRecord → Type 0
-IsReadAgain r = record_of (info_of r) ≡ r
 
 -- Pages as a sender with a start gives them: updates alone, of records in rising sequence, which are read again as they were.
 pub record AreUpdates (pages : List Page) : Type 0 where

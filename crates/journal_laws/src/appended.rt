@@ -2,19 +2,23 @@
 ghost use Rattle.std.specs.Prelude.{◌≡◌, ◌≢◌, ◌++◌, ◌∷◌, [], ℕ, List, false};
 ghost use Rattle.std.specs.List.{AllByRecursion};
 ghost use Rattle.folder_calls.specs.Shared.{CallerView, IsLegalView, now};
-ghost use Rattle.index_sender.specs.Overlay.{KeepsUp};
+ghost use Rattle.index_sender.specs.Overlay.{GoesOn, KeepsUp};
 ghost use Rattle.index_sender.specs.Pages.{Gives, Progress, records_of};
 ghost use Rattle.index_sender.specs.declared.page.Page.{Page};
-ghost use Rattle.journal_laws.specs.Appended.{AreUpdates, HavePages, IsReadAgain, TellsNone};
+ghost use Rattle.index_sender.specs.declared.page.Page.TheVariants.{Nothing};
+ghost use Rattle.folder_core.specs.States.{FolderState};
+ghost use Rattle.journal_laws.specs.Appended.{AreUpdates, HavePages, TellsNone};
+ghost use Rattle.journal_laws.specs.Batches.{Batch, IsBatch};
+ghost use Rattle.journal_laws.specs.Own.{SameOwn};
 ghost use Rattle.node_journal.specs.declared.frame.Frame.{Frame};
 ghost use Rattle.node_journal.specs.declared.plan.Plan.{Plan};
 ghost use Rattle.node_saver.specs.Frames.{closing_frame, plans_frame, records_frame};
-ghost use Rattle.node_saver.specs.Saving.{Saves};
+ghost use Rattle.node_saver.specs.Saving.{AreGiven, HasAll, IsReadAgain, Saves, records_in};
 ghost use Rattle.node_saver.specs.declared.frames.SavedFolder.{SavedFolder};
 ghost use Rattle.sync_record.specs.Records.{FileRecord};
 
 use folder_calls::laws::views_are_of_folders;
-use index_sender::laws::pages_have_what_is_local;
+use index_sender::laws::{pages_have_what_is_local, pages_keep_up};
 use node_saver::FrameJournal;
 
 /// Pages that a sender gives behind a start are updates, in rising sequence. They are so before the first page, and with the next one, if its
@@ -31,6 +35,42 @@ pub fn pages_of_a_start_are_updates()
     pages_have_what_is_local();
     views_are_of_folders();
 }
+
+/// Pages that a sender with a start gives until nothing is left, behind those that were told before, are updates with these, and keep up with the folder, if their records
+/// are read again as they were. The sender owes no Index then either, so that the next pages follow in the same way.
+pub fn given_pages_are_updates()
+    ensures { (start : ℕ) (told pages : List Page) (old new : Progress) (point first last : CallerView) →
+        KeepsUp start told old point → AreUpdates told → old.owes_index ≡ false → GoesOn point first →
+        AreGiven first old (pages ++ Nothing ∷ []) last new → AllByRecursion IsReadAgain (records_in pages) →
+        AreUpdates (told ++ pages) × KeepsUp start (told ++ pages) new last × (new.owes_index ≡ false) }
+{
+    pages_keep_up();
+    pages_of_a_start_are_updates();
+}
+
+/// What `save_records` promises is a batch behind those before, where a journal is a list of frames: what is appended is its body, and the folder is as its caller then knows it.
+pub fn a_save_is_a_batch<J: FrameJournal>()
+    ensures { (f : SavedFolder) (s : FolderState) (frames_of : J → List Frame) (before after : J) (told pages : List Page)
+        (old new : Progress) (point first last : CallerView) →
+        ((j k : J) (frame : Frame) → J.appends j frame k → frames_of k ≡ frames_of j ++ frame ∷ []) →
+        SameOwn s point.opening → KeepsUp s.last told old point → AreUpdates told → old.owes_index ≡ false → GoesOn point first →
+        Saves J.appends f before pages after → AreGiven first old (pages ++ Nothing ∷ []) last new →
+        AllByRecursion IsReadAgain (records_in pages) → HasAll (now last) new.cursor →
+        (body : List Frame) × (frames_of after ≡ frames_of before ++ body)
+        × IsBatch f s told (record { pages = pages; body = body; view = last; progress = new }) × (new.owes_index ≡ false) }
+{
+    given_pages_are_updates();
+}
+
+/// A frame that is not whole and tells nothing of a folder may stand before the frames of a batch, and behind them.
+pub fn batches_may_have_other_frames()
+    ensures before { (f : SavedFolder) (s : FolderState) (told : List Page) (b : Batch) (frame : Frame) →
+        IsBatch f s told b → TellsNone f.id frame → frame.is_whole ≡ false →
+        IsBatch f s told (record b { body = frame ∷ b.body }) }
+    ensures behind { (f : SavedFolder) (s : FolderState) (told : List Page) (b : Batch) (frame : Frame) →
+        IsBatch f s told b → TellsNone f.id frame → frame.is_whole ≡ false →
+        IsBatch f s told (record b { body = b.body ++ frame ∷ [] }) }
+{}
 
 /// Where a journal is a list of frames to which each one is appended, pages that are saved stand in it behind those that stood there before.
 pub fn appended_pages_are_in_the_journal<J: FrameJournal>()

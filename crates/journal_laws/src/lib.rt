@@ -9,7 +9,8 @@ mod begun;
 mod recovered;
 
 pub use appended::{
-    appended_pages_are_in_the_journal, other_frames_tell_none, pages_of_a_start_are_updates,
+    a_save_is_a_batch, appended_pages_are_in_the_journal, batches_may_have_other_frames,
+    given_pages_are_updates, other_frames_tell_none, pages_of_a_start_are_updates,
 };
 pub use begun::{a_cut_journal_has_what_was_synced, a_start_has_what_was_synced};
 pub use recovered::{cut_journals_have_an_earlier_point, saved_records_are_recovered};

@@ -5,9 +5,11 @@ use Rattle.std.specs.List.Sorted.{IsStrictlySortedBy}
 use Rattle.folder_calls.specs.Shared.{now}
 use Rattle.index_sender.specs.Pages.{page_of, records_of}
 use Rattle.index_sender.proofs.PageRecords.{Rise}
+use Rattle.node_saver.specs.Saving.{IsReadAgain, records_in}
+use Rattle.node_saver.proofs.Records.{push-all, records-push}
 use Rattle.sync_record.specs.Records.{FileRecord}
-use Rattle.journal_laws.specs.Appended.{IsReadAgain, IsUpdate, records_in}
-use Rattle.journal_laws.proofs.LastRecords.{given, push-all, records-push, rise-join}
+use Rattle.journal_laws.specs.Appended.{IsUpdate}
+use Rattle.journal_laws.proofs.LastRecords.{given, rise-join}
 use Rattle.journal_laws.proofs.appended.pages_of_a_start_are_updates.Goals as goal
 
 is-update : (rs : List FileRecord) → IsUpdate (page_of false rs)
