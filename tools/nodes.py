@@ -1,12 +1,14 @@
 """Nodes of the program `bepd` on this machine, and what tools/node_runs and tools/peer_runs share besides."""
 import hashlib
 import os
+import random
 import re
 import shutil
 import socket
 import subprocess
 import sys
 import tempfile
+import threading
 import time
 
 from bep import HELLO, Messages, config, field, rep
@@ -16,6 +18,9 @@ ROOT = os.path.dirname(os.path.dirname(os.path.realpath(__file__)))
 PROGRAM = bepd()
 work = tempfile.mkdtemp(prefix="node-runs-")
 passed, failed = 0, 0
+# Held where a run has ended, since runs may go side by side; and where a port is given out.
+counting = threading.Lock()
+ports_given = set()
 # How long a run waits for what is to come, in seconds.
 PATIENCE = int(os.environ.get("PATIENCE", 60))
 # The identities of the node whose peers are played, and of the first of these.
@@ -32,8 +37,17 @@ def same(found, wanted):
 
 
 def free_port():
-    with socket.create_server(("127.0.0.1", 0)) as it:
-        return it.getsockname()[1]
+    """A port that was not given out before and where nobody listens, below those that the system gives to who connects: so a node finds it free, also when it begins
+    anew. (None is listened at, not even for a moment: a program that is begun just then would have the socket too.)"""
+    while True:
+        port = random.SystemRandom().randrange(10_000, 32_768)
+        with counting:
+            if port in ports_given:
+                continue
+            ports_given.add(port)
+        with socket.socket() as probe:
+            if probe.connect_ex(("127.0.0.1", port)):
+                return port
 
 
 def identity(number):
@@ -351,16 +365,18 @@ def run(name, what, *given):
         return
     try:
         what(*given)
-        passed += 1
-        print(f"ok      {name}", flush=True)
+        with counting:
+            passed += 1
+            print(f"ok      {name}", flush=True)
     except (Differs, OSError, EOFError, ValueError, IndexError, KeyError) as error:
-        failed += 1
         # (what a node's end may hide)
         first = error
         while first.__context__:
             first = first.__context__
         after = f", after {type(first).__name__} {first}" if first is not error else ""
-        print(f"DIFFERS {name}: {type(error).__name__} {error}{after}", flush=True)
+        with counting:
+            failed += 1
+            print(f"DIFFERS {name}: {type(error).__name__} {error}{after}", flush=True)
 
 
 def main(runs):
