@@ -18,9 +18,8 @@ ROOT = os.path.dirname(os.path.dirname(os.path.realpath(__file__)))
 PROGRAM = bepd()
 work = tempfile.mkdtemp(prefix="node-runs-")
 passed, failed = 0, 0
-# Held where a run has ended, since runs may go side by side; and where a port is given out.
-counting = threading.Lock()
-ports_given = set()
+# The ports that were given out. (Parts of a run may go side by side.)
+ports_given, giving = set(), threading.Lock()
 # How long a run waits for what is to come, in seconds.
 PATIENCE = int(os.environ.get("PATIENCE", 60))
 # The identities of the node whose peers are played, and of the first of these.
@@ -41,7 +40,7 @@ def free_port():
     anew. (None is listened at, not even for a moment: a program that is begun just then would have the socket too.)"""
     while True:
         port = random.SystemRandom().randrange(10_000, 32_768)
-        with counting:
+        with giving:
             if port in ports_given:
                 continue
             ports_given.add(port)
@@ -365,18 +364,16 @@ def run(name, what, *given):
         return
     try:
         what(*given)
-        with counting:
-            passed += 1
-            print(f"ok      {name}", flush=True)
+        passed += 1
+        print(f"ok      {name}", flush=True)
     except (Differs, OSError, EOFError, ValueError, IndexError, KeyError) as error:
+        failed += 1
         # (what a node's end may hide)
         first = error
         while first.__context__:
             first = first.__context__
         after = f", after {type(first).__name__} {first}" if first is not error else ""
-        with counting:
-            failed += 1
-            print(f"DIFFERS {name}: {type(error).__name__} {error}{after}", flush=True)
+        print(f"DIFFERS {name}: {type(error).__name__} {error}{after}", flush=True)
 
 
 def main(runs):
