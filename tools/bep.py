@@ -148,13 +148,17 @@ class Messages:
             data += piece
         return bytes(data)
 
+    def hear_hello(self):
+        """Waits for the Hello."""
+        magic = self.take(4)
+        if magic != HELLO[:4]:
+            raise ValueError("no Hello")
+        self.hello = fields(self.take(int.from_bytes(self.take(2), "big")))
+
     def next(self):
         """The type and the fields of the next message."""
         if self.hello is None:
-            magic = self.take(4)
-            if magic != HELLO[:4]:
-                raise ValueError("no Hello")
-            self.hello = fields(self.take(int.from_bytes(self.take(2), "big")))
+            self.hear_hello()
         header = fields(self.take(int.from_bytes(self.take(2), "big")))
         body = self.take(int.from_bytes(self.take(4), "big"))
         return TYPES[first(header, 1)], fields(body)

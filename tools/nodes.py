@@ -18,6 +18,7 @@ ROOT = os.path.dirname(os.path.dirname(os.path.realpath(__file__)))
 PROGRAM = bepd()
 work = tempfile.mkdtemp(prefix="node-runs-")
 passed, failed = 0, 0
+counting = threading.Lock()
 # The ports that were given out. (Parts of a run may go side by side.)
 ports_given, giving = set(), threading.Lock()
 # How long a run waits for what is to come, in seconds.
@@ -364,10 +365,12 @@ def run(name, what, *given):
         return
     try:
         what(*given)
-        passed += 1
-        print(f"ok      {name}", flush=True)
+        with counting:
+            passed += 1
+            print(f"ok      {name}", flush=True)
     except (Differs, OSError, EOFError, ValueError, IndexError, KeyError) as error:
-        failed += 1
+        with counting:
+            failed += 1
         # (what a node's end may hide)
         first = error
         while first.__context__:

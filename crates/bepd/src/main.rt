@@ -16,10 +16,16 @@ use bepd_run::{Disks, ProgressStyle};
 use counted::{CountedReader, CountedWriter};
 use run::run;
 use std::env::{self, Env};
+use std::fs::{File, Files};
 use std::io::{self, IsTerminal};
+use std::os::fd::{AsRawFd, RawFd};
 use std::process::ExitCode;
 
+/// The descriptor of standard error, the last of the standard streams.
+const LAST_STREAM: RawFd = 2;
+
 fn main(rt: HostRuntime) -> ExitCode {
+    let _held = [closed_stream(&rt), closed_stream(&rt), closed_stream(&rt)];
     let words = words(&rt);
     let mut input = CountedReader::new(rt.reader());
     let mut output = CountedWriter::new(rt.stdout());
@@ -39,6 +45,17 @@ fn main(rt: HostRuntime) -> ExitCode {
         &mut errors,
     );
     ExitCode::from(outcome.status)
+}
+
+/// Opens a directory in the place of a standard stream that is closed, if one is: reads and writes of it fail, as they do of a closed one. A file that is opened later
+/// would get the number of the stream, and what is written to it.
+fn closed_stream<R: Files<File = File>>(rt: &R) -> Option<File> {
+    let held = File::open(rt, "/").ok()?;
+    if held.as_raw_fd() <= LAST_STREAM {
+        Some(held)
+    } else {
+        None
+    }
 }
 
 /// The words of the command line, the program's name first.

@@ -16,11 +16,13 @@ use crate::received::own_device;
 use bepd_pair::pair;
 use bepd_run::{
     ProgressStyle, RunFailure, StateFiles, Stores, check_config, new_config, run_config,
+    tell_failure,
 };
 use folder_db::IndexedFolder;
 use std::fs::{File, Files};
 use std::io::{self, BufRead, Write};
 use std::net::{Net, TcpListener, TcpStream};
+use std::os::fd::AsRawFd;
 use std::sync::Wait;
 use std::thread::Threads;
 use std::time::Clock;
@@ -63,8 +65,8 @@ where
     S: Stores + Sync,
     S::Store: Send,
     R: BufRead + Send,
-    W: Write + Send,
-    E: Write + Send,
+    W: Write + AsRawFd + Send,
+    E: Write + AsRawFd + Send,
     // What the words ask for is done, and nothing else.
     ensures does { (asked : AnyRequest) × IsRequested words.now asked × Does asked result
         (streams (input_of R.remaining input.old) (output_of W.contents output.old) (E.contents errors.old))
@@ -106,20 +108,20 @@ where
             let told = Some(progress);
             let (input, output) = (&mut input.inner, &mut output.inner);
             let ran = run_config(rt, stores, path, told, input, output, errors);
-            end_run(ran, errors)
+            end_run(rt, ran, errors)
         }
         Request::QuietRun(path) => {
             let (input, output) = (&mut input.inner, &mut output.inner);
             let ran = run_config(rt, stores, path, None, input, output, errors);
-            end_run(ran, errors)
+            end_run(rt, ran, errors)
         }
         Request::Check(path) => {
             let checked = check_config(rt, alloc, path, &mut output.inner);
-            end_run(checked, errors)
+            end_run(rt, checked, errors)
         }
         Request::New(directory) => {
             let made = new_config(rt, alloc, directory, &mut output.inner);
-            end_run(made, errors)
+            end_run(rt, made, errors)
         }
         Request::Text(text) => show(text.as_str(), output, errors),
         Request::Refused(text) => Outcome {
@@ -146,7 +148,11 @@ fn end<E: Write>(ending: Ending, errors: &mut E) -> Outcome
 }
 
 /// Ends as a node did, after its line on standard error where it did not end well.
-fn end_run<E: Write>(ran: Result<(), RunFailure>, errors: &mut E) -> Outcome
+fn end_run<T: AllocGlobal + Net + Wait, E: Write + AsRawFd>(
+    rt: &T,
+    ran: Result<(), RunFailure>,
+    errors: &mut E,
+) -> Outcome
     ensures ends { EndsRun ran result (E.contents errors.old) (E.contents errors.new) }
     ensures quiet { result.status ≡ 0 → errors.new ≡ errors.old }
 {
@@ -157,7 +163,7 @@ fn end_run<E: Write>(ran: Result<(), RunFailure>, errors: &mut E) -> Outcome
         },
         Err(failure) => Outcome {
             status: failure.status(),
-            reported: writeln!(errors, "{failure}"),
+            reported: tell_failure(rt, rt.alloc(), &failure, errors),
         },
     }
 }

@@ -1,3 +1,5 @@
 mod Beginning
 mod Unread
 pub mod Starting
+mod Fronts
+mod Waits

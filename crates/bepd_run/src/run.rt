@@ -8,8 +8,10 @@ use crate::journal::StateJournal;
 use crate::last_run::{FolderPlans, StatePaths, read_last_run};
 use crate::lock::lock_state;
 use crate::nodes::{NextNode, Outside, run_nodes};
+use crate::outlet::{Channel, Outlet};
 use crate::paths::require_apart;
 use crate::plans::settle_all;
+use crate::readiness::{Patience, Turns};
 use crate::starts::{Core, renumbered};
 use bep_messages::Text;
 use crossbeam_channel::{Receiver, Sender, bounded};
@@ -24,6 +26,7 @@ use std::alloc::Global;
 use std::fs::{File, Files};
 use std::io::{self, BufRead, Write};
 use std::net::{Net, TcpListener, TcpStream};
+use std::os::fd::AsRawFd;
 use std::sync::Wait;
 use std::thread::{self, Threads, join};
 use std::time::{Clock, Duration};
@@ -47,17 +50,21 @@ const IN_DOUBT: u64 = 3;
 /// | `history F` | `history F changes N open N` |
 /// | `verify F` | `verify F yes` or `verify F no` |
 ///
+/// An answer that nobody takes for 4 seconds, or that can't be written, is lost, and so are the lines after it until one can be written again: `(N lines left out)`
+/// is written before that. The same holds of what is told on `errors`, which waits for as long as the run goes on and 4 seconds more, with a mebibyte of lines behind it.
+/// Neither ends the run.
+///
 /// What is stored of folders that the configuration lacks is dropped, and so are the records of devices that a folder isn't shared with.
 ///
 /// Fails by the configuration, the state file and the addresses, in this order, before anything is read from or written to a folder or a
-/// connection; where the commands can't be read or an answer can't be written, after the state file is written; and where memory runs out or the
+/// connection; where the commands can't be read, after the state file is written; and where memory runs out or the
 /// state file can't be written, which then is the one of before, with the journal behind it.
 ///
 /// With a style of progress it tells on `errors` what happens, a line each: the time in UTC, and
 ///
 /// | Line | |
 /// |---|---|
-/// | `connected ID` | a connection with the peer is made |
+/// | `connected ID` | a connection with the peer is up |
 /// | `gone ID: WHY` | it ended |
 /// | `received F up to N from ID` | more of the peer's index of the folder F came |
 /// | `scanned F recorded N unchanged N other N` | a scan that recorded changes, or left names out |
@@ -93,14 +100,16 @@ where
     T: Stores + Sync,
     T::Store: Send,
     I: BufRead + Send,
-    O: Write + Send,
-    E: Write + Send,
+    O: Write + AsRawFd + Send,
+    E: Write + AsRawFd + Send,
     ensures quiet { progress ≡ None → errors.new ≡ errors.old }
 {
     let alloc = rt.alloc();
     let config = config_at(rt, alloc, path)?;
     let paths = StatePaths::new(alloc, config.state.as_str())?;
     let _lock = lock_state(rt, alloc, config.state.as_str())?;
+    let turns = Turns::new(false);
+    let answers = Channel::new(rt, alloc, output.as_raw_fd(), Patience::Short)?;
     let ready = Ready::new(rt, alloc, stores, &config, &paths)?;
     let log = match progress {
         Some(progress) => Log::new(alloc, progress),
@@ -111,19 +120,25 @@ where
         stores,
         log: &log,
     };
+    let outward = Outward {
+        turns: &turns,
+        channel: answers,
+    };
     if progress.is_none() {
-        return end(run_ready(rt, alloc, &place, ready, input, output));
+        return end(answer_ready(rt, alloc, &place, ready, input, outward, output));
     }
+    let told = Channel::new(rt, alloc, errors.as_raw_fd(), Patience::UntilTheEnd)?;
     let (ended, ()) = join(
         rt,
         || -> Result<io::Result<()>, RunFailure>
             requires { IsSend I.row × IsSend O.row × IsSend T.Store.row }
         {
-            let ended = run_ready(rt, alloc, &place, ready, input, output);
+            let ended = answer_ready(rt, alloc, &place, ready, input, outward, output);
+            *turns.lock(rt) = true;
             log.end(rt);
             ended
         },
-        || write_log(rt, &log, errors),
+        || tell_log(rt, &log, &turns, told, errors),
     );
     end(ended)
 }
@@ -134,6 +149,41 @@ struct Place<'a, T> {
     config: &'a Config,
     stores: &'a T,
     log: &'a Log,
+}
+
+// Where answers go, but for their writer.
+#[derive(Drop)]
+struct Outward<'a> {
+    turns: &'a Turns,
+    channel: Channel,
+}
+
+// Runs nodes until the commands end; answers that can't be written are left out. Returns whether all were taken.
+fn answer_ready<'a, R, T, I, O>(
+    rt: &R,
+    alloc: Global,
+    place: &Place<'a, T>,
+    ready: Ready<'a, R>,
+    input: &mut I,
+    outward: Outward<'_>,
+    output: &mut O,
+) -> Result<io::Result<()>, RunFailure>
+where
+    R: Clock + Net<Listener = TcpListener, Stream = TcpStream> + StateFiles + Sync + Threads + Wait,
+    T: Stores + Sync,
+    T::Store: Send,
+    I: BufRead + Send,
+    O: Write + Send,
+{
+    let Outward { turns, channel } = outward;
+    let mut output = Outlet::new(rt, turns, channel, output);
+    run_ready(rt, alloc, place, ready, input, &mut output)
+}
+
+// Writes what is told; what can't be written is left out.
+fn tell_log<R: Wait, E: Write>(rt: &R, log: &Log, turns: &Turns, channel: Channel, errors: &mut E) {
+    let mut errors = Outlet::new(rt, turns, channel, errors);
+    write_log(rt, log, &mut errors);
 }
 
 // Runs nodes until the commands end. Returns whether all were answered.

@@ -4,6 +4,10 @@ use std::net::{Shutdown, TcpStream};
 use std::sync::{Condvar, Mutex, Wait};
 use std::time::{Clock, Duration};
 
+/// Which of its connections one of a peer is. None has that of another one.
+#[derive(Clone, Copy, Debug, PartialEq, Eq)]
+pub struct ConnectionId(u64);
+
 /// The connections that are up, one of a peer at most, and whether the node stops, for all its threads.
 #[derive(Drop)]
 pub struct Connections {
@@ -17,9 +21,18 @@ pub struct Connections {
 struct Slots {
     is_stopping: bool,
     // By the peer's place.
-    streams: Vec<Option<TcpStream>>,
+    streams: Vec<Option<Up>>,
+    // How many there were.
+    count: u64,
     // The sockets that listen.
     listeners: Vec<TcpStream>,
+}
+
+// A connection that is up.
+#[derive(Drop)]
+struct Up {
+    id: ConnectionId,
+    stream: TcpStream,
 }
 
 impl Connections {
@@ -33,6 +46,7 @@ impl Connections {
             slots: Mutex::new(Slots {
                 is_stopping: false,
                 streams,
+                count: 0,
                 listeners: Vec::new(alloc),
             }),
             stopped: Condvar::new(),
@@ -45,26 +59,32 @@ impl Connections {
         Ok(())
     }
 
-    /// The connection of a peer is up. Returns `false` where one of it is up already, and where the node stops.
-    pub fn begin<R: Wait>(&self, rt: &R, peer: usize, stream: TcpStream) -> bool {
+    /// The connection of a peer is up. Returns `None` where one of it is up already, and where the node stops.
+    pub fn begin<R: Wait>(&self, rt: &R, peer: usize, stream: TcpStream) -> Option<ConnectionId> {
         let mut slots = self.slots.lock(rt);
-        if slots.is_stopping {
-            return false;
+        let place = slots.streams.get(peer)?;
+        if place.is_some() {
+            return None;
         }
-        match slots.streams.get_mut(peer) {
-            Some(place) if place.is_none() => {
-                *place = Some(stream);
-                true
-            }
-            _ => false,
-        }
+        slots.put(peer, stream)
     }
 
-    /// It is down.
-    pub fn end<R: Wait>(&self, rt: &R, peer: usize) {
+    /// The connection of a peer is up, in place of the one that was, which is shut down. Returns `None` where the node stops.
+    pub fn replace<R: Wait>(&self, rt: &R, peer: usize, stream: TcpStream) -> Option<ConnectionId> {
+        let mut slots = self.slots.lock(rt);
+        if let Some(up) = slots.streams.get(peer)? {
+            let _ = up.stream.shutdown(Shutdown::Both);
+        }
+        slots.put(peer, stream)
+    }
+
+    /// It is down, unless another one has taken its place.
+    pub fn end<R: Wait>(&self, rt: &R, peer: usize, id: ConnectionId) {
         let mut slots = self.slots.lock(rt);
         if let Some(place) = slots.streams.get_mut(peer) {
-            *place = None;
+            if matches!(place, Some(up) if up.id == id) {
+                *place = None;
+            }
         }
     }
 
@@ -99,13 +119,27 @@ impl Connections {
     pub fn stop<R: Wait>(&self, rt: &R) {
         let mut slots = self.slots.lock(rt);
         slots.is_stopping = true;
-        for stream in slots.streams.iter().flatten() {
-            let _ = stream.shutdown(Shutdown::Both);
+        for up in slots.streams.iter().flatten() {
+            let _ = up.stream.shutdown(Shutdown::Both);
         }
         for listener in slots.listeners.iter() {
             let _ = listener.shutdown(Shutdown::Both);
         }
         drop(slots);
         self.stopped.notify_all();
+    }
+}
+
+impl Slots {
+    // Puts a connection at a peer's place, unless the node stops.
+    fn put(&mut self, peer: usize, stream: TcpStream) -> Option<ConnectionId> {
+        if self.is_stopping {
+            return None;
+        }
+        let place = self.streams.get_mut(peer)?;
+        self.count = self.count.wrapping_add(1);
+        let id = ConnectionId(self.count);
+        *place = Some(Up { id, stream });
+        Some(id)
     }
 }

@@ -12,10 +12,14 @@ use sync_scan::{ScanSum, Scanned};
 /// What happened. Folders are named by their ids.
 #[derive(Clone, Copy)]
 pub enum Event<'a> {
-    /// A connection with a peer is made.
+    /// A connection with a peer is up: its ClusterConfig came.
     Connected(DeviceId),
-    /// It ended.
+    /// It ended, or another one before its ClusterConfig came.
     Gone(DeviceId, &'a ReaderStop),
+    /// It was ended, for this reason, and another one is to begin.
+    Anew(DeviceId, &'a str),
+    /// One was ended, since no ClusterConfig came in time.
+    Silent(DeviceId),
     /// An index of a folder came from a peer, whose records have sequences up to this one.
     Received(&'a str, DeviceId, u64),
     /// A scan of a folder recorded changes, or left names out.

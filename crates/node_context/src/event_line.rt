@@ -33,6 +33,17 @@ pub(crate) fn push_event(line: &mut Vec<u8>, event: &Event) -> io::Result<()> {
             push_device(line, *peer)?;
             push_why(line, why)
         }
+        Event::Anew(peer, why) => {
+            line.extend_from_slice(b"gone ")?;
+            push_device(line, *peer)?;
+            write!(line, ": {why}: the connection begins anew")
+        }
+        Event::Silent(peer) => {
+            line.extend_from_slice(b"gone ")?;
+            push_device(line, *peer)?;
+            line.extend_from_slice(b": no ClusterConfig came within 10 seconds")?;
+            Ok(())
+        }
         Event::Received(folder, peer, sequence) => {
             write!(line, "received {folder} up to {sequence} from ")?;
             push_device(line, *peer)

@@ -12,7 +12,7 @@ mod lent;
 mod log;
 
 pub use clock::moment;
-pub use connections::Connections;
+pub use connections::{ConnectionId, Connections};
 pub use context::Context;
 pub use event::{Event, SkipWhy};
 pub use fault::NodeFault;

@@ -4,14 +4,15 @@ use Rattle.std.proofs.lemmas.List.{append-nil}
 use Rattle.folder_calls.specs.Shared.{CallerView}
 use Rattle.node_need.specs.declared.retries.Retry.{Retry}
 use Rattle.node_need.specs.declared.wanted.Wanted.{Wanted}
+use Rattle.sync_record.specs.Devices.{Identity}
 use Rattle.node_need.specs.Retries.{Name}
 use Rattle.node_need.specs.Orders.{Chooses, ChoosesAll, listed}
 
 -- after what was tried so far, what is tried of the names that are left makes what is tried of all
-pub record GoesOn (up : ℕ) (is_later : Bool) (all : List Name) (v : CallerView) (r : Name → Option Retry) (left : List Name) (so_far : List Wanted) (now : CallerView) (kept : Name → Option Retry) : Type 0 where
+pub record GoesOn (up : List Identity) (is_later : Bool) (all : List Name) (v : CallerView) (r : Name → Option Retry) (left : List Name) (so_far : List Wanted) (now : CallerView) (kept : Name → Option Retry) : Type 0 where
   pub by : (ws : List Wanted) (new : CallerView) (last : Name → Option Retry) → ChoosesAll up is_later now kept left ws new last → ChoosesAll up is_later v r all (so_far ++ ws) new last
 
-module _ (up : ℕ) (is_later : Bool) (all : List Name) (v : CallerView) (r : Name → Option Retry) where
+module _ (up : List Identity) (is_later : Bool) (all : List Name) (v : CallerView) (r : Name → Option Retry) where
   pub goes_begin : (so_far : List Wanted) → so_far ≡ [] → GoesOn up is_later all v r all so_far v r
   goes_begin so_far e = record { by = λ ws new last h. subst (λ (xs : List Wanted). ChoosesAll up is_later v r all (xs ++ ws) new last) (sym e) h }
 

@@ -1,7 +1,7 @@
 //! The order in which the needed names of a folder are pulled.
 ghost use Rattle.std.specs.Prelude.{◌≡◌, ◌∷◌, [], IfOk};
 ghost use Rattle.sync_record.specs.Records.{is_file};
-ghost use Rattle.node_need.specs.Orders.{Chooses, IsAsked, IsOrderNow, IsOrderOf, left_after, tried};
+ghost use Rattle.node_need.specs.Orders.{Chooses, IsAsked, IsOrderNow, IsOrderOf, is_reached, is_up, left_after, may_come, tried};
 ghost use Rattle.node_need.specs.Retries.{retry_at};
 
 use crate::retries::Retries;
@@ -10,7 +10,7 @@ use folder_calls::FolderCalls;
 use std::alloc::{AllocError, Global};
 use std::mem::replace;
 use sync_names::SafeName;
-use sync_record::{Kind, Record};
+use sync_record::{DeviceId, Kind, Record};
 
 /// The needed names of a folder that are tried now.
 #[derive(Drop)]
@@ -23,19 +23,20 @@ pub struct PullOrder {
 }
 
 impl PullOrder {
-    /// Those of these names, in byte order, that have a best and are not left alone, where so many peers are up, and a second may lie behind the last
-    /// round. Each is asked for once, in their order, and has what was told of it last, if nothing happened at it since. Fails only if out of memory.
+    /// Those of these names, in byte order, that have a best and are not left alone, where these peers are up, and a second may lie behind the last
+    /// round. A file is left out as long as none of these peers has announced it. Each is asked for once, in their order, and has what was told of it last, if nothing
+    /// happened at it since. Fails only if out of memory.
     pub fn new<W: FolderCalls>(
         alloc: Global,
         calls: &mut W,
         needed: &[SafeName],
         retries: &mut Retries,
-        up: usize,
+        up: &[DeviceId],
         is_later: bool,
     ) -> Result<PullOrder, AllocError>
         ensures folder { W.folder calls.new ≡ W.folder calls.old }
         ensures order { IfOk result (λ order.
-            IsOrderNow up is_later (W.view calls.old) (retry_at retries.old) needed.now order (W.view calls.new) (retry_at retries.new)) }
+            IsOrderNow up.now is_later (W.view calls.old) (retry_at retries.old) needed.now order (W.view calls.new) (retry_at retries.new)) }
     {
         let mut wanted = Vec::new(alloc);
         for name in needed {
@@ -53,15 +54,15 @@ fn choose<W: FolderCalls>(
     calls: &mut W,
     name: &SafeName,
     retries: &mut Retries,
-    up: usize,
+    up: &[DeviceId],
     is_later: bool,
 ) -> Result<Option<Wanted>, AllocError>
     ensures folder { W.folder calls.new ≡ W.folder calls.old }
     ensures chosen { IfOk result (λ one.
-        Chooses up is_later (W.view calls.old) (retry_at retries.old) name.now one (W.view calls.new) (retry_at retries.new)) }
+        Chooses up.now is_later (W.view calls.old) (retry_at retries.old) name.now one (W.view calls.new) (retry_at retries.new)) }
 {
-    match wanted_of(calls, name)? {
-        Some(wanted) => Ok(tried(wanted, retries, up, is_later)),
+    match wanted_of(calls, name, up)? {
+        Some(wanted) => Ok(tried(wanted, retries, up.len(), is_later)),
         None => Ok(None),
     }
 }
@@ -71,6 +72,9 @@ fn tried(wanted: Wanted, retries: &mut Retries, up: usize, is_later: bool) -> Op
     ensures tried { result ≡ tried up (retry_at retries.old) (Some wanted) }
     ensures left { retry_at retries.new ≡ left_after up is_later (retry_at retries.old) (Some wanted) }
 {
+    if !may_come(&wanted) {
+        return None;
+    }
     let mut wanted = wanted;
     let told = retries.told_of(&wanted);
     if retries.is_over(&wanted, up, is_later) {
@@ -81,10 +85,34 @@ fn tried(wanted: Wanted, retries: &mut Retries, up: usize, is_later: bool) -> Op
     }
 }
 
+// Whether somebody who is up may have the bytes of its best, or it has none.
+fn may_come(wanted: &Wanted) -> bool
+    ensures { result ≡ may_come wanted.now }
+{
+    wanted.is_reached || wanted.best.is_deleted() || !is_file(&wanted.best)
+}
+
+// Whether one of these devices is up.
+fn is_reached(devices: &[DeviceId], up: &[DeviceId]) -> bool
+    ensures { result ≡ is_reached devices.now up.now }
+{
+    devices.iter().any(|device| is_up(*device, up))
+}
+
+fn is_up(device: DeviceId, up: &[DeviceId]) -> bool
+    ensures { result ≡ is_up up.now device }
+{
+    up.iter().any(|other| *other == device)
+}
+
 // What is known of a name, if it has a best.
-fn wanted_of<W: FolderCalls>(calls: &mut W, name: &SafeName) -> Result<Option<Wanted>, AllocError>
+fn wanted_of<W: FolderCalls>(
+    calls: &mut W,
+    name: &SafeName,
+    up: &[DeviceId],
+) -> Result<Option<Wanted>, AllocError>
     ensures folder { W.folder calls.new ≡ W.folder calls.old }
-    ensures asked { IfOk result (λ wanted. IsAsked (W.view calls.old) name.now wanted (W.view calls.new)) }
+    ensures asked { IfOk result (λ wanted. IsAsked up.now (W.view calls.old) name.now wanted (W.view calls.new)) }
 {
     let best = calls.best(name)?;
     match best.value {
@@ -92,6 +120,7 @@ fn wanted_of<W: FolderCalls>(calls: &mut W, name: &SafeName) -> Result<Option<Wa
             let local = calls.local(name)?;
             Ok(Some(Wanted {
                 name: name.copy()?,
+                is_reached: is_reached(found.devices.as_slice(), up),
                 best: found.record,
                 local: local.value,
                 told: None,

@@ -188,6 +188,7 @@ fn begun(wanted: Wanted, up: usize, lacks_room: bool, pause: u32) -> (SafeName, 
         best,
         local,
         told,
+        ..
     } = wanted;
     let (left, next) = if lacks_room {
         (ROOM_PAUSE, FIRST_PAUSE)

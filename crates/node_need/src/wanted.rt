@@ -14,6 +14,8 @@ pub struct Wanted {
     pub best: Record,
     /// What this device has recorded of it.
     pub local: Option<Record>,
+    /// Whether one of the peers that are up has announced it.
+    pub is_reached: bool,
     /// What was told last of a pull that failed, since something happened at the name.
     pub told: Option<PullAnswer>,
 }
@@ -38,6 +40,7 @@ impl Wanted {
             name: self.name.copy()?,
             best: self.best.copy()?,
             local: copy_of(&self.local)?,
+            is_reached: self.is_reached,
             told: self.told,
         })
     }

@@ -1,20 +1,34 @@
 //! A peer that dials this device.
-use crate::connection::{begins, run_connection};
-use crate::peer::Peer;
+use crate::connection::{Begun, run_connection};
+use crate::dial::is_later;
+use crate::guest::{Greeted, Guest, Standing};
+use crate::peer::Greeting;
 use crossbeam_channel::{Receiver, Sender, bounded};
 use file_store::{FileStore, Gate};
-use node_context::{Context, Host};
+use node_context::{Context, Event, Host};
 use peer_conn::KeptCalls;
 use peer_link::LinkFolders;
-use std::alloc::Global;
+use std::alloc::{AllocError, Global};
+use std::io::ErrorKind;
 use std::net::{TcpListener, TcpStream};
 use std::sync::Wait;
 use std::thread::join;
+use std::time::Duration;
 
-/// Takes the connections of the peer; one that comes while another is up is closed at once.
+/// How many connections may wait for their ClusterConfig. Where another one comes, the one that waits longest is closed.
+const MAX_GUESTS: usize = 16;
+
+/// How many milliseconds lie between two looks at those that wait.
+const LOOK_MILLIS: u64 = 20;
+
+/// How many connections may wait until the one whose place they take has ended.
+const MAX_BEGUN: usize = 4;
+
+/// Takes the connections of the peer. One gets its place once its ClusterConfig is there; where another one is up by then, only if its ClusterConfig lists both
+/// devices, and at most once each 10 seconds: else it is closed.
 pub(crate) fn accept_each<R, S, W, G>(
     cx: &Context<R, G>,
-    peer: &Peer,
+    greeting: &Greeting,
     listener: &TcpListener,
     folders: LinkFolders<S, W>,
 ) -> LinkFolders<S, W>
@@ -24,13 +38,13 @@ where
     W: KeptCalls + Drop + Send,
     G: Gate + Sync,
 {
-    let Ok((to_link, streams)) = bounded::<TcpStream, Global>(cx.alloc, 1) else {
+    let Ok((to_link, begun)) = bounded::<Begun, Global>(cx.alloc, MAX_BEGUN) else {
         return folders;
     };
     let ((), folders) = join(
         cx.rt,
-        || accept(cx, peer, listener, to_link),
-        || run_each(cx, peer, folders, streams),
+        || accept(cx, greeting, listener, to_link),
+        || run_each(cx, greeting, folders, begun),
     );
     folders
 }
@@ -38,36 +52,117 @@ where
 // Takes connections until the node stops.
 fn accept<R: Host, G>(
     cx: &Context<R, G>,
-    peer: &Peer,
+    greeting: &Greeting,
     listener: &TcpListener,
-    to_link: Sender<TcpStream>,
+    to_link: Sender<Begun>,
 ) {
+    let mut door = Door {
+        guests: Vec::new(cx.alloc),
+        last_replaced: None,
+        to_link,
+    };
     for _ in cx.rt.forever() {
+        // (with nobody to look at it waits in the call)
+        let _ = listener.set_nonblocking(!door.guests.is_empty());
+        let mut is_quiet = false;
         match listener.accept() {
+            // (out of memory it is closed)
             Ok((stream, _)) => {
-                if begins(cx, peer, &stream) && to_link.send(cx.rt, stream).is_err() {
-                    break;
-                }
+                let _ = door.let_in(cx, greeting, stream);
             }
+            Err(error) if error.kind() == ErrorKind::WouldBlock => is_quiet = true,
             // (where no more files can be opened, an accept fails again and again)
             Err(_) => {
                 if cx.pause(1) {
-                    break;
+                    return;
                 }
             }
         }
+        door.look(cx, greeting);
         if cx.is_stopping() {
-            break;
+            return;
+        }
+        if is_quiet && cx.pause_for(Duration::from_millis(LOOK_MILLIS)) {
+            return;
         }
     }
 }
 
-// Runs each connection that was taken.
+// The connections that wait for their ClusterConfig, and where they go then.
+#[derive(Drop)]
+struct Door {
+    guests: Vec<Guest>,
+    // When one took the place of another, in seconds.
+    last_replaced: Option<u64>,
+    to_link: Sender<Begun>,
+}
+
+impl Door {
+    fn let_in<R: Host, G>(
+        &mut self,
+        cx: &Context<R, G>,
+        greeting: &Greeting,
+        stream: TcpStream,
+    ) -> Result<(), AllocError> {
+        let _ = stream.set_nonblocking(true);
+        if self.guests.len() >= MAX_GUESTS {
+            drop(self.guests.remove(0));
+        }
+        if let Ok(guest) = Guest::new(cx.rt, cx.alloc, stream, greeting.frame.as_slice()) {
+            self.guests.push(guest)?;
+        }
+        Ok(())
+    }
+
+    // Looks at each of them once.
+    fn look<R: Host, G>(&mut self, cx: &Context<R, G>, greeting: &Greeting) {
+        for _ in 0..self.guests.len() {
+            if self.guests.is_empty() {
+                return;
+            }
+            let guest = self.guests.remove(0);
+            match guest.look(cx.rt, cx.alloc, greeting.me, greeting.peer.device) {
+                Standing::Waits(guest) => {
+                    let _ = self.guests.push(guest);
+                }
+                Standing::Greeted(greeted) => self.begin(cx, greeting, greeted),
+                Standing::Gone(why) => cx.tell(&Event::Gone(greeting.peer.device, &why)),
+                Standing::Silent => cx.tell(&Event::Silent(greeting.peer.device)),
+            }
+        }
+    }
+
+    // Gives it the peer's place, if that is free or may be taken. Else it is closed.
+    fn begin<R: Host, G>(&mut self, cx: &Context<R, G>, greeting: &Greeting, greeted: Greeted) {
+        let _ = greeted.stream.set_nonblocking(false);
+        let Ok(clone) = greeted.stream.try_clone() else {
+            return;
+        };
+        let is_up = cx.connections.is_up(cx.rt, greeting.peer.place);
+        if is_up && !(greeted.lists_both && is_later(cx.rt, &mut self.last_replaced)) {
+            return;
+        }
+        let Some(id) = cx.connections.replace(cx.rt, greeting.peer.place, clone) else {
+            return;
+        };
+        let begun = Begun {
+            stream: greeted.stream,
+            id,
+            came: greeted.came,
+            written: greeting.frame.len(),
+        };
+        if self.to_link.try_send(cx.rt, begun).is_err() {
+            cx.connections.end(cx.rt, greeting.peer.place, id);
+        }
+    }
+}
+
+// Runs each connection that has the place.
 fn run_each<R, S, W, G>(
     cx: &Context<R, G>,
-    peer: &Peer,
+    greeting: &Greeting,
     folders: LinkFolders<S, W>,
-    streams: Receiver<TcpStream>,
+    begun: Receiver<Begun>,
 ) -> LinkFolders<S, W>
 where
     R: Host,
@@ -76,8 +171,8 @@ where
     G: Gate + Sync,
 {
     let mut folders = folders;
-    for stream in streams.iter(cx.rt) {
-        folders = run_connection(cx, peer, folders, &stream);
+    for begun in begun.iter(cx.rt) {
+        (folders, _) = run_connection(cx, greeting, folders, begun);
     }
     folders
 }

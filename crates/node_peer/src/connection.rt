@@ -1,11 +1,12 @@
 //! A connection, from its socket to its end.
-use crate::peer::Peer;
-use crate::told::{hello_of, own_config};
+use crate::peer::Greeting;
+use crate::told::own_config;
 use file_store::{FileStore, Gate};
-use node_context::{Context, Event, Host};
+use node_context::{ConnectionId, Context, Event, Host};
 use peer_conn::KeptCalls;
 use peer_link::{Line, LinkEnd, LinkFolders, run_link};
 use peer_reader::{ReaderStop, are_apart};
+use std::io::{self, Read, Write};
 use std::net::{Shutdown, TcpStream};
 use std::time::Duration;
 
@@ -15,63 +16,90 @@ struct Socket<'a> {
     stream: &'a TcpStream,
 }
 
+/// A socket of which the Hello was written.
+#[derive(Drop)]
+struct AfterHello<'a> {
+    // How many bytes that are still to be written were.
+    written: usize,
+    stream: &'a TcpStream,
+}
+
 impl Line for Socket<'_> {
     fn hang_up(&self) {
         let _ = self.stream.shutdown(Shutdown::Both);
     }
 }
 
-/// Whether the connection is now the peer's: none of it is up yet, and the node does not stop.
-pub(crate) fn begins<R: Host, G>(cx: &Context<R, G>, peer: &Peer, stream: &TcpStream) -> bool {
-    match stream.try_clone() {
-        Ok(clone) => cx.connections.begin(cx.rt, peer.place, clone),
-        Err(_) => false,
+impl Write for AfterHello<'_> {
+    fn write(&mut self, bytes: &[u8]) -> io::Result<usize> {
+        if self.written > 0 {
+            let count = self.written.min(bytes.len());
+            self.written -= count;
+            return Ok(count);
+        }
+        self.stream.write(bytes)
+    }
+
+    fn flush(&mut self) -> io::Result<()> {
+        self.stream.flush()
     }
 }
 
-/// Runs a connection that is the peer's, until it ends. Returns the folders as it left them.
+/// A connection that is the peer's.
+#[derive(Drop)]
+pub(crate) struct Begun {
+    /// Its socket.
+    pub(crate) stream: TcpStream,
+    /// Which one it is.
+    pub(crate) id: ConnectionId,
+    /// What was read of it.
+    pub(crate) came: Vec<u8>,
+    /// How many bytes of this device's Hello were written.
+    pub(crate) written: usize,
+}
+
+/// Runs a connection that is the peer's, until it ends. Returns the folders as it left them, and whether another connection is to begin at once.
 pub(crate) fn run_connection<R, S, W, G>(
     cx: &Context<R, G>,
-    peer: &Peer,
+    greeting: &Greeting,
     folders: LinkFolders<S, W>,
-    stream: &TcpStream,
-) -> LinkFolders<S, W>
+    begun: Begun,
+) -> (LinkFolders<S, W>, bool)
 where
     R: Host,
     S: FileStore + Drop + Send,
     W: KeptCalls + Drop + Send,
     G: Gate + Sync,
 {
-    cx.tell(&Event::Connected(peer.device));
-    let folders = link(cx, peer, folders, stream);
-    let _ = stream.shutdown(Shutdown::Both);
-    cx.connections.end(cx.rt, peer.place);
-    folders
+    cx.tell(&Event::Connected(greeting.peer.device));
+    let (folders, is_anew) = link(cx, greeting, folders, &begun);
+    let _ = begun.stream.shutdown(Shutdown::Both);
+    cx.connections.end(cx.rt, greeting.peer.place, begun.id);
+    (folders, is_anew)
 }
 
 // Has the workers of the connection run, and tells why they ended.
 fn link<R, S, W, G>(
     cx: &Context<R, G>,
-    peer: &Peer,
+    greeting: &Greeting,
     folders: LinkFolders<S, W>,
-    stream: &TcpStream,
-) -> LinkFolders<S, W>
+    begun: &Begun,
+) -> (LinkFolders<S, W>, bool)
 where
     R: Host,
     S: FileStore + Drop + Send,
     W: KeptCalls + Drop + Send,
     G: Gate + Sync,
 {
+    let peer = &greeting.peer;
     let mut folders = folders;
     let Ok(config) = own_config(cx.alloc, peer.device, peer.name, &mut folders) else {
-        return folders;
-    };
-    let Ok(hello) = hello_of(cx.alloc, peer.name) else {
-        return folders;
+        return (folders, false);
     };
     if !are_apart(folders.read.as_slice(), peer.device) {
-        return folders;
+        return (folders, false);
     }
+    let stream = &begun.stream;
     // (so that the reader looks at the clock each second)
     let _ = stream.set_read_timeout(Some(Duration::from_secs(1)));
     let _ = stream.set_nodelay(true);
@@ -80,29 +108,38 @@ where
         cx.rt,
         cx.alloc,
         peer.device,
-        &hello,
+        &greeting.hello,
         config,
         folders,
         cx.gate,
         peer.book,
-        stream,
-        stream,
+        begun.came.as_slice().chain(stream),
+        AfterHello {
+            written: begun.written,
+            stream,
+        },
         &line,
     );
     match ended {
         Ok(
             LinkEnd {
                 reader,
+                told,
                 folders,
                 ..
             },
         ) => {
-            cx.tell(&Event::Gone(peer.device, &reader.why));
-            folders
+            let mut folders = folders;
+            told.forget_lost(folders.read.as_mut_slice());
+            match told.anew() {
+                Some(why) => cx.tell(&Event::Anew(peer.device, why.as_str())),
+                None => cx.tell(&Event::Gone(peer.device, &reader.why)),
+            }
+            (folders, told.anew().is_some())
         }
         Err(folders) => {
             cx.tell(&Event::Gone(peer.device, &ReaderStop::OutOfMemory));
-            folders
+            (folders, false)
         }
     }
 }

@@ -1,24 +1,24 @@
 //! A peer that is dialled, and when it is dialled again.
-use crate::connection::{begins, run_connection};
-use crate::peer::Peer;
+use crate::connection::{Begun, run_connection};
+use crate::peer::Greeting;
 use file_store::{FileStore, Gate};
 use node_context::{Context, Host};
 use peer_conn::KeptCalls;
 use peer_link::LinkFolders;
 use std::net::{SocketAddr, TcpStream};
 use std::sync::Wait;
-use std::time::Duration;
+use std::time::{Clock, Duration};
 
 /// How many seconds a peer is given to take a connection.
 const CONNECT_SECONDS: u64 = 5;
 
-/// After how many seconds a peer is dialled again.
+/// After how many seconds a peer is dialled again. Where a connection is to begin anew that is done at once, at most as often.
 const DIAL_SECONDS: u64 = 10;
 
 /// Dials, and 10 seconds after a connection ended or could not be made, again.
 pub(crate) fn dial_again<R, S, W, G>(
     cx: &Context<R, G>,
-    peer: &Peer,
+    greeting: &Greeting,
     address: &SocketAddr,
     folders: LinkFolders<S, W>,
 ) -> LinkFolders<S, W>
@@ -29,19 +29,52 @@ where
     G: Gate + Sync,
 {
     let mut folders = folders;
+    let mut last_anew = None;
     for _ in cx.rt.forever() {
         if cx.is_stopping() {
             break;
         }
-        let limit = Duration::from_secs(CONNECT_SECONDS);
-        if let Ok(stream) = TcpStream::connect_timeout(cx.rt, address, limit) {
-            if begins(cx, peer, &stream) {
-                folders = run_connection(cx, peer, folders, &stream);
-            }
+        let mut is_anew = false;
+        if let Some(begun) = dial(cx, greeting, address) {
+            (folders, is_anew) = run_connection(cx, greeting, folders, begun);
+        }
+        if is_anew && is_later(cx.rt, &mut last_anew) {
+            continue;
         }
         if cx.pause(DIAL_SECONDS) {
             break;
         }
     }
     folders
+}
+
+// Makes a connection. It has the peer's place at once, since this device makes no other meanwhile.
+fn dial<R: Host, G>(
+    cx: &Context<R, G>,
+    greeting: &Greeting,
+    address: &SocketAddr,
+) -> Option<Begun> {
+    let limit = Duration::from_secs(CONNECT_SECONDS);
+    let stream = TcpStream::connect_timeout(cx.rt, address, limit).ok()?;
+    let clone = stream.try_clone().ok()?;
+    let id = cx.connections.begin(cx.rt, greeting.peer.place, clone)?;
+    Some(Begun {
+        stream,
+        id,
+        came: Vec::new(cx.alloc),
+        written: 0,
+    })
+}
+
+/// Whether so many seconds lie since the last time that this was said; it is then said now.
+pub(crate) fn is_later<R: Clock>(rt: &R, last: &mut Option<u64>) -> bool {
+    let Ok(now) = rt.monotonic() else {
+        return false;
+    };
+    let now = now.as_secs();
+    if matches!(*last, Some(before) if now.saturating_sub(before) < DIAL_SECONDS) {
+        return false;
+    }
+    *last = Some(now);
+    true
 }

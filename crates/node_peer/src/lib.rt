@@ -4,6 +4,7 @@
 mod accept;
 mod connection;
 mod dial;
+mod guest;
 mod peer;
 mod told;
 

@@ -1,11 +1,16 @@
 //! A peer, which is dialled or listened for.
 use crate::accept::accept_each;
 use crate::dial::dial_again;
+use crate::told::hello_of;
+use bep_frames::{WriteFault, write_hello};
+use bep_messages::Hello;
 use file_store::{FileStore, Gate};
 use node_context::{Context, Host};
 use peer_asks::AskBook;
 use peer_conn::KeptCalls;
 use peer_link::LinkFolders;
+use peer_reader::PeerFolder;
+use std::alloc::Global;
 use std::net::{SocketAddr, TcpListener};
 use sync_record::DeviceId;
 
@@ -55,8 +60,45 @@ where
         reach,
         folders,
     } = worker;
+    let Ok(greeting) = Greeting::of(cx.alloc, &peer, folders.read.as_slice()) else {
+        return folders;
+    };
     match reach {
-        Reach::Dial(address) => dial_again(cx, &peer, &address, folders),
-        Reach::Listen(listener) => accept_each(cx, &peer, &listener, folders),
+        Reach::Dial(address) => dial_again(cx, &greeting, &address, folders),
+        Reach::Listen(listener) => accept_each(cx, &greeting, &listener, folders),
+    }
+}
+
+/// A peer, and what connections with it begin with.
+#[derive(Drop)]
+pub(crate) struct Greeting<'x> {
+    pub(crate) peer: &'x Peer<'x>,
+    /// This device.
+    pub(crate) me: DeviceId,
+    /// The Hello of this device, and its frame.
+    pub(crate) hello: Hello,
+    pub(crate) frame: Vec<u8>,
+}
+
+impl<'x> Greeting<'x> {
+    // Fails only if out of memory.
+    fn of<W: KeptCalls>(
+        alloc: Global,
+        peer: &'x Peer<'x>,
+        folders: &[PeerFolder<W>],
+    ) -> Result<Greeting<'x>, WriteFault> {
+        let me = match folders.first() {
+            Some(folder) => folder.calls.me(),
+            None => peer.device,
+        };
+        let hello = hello_of(alloc, peer.name)?;
+        let mut frame = Vec::new(alloc);
+        write_hello(&hello, &mut frame)?;
+        Ok(Greeting {
+            peer,
+            me,
+            hello,
+            frame,
+        })
     }
 }

@@ -1,6 +1,6 @@
 //! What this device tells a peer of itself: its Hello, and its ClusterConfig.
 ghost use Rattle.std.specs.Prelude.{◌≡◌};
-ghost use Rattle.node_peer.specs.Told.{IsKnown};
+ghost use Rattle.node_peer.specs.Told.{IsKnown, received};
 
 use bep_messages::{ClusterConfig, Hello, Items, Text};
 use folder_calls::FolderCalls;
@@ -56,15 +56,24 @@ fn folder_told<'a, W>(
 ) -> FolderTold<'a>
     ensures id { result.id.now ≡ folder.now.id }
     ensures own { (result.index_id ≡ indexed.now.index_id) × (result.sequence ≡ known.own) }
-    ensures peers { (result.peer_index_id ≡ folder.now.kept_index_id) × (result.peer_sequence ≡ known.peers) }
+    ensures peers { (result.peer_index_id ≡ folder.now.kept_index_id)
+        × (result.peer_sequence ≡ received folder.now.kept_index_id known.peers) }
 {
     FolderTold {
         id: folder.id.as_str(),
         index_id: indexed.index_id,
         sequence: known.own,
         peer_index_id: folder.kept_index_id,
-        peer_sequence: known.peers,
+        peer_sequence: received(folder.kept_index_id, known.peers),
     }
+}
+
+// The sequence up to which the peer's index with this number was received without a gap. Where records of it were passed over no number is kept, so that all of
+// it comes again.
+fn received(kept_index_id: u64, known: u64) -> u64
+    ensures { result ≡ received kept_index_id known }
+{
+    if kept_index_id == 0 { 0 } else { known }
 }
 
 /// The greatest sequences of a folder that this device knows: of its own records as far as they are kept, and of the peer's.

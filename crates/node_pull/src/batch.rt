@@ -1,4 +1,6 @@
 //! Names of a folder that are pulled side by side.
+use crate::besides::pull_besides;
+use crate::patient::PatientSource;
 use crate::puller::pull;
 use crate::turn::Turn;
 use file_store::{FileStore, Gate};
@@ -7,10 +9,12 @@ use node_context::{Context, Event, Host};
 use node_files::Marked;
 use node_folder::FolderWorker;
 use node_need::{Miss, Wanted};
-use peer_asks::{PeerBook, PeerSource};
+use peer_asks::{FolderPeer, PeerBook, PeerSource};
 use std::alloc::{AllocError, Global};
+use std::sync::Wait;
 use sync_names::SafeName;
 use sync_pull::{PullAnswer, PullFailure};
+use sync_record::{Kind, Record};
 
 /// Names that are pulled, each by whoever comes next, and the peers that are asked.
 #[derive(Drop)]
@@ -18,7 +22,18 @@ pub(crate) struct Batch<'p, 'w, 't, 'x> {
     pub(crate) peers: &'p [PeerBook<'x>],
     pub(crate) wanted: &'w [Wanted],
     pub(crate) turn: &'t Turn,
+    // Whether a fetch may wait for a peer.
+    pub(crate) is_patient: bool,
 }
+
+/// What a puller asks for blocks.
+pub(crate) type Source<'c, 'x, R, G> = PatientSource<
+    'c,
+    'x,
+    R,
+    G,
+    PeerSource<'x, R, FolderPeer<'x>>,
+>;
 
 /// What a thread pulls names of a folder with.
 #[derive(Drop)]
@@ -41,7 +56,27 @@ impl<'x, S, W> Puller<'x, S, W> {
     }
 }
 
-/// Pulls the next name, as long as there is one and the node does not stop. Out of memory, the others are left to the next round.
+/// Pulls the next name, as long as there is one and the node does not stop; then, where others still have one and wait for a peer, what else comes. Out of memory, the others
+/// are left to the next round.
+pub(crate) fn pull_side<'x, R, S, W, G>(
+    cx: &Context<'x, R, G>,
+    batch: &Batch<'_, '_, '_, 'x>,
+    puller: &mut Puller<'x, S, W>,
+)
+where
+    R: Host,
+    S: FileStore + Marked,
+    W: FolderCalls,
+    G: Gate,
+{
+    let _ = pull_batch(cx, batch, puller);
+    if batch.turn.leads(cx.rt) {
+        pull_besides(cx, batch, puller);
+    }
+}
+
+/// Pulls the next name, as long as there is one and the node does not stop. Where nobody is connected any more, the files that are left wait for the next round. Out of
+/// memory, all do.
 pub(crate) fn pull_batch<'x, R, S, W, G>(
     cx: &Context<'x, R, G>,
     batch: &Batch<'_, '_, '_, 'x>,
@@ -53,46 +88,86 @@ where
     W: FolderCalls,
     G: Gate,
 {
-    let Puller {
-        worker,
-        failed,
-        has_pulled,
-    } = puller;
-    let id = worker.folder.id();
-    let mut source = PeerSource::new(cx.rt, cx.alloc, id, batch.peers)?;
+    let id = puller.worker.folder.id();
+    let source = PeerSource::new(cx.rt, cx.alloc, id, batch.peers)?;
+    let mut source = PatientSource::new(cx, source, batch.peers, batch.turn, batch.is_patient);
     for _ in batch.wanted {
         if cx.is_stopping() {
             return Ok(());
         }
-        let place = batch.turn.take(cx.rt);
-        let Some(wanted) = batch.wanted.get(place) else {
+        let Some(place) = batch.turn.take(cx.rt, batch.wanted.len()) else {
             return Ok(());
         };
-        if !batch.turn.has_room(cx.rt, &wanted.best) {
-            failed.push(wanted.miss_for_room(place))?;
-            continue;
-        }
-        let answer = pull(cx, worker, &mut source, &wanted.name);
-        let count = batch.wanted.len() as u64;
-        cx.tell(&Event::Pulling(id, place as u64 + 1, count));
-        match answer {
-            PullAnswer::Done(_) => *has_pulled = true,
-            PullAnswer::Failed(PullFailure::StoreFault) if worker.store.lacks_room() => {
-                batch.turn.lack_room(cx.rt, &wanted.best);
-                failed.push(wanted.miss_for_room(place))?;
-                continue;
-            }
-            PullAnswer::Failed(_) | PullAnswer::Unsupported => {
-                failed.push(wanted.miss(place, answer))?;
-                if wanted.told == Some(answer) {
-                    continue;
-                }
-            }
-            _ => {}
-        }
+        let pulled = pull_next(cx, batch, puller, &mut source, place);
+        batch.turn.put_back(cx.rt, place);
+        pulled?;
+    }
+    Ok(())
+}
+
+// Pulls the name at a place, unless the disk has no room for it, or it needs a peer and none is connected.
+fn pull_next<'x, R, S, W, G>(
+    cx: &Context<'x, R, G>,
+    batch: &Batch<'_, '_, '_, 'x>,
+    puller: &mut Puller<'x, S, W>,
+    source: &mut Source<'_, 'x, R, G>,
+    place: usize,
+) -> Result<(), AllocError>
+where
+    R: Host,
+    S: FileStore + Marked,
+    W: FolderCalls,
+    G: Gate,
+{
+    let Some(wanted) = batch.wanted.get(place) else {
+        return Ok(());
+    };
+    if needs_peer(&wanted.best) && !source.is_any_up() {
+        return Ok(());
+    }
+    if !batch.turn.has_room(cx.rt, &wanted.best) {
+        return Ok(puller.failed.push(wanted.miss_for_room(place))?);
+    }
+    let id = puller.worker.folder.id();
+    let answer = pull(cx, &mut puller.worker, source, &wanted.name);
+    let count = batch.wanted.len() as u64;
+    cx.tell(&Event::Pulling(id, place as u64 + 1, count));
+    if puller.note(cx.rt, batch.turn, wanted, place, answer)? {
         tell_answer(cx, id, &wanted.name, answer);
     }
     Ok(())
+}
+
+/// Whether the bytes of a best come from peers.
+pub(crate) fn needs_peer(best: &Record) -> bool {
+    !best.is_deleted() && best.kind() == Kind::File
+}
+
+impl<'x, S: Marked, W> Puller<'x, S, W> {
+    // Keeps what a pull came to. Returns whether it is to be told: not where the disk has no room, which is told once for all, and not a failure that was told already.
+    fn note<R: Wait>(
+        &mut self,
+        rt: &R,
+        turn: &Turn,
+        wanted: &Wanted,
+        place: usize,
+        answer: PullAnswer,
+    ) -> Result<bool, AllocError> {
+        match answer {
+            PullAnswer::Done(_) => self.has_pulled = true,
+            PullAnswer::Failed(PullFailure::StoreFault) if self.worker.store.lacks_room() => {
+                turn.lack_room(rt, &wanted.best);
+                self.failed.push(wanted.miss_for_room(place))?;
+                return Ok(false);
+            }
+            PullAnswer::Failed(_) | PullAnswer::Unsupported => {
+                self.failed.push(wanted.miss(place, answer))?;
+                return Ok(wanted.told != Some(answer));
+            }
+            _ => {}
+        }
+        Ok(true)
+    }
 }
 
 // Tells what a pull of a name came to.

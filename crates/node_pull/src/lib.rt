@@ -3,7 +3,10 @@
 
 mod batch;
 mod beginning;
+mod besides;
 mod obstacle;
+mod patience;
+mod patient;
 mod puller;
 mod rounds;
 mod turn;

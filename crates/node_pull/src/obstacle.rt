@@ -1,4 +1,5 @@
 //! A file that is where a directory is needed: when it makes way, and when it is moved back.
+use crate::batch::Source;
 use crate::beginning::{first_with_bytes, may_make_way};
 use crate::puller::{keep_copy, pull_once};
 use file_store::{FileStore, Gate, GatePlace, Stat, StoreRefusal, read_full};
@@ -6,7 +7,6 @@ use folder_calls::FolderCalls;
 use node_context::{Context, Host};
 use node_files::Marked;
 use node_folder::FolderWorker;
-use peer_asks::{FolderPeer, PeerSource};
 use std::alloc::{AllocError, Global};
 use sync_blocks::Block;
 use sync_names::{SafeName, conflict_name};
@@ -24,7 +24,7 @@ use sync_version::Moment;
 pub(crate) fn pull_past<R, S, W, G>(
     cx: &Context<R, G>,
     worker: &mut FolderWorker<S, W>,
-    source: &mut PeerSource<R, FolderPeer>,
+    source: &mut Source<'_, '_, R, G>,
     name: &SafeName,
 ) -> PullAnswer
 where
@@ -109,7 +109,7 @@ fn is_best<W: FolderCalls, G: Gate>(
 fn has_beginning<R, S, W, G>(
     cx: &Context<R, G>,
     worker: &mut FolderWorker<S, W>,
-    source: &mut PeerSource<R, FolderPeer>,
+    source: &mut Source<'_, '_, R, G>,
     name: &SafeName,
 ) -> Result<bool, AllocError>
 where

@@ -1,11 +1,11 @@
 //! The pull of one name.
+use crate::batch::Source;
 use crate::obstacle::pull_past;
 use file_store::{FileStore, Gate, GatePlace};
 use folder_calls::FolderCalls;
 use node_context::{Context, Event, Host, moment};
 use node_files::Marked;
 use node_folder::FolderWorker;
-use peer_asks::{FolderPeer, PeerSource};
 use std::alloc::AllocError;
 use sync_names::SafeName;
 use sync_pull::{PullAnswer, PullFailure, pull_name};
@@ -16,7 +16,7 @@ use sync_scan::scan_name;
 pub(crate) fn pull<R, S, W, G>(
     cx: &Context<R, G>,
     worker: &mut FolderWorker<S, W>,
-    source: &mut PeerSource<R, FolderPeer>,
+    source: &mut Source<'_, '_, R, G>,
     name: &SafeName,
 ) -> PullAnswer
 where
@@ -35,7 +35,7 @@ where
 pub(crate) fn pull_once<R, S, W, G>(
     cx: &Context<R, G>,
     worker: &mut FolderWorker<S, W>,
-    source: &mut PeerSource<R, FolderPeer>,
+    source: &mut Source<'_, '_, R, G>,
     name: &SafeName,
 ) -> PullAnswer
 where
@@ -57,7 +57,7 @@ where
         moment(cx.rt),
         worker.folder.settings.max_conflicts,
     );
-    source.let_go();
+    source.let_go(name);
     let moved = worker.store.take_moved();
     if let (PullAnswer::Done(_), Some(copy)) = (answer, &moved) {
         keep_copy(cx, worker, copy);

@@ -1,5 +1,5 @@
 //! Rounds of pulls: what is needed of each folder, again and again.
-use crate::batch::{Batch, Puller, pull_batch};
+use crate::batch::{Batch, Puller, needs_peer, pull_batch, pull_side};
 use crate::turn::Turn;
 use file_store::{FileStore, Gate};
 use folder_calls::FolderCalls;
@@ -13,6 +13,7 @@ use std::mem::replace;
 use std::sync::Wait;
 use std::thread::for_each_mut;
 use std::time::{Clock, Duration};
+use sync_record::DeviceId;
 
 /// How many milliseconds lie between two rounds of which the first pulled something, so that what peers announced meanwhile is pulled soon.
 const LEAST_PAUSE: u64 = 25;
@@ -21,16 +22,15 @@ const LEAST_PAUSE: u64 = 25;
 const MOST_PAUSE: u64 = 1_000;
 
 /// How many threads pull files of a folder side by side: a small file waits for the disk, and the next one need not.
-pub const PULLERS: usize = 8;
+pub const PULLERS: usize = 10;
 
 /// A folder, for the rounds.
 #[derive(Drop)]
 pub struct PulledFolder<'x, S, W> {
     folder: &'x NodeFolder,
     pullers: Vec<Puller<'x, S, W>>,
-    // Those that it is shared with, with their places among all peers.
+    // Those that it is shared with.
     peers: Vec<PeerBook<'x>>,
-    places: Vec<usize>,
     // The greatest sequence that is known of each.
     known: Vec<u64>,
     retries: Retries,
@@ -39,13 +39,12 @@ pub struct PulledFolder<'x, S, W> {
 }
 
 impl<'x, S: Drop, W: FolderCalls + Drop> PulledFolder<'x, S, W> {
-    /// A folder that is pulled by these, from these peers, whose places among all peers these are. Fails only if out of memory.
+    /// A folder that is pulled by these, from these peers. Fails only if out of memory.
     pub fn new(
         alloc: Global,
         folder: &'x NodeFolder,
         pullers: Vec<Puller<'x, S, W>>,
         peers: Vec<PeerBook<'x>>,
-        places: Vec<usize>,
     ) -> Result<PulledFolder<'x, S, W>, AllocError> {
         let mut pullers = pullers;
         let mut known = Vec::with_capacity(alloc, peers.len())?;
@@ -58,7 +57,6 @@ impl<'x, S: Drop, W: FolderCalls + Drop> PulledFolder<'x, S, W> {
             folder,
             pullers,
             peers,
-            places,
             known,
             retries: Retries::new(alloc),
             idle_at: None,
@@ -66,9 +64,26 @@ impl<'x, S: Drop, W: FolderCalls + Drop> PulledFolder<'x, S, W> {
     }
 }
 
-/// Pulls what is needed of each folder, in their order, and again each second, or sooner after something was pulled and at the
-/// start, until the node stops. A history that is full makes it stop.
+/// Pulls what is needed of each folder, all folders side by side, and again each second, or sooner after something was pulled and at the start, until the node stops. A
+/// history that is full makes it stop. It takes a thread for each folder.
 pub fn run_rounds<'x, R, S, W, G>(cx: &Context<'x, R, G>, folders: &mut [PulledFolder<'x, S, W>])
+where
+    R: Host,
+    S: FileStore + Marked + Drop + Send,
+    W: FolderCalls + Drop + Send,
+    G: Gate + Sync,
+{
+    let threads = folders.len().max(1);
+    for_each_mut(
+        cx.rt,
+        folders,
+        threads,
+        &|_, folder| run_rounds_of(cx, folder),
+    );
+}
+
+// Pulls what is needed of a folder, again and again, until the node stops.
+fn run_rounds_of<'x, R, S, W, G>(cx: &Context<'x, R, G>, folder: &mut PulledFolder<'x, S, W>)
 where
     R: Host,
     S: FileStore + Marked + Drop + Send,
@@ -85,16 +100,11 @@ where
         // (without a clock each round is taken for one that a second lies before)
         let is_later = second.is_none() || second != last;
         last = second;
-        let mut has_pulled = false;
-        for folder in folders.iter_mut() {
-            // (out of memory ends a round; the next one begins anew)
-            if let Ok(true) = pull_round(cx, folder, is_later) {
-                has_pulled = true;
-            }
-            if is_full(folder) {
-                cx.tell(&Event::HistoryFull(folder.folder.id()));
-                cx.stop();
-            }
+        // (out of memory ends a round; the next one begins anew)
+        let has_pulled = matches!(pull_round(cx, folder, is_later), Ok(true));
+        if is_full(folder) {
+            cx.tell(&Event::HistoryFull(folder.folder.id()));
+            cx.stop();
         }
         pause = if has_pulled {
             LEAST_PAUSE
@@ -139,12 +149,13 @@ where
     W: FolderCalls + Drop + Send,
     G: Gate + Sync,
 {
-    let up = up_count(cx, folder.places.as_slice());
-    let Some(order) = order_of(cx, folder, up, is_later)? else {
+    let up = up_of(cx, folder.peers.as_slice())?;
+    let Some(order) = order_of(cx, folder, up.as_slice(), is_later)? else {
         return Ok(false);
     };
+    let up = up.len();
     let mut has_pulled = false;
-    let turn = Turn::first();
+    let turn = Turn::first(cx.alloc)?;
     for wanted in order.live.iter().filter(|wanted| !wanted.is_empty()) {
         turn.begin(cx.rt);
         let wanted = wanted.as_slice();
@@ -166,7 +177,7 @@ where
 fn order_of<R, S, W, G>(
     cx: &Context<R, G>,
     folder: &mut PulledFolder<S, W>,
-    up: usize,
+    up: &[DeviceId],
     is_later: bool,
 ) -> Result<Option<PullOrder>, AllocError>
 where
@@ -262,7 +273,7 @@ fn settle<R: Host, S, W, G>(
     Ok(has_pulled)
 }
 
-// Pulls names by all pullers, each the next one that none has. Out of memory, the others are left to the next round.
+// Pulls names by all pullers, each the next one that none has.
 fn pull_side_by_side<'x, R, S, W, G>(
     cx: &Context<'x, R, G>,
     folder: &mut PulledFolder<'x, S, W>,
@@ -280,16 +291,26 @@ where
         peers: peers.as_slice(),
         wanted,
         turn,
+        is_patient: true,
     };
-    let threads = wanted.len().min(PULLERS).max(1);
+    let threads = hands_for(wanted).min(pullers.len());
+    let Some(pullers) = pullers.as_mut_slice().get_mut(..threads) else {
+        return;
+    };
     for_each_mut(
         cx.rt,
-        pullers.as_mut_slice(),
-        threads,
-        &|_, puller| {
-            let _ = pull_batch(cx, &batch, puller);
-        },
+        pullers,
+        threads.max(1),
+        &|_, puller| pull_side(cx, &batch, puller),
     );
+}
+
+// How many pull such names side by side: of files one for each, and one for what else comes while they wait for a peer.
+fn hands_for(wanted: &[Wanted]) -> usize {
+    match wanted.first() {
+        Some(first) if needs_peer(&first.best) => wanted.len().saturating_add(1),
+        _ => 1,
+    }
 }
 
 // Pulls names one after another.
@@ -311,14 +332,22 @@ where
     let batch = Batch {
         peers: peers.as_slice(),
         wanted,
-        turn: &Turn::first(),
+        turn: &Turn::first(cx.alloc)?,
+        is_patient: false,
     };
     pull_batch(cx, &batch, puller)
 }
 
-fn up_count<R: Host, G>(cx: &Context<R, G>, places: &[usize]) -> usize {
-    places
-        .iter()
-        .filter(|place| cx.connections.is_up(cx.rt, **place))
-        .count()
+/// Those of a folder's peers that are up. Fails only if out of memory.
+pub(crate) fn up_of<R: Host, G>(
+    cx: &Context<R, G>,
+    peers: &[PeerBook],
+) -> Result<Vec<DeviceId>, AllocError> {
+    let mut up = Vec::with_capacity(cx.alloc, peers.len())?;
+    for peer in peers.iter() {
+        if peer.book.connection(cx.rt).is_some() {
+            up.push(peer.device)?;
+        }
+    }
+    Ok(up)
 }

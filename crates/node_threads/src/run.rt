@@ -75,7 +75,7 @@ pub struct NodeEnd<C, L> {
 ///
 /// Each folder is scanned once, and then as often as it asks for. Then one thread pulls what is needed of each folder in turn, once a second; each peer has a
 /// connection, whose workers are those of [`run_link`](peer_link::run_link): one that this device makes is made again 10 seconds after it ended, and of one
-/// that the peer makes there is one at a time; a further one is closed at once. A connection that ends ends nothing else. What is recorded is written to the
+/// that the peer makes there is one at a time: a further one takes its place once its ClusterConfig lists both devices. A connection that ends ends nothing else. What is recorded is written to the
 /// journal, and peers are told of it once it is there; a pull puts a file in place once the journal has its plan. All of it is there at the end, unless the
 /// journal can't be written.
 ///

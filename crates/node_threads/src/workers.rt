@@ -170,20 +170,19 @@ fn pulled_of<'x, 'b, F: FolderFiles, W: FolderCalls, R: Wait>(
             let worker = worker_of(files, folder, place, GivesUp::AtStop, callers)?;
             pullers.push(Puller::new(alloc, worker))?;
         }
-        let (books, places) = books_of(alloc, node, place)?;
-        pulled.push(PulledFolder::new(alloc, folder, pullers, books, places)?)?;
+        let books = books_of(alloc, node, place)?;
+        pulled.push(PulledFolder::new(alloc, folder, pullers, books)?)?;
     }
     Ok(pulled)
 }
 
-// The peers that the folder at a place is shared with, and their places.
+// The peers that the folder at a place is shared with.
 fn books_of<'x>(
     alloc: Global,
     node: Node<'x>,
     folder: usize,
-) -> Result<(Vec<PeerBook<'x>>, Vec<usize>), AllocError> {
+) -> Result<Vec<PeerBook<'x>>, AllocError> {
     let mut books = Vec::new(alloc);
-    let mut places = Vec::new(alloc);
     for at in 0..node.peers.len() {
         let (Some(peer), Some(book)) = (node.peers.get(at), node.books.get(at)) else {
             break;
@@ -191,10 +190,9 @@ fn books_of<'x>(
         if peer.shares.iter().any(|share| share.folder == folder) {
             let device = peer.device;
             books.extend_from_slice(&[PeerBook { device, book }])?;
-            places.push(at)?;
         }
     }
-    Ok((books, places))
+    Ok(books)
 }
 
 fn peers_of<'x, 'b, F: FolderFiles, W: FolderCalls, R: Wait>(

@@ -1,5 +1,5 @@
 -- What is known of the Requests of one connection (own rule).
-use Rattle.std.specs.Prelude.{◌≡◌, ◌≢◌, ◌⊎◌, ℕ, suc, ◌<◌, ◌≤◌, ℤ, pos, Bool, true, false, List, [], ◌∷◌, Option, Some, None, ◌++◌, length, get_or, slice_set, ⊤}
+use Rattle.std.specs.Prelude.{◌≡◌, ◌≢◌, ◌⊎◌, ℕ, suc, ◌<◌, ◌≤◌, ◌+◌, ◌-◌, ◌*◌, ◌^◌, ◌&&◌, ℤ, pos, Bool, true, false, List, [], ◌∷◌, Option, Some, None, ◌++◌, fold, length, get_or, min, nat_lt, option_to_list, slice_set, ⊤}
 use Rattle.std.specs.List.{position}
 use Rattle.std.specs.Global.{Vec}
 use Rattle.bep_messages.specs.declared.response.Response.{Response}
@@ -7,7 +7,7 @@ use Rattle.bep_session.specs.Ids.{max_asks}
 use Rattle.bep_messages.specs.declared.request.Request.{Request}
 use Rattle.peer_asks.specs.Requests.{TakesOne, under}
 use Rattle.peer_asks.specs.declared.fault.AskFault.{AskFault}
-use Rattle.peer_asks.specs.declared.fault.AskFault.TheVariants.{NotConnected, TooManyAsks, TooLarge, OutOfMemory}
+use Rattle.peer_asks.specs.declared.fault.AskFault.TheVariants.{NotConnected, TooManyAsks, Silent, TooLarge, OutOfMemory}
 use Rattle.peer_asks.specs.declared.table.AskState.{AskState}
 use Rattle.peer_asks.specs.declared.table.AskState.TheVariants.{Free, Waits, LetGo, Came, NoneCame}
 use Rattle.peer_asks.specs.declared.table.Arrival.{Arrival}
@@ -27,6 +27,19 @@ IsAt id k = id ≡ pos (suc k)
 abbrev pub is_free : AskState → Bool
 is_free Free = true
 is_free _ = false
+
+-- how many bytes are asked for by a Request that waits, or came and were not taken
+abbrev pub bytes_of : AskState → ℕ
+bytes_of (Waits size) = size
+bytes_of (Came bytes) = length bytes.items
+bytes_of _ = 0
+
+abbrev pub bytes_asked : List AskState → ℕ
+bytes_asked states = fold (λ sum state. min (sum + bytes_of state) (2 ^ 64 - 1)) 0 states
+
+-- of the 1,024 places the last 256 are kept for blocks that are waited for, and others are asked for only as far as 256 MiB
+abbrev pub has_room_ahead : List AskState → Bool
+has_room_ahead states = nat_lt (get_or (option_to_list (position is_free states)) 0 (length states)) 768 && nat_lt (bytes_asked states) (256 * 1024 * 1024)
 
 -- there was no Request with the id
 abbrev pub IsFreeAt : List AskState → ℤ → Type 0
@@ -101,5 +114,6 @@ module _ {S : Type 0} (takes : S → Request → Bool → S → Type 0) where
   HasRefused NotConnected request from to old new = (from ≡ None) × (to ≡ from) × (new ≡ old)
   HasRefused TooManyAsks request from to old new =
       (AreAllTaken old × (to ≡ from) × (new ≡ old)) ⊎ (((id : ℤ) × TakesOne takes (under id request) false from to) × IsTakenBack old new)
+  HasRefused Silent request from to old new = ⊥
   HasRefused TooLarge request from to old new = ⊥
   HasRefused OutOfMemory request from to old new = (to ≡ from) × (new ≡ old)

@@ -1,7 +1,8 @@
 //! The Requests under way over the connection with a peer.
-ghost use Rattle.std.specs.Prelude.{◌≡◌, ◌≢◌, ◌⊎◌, ◌+◌, ◌%◌, ◌^◌, ◌∷◌, ◌++◌, [], IfErr, IfOk, OnErr, OnOk, Some, false, true};
+ghost use Rattle.std.specs.Prelude.{◌≡◌, ◌≢◌, ◌⊎◌, ◌+◌, ◌%◌, ◌^◌, ◌∷◌, ◌++◌, ◌==◌, ◌&&◌, [], IfErr, IfOk, None, OnErr, OnOk, Some, false, if◌then◌else◌, is_some, not, true};
 ghost use Rattle.peer_asks.specs.Asks.{HasLooked, HasOpened, HasRefused, HasTaken, IsSetAt, after_let_go};
 ghost use Rattle.peer_asks.specs.Counts.{HasCounted};
+ghost use Rattle.peer_asks.specs.Silence.{heard};
 ghost use Rattle.peer_asks.specs.Requests.{IsNamed, IsTooLarge, TakesOne, request_of, under};
 ghost use Rattle.peer_asks.specs.declared.fault.AskFault.TheVariants.{OutOfMemory, TooLarge};
 ghost use Rattle.peer_asks.specs.declared.table.AskState.TheVariants.{Waits};
@@ -9,6 +10,7 @@ ghost use Rattle.peer_asks.specs.declared.table.Taken.TheVariants.{Nothing};
 
 use crate::counts::AskCounts;
 use crate::fault::AskFault;
+use crate::silence::{Patience, STEP_SECONDS, Silences, second_of};
 use crate::sink::RequestSink;
 use crate::table::{Arrival, AskTable, Taken};
 use bep_messages::{Request, Response, ShortOctets, Text};
@@ -19,14 +21,12 @@ use std::time::{Clock, Duration};
 use sync_blocks::Block;
 use sync_names::SafeName;
 
-/// For how long who asked waits while no Response comes.
-const WAIT_SECONDS: u64 = 300;
-
 /// A Request that is under way, or was.
 #[derive(Clone, Copy, Debug, PartialEq, Eq)]
 pub struct AskId {
-    // The connection's number, and the Request's.
+    // The connection's number, how many silences there were before, and the Request's number.
     connection: u64,
+    silence: u64,
     id: i32,
 }
 
@@ -34,7 +34,7 @@ pub struct AskId {
 /// connection, which hands in the Responses. A book lasts longer than a connection; all waits end with each of them.
 ///
 /// An id is the least positive one that no Request has, as a session chooses it. So at most [`MAX_ASKS`](bep_session::MAX_ASKS) are under
-/// way, and a peer is asked no more while they are.
+/// way, and a peer is asked no more while they are. A peer that says nothing is not waited for for ever ([`wait_for`](AskBook::wait_for)).
 #[derive(Drop)]
 pub struct AskBook {
     shared: Mutex<Shared<Sender<Request>>>,
@@ -51,8 +51,10 @@ struct Shared<S> {
     connection: u64,
     table: AskTable,
     counts: AskCounts,
-    // How many Responses came.
+    // How many Responses came, and pieces of bytes.
     arrivals: u64,
+    pieces: u64,
+    silences: Silences,
 }
 
 impl AskBook {
@@ -65,6 +67,8 @@ impl AskBook {
                 table: AskTable::new(alloc),
                 counts: AskCounts::new(),
                 arrivals: 0,
+                pieces: 0,
+                silences: Silences::none(),
             }),
             arrived: Condvar::new(),
         }
@@ -82,11 +86,17 @@ impl AskBook {
         self.arrived.notify_all();
     }
 
+    /// Which connection there is, counted from the first, if there is one.
+    pub fn connection<R: Wait>(&self, rt: &R) -> Option<u64> {
+        self.shared.lock(rt).connection()
+    }
+
     /// Asks the peer for a block of a file of the folder. Does not wait.
     ///
-    /// Fails with `NotConnected` without a connection, with `TooManyAsks` where no more may be under way, with `TooLarge` where no Request
-    /// can name the block, and where memory runs out. O(n) for n ids under way and n bytes of the folder's id and the name.
-    pub fn ask<R: Wait>(
+    /// Fails with `NotConnected` without a connection, with `Silent` while the peer is left alone, with `TooManyAsks` where no more may be
+    /// under way, with `TooLarge` where no Request can name the block, and where memory runs out. O(n) for n ids under way and n bytes of
+    /// the folder's id and the name.
+    pub fn ask<R: Wait + Clock>(
         &self,
         rt: &R,
         alloc: Global,
@@ -95,32 +105,65 @@ impl AskBook {
         block: &Block,
     ) -> Result<AskId, AskFault> {
         let request = request_for(alloc, folder, name, block)?;
+        let now = second_of(rt);
         let mut shared = self.shared.lock(rt);
+        if shared.silences.is_left_alone(now) {
+            return Err(AskFault::Silent);
+        }
         shared.send(rt, request, block.size)
+    }
+
+    /// Asks it for a block that nobody waits for yet. So that there is room for those that are waited for, it also fails with `TooManyAsks`
+    /// where 768 Requests are under way, or 256 MiB of blocks were asked for and not taken.
+    pub fn ask_ahead<R: Wait + Clock>(
+        &self,
+        rt: &R,
+        alloc: Global,
+        folder: &str,
+        name: &SafeName,
+        block: &Block,
+    ) -> Result<AskId, AskFault> {
+        if !self.shared.lock(rt).table.has_room_ahead() {
+            return Err(AskFault::TooManyAsks);
+        }
+        self.ask(rt, alloc, folder, name, block)
     }
 
     /// Waits until the Response of the Request came, and leaves its bytes in `bytes`, in place of what is there. Returns `false`, and
     /// leaves `bytes` as it is, where the Response had an error or another number of bytes than were asked for, where the connection ended,
-    /// and where no Response at all came for 300 seconds. The Request is then over; what comes later for it is counted as late.
+    /// and where the peer was silent: while somebody waited, no byte came for a minute, or no Response for five. A silence ends all waits,
+    /// for all Requests that were made before it. After three silences running, without a Response between, the peer is asked nothing for
+    /// five minutes. The Request is then over; what comes later for it is counted as late.
     pub fn wait_for<R: Wait + Clock>(&self, rt: &R, ask: AskId, bytes: &mut Vec<u8>) -> bool
         ensures { result ≡ false → bytes.new.items ≡ bytes.old.items }
     {
         let mut shared = self.shared.lock(rt);
+        let mut patience = Patience::new(shared.pieces);
+        let mut is_over = false;
         for _ in rt.forever() {
-            let seen = shared.arrivals;
             if let Some(is_there) = shared.look(ask, bytes) {
                 return is_there;
             }
+            if is_over && !shared.is_given_up(ask) {
+                shared.silences.begin(second_of(rt));
+                self.arrived.notify_all();
+            }
+            if shared.is_given_up(ask) {
+                shared.let_go(ask);
+                return false;
+            }
+            let seen = shared.arrivals;
             let (guard, waited) = self.arrived.wait_timeout_while(
                 rt,
                 shared,
-                Duration::from_secs(WAIT_SECONDS),
-                |shared| shared.arrivals == seen && shared.connection == ask.connection,
+                Duration::from_secs(STEP_SECONDS),
+                |shared| shared.is_as(ask, seen),
             );
             shared = guard;
             if waited.timed_out() {
-                shared.let_go(ask);
-                return false;
+                is_over = patience.step(shared.pieces);
+            } else {
+                patience = Patience::new(shared.pieces);
             }
         }
         unreachable!()
@@ -132,9 +175,11 @@ impl AskBook {
     }
 
     /// An id of a Request under way that this did not return before, if there is one: the reader of the connection opens it in its
-    /// session, before it feeds what it reads next.
+    /// session, before it feeds what it reads next. That something was read is noted, so call it for each piece, until it returns none.
     pub fn next_ask<R: Wait>(&self, rt: &R) -> Option<i32> {
-        self.shared.lock(rt).table.next_untold()
+        let mut shared = self.shared.lock(rt);
+        shared.pieces = shared.pieces.wrapping_add(1);
+        shared.table.next_untold()
     }
 
     /// Hands in a Response, for who asked. Does not allocate.
@@ -165,10 +210,37 @@ impl<S: RequestSink + Drop> Shared<S> {
         ensures untold { self.new.table.untold.items ≡ [] }
         ensures connection { self.new.connection ≡ (self.old.connection + 1) % 2 ^ 64 }
         ensures counts { self.new.counts ≡ self.old.counts }
+        ensures heard { self.new.silences ≡ heard self.old.silences }
     {
         self.requests = requests;
         self.table.clear();
         self.connection = self.connection.wrapping_add(1);
+        self.silences.end();
+    }
+
+    fn connection(&self) -> Option<u64>
+        ensures { result ≡ (if is_some self.now.requests then Some self.now.connection else None) }
+    {
+        if self.requests.is_some() {
+            Some(self.connection)
+        } else {
+            None
+        }
+    }
+
+    // Whether the peer was silent since it was asked.
+    fn is_given_up(&self, ask: AskId) -> bool
+        ensures { result ≡ not (ask.silence == self.now.silences.count) }
+    {
+        ask.silence != self.silences.count
+    }
+
+    // Whether nothing happened for who waits for this: no Response came since so many, the connection is the same, and the peer was not silent.
+    fn is_as(&self, ask: AskId, arrivals: u64) -> bool
+        ensures { result ≡ (self.now.arrivals == arrivals) && (self.now.connection == ask.connection)
+            && (ask.silence == self.now.silences.count) }
+    {
+        self.arrivals == arrivals && self.connection == ask.connection && !self.is_given_up(ask)
     }
 
     // Gives the Request an id, and sends it.
@@ -176,13 +248,13 @@ impl<S: RequestSink + Drop> Shared<S> {
         ensures opened { IfOk result (λ ask.
             HasOpened self.old.table.states.items ask.id (Waits size) self.new.table.states.items) }
         ensures untold { IfOk result (λ ask. self.new.table.untold.items ≡ self.old.table.untold.items ++ ask.id ∷ []) }
-        ensures connection { IfOk result (λ ask. ask.connection ≡ self.old.connection) }
+        ensures connection { IfOk result (λ ask. (ask.connection ≡ self.old.connection) × (ask.silence ≡ self.old.silences.count)) }
         ensures sent { IfOk result (λ ask.
             TakesOne S.takes (under ask.id request) true self.old.requests self.new.requests) }
         ensures not_sent { IfErr result (λ fault. HasRefused S.takes fault request self.old.requests self.new.requests
             self.old.table.states.items self.new.table.states.items) }
         ensures not_told { OnErr result (self.new.table.untold.items ≡ self.old.table.untold.items) }
-        ensures same { (self.new.connection ≡ self.old.connection) × (self.new.counts ≡ self.old.counts) }
+        ensures same { (self.new.connection ≡ self.old.connection) × (self.new.counts ≡ self.old.counts) × (self.new.silences ≡ self.old.silences) }
     {
         let Some(requests) = &mut self.requests else {
             return Err(AskFault::NotConnected);
@@ -197,6 +269,7 @@ impl<S: RequestSink + Drop> Shared<S> {
         }
         Ok(AskId {
             connection: self.connection,
+            silence: self.silences.count,
             id,
         })
     }
@@ -245,8 +318,10 @@ impl<S: RequestSink + Drop> Shared<S> {
     }
 
     fn answer(&mut self, response: Response)
-        ensures { HasCounted self.old.table.states.items response self.new.table.states.items self.old.counts self.new.counts }
+        ensures counted { HasCounted self.old.table.states.items response self.new.table.states.items self.old.counts self.new.counts }
+        ensures heard { self.new.silences ≡ heard self.old.silences }
     {
+        self.silences.end();
         let arrival = self.table.answer(response);
         self.counts.count(arrival);
         self.arrivals = self.arrivals.wrapping_add(1);

@@ -11,9 +11,12 @@ pub enum AskFault {
     /// There is no connection with the peer, or it is ending.
     #[error("NotConnected")]
     NotConnected,
-    /// [`MAX_ASKS`](bep_session::MAX_ASKS) Requests wait for their Response.
+    /// As many Requests as may, [`MAX_ASKS`](bep_session::MAX_ASKS) at most, wait for their Response.
     #[error("TooManyAsks")]
     TooManyAsks,
+    /// It was silent three times running, while Requests waited, and is left alone for five minutes.
+    #[error("Silent")]
+    Silent,
     /// The block ends at 2^63 or later, or has 2^31 bytes or more, so no Request can name it.
     #[error("TooLarge")]
     TooLarge,
@@ -29,7 +32,10 @@ impl AskFault {
     {
         match self {
             AskFault::OutOfMemory => true,
-            AskFault::NotConnected | AskFault::TooManyAsks | AskFault::TooLarge => false,
+            AskFault::NotConnected
+            | AskFault::TooManyAsks
+            | AskFault::Silent
+            | AskFault::TooLarge => false,
         }
     }
 }

@@ -7,11 +7,11 @@ use crate::fault::AskFault;
 use crate::peer::PeerAsks;
 use std::alloc::Global;
 use std::sync::Wait;
+use std::time::Clock;
 use sync_blocks::Block;
 use sync_names::SafeName;
 
-/// The most blocks of a file that one peer is asked for at one time: so few that eight pullers do not use up the Requests that may be open to
-/// it.
+/// The most blocks of a file that one peer is asked for at one time.
 const MAX_AHEAD: usize = 120;
 
 /// From how many bytes on that a peer is asked for at one time, it isn't asked ahead for more.
@@ -52,7 +52,7 @@ impl Lane {
     }
 
     /// Asks for a block of a file, unless it was asked for ahead, and ahead for those after it, if it is one of these.
-    pub(crate) fn ask<R: Wait, P: PeerAsks>(
+    pub(crate) fn ask<R: Wait + Clock, P: PeerAsks>(
         &mut self,
         rt: &R,
         alloc: Global,
@@ -104,8 +104,8 @@ impl Lane {
         count > 0
     }
 
-    // Asks for more blocks, from this place on or behind those that were asked for, as many as may be asked for at one time.
-    fn ask_ahead<R: Wait, P: PeerAsks>(
+    // Asks for more blocks, from this place on or behind those that were asked for, as many as may be asked for at one time, and there is room for.
+    fn ask_ahead<R: Wait + Clock, P: PeerAsks>(
         &mut self,
         rt: &R,
         alloc: Global,
@@ -125,7 +125,7 @@ impl Lane {
             if self.asks.len() >= self.window || sum >= MAX_AHEAD_BYTES {
                 return;
             }
-            let Ok(ask) = peer.ask(rt, alloc, name, block) else {
+            let Ok(ask) = peer.ask_ahead(rt, alloc, name, block) else {
                 return;
             };
             if let Err(refused) = self.asks.push(Ahead { place, ask }) {

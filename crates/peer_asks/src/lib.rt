@@ -11,6 +11,7 @@ mod fault;
 mod lane;
 mod peer;
 mod requester;
+mod silence;
 mod sink;
 mod source;
 mod table;

@@ -8,7 +8,7 @@ ghost use Rattle.peer_asks.specs.declared.fault.AskFault.{AskFault};
 ghost use Rattle.peer_asks.specs.declared.ask.Ask.{Ask};
 
 use crate::ask::Ask;
-use crate::book::AskBook;
+use crate::book::{AskBook, AskId};
 use crate::fault::AskFault;
 use std::alloc::Global;
 use std::sync::Wait;
@@ -33,7 +33,18 @@ pub trait PeerAsks {
         ensures { result ≡ device self.now };
 
     /// Asks for a block of a file. Does not wait.
-    fn ask<R: Wait>(
+    fn ask<R: Wait + Clock>(
+        &self,
+        rt: &R,
+        alloc: Global,
+        name: &SafeName,
+        block: &Block,
+    ) -> Result<Ask, AskFault>
+        ensures { MatchResult result (IsFor (device self.now) name.now block.now)
+            (refuses self.now name.now block.now) };
+
+    /// Asks for a block that nobody waits for yet, if there is room for it. Does not wait.
+    fn ask_ahead<R: Wait + Clock>(
         &self,
         rt: &R,
         alloc: Global,
@@ -73,6 +84,19 @@ pub struct FolderPeer<'a> {
     pub folder: &'a str,
 }
 
+impl FolderPeer<'_> {
+    fn asked(&self, name: SafeName, block: &Block, id: AskId) -> Ask
+        ensures { IsFor self.now.device name block.now result }
+    {
+        Ask {
+            device: self.device,
+            name,
+            block: *block,
+            id,
+        }
+    }
+}
+
 impl PeerAsks for FolderPeer<'_> {
     ghost use Rattle.std.specs.Prelude.{⊤};
 
@@ -86,7 +110,7 @@ impl PeerAsks for FolderPeer<'_> {
         self.device
     }
 
-    fn ask<R: Wait>(
+    fn ask<R: Wait + Clock>(
         &self,
         rt: &R,
         alloc: Global,
@@ -95,12 +119,19 @@ impl PeerAsks for FolderPeer<'_> {
     ) -> Result<Ask, AskFault> {
         let copy = name.copy()?;
         let id = self.book.ask(rt, alloc, self.folder, name, block)?;
-        Ok(Ask {
-            device: self.device,
-            name: copy,
-            block: *block,
-            id,
-        })
+        Ok(self.asked(copy, block, id))
+    }
+
+    fn ask_ahead<R: Wait + Clock>(
+        &self,
+        rt: &R,
+        alloc: Global,
+        name: &SafeName,
+        block: &Block,
+    ) -> Result<Ask, AskFault> {
+        let copy = name.copy()?;
+        let id = self.book.ask_ahead(rt, alloc, self.folder, name, block)?;
+        Ok(self.asked(copy, block, id))
     }
 
     fn wait_for<R: Wait + Clock>(&self, rt: &R, ask: Ask, bytes: &mut Vec<u8>) -> bool {

@@ -1,7 +1,7 @@
 //! The Requests of one connection that wait for their Response, or whose answer waits for who asked.
 ghost use Rattle.std.specs.Prelude.{◌≡◌, ◌<◌, ◌∷◌, ◌++◌, ◌⊎◌, [], ℕ, IfErr, IfNone, IfOk, IfSome, None, OnErr, length, option_to_list};
 ghost use Rattle.std.specs.List.{position};
-ghost use Rattle.peer_asks.specs.Asks.{AreAllTaken, HasAnswered, HasOpened, HasTaken, IsAt, IsFreeAt, IsSetAt, IsWithoutLast, after_let_go, is_free};
+ghost use Rattle.peer_asks.specs.Asks.{AreAllTaken, HasAnswered, HasOpened, HasTaken, IsAt, IsFreeAt, IsSetAt, IsWithoutLast, after_let_go, bytes_asked, bytes_of, has_room_ahead, is_free};
 ghost use Rattle.peer_asks.specs.declared.fault.AskFault.TheVariants.{OutOfMemory, TooManyAsks};
 ghost use Rattle.peer_asks.specs.declared.table.AskState.TheVariants.{Free, Waits};
 
@@ -10,6 +10,12 @@ use bep_messages::Response;
 use bep_session::MAX_ASKS;
 use std::alloc::{AllocError, Global};
 use std::mem;
+
+/// How many Requests may be under way while others are made for blocks that nobody waits for yet.
+const MAX_ASKS_AHEAD: usize = 768;
+
+/// How many bytes of blocks may be asked for, and not taken, while others are asked for ahead: 256 MiB.
+const MAX_BYTES_AHEAD: u64 = 268_435_456;
 
 /// What is known of the Request with an id.
 #[derive(Debug, Drop)]
@@ -127,6 +133,23 @@ impl AskTable {
         Ok(id)
     }
 
+    /// Whether a block may be asked for that nobody waits for yet: there is a place for it before the last 256, and not too many bytes are asked for. O(n) for n ids.
+    pub(crate) fn has_room_ahead(&self) -> bool
+        ensures { result ≡ has_room_ahead self.now.states.items }
+    {
+        let place = self.free_place().unwrap_or(self.states.len());
+        place < MAX_ASKS_AHEAD && self.bytes_asked() < MAX_BYTES_AHEAD
+    }
+
+    // How many bytes were asked for, and not taken.
+    fn bytes_asked(&self) -> u64
+        ensures { result ≡ bytes_asked self.now.states.items }
+    {
+        self.states
+            .iter()
+            .fold(0, |sum, state| sum.saturating_add(bytes_of(state)))
+    }
+
     /// Takes back the id that was opened last, whose Request does not go out.
     pub(crate) fn take_back(&mut self, id: i32)
         ensures freed { IsSetAt self.old.states.items id (λ _. Free) self.new.states.items }
@@ -225,5 +248,16 @@ impl AskTable {
         self.states
             .iter()
             .position(|state| matches!(state, AskState::Free))
+    }
+}
+
+// How many bytes are asked for by a Request that waits, or came and were not taken.
+fn bytes_of(state: &AskState) -> u64
+    ensures { result ≡ bytes_of state.now }
+{
+    match state {
+        AskState::Waits(size) => u64::from(*size),
+        AskState::Came(bytes) => bytes.len() as u64,
+        AskState::Free | AskState::LetGo | AskState::NoneCame => 0,
     }
 }

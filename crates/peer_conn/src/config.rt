@@ -101,8 +101,8 @@ pub fn entry_of<'a>(config: &'a ClusterConfig, folder: &str, device: DeviceId) -
     device_in(folder_of(config, folder)?, device)
 }
 
-/// The last folder with this id.
-pub(crate) fn folder_of<'a>(config: &'a ClusterConfig, id: &str) -> Option<&'a Folder>
+/// What a ClusterConfig says of the folder with this id, if it has it. Where it repeats the folder, the last one counts. Does not allocate. O(n).
+pub fn folder_of<'a>(config: &'a ClusterConfig, id: &str) -> Option<&'a Folder>
     ensures { option_copied result ≡ folder_in id.now config.now }
 {
     let folders = config.folders.as_slice();

@@ -18,7 +18,7 @@ mod taking;
 mod turn;
 mod writer;
 
-pub use config::{FolderTold, cluster_config, entry_of, start_of};
+pub use config::{FolderTold, cluster_config, entry_of, folder_of, start_of};
 pub use ends::{Bell, Ended, NotPut, Rings, Seat, Taker};
 pub use indexer::{IndexedFolder, IndexerEnd, run_indexer};
 pub use kept::KeptCalls;

@@ -1,4 +1,5 @@
 use crate::folders::LinkFolders;
+use crate::told::ToldFolders;
 use peer_asks::RequesterEnd;
 use peer_conn::{IndexerEnd, WriterFault};
 use peer_reader::ReaderEnd;
@@ -9,6 +10,8 @@ use peer_server::ServerEnd;
 pub struct LinkEnd<S, W> {
     /// The reader, and what it counted.
     pub reader: ReaderEnd,
+    /// What the peer said of the folders, and whether the connection couldn't go on with that.
+    pub told: ToldFolders,
     /// The indexer.
     pub indexer: IndexerEnd,
     /// The server.

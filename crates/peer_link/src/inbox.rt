@@ -3,6 +3,8 @@ ghost use Rattle.std.specs.Prelude.{◌≡◌};
 ghost use Rattle.peer_link.specs.Requests.{shortened};
 
 use crate::limits::MAX_REQUEST_NAME_BYTES;
+use crate::line::Line;
+use crate::told::ToldFolders;
 use bep_messages::{ClusterConfig, DIGEST_LEN, Request, ShortOctets, Text};
 use crossbeam_channel::Sender;
 use peer_asks::AskBook;
@@ -11,23 +13,25 @@ use peer_server::PeerRequest;
 use std::alloc::Global;
 use std::sync::Wait;
 
-/// The ends of the channels to the indexer and to the server, and the Requests of this device. The workers end once it is dropped.
+/// The ends of the channels to the indexer and to the server, and the Requests of this device. The workers end once it is dropped. Where the connection can't go on,
+/// it hangs the line up.
 #[derive(Drop)]
-pub(crate) struct LinkInbox<'a, R> {
+pub(crate) struct LinkInbox<'a, R, L> {
     rt: &'a R,
     alloc: Global,
+    line: &'a L,
     configs: Sender<ClusterConfig>,
-    // Whether the indexer was given a ClusterConfig.
-    is_told: bool,
     requests: Sender<PeerRequest>,
     book: &'a AskBook,
+    told: ToldFolders,
 }
 
-impl<R: Wait> Inbox for LinkInbox<'_, R> {
+impl<R: Wait, L: Line> Inbox for LinkInbox<'_, R, L> {
     fn take(&mut self, passed: Passed) {
         match passed {
             Passed::Nothing => {}
             Passed::Config(config) => self.tell(config),
+            Passed::Unshared(id) => self.pass_over(id),
             Passed::Asked(folder, request) => {
                 let asked = PeerRequest {
                     folder,
@@ -46,34 +50,50 @@ impl<R: Wait> Inbox for LinkInbox<'_, R> {
     }
 }
 
-impl<'a, R: Wait> LinkInbox<'a, R> {
+impl<'a, R: Wait, L: Line> LinkInbox<'a, R, L> {
     pub(crate) fn new(
         rt: &'a R,
         alloc: Global,
-        configs: Sender<ClusterConfig>,
-        requests: Sender<PeerRequest>,
+        line: &'a L,
+        channels: (Sender<ClusterConfig>, Sender<PeerRequest>),
         book: &'a AskBook,
-    ) -> LinkInbox<'a, R> {
+        told: ToldFolders,
+    ) -> LinkInbox<'a, R, L> {
+        let (configs, requests) = channels;
         LinkInbox {
             rt,
             alloc,
+            line,
             configs,
-            is_told: false,
             requests,
             book,
+            told,
         }
     }
 
-    /// Nothing comes any more: the indexer and the server end once they have done what is there, and no one waits for a Response.
-    pub(crate) fn close(self) {
+    /// Nothing comes any more: the indexer and the server end once they have done what is there, and no one waits for a Response. Returns what was told of the folders.
+    pub(crate) fn close(self) -> ToldFolders {
         self.book.end(self.rt);
+        let LinkInbox { told, .. } = self;
+        told
     }
 
     // Gives the indexer the first ClusterConfig; it passes over later ones.
     fn tell(&mut self, config: ClusterConfig) {
-        if !self.is_told {
-            self.is_told = true;
+        if self.told.hear(&config) {
             let _ = self.configs.send(self.rt, config);
+        }
+        self.end_if_anew();
+    }
+
+    fn pass_over(&mut self, id: Text) {
+        self.told.pass_over(id.as_str());
+        self.end_if_anew();
+    }
+
+    fn end_if_anew(&self) {
+        if self.told.anew().is_some() {
+            self.line.hang_up();
         }
     }
 }

@@ -10,6 +10,7 @@ ghost use Rattle.peer_server.specs.Answered.{Stays};
 use crate::inbox::LinkInbox;
 use crate::line::Line;
 use crate::start::Start;
+use crate::told::ToldFolders;
 use bep_frames::{Message, WriteFault};
 use bep_messages::{ClusterConfig, Hello, Request};
 use crossbeam_channel::Receiver;
@@ -29,16 +30,17 @@ use std::time::Clock;
 use sync_record::DeviceId;
 
 #[derive(Drop)]
-pub(crate) struct ReadJob<'a, R, I, W> {
+pub(crate) struct ReadJob<'a, R, I, W, L> {
     pub(crate) peer: DeviceId,
     pub(crate) reader: I,
     pub(crate) folders: Vec<PeerFolder<W>>,
-    pub(crate) inbox: LinkInbox<'a, R>,
+    pub(crate) inbox: LinkInbox<'a, R, L>,
 }
 
 #[derive(Drop)]
 pub(crate) struct HasRead<W> {
     pub(crate) end: ReaderEnd,
+    pub(crate) told: ToldFolders,
     pub(crate) folders: Vec<PeerFolder<W>>,
 }
 
@@ -47,7 +49,7 @@ pub(crate) fn read<R, I, W, G, L>(
     rt: &R,
     alloc: Global,
     start: &Start,
-    job: ReadJob<R, I, W>,
+    job: ReadJob<R, I, W, L>,
     gate: &G,
     line: &L,
 ) -> HasRead<W>
@@ -78,9 +80,9 @@ where
         gate,
         &mut inbox,
     );
-    inbox.close();
+    let told = inbox.close();
     line.hang_up();
-    HasRead { end, folders }
+    HasRead { end, told, folders }
 }
 
 #[derive(Drop)]

@@ -10,9 +10,11 @@ mod limits;
 mod line;
 mod link;
 mod start;
+mod told;
 
 pub use end::LinkEnd;
 pub use folders::LinkFolders;
 pub use limits::{MAX_QUEUED_REQUESTS, MAX_REQUEST_NAME_BYTES, QUEUE_MESSAGES};
 pub use line::Line;
 pub use link::run_link;
+pub use told::{Anew, ToldFolders};

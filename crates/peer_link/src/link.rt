@@ -18,6 +18,7 @@ use crate::jobs::{
 use crate::limits::QUEUE_MESSAGES;
 use crate::line::Line;
 use crate::start::Start;
+use crate::told::ToldFolders;
 use bep_frames::Message;
 use bep_messages::{ClusterConfig, Hello};
 use file_store::{FileStore, Gate};
@@ -35,9 +36,9 @@ use sync_record::DeviceId;
 /// the book, and the writer writes what these put. The book begins and ends with the connection.
 ///
 /// Once the reader, the writer, the indexer or the server ended, the line is hung up, and so the others end too. To end the connection from
-/// this side, hang up. Where not all threads
+/// this side, hang up. That is done here too where the peer says or sends something that the connection can't go on with ([`Anew`](crate::Anew)). Where not all threads
 /// begin within 10 seconds, it ends, and the writer, the indexer and the server say that memory is out.
-/// Returns the folders in `Err` only where memory for the channels runs out; then nothing was read or written.
+/// Returns the folders in `Err` only where memory for the channels or the folders' ids runs out; then nothing was read or written.
 pub fn run_link<R, I, O, S, W, G, L>(
     rt: &R,
     alloc: Global,
@@ -85,9 +86,12 @@ where
         to_requester,
         asks,
     } = channels;
+    let Ok(told) = ToldFolders::new(alloc, peer, folders.read.as_slice()) else {
+        return Err(folders);
+    };
     let start = Start::new();
     book.begin(rt, to_requester);
-    let inbox = LinkInbox::new(rt, alloc, to_indexer, to_server, book);
+    let inbox = LinkInbox::new(rt, alloc, line, (to_indexer, to_server), book, told);
     let reading = ReadJob {
         peer,
         reader,
@@ -139,6 +143,7 @@ where
     );
     Ok(LinkEnd {
         reader: has_read.end,
+        told: has_read.told,
         indexer: has_indexed.end,
         server: has_served.end,
         requester: has_requested.end,
@@ -160,7 +165,7 @@ fn work<R, I, S, W, G, L>(
     rt: &R,
     alloc: Global,
     start: &Start,
-    reading: ReadJob<R, I, W>,
+    reading: ReadJob<R, I, W, L>,
     indexing: IndexJob<W>,
     serving: ServeJob<S, W>,
     requesting: RequestJob,

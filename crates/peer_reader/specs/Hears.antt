@@ -39,6 +39,11 @@ counted_forget peer config f c = if is_forgotten peer config f then one_change c
 abbrev pub forget_asked : Identity → ClusterConfig → Heard → List Asked
 forget_asked peer config f = if is_forgotten peer config f then (Forget peer, Applied) ∷ [] else []
 
+-- of an index of the folder with this id, which has that place
+abbrev pub passed_over : List ℕ → Option ℕ → Passed
+passed_over id None = passed.Unshared id
+passed_over id (Some n) = passed.Nothing
+
 -- what others than the folders are given of an event
 abbrev pub passed_of : List Heard → Event → Passed
 passed_of fs (PeerConfig config) = passed.Config config
@@ -46,8 +51,8 @@ passed_of fs (AskedEvent q) = passed.Asked (place_of q.folder fs) q
 passed_of fs (Answered m) = passed.Answered m
 passed_of fs (UnknownResponse id) = passed.Unknown id
 passed_of fs (PeerHello m) = passed.Nothing
-passed_of fs (Full m) = passed.Nothing
-passed_of fs (More m) = passed.Nothing
+passed_of fs (Full m) = passed_over m.folder (place_of m.folder fs)
+passed_of fs (More m) = passed_over m.folder (place_of m.folder fs)
 passed_of fs (Skipped kind) = passed.Nothing
 passed_of fs (PeerClosed reason) = passed.Nothing
 passed_of fs (Ended fault) = passed.Nothing

@@ -11,7 +11,7 @@ use crate::counts::ReaderCounts;
 use crate::folder::PeerFolder;
 use crate::records::keep;
 use crate::stop::ReaderStop;
-use bep_messages::{ClusterConfig, FileInfo, Index, IndexUpdate, Items, Request, Response};
+use bep_messages::{ClusterConfig, FileInfo, Index, IndexUpdate, Items, Request, Response, Text};
 use bep_session::Event;
 use file_store::{Gate, GatePlace};
 use folder_calls::laws::changes_are_asked_in_order;
@@ -33,6 +33,8 @@ pub enum Passed {
     Answered(Response),
     /// A Response whose id, which is this one, was not open.
     Unknown(i32),
+    /// An Index or an IndexUpdate was passed over: the peer's last ClusterConfig doesn't have the folder with this id, or this device doesn't share it.
+    Unshared(Text),
 }
 
 /// Makes the changes that an event is of the shared folders, in their order, and returns what it gives to others.
@@ -40,7 +42,7 @@ pub enum Passed {
 /// - A ClusterConfig: of each folder, in order, of which it tells another number of the peer's index than the kept one, or 0 or none,
 ///   the peer's records are forgotten; then the number is kept.
 /// - An Index or an IndexUpdate of a folder that the last ClusterConfig has: the peer has these records, or these too. Records whose
-///   names are not safe are skipped and counted; a message for another folder is counted.
+///   names are not safe are skipped and counted; a message for another folder is counted, and the folder's id is passed on.
 /// - Nothing else is a change.
 ///
 /// Stops at a Close and at a fault; with `HistoryFull` where a folder refuses a change, and with `OutOfMemory`. Then the changes
@@ -94,7 +96,7 @@ fn hear_index<W: FolderCalls, G: Gate>(
     changes_are_asked_in_order();
     let Some(place) = place_of(folders, index.folder.as_str()) else {
         counts.count_unshared();
-        return Ok(Passed::Nothing);
+        return Ok(Passed::Unshared(index.folder));
     };
     match hear_full(alloc, gate, peer, &mut folders[place], counts, index.files) {
         Ok(()) => Ok(Passed::Nothing),
@@ -120,7 +122,7 @@ fn hear_update<W: FolderCalls, G: Gate>(
     changes_are_asked_in_order();
     let Some(place) = place_of(folders, update.folder.as_str()) else {
         counts.count_unshared();
-        return Ok(Passed::Nothing);
+        return Ok(Passed::Unshared(update.folder));
     };
     match hear_more(alloc, gate, peer, &mut folders[place], counts, update.files) {
         Ok(()) => Ok(Passed::Nothing),

@@ -49,5 +49,6 @@ fn print(rt: &impl Print, passed: &Passed) -> io::Result<()> {
         Passed::Asked(None, request) => println!(rt; "passed request {} of none", request.id),
         Passed::Answered(response) => println!(rt; "passed response {}", response.id),
         Passed::Unknown(id) => println!(rt; "passed unknown response {id}"),
+        Passed::Unshared(id) => println!(rt; "passed unshared [{}]", id.as_str()),
     }
 }

@@ -6,7 +6,7 @@ use Rattle.bep_session.specs.declared.event.Event.TheVariants.{Full}
 use Rattle.peer_reader.proofs.IndexLemmas.{change_stops, heard_alone, heard_change, place_is}
 use Rattle.peer_reader.specs.Counts.{one_unshared}
 use Rattle.peer_reader.specs.Effects.{count_index, full_of, index_effect, is_shared_as, place_of}
-use Rattle.peer_reader.specs.Hears.{heard_of}
+use Rattle.peer_reader.specs.Hears.{heard_of, passed_over}
 use Rattle.peer_reader.specs.declared.folder.PeerFolder.{PeerFolder}
 use Rattle.peer_reader.specs.declared.hearing.Passed.TheVariants as passed
 use Rattle.peer_reader.proofs.hearing.hear_index.Goals as goal
@@ -17,8 +17,8 @@ returns-in_default-clause-heard g c =
     let m = c.args.index in
     let placed : place_of m.folder (map heard_of olds) ≡ None
     = ap (λ (id : List ℕ). place_of id (map heard_of olds)) (sym c.as_str.ensures) ∙ sym (place_is c.as_str.result.now olds c.place_of.result c.place_of.ensures) ∙ c.in_default.is in
-    heard_alone g.W.FolderCalls.view g.W.FolderCalls.folder c.args.peer (Full m) olds c.args.counts.now passed.Nothing c.count_unshared.new.self one_unshared
-    (ap (λ (o : Option ℕ). index_effect (full_of c.args.peer) m.files (map heard_of olds) o) placed) c.count_unshared.ensures refl
+    heard_alone g.W.FolderCalls.view g.W.FolderCalls.folder c.args.peer (Full m) olds c.args.counts.now (passed.Unshared m.folder) c.count_unshared.new.self one_unshared
+    (ap (λ (o : Option ℕ). index_effect (full_of c.args.peer) m.files (map heard_of olds) o) placed) c.count_unshared.ensures (sym (ap (passed_over m.folder) placed))
 
 pub returns-in-Ok-clause-heard : goal.returns-in-Ok-clause-heard
 returns-in-Ok-clause-heard g c =
@@ -33,7 +33,7 @@ returns-in-Ok-clause-heard g c =
     let ok = c.in-Ok.ensures in
     heard_change g.W.FolderCalls.view g.W.FolderCalls.folder c.changes_are_asked_in_order.ensures.together c.args.peer (Full m) i (full_of c.args.peer m.files) (count_index m.files) olds c.args.counts.now
     f c.hear_full.new.folder c.hear_full.new.counts passed.Nothing
-    (ap (λ (o : Option ℕ). index_effect (full_of c.args.peer) m.files (map heard_of olds) o) placed) (slice_get-get_or olds i c.index-folders-place.result within) ok.heard ok.asks ok.counted refl
+    (ap (λ (o : Option ℕ). index_effect (full_of c.args.peer) m.files (map heard_of olds) o) placed) (slice_get-get_or olds i c.index-folders-place.result within) ok.heard ok.asks ok.counted (sym (ap (passed_over m.folder) placed))
 
 pub returns-clause-stopped : goal.returns-clause-stopped
 returns-clause-stopped g c =

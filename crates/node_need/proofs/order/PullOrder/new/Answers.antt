@@ -17,7 +17,7 @@ pub loop-name-init : goal.loop-name-init
 loop-name-init g c = record {
   folder = refl;
   on =
-      goes_begin c.args.up c.args.is_later c.args.needed.now (g.W.FolderCalls.view c.args.calls.now) (retry_at c.args.retries.now)
+      goes_begin c.args.up.now c.args.is_later c.args.needed.now (g.W.FolderCalls.view c.args.calls.now) (retry_at c.args.retries.now)
       c.new-wanted.result.items c.new-wanted.ensures.items;
 }
 
@@ -33,7 +33,7 @@ loop-name-preserved g c =
     record {
       folder = c.in_ok-one.ensures.folder ∙ c.loop-name.invariant.folder;
       on =
-          goes_next c.args.up c.args.is_later c.args.needed.now (g.W.FolderCalls.view c.args.calls.now) (retry_at c.args.retries.now)
+          goes_next c.args.up.now c.args.is_later c.args.needed.now (g.W.FolderCalls.view c.args.calls.now) (retry_at c.args.retries.now)
           c.loop-name.name-index c.name-item.result (omega arith) c.name-item.is c.loop-name.wanted.items (g.W.FolderCalls.view c.loop-name.calls) (retry_at c.loop-name.retries)
           c.loop-name.invariant.on c.in_ok-one.field-0 (g.W.FolderCalls.view c.choose.new.calls) (retry_at c.choose.new.retries) c.in_ok-one.ensures.chosen
           c.match-branch-2.wanted.items more;
@@ -44,7 +44,7 @@ returns-clause-order g c =
     ok_then c.ordered.result c.ordered.ensures (λ o is. record {
       wanted = c.loop-name.wanted.items;
       chosen =
-          goes_end c.args.up c.args.is_later c.args.needed.now (g.W.FolderCalls.view c.args.calls.now) (retry_at c.args.retries.now)
+          goes_end c.args.up.now c.args.is_later c.args.needed.now (g.W.FolderCalls.view c.args.calls.now) (retry_at c.args.retries.now)
           c.loop-name.name-index (omega arith) c.loop-name.wanted.items (g.W.FolderCalls.view c.loop-name.calls) (retry_at c.loop-name.retries) c.loop-name.invariant.on;
       order = is;
     })
