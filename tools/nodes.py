@@ -369,14 +369,14 @@ def run(name, what, *given):
             passed += 1
             print(f"ok      {name}", flush=True)
     except (Differs, OSError, EOFError, ValueError, IndexError, KeyError) as error:
-        with counting:
-            failed += 1
         # (what a node's end may hide)
         first = error
         while first.__context__:
             first = first.__context__
         after = f", after {type(first).__name__} {first}" if first is not error else ""
-        print(f"DIFFERS {name}: {type(error).__name__} {error}{after}", flush=True)
+        with counting:
+            failed += 1
+            print(f"DIFFERS {name}: {type(error).__name__} {error}{after}", flush=True)
 
 
 def main(runs):
