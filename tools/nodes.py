@@ -62,6 +62,9 @@ def journal_of(number, state):
 class Node:
     """The program, over folders of its own. A peer is (number, "dial" or "listen", port, ids of folders)."""
 
+    # further lines of each folder (without looks a folder is scanned just when a run says so)
+    keys = 'look = "off"\n'
+
     def __init__(self, me, peers, folders=("f",), text=None, state=None, journal=None, starts=True, **settings):
         self.path = tempfile.mkdtemp(dir=work)
         self.me, self.settings = me, settings
@@ -82,7 +85,7 @@ class Node:
         if text is None:
             text = f'device = "{identity(self.me)}"\nname = "node {self.me}"\nstate = "{self.path}/state"\n'
             for it in folders:
-                text += f'[[folder]]\nid = "{it}"\npath = "{self.path}/{it}"\n'
+                text += f'[[folder]]\nid = "{it}"\npath = "{self.path}/{it}"\n{self.keys}'
             for number, how, port, *ids in peers:
                 text += f'[[peer]]\ndevice = "{identity(number)}"\n{how} = "127.0.0.1:{port}"\nfolders = {list(ids or folders)!r}\n'.replace("'", '"')
         with open(f"{self.path}/config", "w") as out:

@@ -13,6 +13,7 @@ use Rattle.node_threads.specs.declared.folders.StartFolder.{StartFolder}
 use Rattle.node_threads.specs.declared.peers.NodePeer.{NodePeer}
 use Rattle.node_threads.specs.declared.peers.Share as node
 use Rattle.node_threads.specs.Left.{AreLeft}
+use Rattle.folder_look.specs.Rhythms.{looking_of}
 use Rattle.bepd_run.specs.Addresses.{IsReadAs}
 use Rattle.bepd_run.specs.declared.nodes.NextNode.{NextNode}
 
@@ -26,6 +27,7 @@ IsFolder folder resumed start =
       history_limit = folder.history_limit;
       max_conflicts = folder.max_conflicts;
       rescan = folder.rescan;
+      looking = looking_of folder.look;
     })
     × (start.core.folder ≡ resumed.folder) × (start.kept ≡ resumed.folder.last) × (start.is_unsettled ≡ false)
 

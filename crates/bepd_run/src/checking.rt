@@ -50,7 +50,10 @@ fn tell_folder<O: Write>(folder: &FolderConfig, output: &mut O) -> Result<(), Ru
     for number in FolderNumber::ALL {
         let key = number.rule().key;
         let value = folder.number(number);
-        write!(output, " {key} {value}")?;
+        match number.word_for(value) {
+            Some(word) => write!(output, " {key} {word}")?,
+            None => write!(output, " {key} {value}")?,
+        }
     }
     writeln!(output)?;
     Ok(())

@@ -76,7 +76,11 @@ fn numbers_text(alloc: Global) -> Result<String, RunFailure> {
             sentence,
         } = number.rule();
         let NumberRange { low, high, default } = range;
-        let lines = format!(in alloc; "# {sentence} {low} to {high}.\n#{key} = {default}\n")?;
+        let value = match number.word_for(default) {
+            Some(word) => format!(in alloc; "{word:?}")?,
+            None => format!(in alloc; "{default}")?,
+        };
+        let lines = format!(in alloc; "# {sentence} {low} to {high}.\n#{key} = {value}\n")?;
         text.push_str(lines.as_str())?;
     }
     Ok(text)

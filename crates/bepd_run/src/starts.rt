@@ -9,6 +9,7 @@ use crate::failure::RunFailure;
 use bep_messages::{Items, Text};
 use folder_core::FolderCore;
 use folder_db::IndexedFolder;
+use folder_look::Looking;
 use node_config::{
     Config, ConfigFault, FolderConfig, FolderNumber, NumberRule, PeerConfig, Place, Problem,
 };
@@ -60,6 +61,7 @@ fn folder_of(
         history_limit: folder.history_limit,
         max_conflicts,
         rescan: folder.rescan,
+        looking: Looking::of_number(folder.look),
     };
     let core = resumed.records;
     let kept = core.known(core.me());

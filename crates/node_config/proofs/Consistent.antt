@@ -10,16 +10,16 @@ use Rattle.std.proofs.lemmas.Int.{ints}
 use Rattle.std.proofs.lemmas.List.Elements.{All-nil, All-push}
 use Rattle.std.proofs.lemmas.List.Quantifiers.{all_pairs_push}
 use Rattle.std.proofs.lemmas.Slice.Eq.{bytes_eq-Decides}
-use Rattle.toml.specs.Data.{Data, Items, no_items, item, Members, get_member, as_str, as_integer}
+use Rattle.toml.specs.Data.{Data, Items, no_items, item, Members, get_member, as_str}
 use Rattle.sync_record.specs.Devices.{short_id}
 use Rattle.node_config.specs.Documents.{config_of}
 use Rattle.node_config.specs.Folders.{has_id, checked_id, folder_of, folders_after, folders_at}
 use Rattle.node_config.specs.Addresses.{socket_text}
-use Rattle.node_config.specs.FolderNumbers.{IsIn, key_of, number_in, range_of}
+use Rattle.node_config.specs.FolderNumbers.{IsIn, key_of, no_number, number_in, range_of}
 use Rattle.node_config.specs.Keys.{key_name}
 use Rattle.node_config.specs.Peers.{is_taken, is_short_id_taken, checked_device, place_of, places_after, places_at, listens_at, checked_listen, address_of, address_at, peer_of, peers_after, peers_at}
 use Rattle.node_config.specs.Rules.{IsFolder, AreFolders, ArePeers, IsConsistent, IsListenedAt}
-use Rattle.node_config.specs.Values.{text_of, text_at, array_at, number_or_default, number_at, device_at, tables_of, table_of}
+use Rattle.node_config.specs.Values.{text_of, text_at, array_at, integer_of, number_or_default, number_at, device_at, tables_of, table_of}
 use Rattle.node_config.specs.declared.config.Config.{Config}
 use Rattle.node_config.specs.declared.config.FolderConfig.{FolderConfig}
 use Rattle.node_config.specs.declared.config.PeerConfig.{PeerConfig}
@@ -27,11 +27,11 @@ use Rattle.node_config.specs.declared.config.PeerAddress.{PeerAddress}
 use Rattle.node_config.specs.declared.config.PeerAddress.TheVariants.{Dial, Listen}
 use Rattle.node_config.specs.declared.fault.ConfigFault.TheVariants.{BadKey}
 use Rattle.node_config.specs.declared.folder_numbers.FolderNumber.{FolderNumber}
-use Rattle.node_config.specs.declared.folder_numbers.FolderNumber.TheVariants.{HistoryLimit, MaxConflicts, Rescan}
+use Rattle.node_config.specs.declared.folder_numbers.FolderNumber.TheVariants.{HistoryLimit, MaxConflicts, Rescan, Look}
 use Rattle.node_config.specs.declared.key.Key.TheVariants.{Name, State, Folder as FolderKey, Peer as PeerKey, Id, Path, Folders, Dial as DialKey, Listen as ListenKey}
 use Rattle.node_config.specs.declared.key.Place.{Place}
 use Rattle.node_config.specs.declared.key.Place.TheVariants.{Node, Folder, Peer}
-use Rattle.node_config.specs.declared.key.Problem.TheVariants.{NotInteger, NotStrings}
+use Rattle.node_config.specs.declared.key.Problem.TheVariants.{NotStrings}
 use Rattle.node_config.proofs.AddressLemmas.{same_socket}
 use Rattle.node_config.proofs.Steps.{both, value_of, passed, tested, some_where, none_passes, differs}
 
@@ -46,14 +46,15 @@ default_in : (number : FolderNumber) → IsIn (range_of number) (range_of number
 default_in HistoryLimit = (omega (arith, ints), omega (arith, ints))
 default_in MaxConflicts = (omega (arith, ints), omega (arith, ints))
 default_in Rescan = (omega (arith, ints), omega (arith, ints))
+default_in Look = (omega (arith, ints), omega (arith, ints))
 
-number_found : (place : Place) (number : FolderNumber) (n : ℤ) (o : Option Data) → number_or_default place (key_of number) (range_of number) o ≡ Ok n → IsIn (range_of number) n
+number_found : (place : Place) (number : FolderNumber) (n : ℤ) (o : Option Data) → number_or_default place number o ≡ Ok n → IsIn (range_of number) n
 number_found place number n None h =
     let same : (range_of number).default ≡ n = cc h in
     subst (IsIn (range_of number)) same (default_in number)
 number_found place number n (Some value) h =
     let range = range_of number in
-    let (x, found, rest) = both (ok_or (as_integer value) (BadKey place (key_of number) NotInteger)) _ n h in
+    let (x, found, rest) = both (ok_or (integer_of number value) (BadKey place (key_of number) (no_number number))) _ n h in
     let (test, same) = tested (int_le range.low x && int_le x range.high) x _ n rest in
     subst (IsIn range) same (within range.low range.high x test)
 
@@ -66,11 +67,12 @@ rescan_kept : (z : ℤ) → IsIn (range_of Rescan) z → IsIn (range_of Rescan) 
 rescan_kept (pos n) h = h
 rescan_kept (negsuc n) (l, g) = absurd (omega (arith, ints))
 
-in_ranges : (folder : FolderConfig) → IsIn (range_of HistoryLimit) (pos folder.history_limit) → IsIn (range_of MaxConflicts) folder.max_conflicts → IsIn (range_of Rescan) (pos folder.rescan)
+in_ranges : (folder : FolderConfig) → IsIn (range_of HistoryLimit) (pos folder.history_limit) → IsIn (range_of MaxConflicts) folder.max_conflicts → IsIn (range_of Rescan) (pos folder.rescan) → IsIn (range_of Look) folder.look
     → (number : FolderNumber) → IsIn (range_of number) (number_in number folder)
-in_ranges folder limit most seconds HistoryLimit = limit
-in_ranges folder limit most seconds MaxConflicts = most
-in_ranges folder limit most seconds Rescan = seconds
+in_ranges folder limit most seconds look HistoryLimit = limit
+in_ranges folder limit most seconds look MaxConflicts = most
+in_ranges folder limit most seconds look Rescan = seconds
+in_ranges folder limit most seconds look Look = look
 
 not_empty : (id : List ℕ) → (length id == 0) ≡ false → id ≢ []
 not_empty [] h = cc h
@@ -92,14 +94,16 @@ folder_found earlier value folder h =
     let (limit, l, h5) = both (number_at table (Folder (length earlier + 1)) HistoryLimit) _ folder h4 in
     let (most, m, h6) = both (number_at table (Folder (length earlier + 1)) MaxConflicts) _ folder h5 in
     let (seconds, r, h7) = both (number_at table (Folder (length earlier + 1)) Rescan) _ folder h6 in
-    let made : FolderConfig = record { id = id; path = path; history_limit = unsigned_abs limit; max_conflicts = most; rescan = unsigned_abs seconds } in
-    let same : made ≡ folder = cc h7 in
+    let (look, k, h8) = both (number_at table (Folder (length earlier + 1)) Look) _ folder h7 in
+    let made : FolderConfig = record { id = id; path = path; history_limit = unsigned_abs limit; max_conflicts = most; rescan = unsigned_abs seconds; look = look } in
+    let same : made ≡ folder = cc h8 in
     let is = id_found earlier (Folder (length earlier + 1)) text id i in
     let a = number_found (Folder (length earlier + 1)) HistoryLimit limit (get_member (key_name (key_of HistoryLimit)) table) l in
     let b = number_found (Folder (length earlier + 1)) MaxConflicts most (get_member (key_name (key_of MaxConflicts)) table) m in
     let c = number_found (Folder (length earlier + 1)) Rescan seconds (get_member (key_name (key_of Rescan)) table) r in
+    let d = number_found (Folder (length earlier + 1)) Look look (get_member (key_name (key_of Look)) table) k in
     subst (λ (f : FolderConfig). IsFolder f × (list_any (has_id f.id) earlier ≡ false)) same
-    (record { id = is.0; numbers = in_ranges made (limit_kept limit a) b (rescan_kept seconds c) }, is.1)
+    (record { id = is.0; numbers = in_ranges made (limit_kept limit a) b (rescan_kept seconds c) d }, is.1)
 
 more_folders : (earlier : List FolderConfig) (folder : FolderConfig) → AreFolders earlier → IsFolder folder × (list_any (has_id folder.id) earlier ≡ false) → AreFolders (earlier ++ folder ∷ [])
 more_folders earlier folder e h = (

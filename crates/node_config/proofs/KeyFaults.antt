@@ -12,9 +12,7 @@ use Rattle.node_config.specs.declared.config.FolderConfig.{FolderConfig}
 use Rattle.node_config.specs.declared.config.PeerConfig.{PeerConfig}
 use Rattle.node_config.specs.declared.fault.ConfigFault.{ConfigFault}
 use Rattle.node_config.specs.declared.fault.ConfigFault.TheVariants.{NotToml, BadKey, OutOfMemory}
-use Rattle.node_config.specs.FolderNumbers.{key_of, range_of}
 use Rattle.node_config.specs.declared.folder_numbers.FolderNumber.{FolderNumber}
-use Rattle.node_config.specs.declared.folder_numbers.NumberRange.{NumberRange}
 use Rattle.node_config.specs.declared.key.Key.{Key}
 use Rattle.node_config.specs.declared.key.Key.TheVariants.{Dial as DialKey, Listen as ListenKey}
 use Rattle.node_config.specs.declared.key.Place.{Place}
@@ -44,15 +42,15 @@ cond_fails false x y h g = g
 text_fails : (table : Members) (place : Place) (key : Key) → FailsAtKey (text_at table place key)
 text_fails table place key = search (or_fails, then_fails)
 
-default_fails : (place : Place) (key : Key) (range : NumberRange) (o : Option Data) → FailsAtKey (number_or_default place key range o)
-default_fails place key range None = tt
-default_fails place key range (Some value) = search (or_fails, then_fails, cond_fails)
+default_fails : (place : Place) (number : FolderNumber) (o : Option Data) → FailsAtKey (number_or_default place number o)
+default_fails place number None = tt
+default_fails place number (Some value) = search (or_fails, then_fails, cond_fails)
 
 checked_id_fails : (earlier : List FolderConfig) (place : Place) (id : List ℕ) → FailsAtKey (checked_id earlier place id)
 checked_id_fails earlier place id = search cond_fails
 
 number_fails : (table : Members) (place : Place) (number : FolderNumber) → FailsAtKey (number_at table place number)
-number_fails table place number = default_fails place (key_of number) (range_of number) _
+number_fails table place number = default_fails place number _
 
 pub device_fails : (table : Members) (place : Place) → FailsAtKey (device_at table place)
 device_fails table place = search (or_fails, then_fails, text_fails)
@@ -62,7 +60,7 @@ tables_fail key None = tt
 tables_fail key (Some value) = or_fails (as_array value) _ _ _
 
 folder_fails : (earlier : List FolderConfig) (value : Data) → FailsAtKey (folder_of earlier value)
-folder_fails earlier value = search (or_fails, then_fails, text_fails, number_fails, checked_id_fails) depth 12
+folder_fails earlier value = search (or_fails, then_fails, text_fails, number_fails, checked_id_fails) depth 14
 
 folders_fail : (earlier : List FolderConfig) (values : Items) → FailsAtKey (folders_after earlier values)
 folders_fail earlier no_items = tt

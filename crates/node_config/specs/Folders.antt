@@ -7,7 +7,7 @@ use Rattle.node_config.specs.Values.{◌>>=◌, text_at, number_at, table_of, ta
 use Rattle.node_config.specs.declared.config.FolderConfig.{FolderConfig}
 use Rattle.node_config.specs.declared.fault.ConfigFault.{ConfigFault}
 use Rattle.node_config.specs.declared.fault.ConfigFault.TheVariants.{BadKey}
-use Rattle.node_config.specs.declared.folder_numbers.FolderNumber.TheVariants.{HistoryLimit, MaxConflicts, Rescan}
+use Rattle.node_config.specs.declared.folder_numbers.FolderNumber.TheVariants.{HistoryLimit, MaxConflicts, Rescan, Look}
 use Rattle.node_config.specs.declared.key.Key.TheVariants.{Folder as FolderKey, Id, Path}
 use Rattle.node_config.specs.declared.key.Place.{Place}
 use Rattle.node_config.specs.declared.key.Place.TheVariants.{Folder}
@@ -34,7 +34,8 @@ folder_of earlier value = do
   history_limit ← number_at table (Folder (length earlier + 1)) HistoryLimit
   max_conflicts ← number_at table (Folder (length earlier + 1)) MaxConflicts
   rescan ← number_at table (Folder (length earlier + 1)) Rescan
-  Ok (record { id = id; path = path; history_limit = unsigned_abs history_limit; max_conflicts = max_conflicts; rescan = unsigned_abs rescan })
+  look ← number_at table (Folder (length earlier + 1)) Look
+  Ok (record { id = id; path = path; history_limit = unsigned_abs history_limit; max_conflicts = max_conflicts; rescan = unsigned_abs rescan; look = look })
 
 -- the earlier folders, and those of the tables
 abbrev pub folders_after : List FolderConfig → Items → Result (List FolderConfig) ConfigFault

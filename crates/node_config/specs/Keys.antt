@@ -1,7 +1,7 @@
 -- How the document writes its keys.
 use Rattle.std.specs.Prelude.{ℕ, List, codes}
 use Rattle.node_config.specs.declared.key.Key.{Key}
-use Rattle.node_config.specs.declared.key.Key.TheVariants.{Device, Name, State, Folder, Peer, Id, Path, HistoryLimit, MaxConflicts, Rescan, Folders, Dial, Listen}
+use Rattle.node_config.specs.declared.key.Key.TheVariants.{Device, Name, State, Folder, Peer, Id, Path, HistoryLimit, MaxConflicts, Rescan, Look, Folders, Dial, Listen}
 
 abbrev pub key_name : Key → List ℕ
 key_name Device = codes "device"
@@ -14,6 +14,7 @@ key_name Path = codes "path"
 key_name HistoryLimit = codes "history_limit"
 key_name MaxConflicts = codes "max_conflicts"
 key_name Rescan = codes "rescan"
+key_name Look = codes "look"
 key_name Folders = codes "folders"
 key_name Dial = codes "dial"
 key_name Listen = codes "listen"

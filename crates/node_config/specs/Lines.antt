@@ -7,7 +7,7 @@ use Rattle.node_config.specs.declared.fault.ConfigFault.TheVariants.{NotToml, Ba
 use Rattle.node_config.specs.declared.key.Place.{Place}
 use Rattle.node_config.specs.declared.key.Place.TheVariants.{Node, Folder, Peer}
 use Rattle.node_config.specs.declared.key.Problem.{Problem}
-use Rattle.node_config.specs.declared.key.Problem.TheVariants.{Absent, NotString, NotInteger, NotTables, NotStrings, NotDevice, OutOfRange, Empty, Repeats, SameDevice, SameShortId, UnknownFolder, BothAddresses, NoAddress, Inside}
+use Rattle.node_config.specs.declared.key.Problem.TheVariants.{Absent, NotString, NotInteger, NotLook, NotTables, NotStrings, NotDevice, OutOfRange, Empty, Repeats, SameDevice, SameShortId, UnknownFolder, BothAddresses, NoAddress, Inside}
 
 abbrev pub place_text : Place → List ℕ
 place_text Node = []
@@ -18,6 +18,7 @@ abbrev pub problem_text : Problem → List ℕ
 problem_text Absent = codes "is absent"
 problem_text NotString = codes "is not a string"
 problem_text NotInteger = codes "is not an integer"
+problem_text NotLook = codes "is not \"auto\", \"off\", or a number of seconds"
 problem_text NotTables = codes "is not an array of tables"
 problem_text NotStrings = codes "is not an array of strings"
 problem_text NotDevice = codes "is not 64 hexadecimal digits"

@@ -4,17 +4,16 @@ use Rattle.std.specs.Option.{ok_or}
 use Rattle.std.specs.Result.{result_ok}
 use Rattle.hex.specs.Hex.{decode_of}
 use Rattle.toml.specs.Data.{Data, Items, no_items, Members, get_member, as_str, as_integer, as_array, as_table}
-use Rattle.node_config.specs.FolderNumbers.{key_of, range_of}
+use Rattle.node_config.specs.FolderNumbers.{key_of, no_number, range_of, word_of}
 use Rattle.node_config.specs.Keys.{key_name}
 use Rattle.node_config.specs.declared.fault.ConfigFault.{ConfigFault}
 use Rattle.node_config.specs.declared.fault.ConfigFault.TheVariants.{BadKey, OutOfMemory}
 use Rattle.node_config.specs.declared.folder_numbers.FolderNumber.{FolderNumber}
-use Rattle.node_config.specs.declared.folder_numbers.NumberRange.{NumberRange}
 use Rattle.node_config.specs.declared.key.Key.{Key}
 use Rattle.node_config.specs.declared.key.Key.TheVariants.{Device}
 use Rattle.node_config.specs.declared.key.Place.{Place}
 use Rattle.node_config.specs.declared.key.Place.TheVariants.{Node}
-use Rattle.node_config.specs.declared.key.Problem.TheVariants.{Absent, NotString, NotInteger, NotTables, NotStrings, NotDevice, OutOfRange}
+use Rattle.node_config.specs.declared.key.Problem.TheVariants.{Absent, NotString, NotTables, NotStrings, NotDevice, OutOfRange}
 
 -- the next step, where the one before found a value
 infixl 10 ◌>>=◌
@@ -45,19 +44,27 @@ text_at table place key = required_at table place key >>= text_of place key
 abbrev pub array_at : Members → Place → Key → Result Items ConfigFault
 array_at table place key = required_at table place key >>= λ value. ok_or (as_array value) (BadKey place key NotStrings)
 
--- the integer that is the value of a key, if it is in the range
-abbrev pub number_of_value : Place → Key → NumberRange → Data → Result ℤ ConfigFault
-number_of_value place key range value = do
-  number ← ok_or (as_integer value) (BadKey place key NotInteger)
-  if int_le range.low number && int_le number range.high then Ok number else Err (BadKey place key (OutOfRange range.low range.high))
+-- the value for which a word stands, or the integer where there is no word
+abbrev pub word_or_integer : FolderNumber → Option (List ℕ) → Option ℤ → Option ℤ
+word_or_integer number (Some word) integer = word_of number word
+word_or_integer number None integer = integer
 
-abbrev pub number_or_default : Place → Key → NumberRange → Option Data → Result ℤ ConfigFault
-number_or_default place key range None = Ok range.default
-number_or_default place key range (Some value) = number_of_value place key range value
+abbrev pub integer_of : FolderNumber → Data → Option ℤ
+integer_of number value = word_or_integer number (as_str value) (as_integer value)
+
+-- the number that is the value of its key, if it is in the range
+abbrev pub number_of_value : Place → FolderNumber → Data → Result ℤ ConfigFault
+number_of_value place number value = do
+  found ← ok_or (integer_of number value) (BadKey place (key_of number) (no_number number))
+  if int_le (range_of number).low found && int_le found (range_of number).high then Ok found else Err (BadKey place (key_of number) (OutOfRange (range_of number).low (range_of number).high))
+
+abbrev pub number_or_default : Place → FolderNumber → Option Data → Result ℤ ConfigFault
+number_or_default place number None = Ok (range_of number).default
+number_or_default place number (Some value) = number_of_value place number value
 
 -- a number of a folder
 abbrev pub number_at : Members → Place → FolderNumber → Result ℤ ConfigFault
-number_at table place number = number_or_default place (key_of number) (range_of number) (get_member (key_name (key_of number)) table)
+number_at table place number = number_or_default place number (get_member (key_name (key_of number)) table)
 
 -- the bytes of 64 hexadecimal digits
 abbrev pub device_of : List ℕ → Option (List ℕ)

@@ -32,8 +32,10 @@ pub struct FolderConfig {
     pub history_limit: u64,
     /// The most conflict copies that are kept of a name, or -1 for any number.
     pub max_conflicts: i32,
-    /// How many seconds lie between two scans by the clock, or 0 for no such scans.
+    /// How many seconds lie between two scans that read everything, or 0 for no such scans.
     pub rescan: u64,
+    /// How many seconds lie between two looks at what changed, 0 for none, or -1 for as often as costs little.
+    pub look: i32,
 }
 
 impl FolderConfig {
@@ -45,6 +47,7 @@ impl FolderConfig {
             FolderNumber::HistoryLimit => i64::try_from(self.history_limit).unwrap_or(i64::MAX),
             FolderNumber::MaxConflicts => i64::from(self.max_conflicts),
             FolderNumber::Rescan => i64::try_from(self.rescan).unwrap_or(i64::MAX),
+            FolderNumber::Look => i64::from(self.look),
         }
     }
 }

@@ -1,8 +1,9 @@
-//! The numbers of a folder: of each the key, the values that it may have, the one that it has where the document has none, and what it says.
-ghost use Rattle.std.specs.Prelude.{◌≡◌};
-ghost use Rattle.node_config.specs.FolderNumbers.{key_of, range_of};
+//! The numbers of a folder: of each the key, the values that it may have, the one that it has where the document has none, what it says, and the words that
+//! stand for some of its values.
+ghost use Rattle.std.specs.Prelude.{◌≡◌, option_map};
+ghost use Rattle.node_config.specs.FolderNumbers.{key_of, no_number, range_of, word_for, word_of};
 
-use crate::key::Key;
+use crate::key::{Key, Problem};
 
 /// A number of a folder, which the document may leave out.
 #[derive(Clone, Copy, Debug, PartialEq, Eq)]
@@ -10,6 +11,7 @@ pub enum FolderNumber {
     HistoryLimit,
     MaxConflicts,
     Rescan,
+    Look,
 }
 
 /// Which values a number may have.
@@ -36,10 +38,11 @@ pub struct NumberRule {
 
 impl FolderNumber {
     /// All, in the order in which they are told and read.
-    pub const ALL: [FolderNumber; 3] = [
+    pub const ALL: [FolderNumber; 4] = [
         FolderNumber::HistoryLimit,
         FolderNumber::MaxConflicts,
         FolderNumber::Rescan,
+        FolderNumber::Look,
     ];
 
     /// The table of the numbers. O(1).
@@ -72,10 +75,60 @@ impl FolderNumber {
                 range: NumberRange {
                     low: 0,
                     high: 31_536_000,
-                    default: 3_600,
+                    default: 86_400,
                 },
-                sentence: "How many seconds lie between two scans; 0 is no scans by the clock.",
+                sentence: "How many seconds lie between two scans that read everything; 0 is no such scans.",
             },
+            FolderNumber::Look => NumberRule {
+                key: Key::Look,
+                // (a day)
+                range: NumberRange {
+                    low: -1,
+                    high: 86_400,
+                    default: -1,
+                },
+                sentence: "How many seconds lie between two looks at what changed; \"auto\" is as often as costs little, \"off\" is none.",
+            },
+        }
+    }
+
+    /// The value for which a word stands in a document. O(1).
+    pub fn word(self, text: &str) -> Option<i64>
+        ensures { result ≡ word_of self text.now }
+    {
+        match self {
+            FolderNumber::Look if text == "auto" => Some(-1),
+            FolderNumber::Look if text == "off" => Some(0),
+            FolderNumber::Look => None,
+            FolderNumber::HistoryLimit => None,
+            FolderNumber::MaxConflicts => None,
+            FolderNumber::Rescan => None,
+        }
+    }
+
+    /// The word that stands for a value in a document. O(1).
+    pub fn word_for(self, number: i64) -> Option<&'static str>
+        ensures { option_map (λ word. word.now) result ≡ word_for self number }
+    {
+        match self {
+            FolderNumber::Look if number == -1 => Some("auto"),
+            FolderNumber::Look if number == 0 => Some("off"),
+            FolderNumber::Look => None,
+            FolderNumber::HistoryLimit => None,
+            FolderNumber::MaxConflicts => None,
+            FolderNumber::Rescan => None,
+        }
+    }
+
+    /// What is wrong with what is no word of it, and no integer. O(1).
+    pub(crate) fn no_number(self) -> Problem
+        ensures { result ≡ no_number self }
+    {
+        match self {
+            FolderNumber::HistoryLimit => Problem::NotInteger,
+            FolderNumber::MaxConflicts => Problem::NotInteger,
+            FolderNumber::Rescan => Problem::NotInteger,
+            FolderNumber::Look => Problem::NotLook,
         }
     }
 }

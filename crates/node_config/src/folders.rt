@@ -59,12 +59,14 @@ fn read_folder(
     let history_limit = number_at(table, place, FolderNumber::HistoryLimit)?;
     let max_conflicts = number_at(table, place, FolderNumber::MaxConflicts)?;
     let rescan = number_at(table, place, FolderNumber::Rescan)?;
+    let look = number_at(table, place, FolderNumber::Look)?;
     Ok(FolderConfig {
         id: Text::from_str(alloc, id)?,
         path: Text::from_str(alloc, path)?,
         history_limit: history_limit as u64,
         max_conflicts: max_conflicts as i32,
         rescan: rescan as u64,
+        look: look as i32,
     })
 }
 

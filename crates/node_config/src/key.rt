@@ -17,6 +17,7 @@ pub enum Key {
     HistoryLimit,
     MaxConflicts,
     Rescan,
+    Look,
     Folders,
     Dial,
     Listen,
@@ -38,6 +39,7 @@ impl Key {
             Key::HistoryLimit => "history_limit",
             Key::MaxConflicts => "max_conflicts",
             Key::Rescan => "rescan",
+            Key::Look => "look",
             Key::Folders => "folders",
             Key::Dial => "dial",
             Key::Listen => "listen",
@@ -85,6 +87,8 @@ pub enum Problem {
     NotString,
     /// Its value is not an integer.
     NotInteger,
+    /// Its value is not one of the words of `look`, and not an integer.
+    NotLook,
     /// Its value is not an array of tables.
     NotTables,
     /// Its value is not an array of strings.
@@ -119,6 +123,7 @@ impl Display for Problem {
             Problem::Absent => f.write_str("is absent"),
             Problem::NotString => f.write_str("is not a string"),
             Problem::NotInteger => f.write_str("is not an integer"),
+            Problem::NotLook => { f.write_str("is not \"auto\", \"off\", or a number of seconds") }
             Problem::NotTables => f.write_str("is not an array of tables"),
             Problem::NotStrings => f.write_str("is not an array of strings"),
             Problem::NotDevice => f.write_str("is not 64 hexadecimal digits"),

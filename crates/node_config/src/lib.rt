@@ -9,12 +9,13 @@
 //! | `[[folder]]` `path` | the path of the folder |
 //! | `[[folder]]` `history_limit` | 1 to 100,000,000, or 1,000,000 where it is absent |
 //! | `[[folder]]` `max_conflicts` | -1 to 1,000, or -1 where it is absent |
-//! | `[[folder]]` `rescan` | 0 to 31,536,000 seconds, or 3,600 where it is absent |
+//! | `[[folder]]` `rescan` | 0 to 31,536,000 seconds, or 86,400 where it is absent |
+//! | `[[folder]]` `look` | `"auto"` (or -1), `"off"` (or 0), or 1 to 86,400 seconds; `"auto"` where it is absent |
 //! | `[[peer]]` `device` | as above, unlike that of each other device, also in its first 8 bytes |
 //! | `[[peer]]` `folders` | an array of the ids of folders above |
 //! | `[[peer]]` `dial` or `listen` | one of them: an address; no two peers have the same in `listen`, where `localhost` is 127.0.0.1 |
 //!
-//! All but the three numbers are required. There may be no `[[folder]]` and no `[[peer]]`. Other keys are ignored.
+//! All but the four numbers are required. There may be no `[[folder]]` and no `[[peer]]`. Other keys are ignored.
 #![tactic(auto)]
 
 mod address;

@@ -4,7 +4,7 @@ ghost use Rattle.toml.specs.Data.{get_member};
 ghost use Rattle.toml.specs.View.{array_view, table_view, view};
 ghost use Rattle.node_config.specs.FolderNumbers.{IsIn, range_of};
 ghost use Rattle.node_config.specs.Keys.{key_name};
-ghost use Rattle.node_config.specs.Values.{Finds, Reads, array_at, device_at, number_at, number_of_value, required_at, table_of, text_at, text_of};
+ghost use Rattle.node_config.specs.Values.{Finds, Reads, array_at, device_at, integer_of, number_at, number_of_value, required_at, table_of, text_at, text_of};
 
 use crate::fault::ConfigFault;
 use crate::folder_numbers::{FolderNumber, NumberRange, NumberRule};
@@ -83,26 +83,32 @@ pub(crate) fn array_at(table: &Table, place: Place, key: Key) -> Result<&Array, 
     }
 }
 
-/// The integer that is the value of a key, if it is in the range.
-fn number_of_value(
-    value: &Value,
-    place: Place,
-    key: Key,
-    range: NumberRange,
-) -> Result<i64, ConfigFault>
-    ensures value { result ≡ number_of_value place key range (view value.now) }
-    ensures range { IfOk result (IsIn range) }
+/// The integer that a value is, or for which its word stands.
+fn integer_of(value: &Value, number: FolderNumber) -> Option<i64>
+    ensures { result ≡ integer_of number (view value.now) }
 {
-    let Some(number) = value.as_integer() else {
+    match value.as_str() {
+        Some(word) => number.word(word),
+        None => value.as_integer(),
+    }
+}
+
+/// The number that is the value of its key, if it is in the range.
+fn number_of_value(value: &Value, place: Place, number: FolderNumber) -> Result<i64, ConfigFault>
+    ensures value { result ≡ number_of_value place number (view value.now) }
+    ensures range { IfOk result (IsIn (range_of number)) }
+{
+    let NumberRule { key, range, .. } = number.rule();
+    let Some(found) = integer_of(value, number) else {
         return Err(ConfigFault::BadKey {
             place,
             key,
-            problem: Problem::NotInteger,
+            problem: number.no_number(),
         });
     };
     let NumberRange { low, high, .. } = range;
-    if low <= number && number <= high {
-        Ok(number)
+    if low <= found && found <= high {
+        Ok(found)
     } else {
         Err(ConfigFault::BadKey {
             place,
@@ -123,7 +129,7 @@ pub(crate) fn number_at(
 {
     let NumberRule { key, range, .. } = number.rule();
     match value_at(table, key) {
-        Some(value) => number_of_value(value, place, key, range),
+        Some(value) => number_of_value(value, place, number),
         None => Ok(range.default),
     }
 }

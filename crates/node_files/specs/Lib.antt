@@ -1,3 +1,4 @@
 pub mod MarkedStores
 pub mod Moved
 pub mod Paths
+pub mod Times

@@ -4,10 +4,12 @@
 mod ends;
 mod marked;
 mod root;
+mod seen;
 mod store;
 mod stores;
 
 pub use ends::Ends;
 pub use marked::{Marked, Whereabouts};
+pub use seen::time_of;
 pub use store::FolderStore;
 pub use stores::{Disks, Stores};

@@ -1,5 +1,7 @@
 //! A folder that may be away for a time.
 use file_dir::Skipped;
+use file_store::StoreRefusal;
+use folder_look::Facts;
 use sync_names::SafeName;
 
 /// Where a folder is.
@@ -33,4 +35,11 @@ pub trait Marked {
 
     /// Whether the last `StoreFault` came of a disk that is full, or of a quota.
     fn lacks_room(&self) -> bool;
+
+    /// What the system says of what is at a path; nothing where nothing is. Fails with `StoreFault` where that can't be found out. It does not look whether
+    /// the folder is there.
+    fn facts_at(&self, path: &str) -> Result<Option<Facts>, StoreRefusal>;
+
+    /// Appends the names in the directory at a path, each ended by the byte 0. Fails with `StoreFault` where it can't be read to its end.
+    fn names_at(&self, path: &str, names: &mut Vec<u8>) -> Result<(), StoreRefusal>;
 }

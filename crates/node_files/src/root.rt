@@ -17,7 +17,7 @@ use sync_names::SafeName;
 #[derive(Drop)]
 pub(crate) struct Root<'a, T, S> {
     alloc: Global,
-    stores: &'a T,
+    pub(crate) stores: &'a T,
     pub(crate) path: &'a str,
     // What it is read and written by, once it was there.
     pub(crate) store: Option<S>,

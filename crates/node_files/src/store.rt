@@ -14,6 +14,7 @@ use crate::root::Root;
 use crate::stores::Stores;
 use file_dir::Skipped;
 use file_store::{FileStore, Listing, Stat, StoreRefusal};
+use folder_look::Facts;
 use std::alloc::Global;
 use sync_names::SafeName;
 
@@ -68,6 +69,14 @@ impl<T: Stores<Store = S>, S: FileStore + Drop, E> Marked for FolderStore<'_, T,
 
     fn lacks_room(&self) -> bool {
         self.root.lacks_room()
+    }
+
+    fn facts_at(&self, path: &str) -> Result<Option<Facts>, StoreRefusal> {
+        self.root.stores.facts_at(path)
+    }
+
+    fn names_at(&self, path: &str, names: &mut Vec<u8>) -> Result<(), StoreRefusal> {
+        self.root.stores.names_at(path, names)
     }
 }
 

@@ -4,8 +4,10 @@ ghost use Rattle.file_dir.specs.declared.marker.LockRefusal.{LockRefusal};
 ghost use Rattle.file_store.specs.Refusals.{IsPlain};
 ghost use Rattle.file_store.specs.declared.refusal.StoreRefusal.{StoreRefusal};
 
+use crate::seen::{facts_at, names_at};
 use file_dir::{DirStore, LockRefusal, MarkerLock, Skipped};
 use file_store::{FileStore, StoreRefusal};
+use folder_look::Facts;
 use std::alloc::{AllocError, Global};
 use std::fs::{File, Files};
 use std::sync::{Mutex, Wait};
@@ -66,6 +68,13 @@ pub trait Stores {
 
     /// What the store's last listing left out, once.
     fn take_skipped(&self, store: &mut Self::Store) -> Vec<Skipped>;
+
+    /// What the system says of what is at a path, whoever has the folder there; nothing where nothing is. Fails with `StoreFault` where that can't be
+    /// found out.
+    fn facts_at(&self, path: &str) -> Result<Option<Facts>, StoreRefusal>;
+
+    /// Appends the names in the directory at a path, each ended by the byte 0. Fails with `StoreFault` where it can't be read to its end.
+    fn names_at(&self, path: &str, names: &mut Vec<u8>) -> Result<(), StoreRefusal>;
 }
 
 /// The folders of a disk.
@@ -160,6 +169,14 @@ impl<'a, R: Files<File = File> + Sync + Wait> Stores for Disks<'a, R> {
 
     fn take_skipped(&self, store: &mut DirStore<&'a R>) -> Vec<Skipped> {
         store.take_skipped()
+    }
+
+    fn facts_at(&self, path: &str) -> Result<Option<Facts>, StoreRefusal> {
+        facts_at(self.files, path)
+    }
+
+    fn names_at(&self, path: &str, names: &mut Vec<u8>) -> Result<(), StoreRefusal> {
+        names_at(self.files, path, names)
     }
 }
 

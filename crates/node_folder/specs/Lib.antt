@@ -1,2 +1,4 @@
 -- when a folder is scanned
 pub mod Schedules
+-- which names are scanned again soon
+pub mod LeftOver

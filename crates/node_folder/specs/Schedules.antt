@@ -1,7 +1,7 @@
 -- When a folder is scanned next, and how many seconds lie between two scans (own rule).
-use Rattle.std.specs.Prelude.{ℕ, ◌-◌, ◌*◌, ◌==◌, if◌then◌else◌, min, Option, Some, None}
+use Rattle.std.specs.Prelude.{ℕ, ◌+◌, ◌-◌, ◌*◌, ◌/◌, ◌%◌, ◌==◌, nat_lt, if◌then◌else◌, min, Option, Some, None}
 use Rattle.node_folder.specs.declared.schedule.ScanOutcome.{ScanOutcome}
-use Rattle.node_folder.specs.declared.schedule.ScanOutcome.TheVariants.{Whole, Partly, Away}
+use Rattle.node_folder.specs.declared.schedule.ScanOutcome.TheVariants.{Whole, Partly, Away, Unseen}
 use Rattle.node_folder.specs.declared.schedule.ScanSchedule.{ScanSchedule}
 
 -- in how many seconds it is scanned next, if it is to be
@@ -39,3 +39,8 @@ abbrev pub settled : ScanOutcome → ScanSchedule → ScanSchedule
 settled Whole s = record s { left = by_clock s.rescan; retry = 0 }
 settled Partly s = record s { left = Some (first_of (by_clock s.rescan) (next_retry s.retry)); retry = next_retry s.retry }
 settled Away s = record s { left = Some 10 }
+settled Unseen s = record s { left = Some 1 }
+
+-- from three quarters to five quarters of the seconds, by the folder's number; just as many where they are less than an hour
+abbrev pub spread : ℕ → ℕ → ℕ
+spread rescan number = if nat_lt rescan 3600 then rescan else (rescan - rescan / 4) + number % (2 * (rescan / 4) + 1)

@@ -1,9 +1,11 @@
 //! A folder of a node, and by what a worker reads and changes it.
 ghost use Rattle.std.specs.Prelude.{◌≡◌};
 
+use crate::notes::Notes;
 use crate::scan_times::ScanTimes;
 use crate::skips::Skips;
 use bep_messages::Text;
+use folder_look::Looking;
 use node_files::{Marked, Whereabouts};
 use std::alloc::Global;
 use sync_pull::MaxConflicts;
@@ -23,6 +25,8 @@ pub struct FolderSettings {
     pub max_conflicts: MaxConflicts,
     /// How many seconds lie between two scans by the clock, or 0 for none.
     pub rescan: u64,
+    /// How often it is looked at for what changed.
+    pub looking: Looking,
 }
 
 /// A folder of a node, but for its records and its files.
@@ -34,6 +38,8 @@ pub struct NodeFolder {
     pub times: ScanTimes,
     /// What its scans leave out.
     pub skips: Skips,
+    /// What its scans and pulls tell who looks at it.
+    pub notes: Notes,
     /// Whether pulls of the last run may have put something in place that wasn't looked at yet, since the folder was away.
     pub is_unsettled: bool,
 }
@@ -47,6 +53,7 @@ impl NodeFolder {
             settings,
             times: ScanTimes::new(),
             skips: Skips::new(alloc),
+            notes: Notes::new(alloc),
             is_unsettled,
         }
     }

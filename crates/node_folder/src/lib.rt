@@ -3,6 +3,8 @@
 
 mod ends;
 mod folder;
+mod left_over;
+mod notes;
 mod scan_times;
 mod scanner;
 mod schedule;
@@ -10,7 +12,9 @@ mod skips;
 
 pub use ends::{GivesUp, WorkerEnds};
 pub use folder::{FolderSettings, FolderWorker, NodeFolder};
+pub use left_over::is_left_over;
+pub use notes::{Notes, Noticed};
 pub use scan_times::ScanTimes;
 pub use scanner::{ScannedFolder, run_scanner, scan_due, scan_folder};
-pub use schedule::{ScanOutcome, ScanSchedule};
+pub use schedule::{ScanOutcome, ScanSchedule, spread};
 pub use skips::{LeftOut, Skips};

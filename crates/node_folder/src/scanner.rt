@@ -1,10 +1,12 @@
 //! The scans of folders, when they are due or asked for, and what is told of them.
 use crate::folder::FolderWorker;
-use crate::schedule::{ScanOutcome, ScanSchedule};
+use crate::left_over::is_left_over;
+use crate::notes::Notes;
+use crate::schedule::{ScanOutcome, ScanSchedule, spread};
 use crate::skips::LeftOut;
 use file_store::{FileStore, Gate, StoreRefusal};
 use folder_calls::FolderCalls;
-use node_context::{Context, Event, Host, Log};
+use node_context::{Connections, Context, Event, Host, Log};
 use node_files::{Marked, Whereabouts};
 use std::sync::Wait;
 use std::time::Clock;
@@ -25,7 +27,8 @@ pub struct ScannedFolder<'x, S, W> {
 impl<'x, S, W> ScannedFolder<'x, S, W> {
     /// A folder that was not scanned yet.
     pub fn new(worker: FolderWorker<'x, S, W>) -> ScannedFolder<'x, S, W> {
-        let schedule = ScanSchedule::new(worker.folder.settings.rescan);
+        let settings = &worker.folder.settings;
+        let schedule = ScanSchedule::new(spread(settings.rescan, settings.index_id));
         ScannedFolder {
             worker,
             schedule,
@@ -34,8 +37,8 @@ impl<'x, S, W> ScannedFolder<'x, S, W> {
     }
 }
 
-/// Scans each folder again as often as it asks for, until the node stops.
-pub fn run_scanner<R, S, W, G>(cx: &Context<R, G>, folders: &mut [ScannedFolder<S, W>])
+/// Scans the folder again as often as it asks for, until the node stops.
+pub fn run_scanner<R, S, W, G>(cx: &Context<R, G>, folder: &mut ScannedFolder<S, W>)
 where
     R: Host,
     S: FileStore + Marked,
@@ -43,38 +46,31 @@ where
     G: Gate,
 {
     for _ in cx.rt.forever() {
-        let next = folders
-            .iter()
-            .filter_map(|folder| folder.schedule.left())
-            .min();
-        let seconds = next.unwrap_or(NEVER_SECONDS);
+        let seconds = folder.schedule.left().unwrap_or(NEVER_SECONDS);
         if cx.pause(seconds) {
             return;
         }
-        for folder in folders.iter_mut() {
-            folder.schedule.pass(seconds);
-        }
-        scan_due(cx, folders);
+        folder.schedule.pass(seconds);
+        scan_due(cx, folder);
     }
 }
 
-/// Scans each folder that is to be scanned now; at first these are all.
-pub fn scan_due<R, S, W, G>(cx: &Context<R, G>, folders: &mut [ScannedFolder<S, W>])
+/// Scans the folder, if that is to be done now; at first it is.
+pub fn scan_due<R, S, W, G>(cx: &Context<R, G>, folder: &mut ScannedFolder<S, W>)
 where
     R: Host,
     S: FileStore + Marked,
     W: FolderCalls,
     G: Gate,
 {
-    for folder in folders.iter_mut() {
-        if folder.schedule.is_due() {
-            let outcome = scan_if_there(cx, folder);
-            folder.schedule.settle(outcome);
-        }
+    if folder.schedule.is_due() {
+        let outcome = scan_if_there(cx, folder);
+        folder.schedule.settle(outcome);
     }
 }
 
-// Scans a folder, if it is there. Where what the last run left in it is to be looked at first, the node stops, to begin anew.
+// Scans a folder, if it is there, and was looked at, so that what changes while it is scanned is seen. Where what the last run left in it is to be looked at
+// first, the node stops, to begin anew.
 fn scan_if_there<R, S, W, G>(cx: &Context<R, G>, folder: &mut ScannedFolder<S, W>) -> ScanOutcome
 where
     R: Host,
@@ -93,11 +89,12 @@ where
     if at != Whereabouts::There {
         return ScanOutcome::Away;
     }
-    let sum = scan_folder(cx, &mut folder.worker, true);
-    if sum.other == 0 && sum.stopped.is_none() {
-        ScanOutcome::Whole
-    } else {
-        ScanOutcome::Partly
+    if !folder.worker.folder.notes.is_seen(cx.rt) {
+        return ScanOutcome::Unseen;
+    }
+    match scan_folder(cx, &mut folder.worker, true).stopped {
+        Some(_) => ScanOutcome::Partly,
+        None => ScanOutcome::Whole,
     }
 }
 
@@ -124,6 +121,8 @@ where
         id: folder.id(),
         log: if is_told { Some(cx.log) } else { None },
         left_out: LeftOut::new(cx),
+        notes: &folder.notes,
+        connections: cx.connections,
     };
     let sum = scan_all(cx.rt, cx.alloc, store, calls, cx.gate, moment, &mut seen);
     if is_told && (sum.recorded > 0 || sum.other > 0 || sum.stopped.is_some()) {
@@ -144,13 +143,15 @@ fn tell_whereabouts<R: Clock + Wait, G>(cx: &Context<R, G>, id: &str, at: Wherea
     }
 }
 
-// What a scan that is under way says: how far it is, for the log if there is one, and what it leaves out.
+// What a scan that is under way says: how far it is, for the log if there is one, what it leaves out, and which names are to be scanned again soon.
 #[derive(Drop)]
 struct Seen<'a, R> {
     rt: &'a R,
     id: &'a str,
     log: Option<&'a Log>,
     left_out: LeftOut<'a, R>,
+    notes: &'a Notes,
+    connections: &'a Connections,
 }
 
 impl<R: Clock + Wait> Progress for Seen<'_, R> {
@@ -164,5 +165,9 @@ impl<R: Clock + Wait> Progress for Seen<'_, R> {
 
     fn came_to(&mut self, name: &SafeName, scanned: &Result<Scanned, StoreRefusal>) {
         self.left_out.came_to(name, scanned);
+        // (once the node stops each name is a fault)
+        if is_left_over(scanned) && !self.connections.is_stopping(self.rt) {
+            self.notes.ask(self.rt, name);
+        }
     }
 }

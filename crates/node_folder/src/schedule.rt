@@ -1,13 +1,19 @@
 //! When a folder is scanned next, and how many seconds lie between two scans.
 ghost use Rattle.std.specs.Prelude.{◌≡◌, ◌↔◌, IsTrue};
-ghost use Rattle.node_folder.specs.Schedules.{by_clock, first_of, later, next_retry, next_scan, settled, unscanned};
+ghost use Rattle.node_folder.specs.Schedules.{by_clock, first_of, later, next_retry, next_scan, settled, spread, unscanned};
 
-/// After how many seconds a folder is scanned again of which some names could not be recorded, as a file that changed while it was read. Each
-/// time that this is so once more they are twice as many, up to an hour.
+/// After how many seconds a folder is scanned again of which a scan stopped before its end. Each time that this is so once more they are twice as many, up to
+/// an hour.
 const SOON_SECONDS: u64 = 10;
 
 /// After how many seconds a folder is looked for again that isn't there.
 const AWAY_SECONDS: u64 = 10;
+
+/// After how many seconds it is tried again to scan a folder of which nobody saw yet what stands in it.
+const UNSEEN_SECONDS: u64 = 1;
+
+/// From how many seconds between two scans on they lie apart by other times in each folder: an hour.
+const SPREAD_SECONDS: u64 = 3_600;
 
 /// The most seconds until such a scan.
 const MAX_SOON_SECONDS: u64 = 3_600;
@@ -15,12 +21,14 @@ const MAX_SOON_SECONDS: u64 = 3_600;
 /// What a scan of a folder came to.
 #[derive(Clone, Copy, Debug, PartialEq, Eq)]
 pub enum ScanOutcome {
-    /// Each name was recorded, or is as it was.
+    /// It came to its end.
     Whole,
-    /// Some name could not be recorded.
+    /// It stopped before its end.
     Partly,
     /// The folder isn't there.
     Away,
+    /// It is there, and nobody looked at it yet.
+    Unseen,
 }
 
 /// When a folder is scanned next, in seconds from now.
@@ -30,7 +38,7 @@ pub struct ScanSchedule {
     rescan: u64,
     // How many are left until the next scan, if there is to be one.
     left: Option<u64>,
-    // How many the last scan of names that could not be recorded waited.
+    // How many were waited before the last scan that was to try again.
     retry: u64,
 }
 
@@ -73,8 +81,8 @@ impl ScanSchedule {
         };
     }
 
-    /// It was scanned, and that came to this. The next scan comes by the clock after a whole scan; after one that left names out, by the clock or
-    /// after 10 seconds, then 20, 40 and so on, an hour at most, whichever comes first; and where the folder is away, after 10 seconds.
+    /// It was scanned, and that came to this. The next scan comes by the clock after a whole scan; after one that stopped, by the clock or after 10 seconds,
+    /// then 20, 40 and so on, an hour at most, whichever comes first; where the folder is away, after 10 seconds; and where nobody looked at it yet, after one.
     pub fn settle(&mut self, outcome: ScanOutcome)
         ensures { self.new ≡ settled outcome self.old }
     {
@@ -88,8 +96,21 @@ impl ScanSchedule {
                 self.left = Some(first_of(by_clock(self.rescan), self.retry));
             }
             ScanOutcome::Away => self.left = Some(AWAY_SECONDS),
+            ScanOutcome::Unseen => self.left = Some(UNSEEN_SECONDS),
         }
     }
+}
+
+/// How many seconds lie between two scans of one of many folders, each of which has a number of its own, where this is how many should: from three quarters
+/// to five quarters as many, so that not all are scanned at once; just as many below an hour. O(1).
+pub fn spread(rescan: u64, number: u64) -> u64
+    ensures { result ≡ spread rescan number }
+{
+    if rescan < SPREAD_SECONDS {
+        return rescan;
+    }
+    let quarter = rescan / 4;
+    rescan - quarter + number % (2 * quarter + 1)
 }
 
 // When the next scan by the clock is.

@@ -3,11 +3,11 @@ use crate::besides::pull_besides;
 use crate::patient::PatientSource;
 use crate::puller::pull;
 use crate::turn::Turn;
-use file_store::{FileStore, Gate};
+use file_store::{FileStore, Gate, GatePlace};
 use folder_calls::FolderCalls;
 use node_context::{Context, Event, Host};
 use node_files::Marked;
-use node_folder::FolderWorker;
+use node_folder::{FolderWorker, NodeFolder};
 use node_need::{Miss, Wanted};
 use peer_asks::{FolderPeer, PeerBook, PeerSource};
 use std::alloc::{AllocError, Global};
@@ -130,10 +130,59 @@ where
     }
     let id = puller.worker.folder.id();
     let answer = pull(cx, &mut puller.worker, source, &wanted.name);
+    notice(cx, &mut puller.worker, wanted, answer)?;
     let count = batch.wanted.len() as u64;
     cx.tell(&Event::Pulling(id, place as u64 + 1, count));
     if puller.note(cx.rt, batch.turn, wanted, place, answer)? {
         tell_answer(cx, id, &wanted.name, answer);
+    }
+    Ok(())
+}
+
+// Tells who looks at the folder what a pull of a name did that is no change of anybody here, and what is to be scanned at once.
+fn notice<R: Host, S, W: FolderCalls, G: Gate>(
+    cx: &Context<R, G>,
+    worker: &mut FolderWorker<S, W>,
+    wanted: &Wanted,
+    answer: PullAnswer,
+) -> Result<(), AllocError> {
+    let FolderWorker { folder, calls, .. } = worker;
+    match answer {
+        PullAnswer::Done(_) if !wanted.best.is_deleted() => {
+            folder.notes.place(cx.rt, &wanted.name);
+            ask_parents(cx, folder, calls, &wanted.name)
+        }
+        PullAnswer::Failed(PullFailure::LocalChanged) => {
+            folder.notes.ask(cx.rt, &wanted.name);
+            Ok(())
+        }
+        _ => Ok(()),
+    }
+}
+
+// Asks for a scan of the directories of a name that are not recorded, from the last one up to the first that is: a pull has made them.
+fn ask_parents<R: Host, W: FolderCalls, G: Gate>(
+    cx: &Context<R, G>,
+    folder: &NodeFolder,
+    calls: &mut W,
+    name: &SafeName,
+) -> Result<(), AllocError> {
+    for (parent, _) in name.as_str().rmatch_indices('/') {
+        let Some(parent) = name.as_str().get(..parent) else {
+            break;
+        };
+        let Ok(parent) = SafeName::parse(cx.alloc, parent) else {
+            return Err(AllocError);
+        };
+        cx.gate.at(GatePlace::FolderCall);
+        let is_recorded = match calls.local(&parent)?.value {
+            Some(record) => !record.is_deleted(),
+            None => false,
+        };
+        if is_recorded {
+            break;
+        }
+        folder.notes.ask(cx.rt, &parent);
     }
     Ok(())
 }

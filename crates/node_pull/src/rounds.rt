@@ -19,10 +19,10 @@ use sync_record::DeviceId;
 const LEAST_PAUSE: u64 = 25;
 
 /// How many lie between two rounds where nothing is pulled. Each such round is followed by twice the pause, up to this one.
-const MOST_PAUSE: u64 = 1_000;
+const MOST_PAUSE: u64 = 500;
 
 /// How many threads pull files of a folder side by side: a small file waits for the disk, and the next one need not.
-pub const PULLERS: usize = 10;
+pub const PULLERS: usize = 12;
 
 /// A folder, for the rounds.
 #[derive(Drop)]
@@ -64,26 +64,9 @@ impl<'x, S: Drop, W: FolderCalls + Drop> PulledFolder<'x, S, W> {
     }
 }
 
-/// Pulls what is needed of each folder, all folders side by side, and again each second, or sooner after something was pulled and at the start, until the node stops. A
-/// history that is full makes it stop. It takes a thread for each folder.
-pub fn run_rounds<'x, R, S, W, G>(cx: &Context<'x, R, G>, folders: &mut [PulledFolder<'x, S, W>])
-where
-    R: Host,
-    S: FileStore + Marked + Drop + Send,
-    W: FolderCalls + Drop + Send,
-    G: Gate + Sync,
-{
-    let threads = folders.len().max(1);
-    for_each_mut(
-        cx.rt,
-        folders,
-        threads,
-        &|_, folder| run_rounds_of(cx, folder),
-    );
-}
-
-// Pulls what is needed of a folder, again and again, until the node stops.
-fn run_rounds_of<'x, R, S, W, G>(cx: &Context<'x, R, G>, folder: &mut PulledFolder<'x, S, W>)
+/// Pulls what is needed of a folder, and again each half second, or sooner after something was pulled and at the start, until the node stops. A history that is full
+/// makes it stop.
+pub fn run_rounds<'x, R, S, W, G>(cx: &Context<'x, R, G>, folder: &mut PulledFolder<'x, S, W>)
 where
     R: Host,
     S: FileStore + Marked + Drop + Send,

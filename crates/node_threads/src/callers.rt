@@ -1,10 +1,11 @@
-//! The callers of each folder: its scanner, its pullers, and three for each peer that it is shared with.
+//! The callers of each folder: its scanner, those who look at it, its pullers, and three for each peer that it is shared with.
 use crate::peers::NodePeer;
 use folder_core::FolderCore;
 use folder_shared::{Member, SharedFolder};
 use node_commands::Histories;
 use node_context::{Lent, LentCalls, NodeFault, lend_all, next_of};
 use node_keeper::{FolderKeeper, Keeper, PlannedCalls};
+use node_look::LOOKERS;
 use node_pull::PULLERS;
 use std::alloc::Global;
 use std::sync::Wait;
@@ -17,8 +18,8 @@ pub(crate) struct Callers<W> {
     pub(crate) answerers: Vec<W>,
 }
 
-/// Those who work, in this order: the scanner of each folder; the pullers of each folder; and of each peer a reader, a server and an indexer of each
-/// folder that is shared with it.
+/// Those who work, in this order: the scanner of each folder; those who look at each folder; the pullers of each folder; and of each peer a reader, a server
+/// and an indexer of each folder that is shared with it.
 pub(crate) fn work_callers<'a, C: FolderCore + Drop, R: Wait>(
     rt: &'a R,
     alloc: Global,
@@ -26,9 +27,11 @@ pub(crate) fn work_callers<'a, C: FolderCore + Drop, R: Wait>(
     peers: &[NodePeer],
 ) -> Result<Vec<Member<'a, C, R>>, NodeFault> {
     let mut callers = each_caller(rt, alloc, folders)?;
-    for folder in folders {
-        for _ in 0..PULLERS {
-            add_caller(rt, folder, &mut callers)?;
+    for count in [LOOKERS, PULLERS] {
+        for folder in folders {
+            for _ in 0..count {
+                add_caller(rt, folder, &mut callers)?;
+            }
         }
     }
     for peer in peers {

@@ -73,7 +73,7 @@ pub struct NodeEnd<C, L> {
 /// Keeps folders alike with peers, and answers the commands of the lines, until `quit` or their end, or until the history of a folder is full or a peer was told
 /// more than is on the disk: then the connections end, and the node's threads with them.
 ///
-/// Each folder is scanned once, and then as often as it asks for. Then one thread pulls what is needed of each folder in turn, once a second; each peer has a
+/// Each folder is scanned once, and then as often as it asks for, and looked at for what changed; after the first scan what is needed of it is pulled, twice a second. Each peer has a
 /// connection, whose workers are those of [`run_link`](peer_link::run_link): one that this device makes is made again 10 seconds after it ended, and of one
 /// that the peer makes there is one at a time: a further one takes its place once its ClusterConfig lists both devices. A connection that ends ends nothing else. What is recorded is written to the
 /// journal, and peers are told of it once it is there; a pull puts a file in place once the journal has its plan. All of it is there at the end, unless the

@@ -5,7 +5,9 @@ ghost use Rattle.node_threads.specs.Workers.{kept_numbers};
 
 use crate::callers::Lender;
 use crate::saver::{Saver, run_saver};
-use crate::workers::{FolderFiles, Node, Workers, answered_of, devices_of, workers_of};
+use crate::workers::{
+    FolderFiles, Node, WorkedFolder, Workers, answered_of, devices_of, workers_of,
+};
 use file_store::{FileStore, Gate};
 use folder_calls::FolderCalls;
 use folder_core::FolderCore;
@@ -13,17 +15,18 @@ use folder_shared::Member;
 use node_commands::{Answerer, CommandLines, CommandsEnd, Histories, answer_commands};
 use node_context::{Context, Host, NodeFault};
 use node_files::Marked;
-use node_folder::{run_scanner, scan_due};
+use node_folder::{ScannedFolder, run_scanner, scan_due};
 use node_keeper::Keeper;
+use node_look::{begin_looks, run_looks};
 use node_peer::{Reach, run_peer};
-use node_pull::run_rounds;
+use node_pull::{PulledFolder, run_rounds};
 use node_saver::DiskJournal;
 use peer_conn::KeptCalls;
 use peer_link::LinkFolders;
 use peer_reader::PeerFolder;
 use std::alloc::{AllocError, Global};
 use std::io::{self, ErrorKind, Write};
-use std::thread::{join, map_vec};
+use std::thread::{for_each_mut, join, map_vec};
 
 /// For each peer, the numbers of its indexes that are kept.
 pub(crate) type Kept = Vec<Vec<u64>>;
@@ -198,7 +201,7 @@ where
     })
 }
 
-// Scans, pulls, and has connections, until the node stops. Nothing is pulled before each folder was scanned once.
+// Works on each folder, and has connections, until the node stops.
 fn run_workers<'x, R, G, S, W>(
     cx: &Context<'x, R, G>,
     workers: Workers<'x, S, W>,
@@ -209,25 +212,68 @@ where
     S: FileStore + Marked + Drop + Send,
     W: KeptCalls + Drop + Send,
 {
-    let Workers {
-        scanned,
-        pulled,
-        peers,
-    } = workers;
-    let (mut scanned, mut pulled) = (scanned, pulled);
+    let Workers { folders, peers } = workers;
+    let mut folders = folders;
     let ((), left) = join(
         cx.rt,
-        || {
-            scan_due(cx, scanned.as_mut_slice());
-            let ((), ()) = join(
-                cx.rt,
-                || run_scanner(cx, scanned.as_mut_slice()),
-                || run_rounds(cx, pulled.as_mut_slice()),
-            );
-        },
+        || work_on_all(cx, folders.as_mut_slice()),
         || map_vec(cx.rt, peers, &|worker| run_peer(cx, worker)),
     );
     left
+}
+
+// Works on each folder, by threads of its own.
+fn work_on_all<'x, R, G, S, W>(cx: &Context<'x, R, G>, folders: &mut [WorkedFolder<'x, S, W>])
+where
+    R: Host,
+    G: Gate + Sync,
+    S: FileStore + Marked + Drop + Send,
+    W: KeptCalls + Drop + Send,
+{
+    let threads = folders.len().max(1);
+    for_each_mut(cx.rt, folders, threads, &|_, folder| work_on(cx, folder));
+}
+
+// Scans a folder, looks at it, and pulls it, until the node stops. It is looked at before it is scanned, so that what changes meanwhile is seen, and nothing is
+// pulled before it was scanned once.
+fn work_on<'x, R, G, S, W>(cx: &Context<'x, R, G>, folder: &mut WorkedFolder<'x, S, W>)
+where
+    R: Host,
+    G: Gate + Sync,
+    S: FileStore + Marked + Drop + Send,
+    W: KeptCalls + Drop + Send,
+{
+    let WorkedFolder {
+        scanned,
+        watched,
+        pulled,
+    } = folder;
+    begin_looks(cx, watched);
+    let ((), ()) = join(
+        cx.rt,
+        || scan_and_pull(cx, scanned, pulled),
+        || run_looks(cx, watched),
+    );
+}
+
+// Scans a folder and then, until the node stops, scans and pulls it.
+fn scan_and_pull<'x, R, G, S, W>(
+    cx: &Context<'x, R, G>,
+    scanned: &mut ScannedFolder<'x, S, W>,
+    pulled: &mut PulledFolder<'x, S, W>,
+)
+where
+    R: Host,
+    G: Gate + Sync,
+    S: FileStore + Marked + Drop + Send,
+    W: KeptCalls + Drop + Send,
+{
+    scan_due(cx, scanned);
+    let ((), ()) = join(
+        cx.rt,
+        || run_scanner(cx, scanned),
+        || run_rounds(cx, pulled),
+    );
 }
 
 // For each peer, the numbers of its indexes that are kept.

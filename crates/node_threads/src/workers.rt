@@ -11,6 +11,7 @@ use node_context::{Connections, NodeFault};
 use node_files::{FolderStore, Marked, Stores};
 use node_folder::{FolderWorker, GivesUp, NodeFolder, ScannedFolder, WorkerEnds};
 use node_keeper::{FolderKeeper, Keeper};
+use node_look::{LOOKERS, Looker, WatchedFolder};
 use node_peer::{Peer, PeerWorker, Reach};
 use node_pull::{PULLERS, PulledFolder, Puller};
 use peer_asks::{AskBook, PeerBook};
@@ -86,12 +87,19 @@ impl<'x, R: Wait, T: Stores> FolderFiles for Files<'x, R, T> {
     }
 }
 
-/// What scans, pulls and has connections.
+/// What scans, looks, pulls and has connections.
 #[derive(Drop)]
 pub(crate) struct Workers<'x, S, W> {
-    pub(crate) scanned: Vec<ScannedFolder<'x, S, W>>,
-    pub(crate) pulled: Vec<PulledFolder<'x, S, W>>,
+    pub(crate) folders: Vec<WorkedFolder<'x, S, W>>,
     pub(crate) peers: Vec<PeerWorker<'x, S, W>>,
+}
+
+/// What scans a folder, looks at it and pulls it.
+#[derive(Drop)]
+pub(crate) struct WorkedFolder<'x, S, W> {
+    pub(crate) scanned: ScannedFolder<'x, S, W>,
+    pub(crate) watched: WatchedFolder<'x, S, W>,
+    pub(crate) pulled: PulledFolder<'x, S, W>,
 }
 
 /// The workers of a node. The callers are taken in the order in which they are made (`callers.rt`).
@@ -103,13 +111,18 @@ pub(crate) fn workers_of<'x, 'b, F: FolderFiles, W: FolderCalls, R: Wait>(
     callers: &mut Lender<'x, 'b, W, R>,
 ) -> Result<Workers<'x, F::Store, WorkerCalls<'x, 'b, W, R>>, NodeFault> {
     let scanned = scanned_of(alloc, files, node, callers)?;
+    let watched = watched_of(alloc, files, node, callers)?;
     let pulled = pulled_of(alloc, files, node, callers)?;
     let peers = peers_of(alloc, files, node, reaches, callers)?;
-    Ok(Workers {
-        scanned,
-        pulled,
-        peers,
-    })
+    let mut folders = Vec::with_capacity(alloc, node.folders.len())?;
+    for ((scanned, watched), pulled) in scanned.into_iter().zip(watched).zip(pulled) {
+        folders.push(WorkedFolder {
+            scanned,
+            watched,
+            pulled,
+        })?;
+    }
+    Ok(Workers { folders, peers })
 }
 
 // A worker of the folder at a place.
@@ -155,6 +168,24 @@ fn scanned_of<'x, 'b, F: FolderFiles, W: FolderCalls, R: Wait>(
         scanned.push(ScannedFolder::new(worker))?;
     }
     Ok(scanned)
+}
+
+fn watched_of<'x, 'b, F: FolderFiles, W: FolderCalls, R: Wait>(
+    alloc: Global,
+    files: &F,
+    node: Node<'x>,
+    callers: &mut Lender<'x, 'b, W, R>,
+) -> Result<Vec<WatchedFolder<'x, F::Store, WorkerCalls<'x, 'b, W, R>>>, NodeFault> {
+    let mut watched = Vec::with_capacity(alloc, node.folders.len())?;
+    for (place, folder) in node.folders.iter().enumerate() {
+        let mut lookers = Vec::with_capacity(alloc, LOOKERS)?;
+        for _ in 0..LOOKERS {
+            let worker = worker_of(files, folder, place, GivesUp::AtStop, callers)?;
+            lookers.push(Looker::new(alloc, worker))?;
+        }
+        watched.push(WatchedFolder::new(alloc, lookers))?;
+    }
+    Ok(watched)
 }
 
 fn pulled_of<'x, 'b, F: FolderFiles, W: FolderCalls, R: Wait>(

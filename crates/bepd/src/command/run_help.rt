@@ -32,12 +32,12 @@ pub(crate) fn run_about(alloc: Global) -> Result<String, AllocError> {
 const CONFIGURATION: &str = "\
 Keep folders alike with peers over TCP.
 
-Each folder of the configuration is scanned when it begins, each hour (rescan; 0 is
-never), and by command. What a peer announces is pulled as soon as it is needed. The
-Block Exchange Protocol v1 is spoken without TLS: use it where the line is safe, as in
-a tunnel. What a folder's files were found to be is kept in the state file. A folder
-has a marker, .stfolder: while it is missing, as where a disk is not mounted, nothing
-is recorded as deleted.
+Each folder of the configuration is scanned when it begins, each day (rescan; 0 is
+never), and by command; between these, changes are found within seconds (look). What a
+peer announces is pulled as soon as it is needed. The Block Exchange Protocol v1 is
+spoken without TLS: use it where the line is safe, as in a tunnel. What a folder's files
+were found to be is kept in the state file. A folder has a marker, .stfolder: while it
+is missing, as where a disk is not mounted, nothing is recorded as deleted.
 
 Configuration, by example:
 

@@ -1,0 +1,2 @@
+-- whether a file is as its record says
+pub mod Recorded
