@@ -20,9 +20,14 @@ pub(crate) fn run_about(alloc: Global) -> Result<String, AllocError> {
             sentence,
         } = number.rule();
         let NumberRange { low, high, default } = range;
-        let lines = format!(in alloc;
-            "    {key} = {default}\n        {sentence} {low} to {high}.\n"
-        )?;
+        let lines = match number.word_for(default) {
+            Some(word) => format!(in alloc;
+                "    {key} = \"{word}\"\n        {sentence} {low} to {high}.\n"
+            )?,
+            None => format!(in alloc;
+                "    {key} = {default}\n        {sentence} {low} to {high}.\n"
+            )?,
+        };
         text.push_str(lines.as_str())?;
     }
     text.push_str(REST)?;
