@@ -13,7 +13,7 @@ use Rattle.std.proofs.lemmas.Slice.Eq.{bytes_eq-Decides}
 use Rattle.toml.specs.Data.{Data, Items, no_items, item, Members, get_member, as_str}
 use Rattle.sync_record.specs.Devices.{short_id}
 use Rattle.node_config.specs.Documents.{config_of}
-use Rattle.node_config.specs.Folders.{has_id, checked_id, folder_of, folders_after, folders_at}
+use Rattle.node_config.specs.Folders.{has_id, checked_id, folder_of, folders_after, folders_at, numbers_of, with_numbers}
 use Rattle.node_config.specs.Addresses.{socket_text}
 use Rattle.node_config.specs.FolderNumbers.{IsIn, key_of, no_number, number_in, range_of}
 use Rattle.node_config.specs.Keys.{key_name}
@@ -26,6 +26,7 @@ use Rattle.node_config.specs.declared.config.PeerConfig.{PeerConfig}
 use Rattle.node_config.specs.declared.config.PeerAddress.{PeerAddress}
 use Rattle.node_config.specs.declared.config.PeerAddress.TheVariants.{Dial, Listen}
 use Rattle.node_config.specs.declared.fault.ConfigFault.TheVariants.{BadKey}
+use Rattle.node_config.specs.declared.folders.Numbers.{Numbers}
 use Rattle.node_config.specs.declared.folder_numbers.FolderNumber.{FolderNumber}
 use Rattle.node_config.specs.declared.folder_numbers.FolderNumber.TheVariants.{HistoryLimit, MaxConflicts, Rescan, Look}
 use Rattle.node_config.specs.declared.key.Key.TheVariants.{Name, State, Folder as FolderKey, Peer as PeerKey, Id, Path, Folders, Dial as DialKey, Listen as ListenKey}
@@ -85,25 +86,36 @@ id_found earlier place text id h =
     let same : text ≡ id = cc last in
     subst (λ (t : List ℕ). (t ≢ []) × (list_any (has_id t) earlier ≡ false)) same (not_empty text some, new)
 
+-- each number is in its range
+abbrev AreIn : Numbers → Type 0
+AreIn n = IsIn (range_of HistoryLimit) (pos n.history_limit) × IsIn (range_of MaxConflicts) n.max_conflicts × IsIn (range_of Rescan) (pos n.rescan) × IsIn (range_of Look) n.look
+
+numbers_found : (table : Members) (place : Place) (numbers : Numbers) → numbers_of table place ≡ Ok numbers → AreIn numbers
+numbers_found table place numbers h =
+    let (limit, l, h1) = both (number_at table place HistoryLimit) _ numbers h in
+    let (most, m, h2) = both (number_at table place MaxConflicts) _ numbers h1 in
+    let (seconds, r, h3) = both (number_at table place Rescan) _ numbers h2 in
+    let (look, k, h4) = both (number_at table place Look) _ numbers h3 in
+    let made : Numbers = record { history_limit = unsigned_abs limit; max_conflicts = most; rescan = unsigned_abs seconds; look = look } in
+    let same : made ≡ numbers = cc h4 in
+    let a = number_found place HistoryLimit limit (get_member (key_name (key_of HistoryLimit)) table) l in
+    let b = number_found place MaxConflicts most (get_member (key_name (key_of MaxConflicts)) table) m in
+    let c = number_found place Rescan seconds (get_member (key_name (key_of Rescan)) table) r in
+    let d = number_found place Look look (get_member (key_name (key_of Look)) table) k in
+    subst AreIn same (limit_kept limit a, b, rescan_kept seconds c, d)
+
 folder_found : (earlier : List FolderConfig) (value : Data) (folder : FolderConfig) → folder_of earlier value ≡ Ok folder → IsFolder folder × (list_any (has_id folder.id) earlier ≡ false)
 folder_found earlier value folder h =
     let (table, t, h1) = both (table_of FolderKey value) _ folder h in
     let (text, x, h2) = both (text_at table (Folder (length earlier + 1)) Id) _ folder h1 in
     let (id, i, h3) = both (checked_id earlier (Folder (length earlier + 1)) text) _ folder h2 in
     let (path, p, h4) = both (text_at table (Folder (length earlier + 1)) Path) _ folder h3 in
-    let (limit, l, h5) = both (number_at table (Folder (length earlier + 1)) HistoryLimit) _ folder h4 in
-    let (most, m, h6) = both (number_at table (Folder (length earlier + 1)) MaxConflicts) _ folder h5 in
-    let (seconds, r, h7) = both (number_at table (Folder (length earlier + 1)) Rescan) _ folder h6 in
-    let (look, k, h8) = both (number_at table (Folder (length earlier + 1)) Look) _ folder h7 in
-    let made : FolderConfig = record { id = id; path = path; history_limit = unsigned_abs limit; max_conflicts = most; rescan = unsigned_abs seconds; look = look } in
-    let same : made ≡ folder = cc h8 in
+    let (numbers, m, h5) = both (numbers_of table (Folder (length earlier + 1))) _ folder h4 in
+    let same : with_numbers id path numbers ≡ folder = cc h5 in
     let is = id_found earlier (Folder (length earlier + 1)) text id i in
-    let a = number_found (Folder (length earlier + 1)) HistoryLimit limit (get_member (key_name (key_of HistoryLimit)) table) l in
-    let b = number_found (Folder (length earlier + 1)) MaxConflicts most (get_member (key_name (key_of MaxConflicts)) table) m in
-    let c = number_found (Folder (length earlier + 1)) Rescan seconds (get_member (key_name (key_of Rescan)) table) r in
-    let d = number_found (Folder (length earlier + 1)) Look look (get_member (key_name (key_of Look)) table) k in
+    let (a, b, c, d) = numbers_found table (Folder (length earlier + 1)) numbers m in
     subst (λ (f : FolderConfig). IsFolder f × (list_any (has_id f.id) earlier ≡ false)) same
-    (record { id = is.0; numbers = in_ranges made (limit_kept limit a) b (rescan_kept seconds c) d }, is.1)
+    (record { id = is.0; numbers = in_ranges (with_numbers id path numbers) a b c d }, is.1)
 
 more_folders : (earlier : List FolderConfig) (folder : FolderConfig) → AreFolders earlier → IsFolder folder × (list_any (has_id folder.id) earlier ≡ false) → AreFolders (earlier ++ folder ∷ [])
 more_folders earlier folder e h = (

@@ -5,7 +5,7 @@ use Rattle.std.specs.Option.{ok_or}
 use Rattle.toml.specs.Data.{Data, Items, no_items, item, Members, get_member, as_array}
 use Rattle.node_config.specs.Keys.{key_name}
 use Rattle.node_config.specs.Values.{◌>>=◌, text_at, number_or_default, number_at, device_at, tables_of}
-use Rattle.node_config.specs.Folders.{checked_id, folder_of, folders_after, folders_at}
+use Rattle.node_config.specs.Folders.{checked_id, folder_of, folders_after, folders_at, numbers_of}
 use Rattle.node_config.specs.Peers.{checked_device, place_of, places_after, places_at, address_of, address_at, peer_of, peers_after, peers_at}
 use Rattle.node_config.specs.Documents.{config_of}
 use Rattle.node_config.specs.declared.config.FolderConfig.{FolderConfig}
@@ -59,8 +59,11 @@ tables_fail : (key : Key) (o : Option Data) → FailsAtKey (tables_of key o)
 tables_fail key None = tt
 tables_fail key (Some value) = or_fails (as_array value) _ _ _
 
+numbers_fail : (table : Members) (place : Place) → FailsAtKey (numbers_of table place)
+numbers_fail table place = search (then_fails, number_fails)
+
 folder_fails : (earlier : List FolderConfig) (value : Data) → FailsAtKey (folder_of earlier value)
-folder_fails earlier value = search (or_fails, then_fails, text_fails, number_fails, checked_id_fails) depth 14
+folder_fails earlier value = search (or_fails, then_fails, text_fails, numbers_fail, checked_id_fails) depth 12
 
 folders_fail : (earlier : List FolderConfig) (values : Items) → FailsAtKey (folders_after earlier values)
 folders_fail earlier no_items = tt

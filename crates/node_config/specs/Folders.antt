@@ -8,6 +8,7 @@ use Rattle.node_config.specs.declared.config.FolderConfig.{FolderConfig}
 use Rattle.node_config.specs.declared.fault.ConfigFault.{ConfigFault}
 use Rattle.node_config.specs.declared.fault.ConfigFault.TheVariants.{BadKey}
 use Rattle.node_config.specs.declared.folder_numbers.FolderNumber.TheVariants.{HistoryLimit, MaxConflicts, Rescan, Look}
+use Rattle.node_config.specs.declared.folders.Numbers.{Numbers}
 use Rattle.node_config.specs.declared.key.Key.TheVariants.{Folder as FolderKey, Id, Path}
 use Rattle.node_config.specs.declared.key.Place.{Place}
 use Rattle.node_config.specs.declared.key.Place.TheVariants.{Folder}
@@ -24,6 +25,19 @@ checked_id earlier place id =
     else if list_any (has_id id) earlier then Err (BadKey place Id Repeats)
     else Ok id
 
+-- the numbers of a table
+abbrev pub numbers_of : Members → Place → Result Numbers ConfigFault
+numbers_of table place = do
+  history_limit ← number_at table place HistoryLimit
+  max_conflicts ← number_at table place MaxConflicts
+  rescan ← number_at table place Rescan
+  look ← number_at table place Look
+  Ok (record { history_limit = unsigned_abs history_limit; max_conflicts = max_conflicts; rescan = unsigned_abs rescan; look = look })
+
+-- a folder with these numbers
+abbrev pub with_numbers : List ℕ → List ℕ → Numbers → FolderConfig
+with_numbers id path n = record { id = id; path = path; history_limit = n.history_limit; max_conflicts = n.max_conflicts; rescan = n.rescan; look = n.look }
+
 -- the folder of a table, after the earlier ones
 abbrev pub folder_of : List FolderConfig → Data → Result FolderConfig ConfigFault
 folder_of earlier value = do
@@ -31,11 +45,8 @@ folder_of earlier value = do
   text ← text_at table (Folder (length earlier + 1)) Id
   id ← checked_id earlier (Folder (length earlier + 1)) text
   path ← text_at table (Folder (length earlier + 1)) Path
-  history_limit ← number_at table (Folder (length earlier + 1)) HistoryLimit
-  max_conflicts ← number_at table (Folder (length earlier + 1)) MaxConflicts
-  rescan ← number_at table (Folder (length earlier + 1)) Rescan
-  look ← number_at table (Folder (length earlier + 1)) Look
-  Ok (record { id = id; path = path; history_limit = unsigned_abs history_limit; max_conflicts = max_conflicts; rescan = unsigned_abs rescan; look = look })
+  numbers ← numbers_of table (Folder (length earlier + 1))
+  Ok (with_numbers id path numbers)
 
 -- the earlier folders, and those of the tables
 abbrev pub folders_after : List FolderConfig → Items → Result (List FolderConfig) ConfigFault

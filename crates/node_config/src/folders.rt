@@ -1,7 +1,7 @@
 //! The folders of a document.
 ghost use Rattle.std.specs.Prelude.{◌≡◌, []};
 ghost use Rattle.toml.specs.View.{items_view, table_view, view};
-ghost use Rattle.node_config.specs.Folders.{checked_id, folder_of, folders_after, folders_at, has_id};
+ghost use Rattle.node_config.specs.Folders.{checked_id, folder_of, folders_after, folders_at, has_id, numbers_of};
 ghost use Rattle.std.specs.List.{list_any};
 ghost use Rattle.node_config.specs.Values.{Finds, Reads};
 
@@ -56,13 +56,35 @@ fn read_folder(
     let place = Place::Folder(earlier.len() + 1);
     let id = checked_id(earlier, place, text_at(table, place, Key::Id)?)?;
     let path = text_at(table, place, Key::Path)?;
+    let numbers = read_numbers(table, place)?;
+    Ok(FolderConfig {
+        id: Text::from_str(alloc, id)?,
+        path: Text::from_str(alloc, path)?,
+        history_limit: numbers.history_limit,
+        max_conflicts: numbers.max_conflicts,
+        rescan: numbers.rescan,
+        look: numbers.look,
+    })
+}
+
+/// The numbers of a folder.
+#[derive(Clone, Copy)]
+struct Numbers {
+    history_limit: u64,
+    max_conflicts: i32,
+    rescan: u64,
+    look: i32,
+}
+
+/// The numbers of a table.
+fn read_numbers(table: &Table, place: Place) -> Result<Numbers, ConfigFault>
+    ensures { result ≡ numbers_of (table_view table.now) place }
+{
     let history_limit = number_at(table, place, FolderNumber::HistoryLimit)?;
     let max_conflicts = number_at(table, place, FolderNumber::MaxConflicts)?;
     let rescan = number_at(table, place, FolderNumber::Rescan)?;
     let look = number_at(table, place, FolderNumber::Look)?;
-    Ok(FolderConfig {
-        id: Text::from_str(alloc, id)?,
-        path: Text::from_str(alloc, path)?,
+    Ok(Numbers {
         history_limit: history_limit as u64,
         max_conflicts: max_conflicts as i32,
         rescan: rescan as u64,

@@ -1,5 +1,5 @@
 -- When a folder is scanned next, and how many seconds lie between two scans (own rule).
-use Rattle.std.specs.Prelude.{ℕ, ◌+◌, ◌-◌, ◌*◌, ◌/◌, ◌%◌, ◌==◌, nat_lt, if◌then◌else◌, min, Option, Some, None}
+use Rattle.std.specs.Prelude.{ℕ, ◌+◌, ◌-◌, ◌*◌, ◌/◌, ◌%◌, ◌^◌, ◌==◌, nat_lt, if◌then◌else◌, min, Option, Some, None}
 use Rattle.node_folder.specs.declared.schedule.ScanOutcome.{ScanOutcome}
 use Rattle.node_folder.specs.declared.schedule.ScanOutcome.TheVariants.{Whole, Partly, Away, Unseen}
 use Rattle.node_folder.specs.declared.schedule.ScanSchedule.{ScanSchedule}
@@ -43,4 +43,4 @@ settled Unseen s = record s { left = Some 1 }
 
 -- from three quarters to five quarters of the seconds, by the folder's number; just as many where they are less than an hour
 abbrev pub spread : ℕ → ℕ → ℕ
-spread rescan number = if nat_lt rescan 3600 then rescan else (rescan - rescan / 4) + number % (2 * (rescan / 4) + 1)
+spread rescan number = if nat_lt rescan 3600 then rescan else min ((rescan - rescan / 4) + number % (2 * (rescan / 4) + 1)) (2 ^ 64 - 1)

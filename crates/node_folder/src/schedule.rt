@@ -110,7 +110,7 @@ pub fn spread(rescan: u64, number: u64) -> u64
         return rescan;
     }
     let quarter = rescan / 4;
-    rescan - quarter + number % (2 * quarter + 1)
+    (rescan - quarter).saturating_add(number % (2 * quarter + 1))
 }
 
 // When the next scan by the clock is.
