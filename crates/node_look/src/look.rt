@@ -55,18 +55,9 @@ impl Look {
     /// The names of which something changed: those of entries that are new, gone or others in the directories that were found.
     pub(crate) fn changes(&self, found: &[Found]) -> Result<Vec<Change>, AllocError> {
         let mut changes = Vec::new(self.alloc);
-        let nothing = Table::new(self.alloc);
         for found in found {
-            let directory = found.directory.as_str();
-            let before = match self.directories.get(directory) {
-                Some(seen) => &seen.table,
-                None => &nothing,
-            };
-            let now = match &found.seen {
-                Some(seen) => &seen.table,
-                None => &nothing,
-            };
-            add_changes(self.alloc, directory, before, now, &mut changes)?;
+            let before = self.directories.get(found.directory.as_str());
+            add_found(self.alloc, before, found, &mut changes)?;
         }
         Ok(changes)
     }
@@ -84,6 +75,29 @@ impl Look {
             }
         }
         Ok(())
+    }
+}
+
+// Adds the safe names of a directory of which something changed since this was seen of it.
+fn add_found(
+    alloc: Global,
+    before: Option<&Seen>,
+    found: &Found,
+    changes: &mut Vec<Change>,
+) -> Result<(), AllocError> {
+    let directory = found.directory.as_str();
+    let nothing = Table::new(alloc);
+    match (before, &found.seen) {
+        (Some(before), Some(now)) => add_changes(
+            alloc,
+            directory,
+            &before.table,
+            &now.table,
+            changes,
+        ),
+        (Some(before), None) => add_changes(alloc, directory, &before.table, &nothing, changes),
+        (None, Some(now)) => add_changes(alloc, directory, &nothing, &now.table, changes),
+        (None, None) => Ok(()),
     }
 }
 

@@ -68,7 +68,7 @@ where
     for_each_mut(
         cx.rt,
         lookers,
-        threads,
+        threads.max(1),
         &|_, looker| scan_share(cx, looker, moment),
     );
     gather(cx, lookers)
