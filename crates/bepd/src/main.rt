@@ -14,18 +14,22 @@ mod run;
 
 use bepd_run::{Disks, ProgressStyle};
 use counted::{CountedReader, CountedWriter};
-use run::run;
+use run::{Started, run};
 use std::env::{self, Env};
 use std::fs::{File, Files};
 use std::io::{self, IsTerminal};
 use std::os::fd::{AsRawFd, RawFd};
 use std::process::ExitCode;
 
+/// The descriptor of standard input.
+const INPUT: RawFd = 0;
+
 /// The descriptor of standard error, the last of the standard streams.
 const LAST_STREAM: RawFd = 2;
 
 fn main(rt: HostRuntime) -> ExitCode {
-    let _held = [closed_stream(&rt), closed_stream(&rt), closed_stream(&rt)];
+    let held = [closed_stream(&rt), closed_stream(&rt), closed_stream(&rt)];
+    let is_closed = matches!(&held[0], Some(file) if file.as_raw_fd() == INPUT);
     let words = words(&rt);
     let mut input = CountedReader::new(rt.reader());
     let mut output = CountedWriter::new(rt.stdout());
@@ -39,7 +43,10 @@ fn main(rt: HostRuntime) -> ExitCode {
         &rt,
         &Disks::new(&rt, rt.alloc()),
         &words,
-        progress,
+        Started {
+            progress,
+            has_input: !is_closed,
+        },
         &mut input,
         &mut output,
         &mut errors,

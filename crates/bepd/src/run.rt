@@ -15,7 +15,7 @@ use crate::playing::ending_of;
 use crate::received::own_device;
 use bepd_pair::pair;
 use bepd_run::{
-    ProgressStyle, RunFailure, StateFiles, Stores, check_config, new_config, run_config,
+    ProgressStyle, RunFailure, RunStyle, StateFiles, Stores, check_config, new_config, run_config,
     tell_failure,
 };
 use folder_db::IndexedFolder;
@@ -39,16 +39,25 @@ pub(crate) struct Outcome {
     pub(crate) reported: io::Result<()>,
 }
 
+/// How the program was started.
+#[derive(Clone, Copy, Debug, PartialEq, Eq)]
+pub(crate) struct Started {
+    /// How it is shown how far something is.
+    pub(crate) progress: ProgressStyle,
+    /// Whether it has an input. (A daemon may have closed it.)
+    pub(crate) has_input: bool,
+}
+
 /// Does what the words of the command line ask for, of which the first is the program's name.
 ///
 /// `best FOLDER` reads the input and lists on the output; `pair` reads commands from the input and writes what they come to on the
-/// output; `run` reads commands and writes answers likewise, and tells what happens on `errors`, unless it is to be quiet. The help
+/// output; `run` reads commands, if there is an input, and writes answers likewise, and tells what happens on `errors`, unless it is to be quiet. The help
 /// and the version go to the output, and why words are refused to `errors`, as does the line of each ending with a status above 0.
 pub(crate) fn run<T, S, R, W, E>(
     rt: &T,
     stores: &S,
     words: &io::Result<Vec<String>>,
-    progress: ProgressStyle,
+    started: Started,
     input: &mut CountedReader<R>,
     output: &mut CountedWriter<W>,
     errors: &mut E,
@@ -105,14 +114,21 @@ where
             end(ending_of(played), errors)
         }
         Request::Run(path) => {
-            let told = Some(progress);
+            let how = RunStyle {
+                progress: Some(started.progress),
+                reads_input: started.has_input,
+            };
             let (input, output) = (&mut input.inner, &mut output.inner);
-            let ran = run_config(rt, stores, path, told, input, output, errors);
+            let ran = run_config(rt, stores, path, how, input, output, errors);
             end_run(rt, ran, errors)
         }
         Request::QuietRun(path) => {
+            let how = RunStyle {
+                progress: None,
+                reads_input: started.has_input,
+            };
             let (input, output) = (&mut input.inner, &mut output.inner);
-            let ran = run_config(rt, stores, path, None, input, output, errors);
+            let ran = run_config(rt, stores, path, how, input, output, errors);
             end_run(rt, ran, errors)
         }
         Request::Check(path) => {

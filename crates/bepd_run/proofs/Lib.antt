@@ -1,3 +1,4 @@
+pub mod PlacedLemmas
 mod Beginning
 mod Unread
 pub mod Starting

@@ -16,7 +16,7 @@ use Rattle.node_context.specs.declared.fault.NodeFault.{NodeFault}
 use Rattle.node_context.specs.declared.fault.NodeFault.TheVariants as node
 use Rattle.node_context.specs.Faults.{node_fault_name, node_fault_number}
 use Rattle.bepd_run.specs.declared.failure.RunFailure.{RunFailure}
-use Rattle.bepd_run.specs.declared.failure.RunFailure.TheVariants.{Config, ConfigExists, FolderInUse, Node, OutOfMemory, ReadOrWrite, State, StateInUse}
+use Rattle.bepd_run.specs.declared.failure.RunFailure.TheVariants.{Address, Config, ConfigExists, File, FolderInUse, Node, NoFolder, OutOfMemory, ReadOrWrite, State, StateAt, StateInUse}
 
 abbrev pub config_status : ConfigFault → ℕ
 config_status (config.NotToml line) = 1
@@ -32,8 +32,6 @@ node_status node.OutOfMemory = 4
 node_status node.OpenPulls = 5
 node_status node.PassesFull = 4
 node_status node.NoFolder = 1
-node_status node.StoreFault = 5
-node_status (node.FolderInUse place) = 6
 node_status node.BadAddress = 7
 
 -- the exit status
@@ -41,10 +39,14 @@ abbrev pub run_failure_status : RunFailure → ℕ
 run_failure_status (Config fault) = config_status fault
 run_failure_status (State fault) = state_status fault
 run_failure_status (Node fault) = node_status fault
-run_failure_status StateInUse = 6
+run_failure_status (StateAt fault about) = state_status fault
+run_failure_status (StateInUse path) = 6
 run_failure_status (FolderInUse path) = 6
 run_failure_status OutOfMemory = 4
 run_failure_status ConfigExists = 5
+run_failure_status (NoFolder about) = 5
+run_failure_status (Address about) = 7
+run_failure_status (File about) = 5
 run_failure_status ReadOrWrite = 5
 
 -- an error of a file, of the commands or of the answers
@@ -66,8 +68,12 @@ abbrev pub run_failure_text : RunFailure → List ℕ
 run_failure_text (Config fault) = numbered (number_of fault) (fault_name fault) ++ codes "\n" ++ fault_text fault
 run_failure_text (State fault) = numbered (state_fault_number fault) (state_fault_name fault)
 run_failure_text (Node fault) = numbered (node_fault_number fault) (node_fault_name fault)
-run_failure_text StateInUse = codes "fault 63 StateInUse"
+run_failure_text (StateAt fault about) = numbered (state_fault_number fault) (state_fault_name fault) ++ codes "\n" ++ about
+run_failure_text (StateInUse path) = codes "fault 63 StateInUse\n" ++ (path ++ codes ": another run has it; end that one, or give this one another state")
 run_failure_text (FolderInUse path) = codes "fault 64 FolderInUse\n" ++ (path ++ codes ": another run has it; end that one, or give the folder another path")
 run_failure_text OutOfMemory = codes "fault 33 OutOfMemory"
 run_failure_text ConfigExists = codes "fault config.toml is there already"
+run_failure_text (NoFolder about) = codes "fault 40 StoreFault\n" ++ about
+run_failure_text (Address about) = codes "fault 62 BadAddress\n" ++ about
+run_failure_text (File about) = codes "fault read or write\n" ++ about
 run_failure_text ReadOrWrite = codes "fault read or write"

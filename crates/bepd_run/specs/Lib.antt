@@ -2,7 +2,9 @@ pub mod Addresses
 pub mod Begun
 pub mod Failures
 pub mod Losses
+pub mod Naming
 pub mod Outlets
 pub mod Plans
 pub mod Renumbered
 pub mod Starts
+pub mod Placed

@@ -28,6 +28,7 @@ IsFolder folder resumed start =
       max_conflicts = folder.max_conflicts;
       rescan = folder.rescan;
       looking = looking_of folder.look;
+      trash_days = folder.trash_days;
     })
     × (start.core.folder ≡ resumed.folder) × (start.kept ≡ resumed.folder.last) × (start.is_unsettled ≡ false)
 

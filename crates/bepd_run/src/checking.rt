@@ -1,33 +1,47 @@
 //! What a node would do by a configuration, written without a run.
-use crate::addresses::address_of;
 use crate::failure::RunFailure;
-use crate::files::read_config_file;
+use crate::files::{StateFiles, read_config_file};
+use crate::naming::peer_address;
+use crate::outlook::{tell_outlook, tell_unknown_keys};
 use crate::paths::require_apart;
-use node_config::{Config, FolderConfig, FolderNumber, PeerAddress, PeerConfig, read_config};
+use crate::placing::placed_config;
+use node_config::{Config, FolderConfig, FolderNumber, Key, PeerAddress, PeerConfig, read_config};
 use std::alloc::Global;
-use std::fs::Files;
+use std::fs::{File, Files};
 use std::io::Write;
+use std::net::{Net, TcpListener, TcpStream};
 
 /// Reads the configuration at the path, and writes what a node would do by it: a line for this device, its name and its state file, one for each
-/// folder and one for each peer, with the keys of the configuration.
+/// folder and one for each peer, with the keys and the paths of the configuration; then one for each key that is none, and one for each thing that a run would
+/// meet at its start.
 ///
-/// Fails where [`run_config`](crate::run_config) would by the configuration or an address that can't be read; then nothing is written. Whether
-/// an address can be listened on, and what the state file has, is not looked at.
-pub fn check_config<R: Files, O: Write>(
+/// Fails where [`run_config`](crate::run_config) would by the configuration or an address that can't be read; then nothing is written. Where it would end
+/// at its start by something else, this fails in the same way, after all lines.
+pub fn check_config<R, O>(
     rt: &R,
     alloc: Global,
     path: &str,
     output: &mut O,
-) -> Result<(), RunFailure> {
+) -> Result<(), RunFailure>
+where
+    R: Files<File = File> + Net<Listener = TcpListener, Stream = TcpStream> + StateFiles,
+    O: Write,
+{
     let text = read_config_file(rt, alloc, path)?;
-    let config = read_config(alloc, text.as_slice())?;
+    let told = read_config(alloc, text.as_slice())?;
+    let config = placed_config(alloc, path, read_config(alloc, text.as_slice())?)?;
     require_apart(rt, alloc, &config)?;
-    for peer in config.peers.as_slice() {
-        let _ = address_of(&peer.address)?;
+    for (place, peer) in config.peers.as_slice().iter().enumerate() {
+        let _ = peer_address(alloc, place, peer)?;
     }
-    tell(alloc, &config, output)?;
+    tell(alloc, &told, output)?;
+    tell_unknown_keys(alloc, text.as_slice(), output)?;
+    let stop = tell_outlook(rt, alloc, &config, output)?;
     output.flush()?;
-    Ok(())
+    match stop {
+        Some(failure) => Err(failure),
+        None => Ok(()),
+    }
 }
 
 fn tell<O: Write>(alloc: Global, config: &Config, output: &mut O) -> Result<(), RunFailure> {
@@ -54,6 +68,9 @@ fn tell_folder<O: Write>(folder: &FolderConfig, output: &mut O) -> Result<(), Ru
             Some(word) => write!(output, " {key} {word}")?,
             None => write!(output, " {key} {value}")?,
         }
+    }
+    if let Some(mode) = folder.mode {
+        write!(output, " {} {mode:o}", Key::Mode)?;
     }
     writeln!(output)?;
     Ok(())

@@ -15,15 +15,17 @@ use std::io;
 use thiserror::Error;
 
 /// Why a node did not run, or did not end well. Displayed, it is the line for standard error; for a configuration that is refused a
-/// second line names the key, or the line of the file, and what is wrong with it; for a folder that another run has a second line has its path, and what to do.
+/// second line names the key, or the line of the file, and what is wrong with it; for a file, an address, a folder or a state a second line says which one, and what to do.
 #[derive(Debug, Drop, Error)]
 pub enum RunFailure {
     /// The configuration is refused, or there was no memory for it.
     Config(ConfigFault),
     /// The state file is refused, or there was no memory for it.
     State(StateFault),
-    /// Another run has the state.
-    StateInUse,
+    /// The state file is refused. This says which one it is, and what to do.
+    StateAt(StateFault, Text),
+    /// Another run has the state at this path.
+    StateInUse(Text),
     /// Another run has the folder at this path.
     FolderInUse(Text),
     /// The node did not begin, or memory ran out.
@@ -32,7 +34,13 @@ pub enum RunFailure {
     OutOfMemory,
     /// A configuration that was to be made is there already.
     ConfigExists,
-    /// A file can't be read or written, or the commands can't be read, or an answer not be written.
+    /// A folder's path is no directory. This says whose, and what to do.
+    NoFolder(Text),
+    /// An address can't be read, or not be listened on. This says which one, and why.
+    Address(Text),
+    /// A file can't be read or written. This says which one, and why.
+    File(Text),
+    /// The commands can't be read, or an answer not be written.
     ReadOrWrite,
 }
 
@@ -47,15 +55,19 @@ impl RunFailure {
             RunFailure::Config(_) => 1,
             RunFailure::State(StateFault::OutOfMemory) => 4,
             RunFailure::State(_) => 6,
-            RunFailure::StateInUse => 6,
+            RunFailure::StateAt(StateFault::OutOfMemory, _) => 4,
+            RunFailure::StateAt(_, _) => 6,
+            RunFailure::StateInUse(_) => 6,
             RunFailure::FolderInUse(_) => 6,
-            RunFailure::Node(NodeFault::FolderInUse(_)) => 6,
             RunFailure::Node(NodeFault::OutOfMemory | NodeFault::PassesFull) => 4,
             RunFailure::Node(NodeFault::NoFolder) => 1,
             RunFailure::Node(NodeFault::BadAddress) => 7,
-            RunFailure::Node(NodeFault::OpenPulls | NodeFault::StoreFault) => 5,
+            RunFailure::Node(NodeFault::OpenPulls) => 5,
             RunFailure::OutOfMemory => 4,
             RunFailure::ConfigExists => 5,
+            RunFailure::NoFolder(_) => 5,
+            RunFailure::Address(_) => 7,
+            RunFailure::File(_) => 5,
             RunFailure::ReadOrWrite => 5,
         }
     }
@@ -71,7 +83,14 @@ impl Display for RunFailure {
             }
             RunFailure::State(fault) => write!(f, "fault {} {fault}", fault.number()),
             RunFailure::Node(fault) => write!(f, "fault {} {fault}", fault.number()),
-            RunFailure::StateInUse => f.write_str("fault 63 StateInUse"),
+            RunFailure::StateAt(fault, about) => {
+                write!(f, "fault {} {fault}\n{}", fault.number(), about.as_str())
+            }
+            RunFailure::StateInUse(path) => write!(
+                f,
+                "fault 63 StateInUse\n{}: another run has it; end that one, or give this one another state",
+                path.as_str()
+            ),
             RunFailure::FolderInUse(path) => write!(
                 f,
                 "fault 64 FolderInUse\n{}: another run has it; end that one, or give the folder another path",
@@ -79,6 +98,9 @@ impl Display for RunFailure {
             ),
             RunFailure::OutOfMemory => f.write_str("fault 33 OutOfMemory"),
             RunFailure::ConfigExists => f.write_str("fault config.toml is there already"),
+            RunFailure::NoFolder(about) => { write!(f, "fault 40 StoreFault\n{}", about.as_str()) }
+            RunFailure::Address(about) => write!(f, "fault 62 BadAddress\n{}", about.as_str()),
+            RunFailure::File(about) => write!(f, "fault read or write\n{}", about.as_str()),
             RunFailure::ReadOrWrite => f.write_str("fault read or write"),
         }
     }

@@ -1,8 +1,9 @@
 //! The files that a node reads and writes.
 use crate::failure::RunFailure;
+use crate::naming::file_failure;
 use std::alloc::Global;
 use std::fs::{self, File, Files, OpenFile, OpenOptions};
-use std::io::{ErrorKind, Read, Seek, SeekFrom, Write};
+use std::io::{self, ErrorKind, Read, Seek, SeekFrom, Write};
 
 /// The most bytes of a configuration.
 const MAX_CONFIG_BYTES: u64 = 16_777_216;
@@ -16,44 +17,47 @@ pub(crate) fn read_config_file<R: Files>(
     alloc: Global,
     path: &str,
 ) -> Result<Vec<u8>, RunFailure> {
+    match read_front(rt, alloc, path, MAX_CONFIG_BYTES) {
+        Ok(bytes) => Ok(bytes),
+        Err(error) => Err(file_failure(alloc, "configuration", path, error)),
+    }
+}
+
+// The first bytes of a file, so many at most.
+fn read_front<R: Files>(rt: &R, alloc: Global, path: &str, most: u64) -> io::Result<Vec<u8>> {
     let mut bytes = Vec::new(alloc);
-    File::open(rt, path)?
-        .take(MAX_CONFIG_BYTES)
-        .read_to_end(&mut bytes)?;
+    File::open(rt, path)?.take(most).read_to_end(&mut bytes)?;
     Ok(bytes)
 }
 
 /// What reads and writes a state file and its journal. Each handle that has [`Files`] does; a thread takes it by this trait.
 pub trait StateFiles {
     /// The bytes of the file at the path; `None` where there is none.
-    fn read_file(&self, alloc: Global, path: &str) -> Result<Option<Vec<u8>>, RunFailure>;
+    fn read_file(&self, alloc: Global, path: &str) -> io::Result<Option<Vec<u8>>>;
 
     /// Makes a file at the path with these bytes, in place of any that is there. They are on the disk, under that name.
-    fn make_file(&self, path: &str, bytes: &[u8]) -> Result<File, RunFailure>;
+    fn make_file(&self, path: &str, bytes: &[u8]) -> io::Result<File>;
 
     /// Opens the file at the path to write behind so many bytes of it. What follows them is cut.
-    fn open_behind(&self, path: &str, len: u64) -> Result<File, RunFailure>;
+    fn open_behind(&self, path: &str, len: u64) -> io::Result<File>;
 
     /// Gives the file at `new` the path, in place of any that is there, so that there is always a whole one. On the disk, too.
-    fn put_in_place(&self, new: &str, path: &str) -> Result<(), RunFailure>;
+    fn put_in_place(&self, new: &str, path: &str) -> io::Result<()>;
 
     /// Removes the file at the path, if one is there.
     fn remove(&self, path: &str);
 }
 
 impl<R: Files<File = File>> StateFiles for R {
-    fn read_file(&self, alloc: Global, path: &str) -> Result<Option<Vec<u8>>, RunFailure> {
-        let file = match File::open(self, path) {
-            Ok(file) => file,
-            Err(error) if error.kind() == ErrorKind::NotFound => return Ok(None),
-            Err(error) => return Err(RunFailure::from(error)),
-        };
-        let mut bytes = Vec::new(alloc);
-        file.take(MAX_STATE_BYTES).read_to_end(&mut bytes)?;
-        Ok(Some(bytes))
+    fn read_file(&self, alloc: Global, path: &str) -> io::Result<Option<Vec<u8>>> {
+        match read_front(self, alloc, path, MAX_STATE_BYTES) {
+            Ok(bytes) => Ok(Some(bytes)),
+            Err(error) if error.kind() == ErrorKind::NotFound => Ok(None),
+            Err(error) => Err(error),
+        }
     }
 
-    fn make_file(&self, path: &str, bytes: &[u8]) -> Result<File, RunFailure> {
+    fn make_file(&self, path: &str, bytes: &[u8]) -> io::Result<File> {
         let mut file = File::create(self, path)?;
         file.write_all(bytes)?;
         file.sync_all()?;
@@ -61,7 +65,7 @@ impl<R: Files<File = File>> StateFiles for R {
         Ok(file)
     }
 
-    fn open_behind(&self, path: &str, len: u64) -> Result<File, RunFailure> {
+    fn open_behind(&self, path: &str, len: u64) -> io::Result<File> {
         let mut options = OpenOptions::new();
         options.write(true);
         let file = options.open(self, path)?;
@@ -72,7 +76,7 @@ impl<R: Files<File = File>> StateFiles for R {
         Ok(file)
     }
 
-    fn put_in_place(&self, new: &str, path: &str) -> Result<(), RunFailure> {
+    fn put_in_place(&self, new: &str, path: &str) -> io::Result<()> {
         fs::rename(self, new, path)?;
         sync_directory_of(self, path)
     }
@@ -84,7 +88,7 @@ impl<R: Files<File = File>> StateFiles for R {
 }
 
 // What the directory of the path names is on the disk.
-fn sync_directory_of<R: Files>(rt: &R, path: &str) -> Result<(), RunFailure> {
+fn sync_directory_of<R: Files>(rt: &R, path: &str) -> io::Result<()> {
     let directory = match path.rsplit_once('/') {
         Some(("", _)) => "/",
         Some((directory, _)) => directory,
@@ -95,7 +99,7 @@ fn sync_directory_of<R: Files>(rt: &R, path: &str) -> Result<(), RunFailure> {
 }
 
 /// Writes these bytes behind so many of the file. They are on the disk.
-pub(crate) fn write_behind(file: &mut File, len: u64, bytes: &[u8]) -> Result<(), RunFailure> {
+pub(crate) fn write_behind(file: &mut File, len: u64, bytes: &[u8]) -> io::Result<()> {
     file.seek(SeekFrom::Start(len))?;
     file.write_all(bytes)?;
     file.sync_data()?;

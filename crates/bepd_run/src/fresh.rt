@@ -1,5 +1,6 @@
 //! A first configuration.
 use crate::failure::RunFailure;
+use crate::naming::file_failure;
 use node_config::{FolderNumber, NumberRange, NumberRule};
 use std::alloc::Global;
 use std::fs::{self, File, Files, OpenOptions};
@@ -40,11 +41,16 @@ pub fn new_config<R: Files, O: Write>(
     let device = fresh_identity(rt, alloc)?;
     if let Err(error) = fs::create_dir(rt, directory) {
         if error.kind() != ErrorKind::AlreadyExists {
-            return Err(RunFailure::from(error));
+            return Err(file_failure(alloc, "directory", directory, error));
         }
     }
+    // (a relative path would be read from the directory of the configuration)
+    let place = match rt.canonicalize(alloc, directory) {
+        Ok(place) => place.into_string(),
+        Err(error) => return Err(file_failure(alloc, "directory", directory, error)),
+    };
     let path = format!(in alloc; "{directory}/config.toml")?;
-    let state = format!(in alloc; "{directory}/state")?;
+    let state = format!(in alloc; "{place}/state")?;
     let state = format!(in alloc; "{state:?}")?;
     let folder = FOLDER.replace(alloc, "STATE", state.as_str())?;
     let numbers = numbers_text(alloc)?;
@@ -58,7 +64,7 @@ pub fn new_config<R: Files, O: Write>(
         Err(error) if error.kind() == ErrorKind::AlreadyExists => {
             return Err(RunFailure::ConfigExists);
         }
-        Err(error) => return Err(RunFailure::from(error)),
+        Err(error) => return Err(file_failure(alloc, "configuration", path.as_str(), error)),
     };
     file.write_all(text.as_bytes())?;
     writeln!(output, "device {device}\nconfiguration {path}")?;

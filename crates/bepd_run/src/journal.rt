@@ -7,14 +7,16 @@ ghost use Rattle.bepd_run.specs.Begun.{Begins, IsPlansFrame};
 use crate::failure::RunFailure;
 use crate::files::{StateFiles, write_behind};
 use crate::last_run::{FolderPlans, FoundJournal, LastRun, StatePaths, read_last_run};
+use crate::naming::file_failure;
 use crate::plans::{open_in, written_plans};
-use bep_messages::Copied;
+use bep_messages::{Copied, Text};
 use node_journal::{Frame, JournalHeader, push_frame, push_header};
 use node_saver::{DiskJournal, FrameJournal, SaveFault, SavedFolder, closing_frame, plans_frame};
 use node_state::{State, write_state};
 use sha2::{Digest, Sha256};
 use std::alloc::{AllocError, Global};
 use std::fs::File;
+use std::io;
 use sync_record::DeviceId;
 
 /// How many bytes a journal has at least before it is folded into the state.
@@ -36,6 +38,8 @@ pub(crate) struct StateJournal<'a, R> {
     waiting: Vec<u8>,
     // From how many bytes on it is folded.
     fold_at: u64,
+    // Which file could not be written last, and why.
+    trouble: Option<Text>,
 }
 
 impl<'a, R: StateFiles> StateJournal<'a, R> {
@@ -48,10 +52,10 @@ impl<'a, R: StateFiles> StateJournal<'a, R> {
         found: &FoundJournal,
         state_len: u64,
     ) -> Result<StateJournal<'a, R>, RunFailure> {
-        if found.is_new {
-            files.put_in_place(paths.new_journal.as_str(), paths.journal.as_str())?;
-        }
-        let file = files.open_behind(paths.journal.as_str(), found.len)?;
+        let file = match open_found(files, paths, found) {
+            Ok(file) => file,
+            Err(error) => return Err(file_failure(alloc, "state", paths.journal.as_str(), error)),
+        };
         Ok(StateJournal {
             files,
             alloc,
@@ -62,6 +66,7 @@ impl<'a, R: StateFiles> StateJournal<'a, R> {
             len: found.len,
             waiting: Vec::new(alloc),
             fold_at: state_len.max(FOLD_BYTES),
+            trouble: None,
         })
     }
 
@@ -87,6 +92,7 @@ impl<'a, R: StateFiles> StateJournal<'a, R> {
             len: 0,
             waiting: Vec::new(alloc),
             fold_at: FOLD_BYTES,
+            trouble: None,
         };
         journal.replace(state, plans)?;
         Ok(journal)
@@ -112,19 +118,21 @@ impl<'a, R: StateFiles> StateJournal<'a, R> {
         let begun = begun_journal(self.alloc, &header, plans)?;
         let made = match self.files.make_file(new_state, bytes.as_slice()) {
             Ok(_) => self.files.make_file(new_journal, begun.as_slice()),
-            Err(failure) => Err(failure),
+            Err(error) => Err(error),
         };
         let file = match made {
             Ok(file) => file,
-            Err(failure) => {
+            Err(error) => {
                 self.files.remove(new_state);
                 self.files.remove(new_journal);
-                return Err(failure);
+                return Err(file_failure(self.alloc, "state", new_state, error));
             }
         };
         // (if this fails, it isn't known which state is in place, so what is written next is written anew)
         self.file = None;
-        self.files.put_in_place(new_state, self.paths.state)?;
+        if let Err(error) = self.files.put_in_place(new_state, self.paths.state) {
+            return Err(file_failure(self.alloc, "state", self.paths.state, error));
+        }
         self.header = header;
         self.file = Some(file);
         self.len = begun.len() as u64;
@@ -159,7 +167,8 @@ impl<'a, R: StateFiles> StateJournal<'a, R> {
         if self.file.is_some() {
             return Ok(());
         }
-        if self.fold_all().is_err() {
+        if let Err(failure) = self.fold_all() {
+            self.trouble = about_of(failure);
             return Err(SaveFault::Refused);
         }
         self.waiting.clear();
@@ -187,7 +196,9 @@ impl<'a, R: StateFiles> StateJournal<'a, R> {
         let Some(file) = &mut self.file else {
             return Err(SaveFault::Refused);
         };
-        if write_behind(file, self.len, self.waiting.as_slice()).is_err() {
+        if let Err(error) = write_behind(file, self.len, self.waiting.as_slice()) {
+            let path = self.paths.journal.as_str();
+            self.trouble = about_of(file_failure(self.alloc, "state", path, error));
             self.file = None;
             return Err(SaveFault::Refused);
         }
@@ -228,6 +239,33 @@ impl<R: StateFiles> DiskJournal for StateJournal<'_, R> {
             self.fold_at = self.len.saturating_add(FOLD_BYTES);
         }
     }
+
+    fn trouble(&self) -> Option<&str> {
+        match &self.trouble {
+            Some(about) => Some(about.as_str()),
+            None => None,
+        }
+    }
+}
+
+// Which file a failure is of, and why, where it says that.
+fn about_of(failure: RunFailure) -> Option<Text> {
+    match failure {
+        RunFailure::File(about) => Some(about),
+        _ => None,
+    }
+}
+
+// Opens the journal that was found, under its own name.
+fn open_found<R: StateFiles>(
+    files: &R,
+    paths: &StatePaths,
+    found: &FoundJournal,
+) -> io::Result<File> {
+    if found.is_new {
+        files.put_in_place(paths.new_journal.as_str(), paths.journal.as_str())?;
+    }
+    files.open_behind(paths.journal.as_str(), found.len)
 }
 
 // The bytes of a journal that begins with these plans.

@@ -1,6 +1,7 @@
 //! What the last run left: its state file, and the journal behind it.
 use crate::failure::RunFailure;
 use crate::files::StateFiles;
+use crate::naming::file_failure;
 use bep_messages::{Copied, Items, Text};
 use node_journal::{JournalEnd, JournalFault, JournalHeader, frames_behind, read_journal};
 use node_recover::{PullPlan, RecoverFault, RecoveredFolder, recover};
@@ -72,7 +73,7 @@ pub(crate) fn read_last_run<R: StateFiles>(
     device: DeviceId,
     paths: &StatePaths,
 ) -> Result<LastRun, RunFailure> {
-    let bytes = files.read_file(alloc, paths.state)?;
+    let bytes = read_at(files, alloc, paths.state)?;
     let has_state = bytes.is_some();
     let bytes = bytes.unwrap_or(Vec::new(alloc));
     let digest = Sha256::digest(bytes.as_slice());
@@ -91,7 +92,7 @@ pub(crate) fn read_last_run<R: StateFiles>(
         } else {
             paths.journal.as_str()
         };
-        let Some(bytes) = files.read_file(alloc, path)? else {
+        let Some(bytes) = read_at(files, alloc, path)? else {
             continue;
         };
         has_journal = true;
@@ -124,6 +125,18 @@ pub(crate) fn read_last_run<R: StateFiles>(
         state_len,
         is_in_doubt: has_state || has_journal,
     })
+}
+
+// The bytes of the file at a path, if there is one.
+fn read_at<R: StateFiles>(
+    files: &R,
+    alloc: Global,
+    path: &str,
+) -> Result<Option<Vec<u8>>, RunFailure> {
+    match files.read_file(alloc, path) {
+        Ok(bytes) => Ok(bytes),
+        Err(error) => Err(file_failure(alloc, "state", path, error)),
+    }
 }
 
 // The state, and the plans of the folders that have any.

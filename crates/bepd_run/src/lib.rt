@@ -2,6 +2,7 @@
 #![tactic(auto)]
 
 mod addresses;
+mod begun;
 mod checking;
 mod failure;
 mod files;
@@ -10,9 +11,12 @@ mod journal;
 mod last_run;
 mod lock;
 mod losses;
+mod naming;
 mod nodes;
 mod outlet;
+mod outlook;
 mod paths;
+mod placing;
 mod plans;
 mod readiness;
 mod run;
@@ -25,5 +29,5 @@ pub use files::StateFiles;
 pub use fresh::new_config;
 pub use node_context::ProgressStyle;
 pub use node_files::{Disks, Stores};
-pub use run::run_config;
+pub use run::{RunStyle, run_config};
 pub use telling::tell_failure;

@@ -1,5 +1,7 @@
 //! The lock file of a state: no two runs have it.
 use crate::failure::RunFailure;
+use crate::naming::file_failure;
+use bep_messages::Text;
 use std::alloc::Global;
 use std::fs::{File, Files, OpenFile, OpenOptions, TryLockError};
 
@@ -13,10 +15,23 @@ pub(crate) fn lock_state<R: Files<File = File>>(
     let path = format!(in alloc; "{state}.lock")?;
     let mut options = OpenOptions::new();
     options.read(true).write(true).create(true);
-    let file = options.open(rt, path.as_str())?;
+    let file = match options.open(rt, path.as_str()) {
+        Ok(file) => file,
+        Err(error) => return Err(file_failure(alloc, "state", path.as_str(), error)),
+    };
     match file.try_lock() {
         Ok(()) => Ok(file),
-        Err(TryLockError::WouldBlock) => Err(RunFailure::StateInUse),
-        Err(TryLockError::Error(error)) => Err(RunFailure::from(error)),
+        Err(TryLockError::WouldBlock) => Err(in_use(alloc, state)),
+        Err(TryLockError::Error(error)) => {
+            Err(file_failure(alloc, "state", path.as_str(), error))
+        }
+    }
+}
+
+// Another run has the state.
+fn in_use(alloc: Global, state: &str) -> RunFailure {
+    match Text::from_str(alloc, state) {
+        Ok(path) => RunFailure::StateInUse(path),
+        Err(_) => RunFailure::OutOfMemory,
     }
 }

@@ -7,6 +7,7 @@ use crate::failure::RunFailure;
 use crate::files::StateFiles;
 use crate::journal::StateJournal;
 use crate::last_run::FolderPlans;
+use crate::naming::listen_failure;
 use crate::plans::settle_all;
 use crate::starts::{Core, all_shares, folders_of, index_ids_of, peers_of, renumbered};
 use file_store::OpenGate;
@@ -31,7 +32,7 @@ use std::time::Clock;
 pub(crate) struct NextNode {
     pub(crate) folders: Vec<StartFolder<Core>>,
     pub(crate) index_ids: Vec<u64>,
-    peers: Vec<NodePeer>,
+    pub(crate) peers: Vec<NodePeer>,
     // The folders that are shared with each peer.
     shares: Vec<Vec<Share>>,
     listeners: Listeners,
@@ -55,7 +56,10 @@ impl NextNode {
         let index_ids = index_ids_of(alloc, folders.as_slice())?;
         let shares = all_shares(alloc, config, state)?;
         let peers = peers_of(alloc, config, shares.as_slice())?;
-        let listeners = listen_all(rt, alloc, peers.as_slice())?;
+        let listeners = match listen_all(rt, alloc, peers.as_slice()) {
+            Ok(listeners) => listeners,
+            Err(fault) => return Err(listen_failure(alloc, config, fault)),
+        };
         Ok(NextNode {
             folders,
             index_ids,

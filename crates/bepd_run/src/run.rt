@@ -2,26 +2,25 @@
 ghost use Rattle.std.specs.Prelude.{◌≡◌, Err, IfErr, IfOk, IsErr, None, OnErr};
 ghost use Rattle.std.specs.Thread.{IsSend};
 
+use crate::begun::{keep_all, make_ready, tell_begun};
 use crate::failure::RunFailure;
 use crate::files::{StateFiles, read_config_file};
 use crate::journal::StateJournal;
 use crate::last_run::{FolderPlans, StatePaths, read_last_run};
 use crate::lock::lock_state;
+use crate::naming::at_state;
 use crate::nodes::{NextNode, Outside, run_nodes};
 use crate::outlet::{Channel, Outlet};
 use crate::paths::require_apart;
+use crate::placing::placed_config;
 use crate::plans::settle_all;
 use crate::readiness::{Patience, Turns};
-use crate::starts::{Core, renumbered};
-use bep_messages::Text;
+use crate::starts::renumbered;
 use crossbeam_channel::{Receiver, Sender, bounded};
-use file_dir::LockRefusal;
-use folder_core::FolderCore;
 use node_commands::{InputLine, read_commands};
-use node_config::{Config, read_config};
-use node_context::{Log, NodeFault, ProgressStyle, write_log};
+use node_config::{Config, UnknownKey, read_config, unknown_keys};
+use node_context::{Log, ProgressStyle, write_log};
 use node_files::Stores;
-use node_threads::StartFolder;
 use std::alloc::Global;
 use std::fs::{File, Files};
 use std::io::{self, BufRead, Write};
@@ -35,8 +34,17 @@ use std::time::{Clock, Duration};
 /// same version again: a version is the second of its scan, or one or two more where scans of a name met.
 const IN_DOUBT: u64 = 3;
 
+/// How a run is begun.
+#[derive(Clone, Copy, Debug, PartialEq, Eq)]
+pub struct RunStyle {
+    /// How it is told what happens; none where it is not.
+    pub progress: Option<ProgressStyle>,
+    /// Whether it follows commands.
+    pub reads_input: bool,
+}
+
 /// Keeps the folders of the configuration at the path alike with its peers, and answers the commands of the input, a line each, until
-/// `quit` or its end: then the connections end, and the state file is written. What happens until then is in the journal beside it, so that a kill undoes
+/// `quit` or its end: then the connections end, and the state file is written. Where it doesn't read the input it goes on for ever. What happens until then is in the journal beside it, so that a kill undoes
 /// nothing: the next run reads both.
 ///
 /// | Command | Answer |
@@ -64,10 +72,15 @@ const IN_DOUBT: u64 = 3;
 ///
 /// | Line | |
 /// |---|---|
-/// | `connected ID` | a connection with the peer is up |
-/// | `gone ID: WHY` | it ended |
+/// | `bepd vV runs by FILE`, `listening on ADDRESS for ID`, `folder F: N names recorded, in PATH` | it begins |
+/// | `folder 1: rescann is no key, ignored; rescan?` | (without the time) the configuration has a key that is none |
+/// | `connected ID: NAME, PROGRAM VERSION, from ADDRESS (not verified)` | a connection with the peer is up: this is what it says of itself |
+/// | `not shared F: ID ..` | the folder isn't kept alike with the peer that is connected, and what to do |
+/// | `not reached ID: ADDRESS: WHY; ..` | no connection with the peer can be made; told again where it is for another reason |
+/// | `gone ID: WHY` | the connection ended |
 /// | `received F up to N from ID` | more of the peer's index of the folder F came |
 /// | `scanned F recorded N unchanged N other N` | a scan that recorded changes, or left names out |
+/// | `scanned F ..: stopped` | a scan ended with the run |
 /// | `skipped F NAME: WHY` | a scan left the name out, and did not before |
 /// | `skipped F: N more; ..` | it left out more than 100 |
 /// | `away F: ..`, `back F` | the folder isn't there, has no marker, or another run has it; it is there again |
@@ -79,11 +92,12 @@ const IN_DOUBT: u64 = 3;
 /// | `state not written: ..` | the journal can't be written: nothing is put in place, and peers are told nothing; it is tried again within 30 seconds |
 /// | `no room F: ..` | the disk is full; it is tried again each minute |
 /// | `scanning F N of N`, `pulling F N of N` | how far a scan or a pull of many names is |
+/// | `the input ended, ..` | there are no more commands, and the run ends |
 pub fn run_config<R, T, I, O, E>(
     rt: &R,
     stores: &T,
     path: &str,
-    progress: Option<ProgressStyle>,
+    how: RunStyle,
     input: &mut I,
     output: &mut O,
     errors: &mut E,
@@ -102,29 +116,31 @@ where
     I: BufRead + Send,
     O: Write + AsRawFd + Send,
     E: Write + AsRawFd + Send,
-    ensures quiet { progress ≡ None → errors.new ≡ errors.old }
+    ensures quiet { how.progress ≡ None → errors.new ≡ errors.old }
 {
     let alloc = rt.alloc();
-    let config = config_at(rt, alloc, path)?;
+    let Configured { config, unknown } = config_at(rt, alloc, path)?;
     let paths = StatePaths::new(alloc, config.state.as_str())?;
     let _lock = lock_state(rt, alloc, config.state.as_str())?;
     let turns = Turns::new(false);
     let answers = Channel::new(rt, alloc, output.as_raw_fd(), Patience::Short)?;
     let ready = Ready::new(rt, alloc, stores, &config, &paths)?;
-    let log = match progress {
+    let log = match how.progress {
         Some(progress) => Log::new(alloc, progress),
         None => Log::quiet(alloc),
     };
+    tell_begun(rt, &log, path, &ready.node);
     let place = Place {
         config: &config,
         stores,
         log: &log,
+        reads_input: how.reads_input,
     };
     let outward = Outward {
         turns: &turns,
         channel: answers,
     };
-    if progress.is_none() {
+    if how.progress.is_none() {
         return end(answer_ready(rt, alloc, &place, ready, input, outward, output));
     }
     let told = Channel::new(rt, alloc, errors.as_raw_fd(), Patience::UntilTheEnd)?;
@@ -138,7 +154,7 @@ where
             log.end(rt);
             ended
         },
-        || tell_log(rt, &log, &turns, told, errors),
+        || tell_log(rt, &log, unknown.as_slice(), &turns, told, errors),
     );
     end(ended)
 }
@@ -149,6 +165,7 @@ struct Place<'a, T> {
     config: &'a Config,
     stores: &'a T,
     log: &'a Log,
+    reads_input: bool,
 }
 
 // Where answers go, but for their writer.
@@ -180,9 +197,19 @@ where
     run_ready(rt, alloc, place, ready, input, &mut output)
 }
 
-// Writes what is told; what can't be written is left out.
-fn tell_log<R: Wait, E: Write>(rt: &R, log: &Log, turns: &Turns, channel: Channel, errors: &mut E) {
+// Writes which keys of the configuration are none, and then what is told; what can't be written is left out.
+fn tell_log<R: Wait, E: Write>(
+    rt: &R,
+    log: &Log,
+    unknown: &[UnknownKey],
+    turns: &Turns,
+    channel: Channel,
+    errors: &mut E,
+) {
     let mut errors = Outlet::new(rt, turns, channel, errors);
+    for key in unknown {
+        let _ = writeln!(errors, "{key}");
+    }
     write_log(rt, log, &mut errors);
 }
 
@@ -216,6 +243,11 @@ where
         plans,
     };
     let config = place.config;
+    if !place.reads_input {
+        let ended = run_nodes(rt, alloc, config, node, outside, lines, output);
+        drop(sender);
+        return ended;
+    }
     let ((), ended) = join(
         rt,
         || read_commands(rt, alloc, input, sender),
@@ -224,11 +256,19 @@ where
     ended
 }
 
-fn config_at<R: Files>(rt: &R, alloc: Global, path: &str) -> Result<Config, RunFailure> {
+// A configuration, and the keys of its document that are none.
+#[derive(Drop)]
+struct Configured {
+    config: Config,
+    unknown: Vec<UnknownKey>,
+}
+
+fn config_at<R: Files>(rt: &R, alloc: Global, path: &str) -> Result<Configured, RunFailure> {
     let text = read_config_file(rt, alloc, path)?;
-    let config = read_config(alloc, text.as_slice())?;
+    let config = placed_config(alloc, path, read_config(alloc, text.as_slice())?)?;
     require_apart(rt, alloc, &config)?;
-    Ok(config)
+    let unknown = unknown_keys(alloc, text.as_slice())?;
+    Ok(Configured { config, unknown })
 }
 
 // What a run has before its threads begin.
@@ -253,11 +293,15 @@ impl<'a, R> Ready<'a, R> {
         R: Clock + Net<Listener = TcpListener, Stream = TcpStream> + StateFiles + Wait,
         T: Stores,
     {
-        let last = read_last_run(rt, alloc, config.device, paths)?;
+        let last = match read_last_run(rt, alloc, config.device, paths) {
+            Ok(last) => last,
+            Err(failure) => return Err(at_state(alloc, paths.state, failure)),
+        };
         if last.is_in_doubt {
             thread::sleep(rt, Duration::from_secs(IN_DOUBT));
         }
         let mut node = NextNode::new(rt, alloc, config, &last.state, last.is_in_doubt)?;
+        keep_all(stores, config)?;
         make_ready(alloc, stores, node.folders.as_slice())?;
         let mut plans = last.plans;
         node.folders = settle_all(alloc, stores, node.folders, &mut plans)?;
@@ -284,44 +328,6 @@ impl<'a, R> Ready<'a, R> {
             lines,
         })
     }
-}
-
-// Makes the folders ready, and takes them for as long as the stores are kept.
-fn make_ready<T: Stores>(
-    alloc: Global,
-    stores: &T,
-    folders: &[StartFolder<Core>],
-) -> Result<(), RunFailure> {
-    match begin_folders(alloc, stores, folders) {
-        Err(NodeFault::FolderInUse(place)) => {
-            let path = match folders.get(place) {
-                Some(folder) => folder.settings.path.as_str(),
-                None => "",
-            };
-            Err(RunFailure::FolderInUse(Text::from_str(alloc, path)?))
-        }
-        begun => Ok(begun?),
-    }
-}
-
-// Makes each folder ready, before anybody reads or writes it: one of which nothing was recorded yet gets its marker, and temporary files that an
-// earlier run left are removed. Fails with `FolderInUse` where another run has a folder, and with `StoreFault` where the path of such a new folder is no
-// directory; one of which something was recorded may be away. The others are taken for as long as the stores are kept.
-fn begin_folders<T: Stores>(
-    alloc: Global,
-    stores: &T,
-    folders: &[StartFolder<Core>],
-) -> Result<(), NodeFault> {
-    for (place, folder) in folders.iter().enumerate() {
-        let counts = folder.core.counts();
-        let is_new = counts.files == 0 && counts.directories == 0 && counts.deletions == 0;
-        match stores.begin(alloc, folder.settings.path.as_str(), is_new) {
-            Err(LockRefusal::InUse) => return Err(NodeFault::FolderInUse(place)),
-            Err(_) if is_new => return Err(NodeFault::StoreFault),
-            _ => {}
-        }
-    }
-    Ok(())
 }
 
 // The run ended well where all was answered.

@@ -4,8 +4,8 @@ ghost use Rattle.node_resume.specs.Resumed.{taken};
 ghost use Rattle.bepd_run.specs.Renumbered.{number_of, place_of, renumbered};
 ghost use Rattle.bepd_run.specs.Starts.{AreFolders, ArePeers, IsFolder, IsPeer, are_shares, told};
 
-use crate::addresses::address_of;
 use crate::failure::RunFailure;
+use crate::naming::peer_address;
 use bep_messages::{Items, Text};
 use folder_core::FolderCore;
 use folder_db::IndexedFolder;
@@ -62,6 +62,7 @@ fn folder_of(
         max_conflicts,
         rescan: folder.rescan,
         looking: Looking::of_number(folder.look),
+        trash_days: folder.trash_days,
     };
     let core = resumed.records;
     let kept = core.known(core.me());
@@ -114,17 +115,23 @@ pub(crate) fn peers_of(
     let mut peers = Vec::with_capacity(alloc, shares.len())?;
     for (place, shares) in shares.iter().enumerate() {
         let peer = &config.peers.as_slice()[place];
-        peers.push(peer_of(alloc, peer, shares.as_slice())?)?;
+        peers.push(peer_of(alloc, place, peer, shares.as_slice())?)?;
     }
     Ok(peers)
 }
 
-fn peer_of(alloc: Global, peer: &PeerConfig, shares: &[Share]) -> Result<NodePeer, RunFailure>
+// The peer at a place of the configuration.
+fn peer_of(
+    alloc: Global,
+    place: usize,
+    peer: &PeerConfig,
+    shares: &[Share],
+) -> Result<NodePeer, RunFailure>
     ensures { IfOk result (IsPeer peer.now shares.now) }
 {
     Ok(NodePeer {
         device: peer.device,
-        address: address_of(&peer.address)?,
+        address: peer_address(alloc, place, peer)?,
         shares: told_shares(alloc, shares)?,
     })
 }

@@ -4,20 +4,22 @@ ghost use Rattle.file_store.specs.Refusals.{IsPlain};
 ghost use Rattle.file_store.specs.declared.refusal.StoreRefusal.TheVariants.{NotEmpty, BadParent};
 
 use crate::dir::{
-    Dir, Entry, Parents, enter, find, folder_of, last_of, make_directory, make_parents, open_one,
-    require_in_place,
+    Dir, Entry, Parents, enter, find, folder_of, last_of, open_one, require_in_place,
 };
 use crate::disk::Disk;
 use crate::found::Found;
 use crate::look::{Look, is_as_seen};
+use crate::made::{make_and_open, make_parents};
+use crate::mode::directory_of;
 use crate::opened::{Opened, reopen};
-use crate::refuse::or_fault;
 use crate::replaced::{kept_path, put_new, remove_by_way_of};
+use crate::versions::{place_of, remove_to};
 use file_store::{Stat, StoreRefusal};
 use std::fs;
 use std::io::ErrorKind;
 use std::os::fd::AsRawFd;
 use std::rt::Files;
+use std::time::Clock;
 use sync_names::SafeName;
 
 /// What is at a name, which then is the last look.
@@ -123,7 +125,7 @@ fn move_between<R: Files>(
     else {
         return Err(StoreRefusal::StoreFault);
     };
-    or_fault(fs::rename(&disk.files, from.as_str(), to.as_str()))?;
+    disk.or_fault(fs::rename(&disk.files, from.as_str(), to.as_str()))?;
     let moved = require_both(disk, old, new);
     if moved.is_err() {
         put_new(disk, to.as_str(), from.as_str())?;
@@ -143,11 +145,12 @@ fn require_both<R: Files>(
 }
 
 /// Removes a file; its directory reaches the disk before this returns. A fault if it changed since the last look, if that was at it, also while it was
-/// removed; then it is there again.
-pub(crate) fn remove<R: Files>(
+/// removed; then it is there again. It is kept as a version, if those are kept.
+pub(crate) fn remove<R: Files + Clock>(
     disk: &Disk<R>,
     dir: &mut Option<Dir<R::File>>,
     look: &mut Option<Look>,
+    lacks_room: &mut bool,
     name: &SafeName,
 ) -> Result<(), StoreRefusal>
 where
@@ -163,9 +166,14 @@ where
         return Err(StoreRefusal::StoreFault);
     };
     let open = open_one(dir)?;
-    let kept = kept_path(disk, open, name)?;
     let gone = Look::gone(String::from_str(disk.alloc, name.as_str())?);
-    remove_by_way_of(disk, open, kept.as_str(), path.as_str(), &old)?;
+    if disk.habits.keeps_versions {
+        let place = place_of(disk, name, lacks_room)?;
+        remove_to(disk, open, &place, path.as_str(), &old, lacks_room)?;
+    } else {
+        let kept = kept_path(disk, open, name)?;
+        remove_by_way_of(disk, open, kept.as_str(), path.as_str(), &old)?;
+    }
     *look = Some(gone);
     open.sync()
 }
@@ -173,16 +181,18 @@ where
 pub(crate) fn make_dir<R: Files>(
     disk: &Disk<R>,
     dir: &mut Option<Dir<R::File>>,
+    lacks_room: &mut bool,
     name: &str,
 ) -> Result<(), StoreRefusal>
 where
     R::File: AsRawFd,
     ensures { result ≢ Err NotEmpty }
 {
-    make_parents(disk, dir, folder_of(name))?;
+    let mode = directory_of(disk.habits);
+    make_parents(disk, dir, folder_of(name), mode, lacks_room)?;
     let open = open_one(dir)?;
     let path = open.path_of(disk.alloc, last_of(name))?;
-    make_directory(disk, open, path.as_str())?;
+    make_and_open(disk, open, path.as_str(), mode, lacks_room)?;
     Ok(())
 }
 
@@ -209,11 +219,11 @@ where
         Err(error) if error.kind() == ErrorKind::DirectoryNotEmpty => {
             return Err(StoreRefusal::NotEmpty);
         }
-        Err(_) => return Err(StoreRefusal::StoreFault),
+        Err(error) => return disk.or_fault(Err(error)),
     }
     let open = open_one(dir)?;
     if let Err(refusal) = require_in_place(disk, open) {
-        or_fault(fs::create_dir(&disk.files, path))?;
+        disk.or_fault(fs::create_dir(&disk.files, path))?;
         return Err(refusal);
     }
     *look = Some(gone);

@@ -3,9 +3,8 @@
 //! The system follows whatever link a path has at that moment. So the directory of a name is opened component by component, each of which must be the
 //! directory that was looked at, and what is in it is reached by way of the open directory (`/proc/self/fd/N/NAME`): that leads to it wherever it
 //! was moved to, and through no link. Where it is, the link `/proc/self/fd/N` says.
-ghost use Rattle.std.specs.Prelude.{◌≢◌, Err, IfErr};
+ghost use Rattle.std.specs.Prelude.{IfErr};
 ghost use Rattle.file_store.specs.Refusals.{IsPlain};
-ghost use Rattle.file_store.specs.declared.refusal.StoreRefusal.TheVariants.{NotEmpty};
 
 use crate::disk::Disk;
 use crate::found::{FileId, Found};
@@ -17,20 +16,19 @@ use std::fs::OpenFile;
 use std::io::ErrorKind;
 use std::os::fd::AsRawFd;
 use std::rt::Files;
-use sync_names::is_temporary;
 
 /// A directory of the folder that is open.
 #[derive(Drop)]
 pub(crate) struct Dir<F> {
     /// Its name, which is empty for the folder itself.
-    name: String,
+    pub(crate) name: String,
     /// `/proc/self/fd/N`.
     link: String,
     /// What the link said when it was opened.
     place: String,
     /// The folder at that time.
     root: FileId,
-    file: F,
+    pub(crate) file: F,
 }
 
 /// What the directory of a name is.
@@ -180,77 +178,8 @@ where
     Ok(Parents::There)
 }
 
-/// The same, where missing directories are made, which then reach the disk. Fails with `BadParent` if something else than a directory is there.
-/// None is made at the name of a temporary file, which may be needed for that file: that is a fault.
-pub(crate) fn make_parents<R: Files>(
-    disk: &Disk<R>,
-    dir: &mut Option<Dir<R::File>>,
-    name: &str,
-) -> Result<(), StoreRefusal>
-where
-    R::File: AsRawFd,
-    ensures { result ≢ Err NotEmpty }
-{
-    match enter(disk, dir, name)? {
-        Parents::There => return Ok(()),
-        Parents::Blocked => return Err(StoreRefusal::BadParent),
-        Parents::Missing => {}
-    }
-    let mut at = open_root(disk)?;
-    for component in name.split('/') {
-        at = open_or_make(disk, &at, component)?;
-    }
-    at.name = String::from_str(disk.alloc, name)?;
-    *dir = Some(at);
-    Ok(())
-}
-
-fn open_or_make<R: Files>(
-    disk: &Disk<R>,
-    at: &Dir<R::File>,
-    component: &str,
-) -> Result<Dir<R::File>, StoreRefusal>
-where
-    R::File: AsRawFd,
-    ensures { result ≢ Err NotEmpty }
-{
-    let path = at.path_of(disk.alloc, component)?;
-    match disk.look(path.as_str())? {
-        Found::Directory(_) => {}
-        Found::File(_) | Found::Link | Found::Special => return Err(StoreRefusal::BadParent),
-        Found::Nothing if is_temporary(component) => return Err(StoreRefusal::StoreFault),
-        Found::Nothing => make_directory(disk, at, path.as_str())?,
-    }
-    let opened = match disk.look(path.as_str())? {
-        Found::Directory(id) => open_below(disk, at, path.as_str(), id)?,
-        _ => None,
-    };
-    match opened {
-        Some(opened) => Ok(opened),
-        None => Err(StoreRefusal::StoreFault),
-    }
-}
-
-/// Makes a directory in an open one, which then reaches the disk. It is taken back where that one is no longer in its place.
-pub(crate) fn make_directory<R: Files>(
-    disk: &Disk<R>,
-    at: &Dir<R::File>,
-    path: &str,
-) -> Result<(), StoreRefusal>
-    ensures { IfErr result IsPlain }
-{
-    or_fault(fs::create_dir(&disk.files, path))?;
-    let refusal = match stands(disk, at) {
-        Ok(true) => return at.sync(),
-        Ok(false) => StoreRefusal::StoreFault,
-        Err(refusal) => refusal,
-    };
-    let _ = fs::remove_dir(&disk.files, path);
-    Err(refusal)
-}
-
-// Whether the directory is where it was opened. Where that can't be found out, it is not. Fails only if out of memory.
-fn stands<R: Files>(disk: &Disk<R>, at: &Dir<R::File>) -> Result<bool, StoreRefusal>
+/// Whether the directory is where it was opened. Where that can't be found out, it is not. Fails only if out of memory.
+pub(crate) fn stands<R: Files>(disk: &Disk<R>, at: &Dir<R::File>) -> Result<bool, StoreRefusal>
     ensures { IfErr result IsPlain }
 {
     match place_of(disk, at.link.as_str()) {
@@ -260,13 +189,14 @@ fn stands<R: Files>(disk: &Disk<R>, at: &Dir<R::File>) -> Result<bool, StoreRefu
     }
 }
 
-fn open_root<R: Files>(disk: &Disk<R>) -> Result<Dir<R::File>, StoreRefusal>
+/// Opens the folder itself.
+pub(crate) fn open_root<R: Files>(disk: &Disk<R>) -> Result<Dir<R::File>, StoreRefusal>
 where
     R::File: AsRawFd,
     ensures { IfErr result IsPlain }
 {
     let root = disk.root_id()?;
-    let file = or_fault(fs::open(&disk.files, disk.root()))?;
+    let file = disk.or_fault(fs::open(&disk.files, disk.root()))?;
     require(&file, root)?;
     let link = link_of(disk.alloc, &file)?;
     let place = place_of(disk, link.as_str())?;
@@ -279,8 +209,8 @@ where
     })
 }
 
-// Opens the directory that was just looked at in another one, unless it is gone. A fault where it is none below that one any more.
-fn open_below<R: Files>(
+/// Opens the directory that was just looked at in another one, unless it is gone. A fault where it is none below that one any more.
+pub(crate) fn open_below<R: Files>(
     disk: &Disk<R>,
     at: &Dir<R::File>,
     path: &str,
@@ -295,7 +225,7 @@ where
     let file = match fs::open(&disk.files, inside.as_str()) {
         Ok(file) => file,
         Err(error) if error.kind() == ErrorKind::NotFound => return Ok(None),
-        Err(_) => return Err(StoreRefusal::StoreFault),
+        Err(error) => return disk.or_fault(Err(error)),
     };
     require(&file, id)?;
     let link = link_of(disk.alloc, &file)?;

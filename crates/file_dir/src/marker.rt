@@ -2,9 +2,10 @@
 ghost use Rattle.std.specs.Prelude.{IfErr};
 ghost use Rattle.file_store.specs.Refusals.{IsPlain};
 
-use crate::dir::{Dir, find, make_directory, open_one};
+use crate::dir::{Dir, find, open_one};
 use crate::disk::Disk;
 use crate::found::Found;
+use crate::made::make_directory;
 use file_store::StoreRefusal;
 use std::alloc::AllocError;
 use std::fs::{File, OpenOptions, TryLockError};
@@ -69,7 +70,11 @@ where
     let entry = find(disk, dir, MARKER)?;
     match entry.found {
         Found::Directory(_) | Found::File(_) => Ok(()),
-        Found::Nothing => make_directory(disk, open_one(dir)?, entry.path.as_str()),
+        Found::Nothing => {
+            let mut lacks_room = false;
+            let at = open_one(dir)?;
+            make_directory(disk, at, entry.path.as_str(), None, &mut lacks_room)
+        }
         Found::Link | Found::Special => Err(StoreRefusal::StoreFault),
     }
 }

@@ -169,6 +169,6 @@ pub(crate) fn open<R: Files>(
         // With reading, so that a pipe in the file's place is opened at once, and refused, and not when it gets a reader.
         Access::Writing => options.read(true).write(true),
     };
-    let file = or_fault(options.open(&disk.files, path))?;
+    let file = disk.or_fault(options.open(&disk.files, path))?;
     Opened::new(name, file, Some(id))
 }

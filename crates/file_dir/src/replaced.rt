@@ -9,7 +9,6 @@ ghost use Rattle.file_store.specs.Refusals.{IsPlain};
 use crate::dir::{Dir, last_of, require_in_place};
 use crate::disk::Disk;
 use crate::found::{FileFacts, Found};
-use crate::refuse::or_fault;
 use file_store::StoreRefusal;
 use std::alloc::AllocError;
 use std::fs;
@@ -44,25 +43,37 @@ pub(crate) fn replace<R: Files>(
     if fs::hard_link(&disk.files, path, kept).is_err() {
         return move_in_place(disk, dir, temp, path);
     }
+    replace_kept(disk, dir, temp, path, kept, old)?;
+    // (what can't be removed now is by the next run, since something is at the name)
+    let _ = fs::remove_file(&disk.files, kept);
+    Ok(())
+}
+
+/// Moves a temporary file over a file that is kept at another path too. A fault if that one changed since it was looked at; then it is put back, and kept no
+/// more.
+pub(crate) fn replace_kept<R: Files>(
+    disk: &Disk<R>,
+    dir: &Dir<R::File>,
+    temp: &str,
+    path: &str,
+    kept: &str,
+    old: &FileFacts,
+) -> Result<(), StoreRefusal>
+    ensures { IfErr result IsPlain }
+{
     if fs::rename(&disk.files, temp, path).is_err() {
         remove_if_there(disk, kept)?;
         return Err(StoreRefusal::StoreFault);
     }
-    match require_kept(disk, dir, kept, old) {
-        Ok(()) => {
-            // (what can't be removed now is by the next run, since something is at the name)
-            let _ = fs::remove_file(&disk.files, kept);
-            Ok(())
-        }
-        Err(refusal) => {
-            or_fault(fs::rename(&disk.files, kept, path))?;
-            Err(refusal)
-        }
+    let replaced = require_kept(disk, dir, kept, old);
+    if replaced.is_err() {
+        disk.or_fault(fs::rename(&disk.files, kept, path))?;
     }
+    replaced
 }
 
-// A fault unless the directory is in its place, and the file that is kept has the bytes that it had when it was looked at.
-fn require_kept<R: Files>(
+/// A fault unless the directory is in its place, and the file that is kept has the bytes that it had when it was looked at.
+pub(crate) fn require_kept<R: Files>(
     disk: &Disk<R>,
     dir: &Dir<R::File>,
     kept: &str,
@@ -88,7 +99,7 @@ fn move_in_place<R: Files>(
     ensures { IfErr result IsPlain }
 {
     require_in_place(disk, dir)?;
-    or_fault(fs::rename(&disk.files, from, to))
+    disk.or_fault(fs::rename(&disk.files, from, to))
 }
 
 /// Moves a file to where nothing is. A fault if something came there meanwhile, on a file system that has hard links; else that is replaced.
@@ -99,11 +110,11 @@ pub(crate) fn put_new<R: Files>(disk: &Disk<R>, from: &str, to: &str) -> Result<
         Ok(()) if fs::remove_file(&disk.files, from).is_ok() => Ok(()),
         Ok(()) => {
             // (one file at two names would be neither put nor left)
-            or_fault(fs::remove_file(&disk.files, to))?;
+            disk.or_fault(fs::remove_file(&disk.files, to))?;
             Err(StoreRefusal::StoreFault)
         }
         Err(error) if error.kind() == ErrorKind::AlreadyExists => Err(StoreRefusal::StoreFault),
-        Err(_) => or_fault(fs::rename(&disk.files, from, to)),
+        Err(_) => disk.or_fault(fs::rename(&disk.files, from, to)),
     }
 }
 
@@ -120,16 +131,16 @@ pub(crate) fn put_temp<R: Files>(
         Ok(()) => {
             let put = leave(disk, dir, temp);
             if put.is_err() {
-                or_fault(fs::remove_file(&disk.files, path))?;
+                disk.or_fault(fs::remove_file(&disk.files, path))?;
             }
             put
         }
         Err(error) if error.kind() == ErrorKind::AlreadyExists => Err(StoreRefusal::StoreFault),
         Err(_) => {
-            or_fault(fs::rename(&disk.files, temp, path))?;
+            disk.or_fault(fs::rename(&disk.files, temp, path))?;
             let put = require_in_place(disk, dir);
             if put.is_err() {
-                or_fault(fs::rename(&disk.files, path, temp))?;
+                disk.or_fault(fs::rename(&disk.files, path, temp))?;
             }
             put
         }
@@ -141,7 +152,7 @@ fn leave<R: Files>(disk: &Disk<R>, dir: &Dir<R::File>, path: &str) -> Result<(),
     ensures { IfErr result IsPlain }
 {
     require_in_place(disk, dir)?;
-    or_fault(fs::remove_file(&disk.files, path))
+    disk.or_fault(fs::remove_file(&disk.files, path))
 }
 
 /// Removes a file by way of the path at which it is kept. A fault if it changed since it was looked at, also while it was removed; then it is
@@ -176,7 +187,7 @@ fn remove_kept<R: Files>(
     ensures { IfErr result IsPlain }
 {
     require_kept(disk, dir, kept, old)?;
-    or_fault(fs::remove_file(&disk.files, kept))
+    disk.or_fault(fs::remove_file(&disk.files, kept))
 }
 
 // Whether the file that is kept has the bytes that it had when it was looked at. Where that can't be found out, it has not.

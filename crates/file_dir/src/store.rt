@@ -4,18 +4,20 @@ ghost use Rattle.file_store.specs.Refusals.{count_after, IsPlain};
 
 use crate::dir::Dir;
 use crate::disk::Disk;
+use crate::habits::Habits;
 use crate::look::Look;
 use crate::opened::Opened;
 use crate::skipped::Skipped;
 use crate::temps::Writing;
-use crate::{LockRefusal, MarkerLock, changes, left, marker, temps, walk};
+use crate::{LockRefusal, MarkerLock, changes, left, marker, old_versions, temps, walk};
 use file_store::{FileStore, Listing, Stat, StoreRefusal};
 use std::alloc::{AllocError, Global};
 use std::fs::File;
+use std::io;
 use std::mem::replace;
 use std::os::fd::AsRawFd;
 use std::rt::Files;
-use std::time::{Duration, SystemTime};
+use std::time::{Clock, Duration, SystemTime};
 use sync_names::SafeName;
 
 /// A store of files in a folder of a disk.
@@ -52,13 +54,18 @@ pub struct DirStore<R: Files> {
 impl<R: Files + Drop> DirStore<R> {
     ghost use Rattle.file_dir.specs.Dir.{dir_faults};
 
-    /// A store in the folder at a path; an empty path is the current directory. Removes nothing. Fails with `StoreFault`
+    /// A store in the folder at a path, whose files are kept like this; an empty path is the current directory. Removes nothing. Fails with `StoreFault`
     /// if no directory is there.
-    pub fn open(files: R, alloc: Global, path: &str) -> Result<DirStore<R>, StoreRefusal>
+    pub fn open(
+        files: R,
+        alloc: Global,
+        path: &str,
+        habits: Habits,
+    ) -> Result<DirStore<R>, StoreRefusal>
         ensures faults { IfOk result (λ store. dir_faults store ≡ 0) }
         ensures refusals { IfErr result IsPlain }
     {
-        let disk = Disk::open(files, alloc, path)?;
+        let disk = Disk::open(files, alloc, path, habits)?;
         Ok(DirStore {
             disk,
             dir: None,
@@ -108,6 +115,17 @@ where
         let answer = left::remove_temps(&self.disk);
         settle(&mut self.faults, answer)
     }
+
+    /// Removes the versions below `.stversions` of moments before so many seconds since 1970, as their names say, and the directories that are empty then.
+    /// Returns how many files were removed. Those without a moment in their name stay, and so do those that can't be removed, and what is in directories
+    /// that can't be read. Touches nothing else, and follows no link. After an error some may have been removed. O(n) for n names there.
+    pub fn remove_versions(&mut self, before: u64) -> Result<usize, StoreRefusal>
+        ensures refusals { IfErr result IsPlain }
+        ensures counted { dir_faults self.new ≡ count_after result (dir_faults self.old) }
+    {
+        let answer = old_versions::remove_versions(&self.disk, before);
+        settle(&mut self.faults, answer)
+    }
 }
 
 impl<R: Files> DirStore<R> {
@@ -120,6 +138,11 @@ impl<R: Files> DirStore<R> {
     /// Whether the last fault of a call that writes came of a disk without room. O(1).
     pub fn lacks_room(&self) -> bool {
         self.writing.lacks_room
+    }
+
+    /// What the system said where the last call was a `StoreFault`, if it came of an error of the system. (`drop_temp` doesn't count.) O(1).
+    pub fn last_error(&self) -> Option<io::Error> {
+        self.disk.last_error()
     }
 
     /// The file that the next `commit_temp` of the name puts in place gets this modification time, in seconds and nanoseconds since 1970. A time
@@ -155,7 +178,7 @@ fn time_of(seconds: i64, nanoseconds: u32) -> Option<SystemTime> {
     SystemTime::UNIX_EPOCH.checked_add(since)
 }
 
-impl<R: Files> FileStore for DirStore<R>
+impl<R: Files + Clock> FileStore for DirStore<R>
 where
     R::File: AsRawFd,
 {
@@ -178,11 +201,13 @@ where
     }
 
     fn list(&mut self) -> Result<Listing, StoreRefusal> {
+        self.disk.forget_error();
         let answer = walk::list(&self.disk, &mut self.skipped);
         settle(&mut self.faults, answer)
     }
 
     fn stat(&mut self, name: &SafeName) -> Result<Stat, StoreRefusal> {
+        self.disk.forget_error();
         let answer = temps::stat(
             &self.disk,
             &mut self.dir,
@@ -199,6 +224,7 @@ where
         offset: u64,
         buffer: &mut [u8],
     ) -> Result<usize, StoreRefusal> {
+        self.disk.forget_error();
         let answer = changes::read_at(
             &self.disk,
             &mut self.dir,
@@ -211,11 +237,13 @@ where
     }
 
     fn make_temp(&mut self, name: &SafeName) -> Result<(), StoreRefusal> {
+        self.disk.forget_error();
         let answer = temps::make_temp(&self.disk, &mut self.dir, &mut self.writing, name);
         settle(&mut self.faults, answer)
     }
 
     fn write_at(&mut self, name: &SafeName, offset: u64, bytes: &[u8]) -> Result<(), StoreRefusal> {
+        self.disk.forget_error();
         let answer = temps::write_at(
             &self.disk,
             &mut self.dir,
@@ -228,6 +256,7 @@ where
     }
 
     fn commit_temp(&mut self, name: &SafeName) -> Result<(), StoreRefusal> {
+        self.disk.forget_error();
         self.reading = None;
         let answer = temps::commit_temp(
             &self.disk,
@@ -247,6 +276,7 @@ where
     }
 
     fn rename(&mut self, from: &SafeName, to: &SafeName) -> Result<(), StoreRefusal> {
+        self.disk.forget_error();
         let answer = changes::rename(
             &self.disk,
             &mut self.dir,
@@ -259,19 +289,24 @@ where
     }
 
     fn remove(&mut self, name: &SafeName) -> Result<(), StoreRefusal> {
+        self.disk.forget_error();
         self.reading = None;
-        let answer = changes::remove(&self.disk, &mut self.dir, &mut self.look, name);
+        let lacks_room = &mut self.writing.lacks_room;
+        let answer = changes::remove(&self.disk, &mut self.dir, &mut self.look, lacks_room, name);
         self.dir = None;
         settle(&mut self.faults, answer)
     }
 
     fn make_dir(&mut self, name: &SafeName) -> Result<(), StoreRefusal> {
-        let answer = changes::make_dir(&self.disk, &mut self.dir, name.as_str());
+        self.disk.forget_error();
+        let lacks_room = &mut self.writing.lacks_room;
+        let answer = changes::make_dir(&self.disk, &mut self.dir, lacks_room, name.as_str());
         self.dir = None;
         settle(&mut self.faults, answer)
     }
 
     fn remove_dir(&mut self, name: &SafeName) -> Result<(), StoreRefusal> {
+        self.disk.forget_error();
         let answer = changes::remove_dir(&self.disk, &mut self.dir, &mut self.look, name.as_str());
         self.dir = None;
         settle(&mut self.faults, answer)

@@ -4,20 +4,20 @@ ghost use Rattle.file_store.specs.Refusals.{IsPlain};
 ghost use Rattle.file_store.specs.declared.refusal.StoreRefusal.TheVariants.{NotEmpty};
 
 use crate::changes;
-use crate::dir::{
-    Dir, Entry, copy_of, find, folder_of, last_of, make_parents, open_one, require_in_place,
-};
+use crate::dir::{Dir, Entry, copy_of, find, folder_of, last_of, open_one, require_in_place};
 use crate::disk::Disk;
 use crate::found::Found;
 use crate::look::{Look, is_as_seen};
-use crate::mode::{create, permissions_of};
+use crate::made::make_parents;
+use crate::mode::{create, directory_of, permissions_at};
 use crate::opened::{Access, Opened, open};
 use crate::replaced::{kept_path, put_temp, remove_if_there, replace};
+use crate::versions::{place_of, replace_to};
 use file_store::{Stat, StoreRefusal};
 use std::fs;
 use std::os::fd::AsRawFd;
 use std::rt::Files;
-use std::time::SystemTime;
+use std::time::{Clock, SystemTime};
 use sync_names::{SafeName, temp_name};
 
 /// What a store writes.
@@ -51,7 +51,7 @@ impl<F> Writing<F> {
 
 /// Makes an empty temporary file, which then is the open one, and missing parents. What was at its path is removed; a
 /// symbolic link there is not followed, and a directory is a fault. If a file is at the name, no others than those who may
-/// read that file may read the temporary one.
+/// read that file may read the temporary one; if none is, none but those whom the folder's habits allow.
 pub(crate) fn make_temp<R: Files>(
     disk: &Disk<R>,
     dir: &mut Option<Dir<R::File>>,
@@ -65,12 +65,13 @@ where
     let temp = temp_name(name)?;
     writing.open = None;
     writing.lacks_room = false;
-    make_parents(disk, dir, folder_of(name.as_str()))?;
+    let mode = directory_of(disk.habits);
+    let lacks_room = &mut writing.lacks_room;
+    make_parents(disk, dir, folder_of(name.as_str()), mode, lacks_room)?;
     let at = open_one(dir)?;
     let path = at.path_of(disk.alloc, last_of(temp.as_str()))?;
     let replaced = at.path_of(disk.alloc, last_of(name.as_str()))?;
     remove_if_there(disk, path.as_str())?;
-    let lacks_room = &mut writing.lacks_room;
     let file = create(disk, path.as_str(), replaced.as_str(), lacks_room)?;
     if let Err(refusal) = require_in_place(disk, at) {
         remove_if_there(disk, path.as_str())?;
@@ -143,7 +144,7 @@ where
     changes::stat(disk, dir, look, name.as_str())
 }
 
-/// Has the temporary file of a name reach the disk, with the permissions of the file that it is to replace, and the modification time that it is to
+/// Has the temporary file of a name reach the disk, with the permissions of the file that it is to replace, or those of the folder's habits, and the modification time that it is to
 /// have, if it is the open one. Does nothing if it is not, or if nothing was written since the last time. After a failure it is not the open one any
 /// more, so that no later success says more than is so.
 fn sync_temp<R: Files>(
@@ -170,7 +171,7 @@ fn sync_temp<R: Files>(
     synced
 }
 
-/// Gives a temporary file the permissions of the file at a path, if there is one, and the modification time, if there is one, and has it reach the disk.
+/// Gives a temporary file the permissions of the file at a path, or those of the folder's habits, if there are any, and the modification time, if there is one, and has it reach the disk.
 fn sync_for<R: Files>(
     disk: &Disk<R>,
     opened: &mut Opened<R::File>,
@@ -180,8 +181,8 @@ fn sync_for<R: Files>(
 ) -> Result<(), StoreRefusal>
     ensures { IfErr result IsPlain }
 {
-    if let Found::File(old) = disk.look(path)? {
-        opened.set_mode(permissions_of(old.mode))?;
+    if let Some(mode) = permissions_at(&disk.look(path)?, disk.habits) {
+        opened.set_mode(mode)?;
     }
     if let Some(modified) = modified {
         opened.set_modified(modified);
@@ -191,8 +192,8 @@ fn sync_for<R: Files>(
 
 /// Puts the temporary file in its place, with the permissions of the file that it replaces. Its bytes reach the disk before,
 /// unless they have by [`stat`], and the new name before this returns. A fault if what is there is not what was there at the last look, if that
-/// was at this name; then it stays there.
-pub(crate) fn commit_temp<R: Files>(
+/// was at this name; then it stays there. The file that it replaces is kept as a version, if those are kept.
+pub(crate) fn commit_temp<R: Files + Clock>(
     disk: &Disk<R>,
     dir: &mut Option<Dir<R::File>>,
     writing: &mut Writing<R::File>,
@@ -216,6 +217,12 @@ where
     }
     match found {
         Found::Nothing => put_temp(disk, at, temp.as_str(), path.as_str())?,
+        Found::File(old) if disk.habits.keeps_versions => {
+            let lacks_room = &mut writing.lacks_room;
+            let place = place_of(disk, name, lacks_room)?;
+            let temp = temp.as_str();
+            replace_to(disk, at, &place, temp, path.as_str(), &old, lacks_room)?;
+        }
         Found::File(old) => {
             let kept = kept_path(disk, at, name)?;
             replace(disk, at, temp.as_str(), path.as_str(), kept.as_str(), &old)?;

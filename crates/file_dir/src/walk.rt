@@ -9,7 +9,6 @@ ghost use Rattle.file_store.specs.declared.node.Listed.{Listed};
 use crate::dir::{Dir, Parents, enter, folder_of, last_of, open_one};
 use crate::disk::Disk;
 use crate::found::Found;
-use crate::refuse::or_fault;
 use crate::skipped::{SkipReason, Skipped};
 use file_store::{Kind, Listed, Listing, StoreRefusal};
 use std::alloc::{AllocError, Global};
@@ -154,7 +153,7 @@ where
     }
     let at = open_one(dir)?;
     let path = at.path_of(disk.alloc, "")?;
-    let mut names = or_fault(disk.files.open_dir(path.as_str()))?;
+    let mut names = disk.or_fault(disk.files.open_dir(path.as_str()))?;
     for _ in 0..u64::MAX {
         match names.read(buffer) {
             Ok(0) => break,

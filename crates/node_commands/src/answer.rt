@@ -12,7 +12,7 @@ use crate::listing::{Listed, list, list_needed};
 use crate::refusal::{Refusal, tell};
 use file_store::{FileStore, Gate};
 use folder_calls::FolderCalls;
-use node_context::{Context, Host, NodeFault};
+use node_context::{Context, Event, Host, NodeFault};
 use node_files::{Marked, Whereabouts};
 use node_folder::{FolderWorker, scan_folder};
 use std::io::{self, Write};
@@ -73,12 +73,20 @@ where
             continue;
         };
         if is_last(&line) {
+            tell_end(cx, &line);
             return end_at(&line);
         }
         tell(answer_line(cx, answerer, &line, output), output)?;
         output.flush()?;
     }
     unreachable!()
+}
+
+// Tells where there are no more commands, though nobody typed `quit`.
+fn tell_end<R: Host, G>(cx: &Context<R, G>, line: &InputLine) {
+    if let InputLine::End = line {
+        cx.tell(&Event::InputEnded);
+    }
 }
 
 // How the commands end at their last line.
@@ -218,7 +226,7 @@ fn scan<R: Host, S: FileStore + Marked, W: FolderCalls, G: Gate, O: Write>(
     if worker.look() != Whereabouts::There {
         return Err(Refusal::FolderMissing);
     }
-    let sum = scan_folder(cx, worker, false);
+    let sum = scan_folder(cx, worker, false).sum;
     if let Some(stop) = sum.stopped {
         return Err(Refusal::Scan(stop));
     }

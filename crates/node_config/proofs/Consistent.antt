@@ -1,6 +1,6 @@
 -- A configuration that a document has follows the rules.
 use Rattle.std.proofs.Common.{◌≡◌, ◌≢◌, ℕ, ◌+◌, ◌<◌, ◌≤◌, Bool, true, false, ◌&&◌, ◌||◌, List, [], ◌∷◌, ◌++◌, length, get_or, ℤ, pos, negsuc, ◌≤ℤ◌, Option, Some, None, Ok, ◌∙◌, ap, refl, sym, subst, arith}
-use Rattle.std.specs.Prelude.{int_le, unsigned_abs, position, nat_lt, All, ◌==◌}
+use Rattle.std.specs.Prelude.{nat_le, IfSome, int_le, unsigned_abs, position, nat_lt, All, ◌==◌}
 use Rattle.std.specs.List.{list_any, position_or_len}
 use Rattle.std.specs.Option.{ok_or}
 use Rattle.std.specs.declared.net.socket_addr.SocketAddrV4.{SocketAddrV4}
@@ -13,26 +13,30 @@ use Rattle.std.proofs.lemmas.Slice.Eq.{bytes_eq-Decides}
 use Rattle.toml.specs.Data.{Data, Items, no_items, item, Members, get_member, as_str}
 use Rattle.sync_record.specs.Devices.{short_id}
 use Rattle.node_config.specs.Documents.{config_of}
-use Rattle.node_config.specs.Folders.{has_id, checked_id, folder_of, folders_after, folders_at, numbers_of, with_numbers}
+use Rattle.node_config.specs.Folders.{has_id, checked_id, files_of, folder_of, folders_after, folders_at, id_at, numbers_of, with_numbers}
 use Rattle.node_config.specs.Addresses.{socket_text}
 use Rattle.node_config.specs.FolderNumbers.{IsIn, key_of, no_number, number_in, range_of}
 use Rattle.node_config.specs.Keys.{key_name}
+use Rattle.node_config.specs.Modes.{IsMode, is_octal_from, mode_at, mode_of, mode_of_text, mode_or_none}
+use Rattle.node_config.specs.Paths.{is_of_home, path_at}
 use Rattle.node_config.specs.Peers.{is_taken, is_short_id_taken, checked_device, place_of, places_after, places_at, listens_at, checked_listen, address_of, address_at, peer_of, peers_after, peers_at}
 use Rattle.node_config.specs.Rules.{IsFolder, AreFolders, ArePeers, IsConsistent, IsListenedAt}
-use Rattle.node_config.specs.Values.{text_of, text_at, array_at, integer_of, number_or_default, number_at, device_at, tables_of, table_of}
+use Rattle.node_config.specs.Values.{text_of, text_at, array_at, integer_of, number_or_default, number_at, device_at, tables_of, table_of, ◌>>=◌}
 use Rattle.node_config.specs.declared.config.Config.{Config}
 use Rattle.node_config.specs.declared.config.FolderConfig.{FolderConfig}
 use Rattle.node_config.specs.declared.config.PeerConfig.{PeerConfig}
 use Rattle.node_config.specs.declared.config.PeerAddress.{PeerAddress}
 use Rattle.node_config.specs.declared.config.PeerAddress.TheVariants.{Dial, Listen}
 use Rattle.node_config.specs.declared.fault.ConfigFault.TheVariants.{BadKey}
+use Rattle.node_config.specs.declared.folders.FileRules.{FileRules}
 use Rattle.node_config.specs.declared.folders.Numbers.{Numbers}
 use Rattle.node_config.specs.declared.folder_numbers.FolderNumber.{FolderNumber}
-use Rattle.node_config.specs.declared.folder_numbers.FolderNumber.TheVariants.{HistoryLimit, MaxConflicts, Rescan, Look}
-use Rattle.node_config.specs.declared.key.Key.TheVariants.{Name, State, Folder as FolderKey, Peer as PeerKey, Id, Path, Folders, Dial as DialKey, Listen as ListenKey}
+use Rattle.node_config.specs.declared.folder_numbers.FolderNumber.TheVariants.{HistoryLimit, MaxConflicts, Rescan, Look, TrashDays}
+use Rattle.node_config.specs.declared.key.Key.{Key}
+use Rattle.node_config.specs.declared.key.Key.TheVariants.{Name, State, Folder as FolderKey, Peer as PeerKey, Id, Path, Mode, Folders, Dial as DialKey, Listen as ListenKey}
 use Rattle.node_config.specs.declared.key.Place.{Place}
 use Rattle.node_config.specs.declared.key.Place.TheVariants.{Node, Folder, Peer}
-use Rattle.node_config.specs.declared.key.Problem.TheVariants.{NotStrings}
+use Rattle.node_config.specs.declared.key.Problem.TheVariants.{NotStrings, NotMode}
 use Rattle.node_config.proofs.AddressLemmas.{same_socket}
 use Rattle.node_config.proofs.Steps.{both, value_of, passed, tested, some_where, none_passes, differs}
 
@@ -48,6 +52,7 @@ default_in HistoryLimit = (omega (arith, ints), omega (arith, ints))
 default_in MaxConflicts = (omega (arith, ints), omega (arith, ints))
 default_in Rescan = (omega (arith, ints), omega (arith, ints))
 default_in Look = (omega (arith, ints), omega (arith, ints))
+default_in TrashDays = (omega (arith, ints), omega (arith, ints))
 
 number_found : (place : Place) (number : FolderNumber) (n : ℤ) (o : Option Data) → number_or_default place number o ≡ Ok n → IsIn (range_of number) n
 number_found place number n None h =
@@ -68,12 +73,17 @@ rescan_kept : (z : ℤ) → IsIn (range_of Rescan) z → IsIn (range_of Rescan) 
 rescan_kept (pos n) h = h
 rescan_kept (negsuc n) (l, g) = absurd (omega (arith, ints))
 
-in_ranges : (folder : FolderConfig) → IsIn (range_of HistoryLimit) (pos folder.history_limit) → IsIn (range_of MaxConflicts) folder.max_conflicts → IsIn (range_of Rescan) (pos folder.rescan) → IsIn (range_of Look) folder.look
+days_kept : (z : ℤ) → IsIn (range_of TrashDays) z → IsIn (range_of TrashDays) (pos (unsigned_abs z))
+days_kept (pos n) h = h
+days_kept (negsuc n) (l, g) = absurd (omega (arith, ints))
+
+in_ranges : (folder : FolderConfig) → IsIn (range_of HistoryLimit) (pos folder.history_limit) → IsIn (range_of MaxConflicts) folder.max_conflicts → IsIn (range_of Rescan) (pos folder.rescan) → IsIn (range_of Look) folder.look → IsIn (range_of TrashDays) (pos folder.trash_days)
     → (number : FolderNumber) → IsIn (range_of number) (number_in number folder)
-in_ranges folder limit most seconds look HistoryLimit = limit
-in_ranges folder limit most seconds look MaxConflicts = most
-in_ranges folder limit most seconds look Rescan = seconds
-in_ranges folder limit most seconds look Look = look
+in_ranges folder limit most seconds look days HistoryLimit = limit
+in_ranges folder limit most seconds look days MaxConflicts = most
+in_ranges folder limit most seconds look days Rescan = seconds
+in_ranges folder limit most seconds look days Look = look
+in_ranges folder limit most seconds look days TrashDays = days
 
 not_empty : (id : List ℕ) → (length id == 0) ≡ false → id ≢ []
 not_empty [] h = cc h
@@ -104,18 +114,87 @@ numbers_found table place numbers h =
     let d = number_found place Look look (get_member (key_name (key_of Look)) table) k in
     subst AreIn same (limit_kept limit a, b, rescan_kept seconds c, d)
 
+-- a path that was found is not empty
+path_found : (table : Members) (place : Place) (key : Key) (path : List ℕ) → path_at table place key ≡ Ok path → path ≢ []
+path_found table place key path h =
+    let (text, x, h1) = both (text_at table place key) _ path h in
+    let (some, rest) = passed (length text == 0) _ _ path h1 in
+    let (whole, last) = passed (is_of_home text) _ _ path rest in
+    let same : text ≡ path = cc last in
+    subst (λ (t : List ℕ). t ≢ []) same (not_empty text some)
+
+id_at_found : (earlier : List FolderConfig) (table : Members) (place : Place) (id : List ℕ) → id_at earlier table place ≡ Ok id → (id ≢ []) × (list_any (has_id id) earlier ≡ false)
+id_at_found earlier table place id h =
+    let (text, x, rest) = both (text_at table place Id) _ id h in
+    id_found earlier place text id rest
+
+if_some : {A : Type 0} {P : A → Type 0} (o : Option A) → ((x : A) → o ≡ Some x → P x) → IfSome o P
+if_some None h = tt
+if_some (Some x) h = h x refl
+
+-- the mode that a text writes is one
+mode_is : (text : List ℕ) (mode : ℕ) → mode_of text ≡ Some mode → IsMode mode
+mode_is [] mode h = cc h
+mode_is (a ∷ []) mode h = cc h
+mode_is (a ∷ b ∷ []) mode h = cc h
+mode_is (a ∷ b ∷ c ∷ []) mode h =
+    let (test, same) = some_where (is_octal_from 54 a && (is_octal_from 48 b && is_octal_from 48 c)) _ mode h in
+    let (owner, others) = and_parts (is_octal_from 54 a) (is_octal_from 48 b && is_octal_from 48 c) test in
+    let (group, other) = and_parts (is_octal_from 48 b) (is_octal_from 48 c) others in
+    let (la, ga) = and_parts (nat_le 54 a) (nat_le a 55) owner in
+    let (lb, gb) = and_parts (nat_le 48 b) (nat_le b 55) group in
+    let (lc, gc) = and_parts (nat_le 48 c) (nat_le c 55) other in
+    (grind (arith, nat_tests), grind (arith, nat_tests))
+mode_is (a ∷ b ∷ c ∷ d ∷ rest) mode h = cc h
+
+modes : (o : Option (List ℕ)) → IfSome (mode_of_text o) IsMode
+modes None = tt
+modes (Some text) = if_some (mode_of text) (mode_is text)
+
+mode_of_value : (place : Place) (o : Option ℕ) (mode : Option ℕ) → (ok_or o (BadKey place Mode NotMode) >>= λ found. Ok (Some found)) ≡ Ok mode → o ≡ mode
+mode_of_value place None mode h = cc h
+mode_of_value place (Some found) mode h = cc h
+
+mode_found : (place : Place) (o : Option Data) (mode : Option ℕ) → mode_or_none place o ≡ Ok mode → IfSome mode IsMode
+mode_found place None mode h =
+    let same : None ≡ mode = cc h in
+    subst (λ (m : Option ℕ). IfSome m IsMode) same tt
+mode_found place (Some value) mode h =
+    subst (λ (m : Option ℕ). IfSome m IsMode) (mode_of_value place (mode_of_text (as_str value)) mode h) (modes (as_str value))
+
+-- the days of the trash are in their range, and the mode is one
+abbrev AreRules : FileRules → Type 0
+AreRules files = IsIn (range_of TrashDays) (pos files.trash_days) × IfSome files.mode IsMode
+
+files_found : (table : Members) (place : Place) (files : FileRules) → files_of table place ≡ Ok files → AreRules files
+files_found table place files h =
+    let (days, t, h1) = both (number_at table place TrashDays) _ files h in
+    let (mode, o, h2) = both (mode_at table place) _ files h1 in
+    let made : FileRules = record { trash_days = unsigned_abs days; mode = mode } in
+    let same : made ≡ files = cc h2 in
+    let found = number_found place TrashDays days (get_member (key_name (key_of TrashDays)) table) t in
+    subst AreRules same (days_kept days found, mode_found place (get_member (key_name Mode) table) mode o)
+
 folder_found : (earlier : List FolderConfig) (value : Data) (folder : FolderConfig) → folder_of earlier value ≡ Ok folder → IsFolder folder × (list_any (has_id folder.id) earlier ≡ false)
 folder_found earlier value folder h =
     let (table, t, h1) = both (table_of FolderKey value) _ folder h in
-    let (text, x, h2) = both (text_at table (Folder (length earlier + 1)) Id) _ folder h1 in
-    let (id, i, h3) = both (checked_id earlier (Folder (length earlier + 1)) text) _ folder h2 in
-    let (path, p, h4) = both (text_at table (Folder (length earlier + 1)) Path) _ folder h3 in
-    let (numbers, m, h5) = both (numbers_of table (Folder (length earlier + 1))) _ folder h4 in
-    let same : with_numbers id path numbers ≡ folder = cc h5 in
-    let is = id_found earlier (Folder (length earlier + 1)) text id i in
+    let (id, i, h2) = both (id_at earlier table (Folder (length earlier + 1))) _ folder h1 in
+    let (path, p, h3) = both (path_at table (Folder (length earlier + 1)) Path) _ folder h2 in
+    let (numbers, m, h4) = both (numbers_of table (Folder (length earlier + 1))) _ folder h3 in
+    let (files, o, h5) = both (files_of table (Folder (length earlier + 1))) _ folder h4 in
+    let same : with_numbers id path numbers files ≡ folder = cc h5 in
+    let is = id_at_found earlier table (Folder (length earlier + 1)) id i in
+    let (e, mode) = files_found table (Folder (length earlier + 1)) files o in
     let (a, b, c, d) = numbers_found table (Folder (length earlier + 1)) numbers m in
-    subst (λ (f : FolderConfig). IsFolder f × (list_any (has_id f.id) earlier ≡ false)) same
-    (record { id = is.0; numbers = in_ranges (with_numbers id path numbers) a b c d }, is.1)
+    subst (λ (f : FolderConfig). IsFolder f × (list_any (has_id f.id) earlier ≡ false)) same (
+      record {
+        id = is.0;
+        path = path_found table (Folder (length earlier + 1)) Path path p;
+        numbers = in_ranges (with_numbers id path numbers files) a b c d e;
+        mode = mode;
+      },
+      is.1,
+    )
 
 more_folders : (earlier : List FolderConfig) (folder : FolderConfig) → AreFolders earlier → IsFolder folder × (list_any (has_id folder.id) earlier ≡ false) → AreFolders (earlier ++ folder ∷ [])
 more_folders earlier folder e h = (
@@ -268,7 +347,7 @@ pub config_found : (document : Members) (config : Config) → config_of document
 config_found document config h =
     let (device, d, h1) = both (device_at document Node) _ config h in
     let (name, n, h2) = both (text_at document Node Name) _ config h1 in
-    let (state, s, h3) = both (text_at document Node State) _ config h2 in
+    let (state, s, h3) = both (path_at document Node State) _ config h2 in
     let (folders, f, h4) = both (folders_at document) _ config h3 in
     let (peers, p, h5) = both (peers_at device folders document) _ config h4 in
     let made : Config = record { device = device; name = name; state = state; folders = folders; peers = peers } in

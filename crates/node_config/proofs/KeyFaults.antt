@@ -2,10 +2,12 @@
 use Rattle.std.proofs.Common.{ℕ, ◌+◌, Bool, true, false, cond, List, [], ◌∷◌, ◌++◌, length, Option, Some, None, Result, Ok, Err, IfErr}
 use Rattle.std.specs.Bool.{⊤}
 use Rattle.std.specs.Option.{ok_or}
-use Rattle.toml.specs.Data.{Data, Items, no_items, item, Members, get_member, as_array}
+use Rattle.toml.specs.Data.{Data, Items, no_items, item, Members, get_member, as_array, as_str}
 use Rattle.node_config.specs.Keys.{key_name}
+use Rattle.node_config.specs.Modes.{mode_at, mode_of_text, mode_or_none}
+use Rattle.node_config.specs.Paths.{path_at}
 use Rattle.node_config.specs.Values.{◌>>=◌, text_at, number_or_default, number_at, device_at, tables_of}
-use Rattle.node_config.specs.Folders.{checked_id, folder_of, folders_after, folders_at, numbers_of}
+use Rattle.node_config.specs.Folders.{checked_id, files_of, folder_of, folders_after, folders_at, id_at, numbers_of}
 use Rattle.node_config.specs.Peers.{checked_device, place_of, places_after, places_at, address_of, address_at, peer_of, peers_after, peers_at}
 use Rattle.node_config.specs.Documents.{config_of}
 use Rattle.node_config.specs.declared.config.FolderConfig.{FolderConfig}
@@ -14,9 +16,10 @@ use Rattle.node_config.specs.declared.fault.ConfigFault.{ConfigFault}
 use Rattle.node_config.specs.declared.fault.ConfigFault.TheVariants.{NotToml, BadKey, OutOfMemory}
 use Rattle.node_config.specs.declared.folder_numbers.FolderNumber.{FolderNumber}
 use Rattle.node_config.specs.declared.key.Key.{Key}
-use Rattle.node_config.specs.declared.key.Key.TheVariants.{Dial as DialKey, Listen as ListenKey}
+use Rattle.node_config.specs.declared.key.Key.TheVariants.{Dial as DialKey, Listen as ListenKey, Mode}
 use Rattle.node_config.specs.declared.key.Place.{Place}
 use Rattle.node_config.specs.declared.key.Problem.{Problem}
+use Rattle.node_config.specs.declared.key.Problem.TheVariants.{NotMode}
 
 -- the fault is of a key
 abbrev pub IsOfKey : ConfigFault → Type 0
@@ -49,6 +52,19 @@ default_fails place number (Some value) = search (or_fails, then_fails, cond_fai
 checked_id_fails : (earlier : List FolderConfig) (place : Place) (id : List ℕ) → FailsAtKey (checked_id earlier place id)
 checked_id_fails earlier place id = search cond_fails
 
+id_fails : (earlier : List FolderConfig) (table : Members) (place : Place) → FailsAtKey (id_at earlier table place)
+id_fails earlier table place = search (then_fails, text_fails, checked_id_fails)
+
+path_fails : (table : Members) (place : Place) (key : Key) → FailsAtKey (path_at table place key)
+path_fails table place key = search (then_fails, text_fails, cond_fails)
+
+mode_or_none_fails : (place : Place) (o : Option Data) → FailsAtKey (mode_or_none place o)
+mode_or_none_fails place None = tt
+mode_or_none_fails place (Some value) = then_fails (ok_or (mode_of_text (as_str value)) (BadKey place Mode NotMode)) _ (or_fails _ place Mode NotMode) (λ mode. tt)
+
+mode_fails : (table : Members) (place : Place) → FailsAtKey (mode_at table place)
+mode_fails table place = mode_or_none_fails place (get_member (key_name Mode) table)
+
 number_fails : (table : Members) (place : Place) (number : FolderNumber) → FailsAtKey (number_at table place number)
 number_fails table place number = default_fails place number _
 
@@ -62,8 +78,11 @@ tables_fail key (Some value) = or_fails (as_array value) _ _ _
 numbers_fail : (table : Members) (place : Place) → FailsAtKey (numbers_of table place)
 numbers_fail table place = search (then_fails, number_fails)
 
+files_fail : (table : Members) (place : Place) → FailsAtKey (files_of table place)
+files_fail table place = search (then_fails, number_fails, mode_fails)
+
 folder_fails : (earlier : List FolderConfig) (value : Data) → FailsAtKey (folder_of earlier value)
-folder_fails earlier value = search (or_fails, then_fails, text_fails, numbers_fail, checked_id_fails) depth 12
+folder_fails earlier value = search (or_fails, then_fails, id_fails, path_fails, numbers_fail, files_fail) depth 12
 
 folders_fail : (earlier : List FolderConfig) (values : Items) → FailsAtKey (folders_after earlier values)
 folders_fail earlier no_items = tt
@@ -106,4 +125,4 @@ peers_at_fails me folders document = search (then_fails, tables_fail, peers_fail
 
 -- a document that has no configuration has a key at which it has none
 pub config_fails : (document : Members) → FailsAtKey (config_of document)
-config_fails document = search (then_fails, device_fails, text_fails, folders_at_fails, peers_at_fails) depth 12
+config_fails document = search (then_fails, device_fails, text_fails, path_fails, folders_at_fails, peers_at_fails) depth 12

@@ -3,6 +3,7 @@ use Rattle.std.specs.Prelude.{◌≡◌, ℕ, suc, ◌≤◌, ◌==◌, List, le
 use Rattle.toml.specs.Data.{Members}
 use Rattle.toml.specs.Parse.{parse_document}
 use Rattle.node_config.specs.Folders.{folders_at}
+use Rattle.node_config.specs.Paths.{path_at}
 use Rattle.node_config.specs.Peers.{peers_at}
 use Rattle.node_config.specs.Values.{◌>>=◌, device_at, text_at}
 use Rattle.node_config.specs.declared.config.Config.{Config}
@@ -16,7 +17,7 @@ abbrev pub config_of : Members → Result Config ConfigFault
 config_of document = do
   device ← device_at document Node
   name ← text_at document Node Name
-  state ← text_at document Node State
+  state ← path_at document Node State
   folders ← folders_at document
   peers ← peers_at device folders document
   Ok (record { device = device; name = name; state = state; folders = folders; peers = peers })
@@ -36,6 +37,12 @@ line_at text index = suc (count_by (λ byte. byte == 10) (take index text))
 -- the line of a byte of the text, or of its end
 abbrev pub IsLineOf : List ℕ → ℕ → Type 0
 IsLineOf text line = (index : ℕ) × (index ≤ length text) × (line ≡ line_at text index)
+
+-- why the text is no document, or that there was no memory
+abbrev pub IsTomlFault : List ℕ → ConfigFault → Type 0
+IsTomlFault text (NotToml line) = ((document : Members) → ¬ (IsDocument text document)) × IsLineOf text line
+IsTomlFault text (BadKey place key problem) = ⊥
+IsTomlFault text OutOfMemory = ⊤
 
 -- the fault is there
 abbrev pub IsFaultOf : List ℕ → ConfigFault → Type 0

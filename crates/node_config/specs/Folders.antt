@@ -3,11 +3,14 @@ use Rattle.std.specs.Prelude.{ℕ, ◌+◌, Bool, List, [], ◌∷◌, ◌++◌,
 use Rattle.std.specs.List.{list_any}
 use Rattle.toml.specs.Data.{Data, Items, no_items, item, Members, get_member}
 use Rattle.node_config.specs.Keys.{key_name}
+use Rattle.node_config.specs.Modes.{mode_at}
+use Rattle.node_config.specs.Paths.{path_at}
 use Rattle.node_config.specs.Values.{◌>>=◌, text_at, number_at, table_of, tables_of}
 use Rattle.node_config.specs.declared.config.FolderConfig.{FolderConfig}
 use Rattle.node_config.specs.declared.fault.ConfigFault.{ConfigFault}
 use Rattle.node_config.specs.declared.fault.ConfigFault.TheVariants.{BadKey}
-use Rattle.node_config.specs.declared.folder_numbers.FolderNumber.TheVariants.{HistoryLimit, MaxConflicts, Rescan, Look}
+use Rattle.node_config.specs.declared.folder_numbers.FolderNumber.TheVariants.{HistoryLimit, MaxConflicts, Rescan, Look, TrashDays}
+use Rattle.node_config.specs.declared.folders.FileRules.{FileRules}
 use Rattle.node_config.specs.declared.folders.Numbers.{Numbers}
 use Rattle.node_config.specs.declared.key.Key.TheVariants.{Folder as FolderKey, Id, Path}
 use Rattle.node_config.specs.declared.key.Place.{Place}
@@ -25,6 +28,9 @@ checked_id earlier place id =
     else if list_any (has_id id) earlier then Err (BadKey place Id Repeats)
     else Ok id
 
+abbrev pub id_at : List FolderConfig → Members → Place → Result (List ℕ) ConfigFault
+id_at earlier table place = text_at table place Id >>= checked_id earlier place
+
 -- the numbers of a table
 abbrev pub numbers_of : Members → Place → Result Numbers ConfigFault
 numbers_of table place = do
@@ -34,19 +40,26 @@ numbers_of table place = do
   look ← number_at table place Look
   Ok (record { history_limit = unsigned_abs history_limit; max_conflicts = max_conflicts; rescan = unsigned_abs rescan; look = look })
 
--- a folder with these numbers
-abbrev pub with_numbers : List ℕ → List ℕ → Numbers → FolderConfig
-with_numbers id path n = record { id = id; path = path; history_limit = n.history_limit; max_conflicts = n.max_conflicts; rescan = n.rescan; look = n.look }
+-- what a table says of files that are replaced, and of new ones
+abbrev pub files_of : Members → Place → Result FileRules ConfigFault
+files_of table place = do
+  trash_days ← number_at table place TrashDays
+  mode ← mode_at table place
+  Ok (record { trash_days = unsigned_abs trash_days; mode = mode })
+
+-- a folder with these numbers and rules
+abbrev pub with_numbers : List ℕ → List ℕ → Numbers → FileRules → FolderConfig
+with_numbers id path n files = record { id = id; path = path; history_limit = n.history_limit; max_conflicts = n.max_conflicts; rescan = n.rescan; look = n.look; trash_days = files.trash_days; mode = files.mode }
 
 -- the folder of a table, after the earlier ones
 abbrev pub folder_of : List FolderConfig → Data → Result FolderConfig ConfigFault
 folder_of earlier value = do
   table ← table_of FolderKey value
-  text ← text_at table (Folder (length earlier + 1)) Id
-  id ← checked_id earlier (Folder (length earlier + 1)) text
-  path ← text_at table (Folder (length earlier + 1)) Path
+  id ← id_at earlier table (Folder (length earlier + 1))
+  path ← path_at table (Folder (length earlier + 1)) Path
   numbers ← numbers_of table (Folder (length earlier + 1))
-  Ok (with_numbers id path numbers)
+  files ← files_of table (Folder (length earlier + 1))
+  Ok (with_numbers id path numbers files)
 
 -- the earlier folders, and those of the tables
 abbrev pub folders_after : List FolderConfig → Items → Result (List FolderConfig) ConfigFault

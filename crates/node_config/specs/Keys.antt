@@ -1,7 +1,9 @@
 -- How the document writes its keys.
-use Rattle.std.specs.Prelude.{ℕ, List, codes}
+use Rattle.std.specs.Prelude.{ℕ, List, [], ◌∷◌, codes}
 use Rattle.node_config.specs.declared.key.Key.{Key}
-use Rattle.node_config.specs.declared.key.Key.TheVariants.{Device, Name, State, Folder, Peer, Id, Path, HistoryLimit, MaxConflicts, Rescan, Look, Folders, Dial, Listen}
+use Rattle.node_config.specs.declared.key.Key.TheVariants.{Device, Name, State, Folder, Peer, Id, Path, HistoryLimit, MaxConflicts, Rescan, Look, TrashDays, Mode, Folders, Dial, Listen}
+use Rattle.node_config.specs.declared.key.Place.{Place}
+use Rattle.node_config.specs.declared.key.Place.TheVariants as place
 
 abbrev pub key_name : Key → List ℕ
 key_name Device = codes "device"
@@ -15,6 +17,14 @@ key_name HistoryLimit = codes "history_limit"
 key_name MaxConflicts = codes "max_conflicts"
 key_name Rescan = codes "rescan"
 key_name Look = codes "look"
+key_name TrashDays = codes "trash_days"
+key_name Mode = codes "mode"
 key_name Folders = codes "folders"
 key_name Dial = codes "dial"
 key_name Listen = codes "listen"
+
+-- the keys of a table, in the order of the page that lists them
+abbrev pub keys_of : Place → List Key
+keys_of place.Node = Device ∷ Name ∷ State ∷ Folder ∷ Peer ∷ []
+keys_of (place.Folder number) = Id ∷ Path ∷ HistoryLimit ∷ MaxConflicts ∷ Rescan ∷ Look ∷ TrashDays ∷ Mode ∷ []
+keys_of (place.Peer number) = Device ∷ Folders ∷ Dial ∷ Listen ∷ []

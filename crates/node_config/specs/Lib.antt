@@ -2,10 +2,13 @@ pub mod Keys
 pub mod Faults
 pub mod Values
 pub mod FolderNumbers
+pub mod Modes
+pub mod Paths
 pub mod Folders
 pub mod Peers
 pub mod Documents
 pub mod Addresses
 pub mod Rules
 pub mod Lines
+pub mod Unknowns
 pub mod Overlaps

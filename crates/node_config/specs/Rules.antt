@@ -1,19 +1,22 @@
 -- What holds of each configuration.
-use Rattle.std.specs.Prelude.{◌≡◌, ◌≢◌, ℕ, ◌<◌, List, [], length, All, AllPairs}
+use Rattle.std.specs.Prelude.{◌≡◌, ◌≢◌, ℕ, ◌<◌, List, [], length, All, AllPairs, IfSome}
 use Rattle.std.specs.declared.net.socket_addr.SocketAddrV4.{SocketAddrV4}
 use Rattle.sync_record.specs.Devices.{short_id}
 use Rattle.node_config.specs.Addresses.{IsAddressText}
 use Rattle.node_config.specs.FolderNumbers.{IsIn, number_in, range_of}
+use Rattle.node_config.specs.Modes.{IsMode}
 use Rattle.node_config.specs.declared.config.Config.{Config}
 use Rattle.node_config.specs.declared.config.FolderConfig.{FolderConfig}
 use Rattle.node_config.specs.declared.config.PeerConfig.{PeerConfig}
 use Rattle.node_config.specs.declared.config.PeerAddress.TheVariants.{Listen}
 use Rattle.node_config.specs.declared.folder_numbers.FolderNumber.{FolderNumber}
 
--- an id that is not empty, and numbers in their ranges
+-- an id and a path that are not empty, numbers in their ranges, and a mode in its own
 pub record IsFolder (folder : FolderConfig) : Type 0 where
   pub id : folder.id ≢ []
+  pub path : folder.path ≢ []
   pub numbers : (number : FolderNumber) → IsIn (range_of number) (number_in number folder)
+  pub mode : IfSome folder.mode IsMode
 
 -- folders of different ids
 abbrev pub AreFolders : List FolderConfig → Type 0

@@ -36,6 +36,10 @@ pub struct FolderConfig {
     pub rescan: u64,
     /// How many seconds lie between two looks at what changed, 0 for none, or -1 for as often as costs little.
     pub look: i32,
+    /// How many days what a peer's record replaces or deletes is kept in the folder's `.stversions`, or 0 for not at all.
+    pub trash_days: u64,
+    /// The permission bits of files that are made anew, as `0o640`, or `None` for what the system gives.
+    pub mode: Option<u32>,
 }
 
 impl FolderConfig {
@@ -48,6 +52,7 @@ impl FolderConfig {
             FolderNumber::MaxConflicts => i64::from(self.max_conflicts),
             FolderNumber::Rescan => i64::try_from(self.rescan).unwrap_or(i64::MAX),
             FolderNumber::Look => i64::from(self.look),
+            FolderNumber::TrashDays => i64::try_from(self.trash_days).unwrap_or(i64::MAX),
         }
     }
 }

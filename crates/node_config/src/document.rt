@@ -9,6 +9,7 @@ use crate::config::Config;
 use crate::fault::ConfigFault;
 use crate::folders::read_folders;
 use crate::key::{Key, Place};
+use crate::path::copied_path_at;
 use crate::peers::read_peers;
 use crate::values::{copied_text_at, device_at};
 use std::alloc::Global;
@@ -51,7 +52,7 @@ fn read_document(alloc: Global, document: &Table) -> Result<Config, ConfigFault>
 {
     let device = device_at(document, Place::Node)?;
     let name = copied_text_at(alloc, document, Place::Node, Key::Name)?;
-    let state = copied_text_at(alloc, document, Place::Node, Key::State)?;
+    let state = copied_path_at(alloc, document, Place::Node, Key::State)?;
     let folders = read_folders(alloc, document)?;
     let peers = read_peers(alloc, device, folders.as_slice(), document)?;
     Ok(Config {
@@ -64,7 +65,7 @@ fn read_document(alloc: Global, document: &Table) -> Result<Config, ConfigFault>
 }
 
 /// Why a text is no TOML document.
-fn toml_fault(text: &[u8], error: &Error) -> ConfigFault
+pub(crate) fn toml_fault(text: &[u8], error: &Error) -> ConfigFault
     requires { IsWithin text.now error.now }
     ensures memory { IsMemory error.now → result ≡ ConfigFault.OutOfMemory }
     ensures line { ¬ (IsMemory error.now) → result ≡ ConfigFault.NotToml (line_at text.now (span_start error.now)) }

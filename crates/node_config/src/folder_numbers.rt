@@ -12,6 +12,7 @@ pub enum FolderNumber {
     MaxConflicts,
     Rescan,
     Look,
+    TrashDays,
 }
 
 /// Which values a number may have.
@@ -38,11 +39,12 @@ pub struct NumberRule {
 
 impl FolderNumber {
     /// All, in the order in which they are told and read.
-    pub const ALL: [FolderNumber; 4] = [
+    pub const ALL: [FolderNumber; 5] = [
         FolderNumber::HistoryLimit,
         FolderNumber::MaxConflicts,
         FolderNumber::Rescan,
         FolderNumber::Look,
+        FolderNumber::TrashDays,
     ];
 
     /// The table of the numbers. O(1).
@@ -89,6 +91,16 @@ impl FolderNumber {
                 },
                 sentence: "How many seconds lie between two looks at what changed; \"auto\" is as often as costs little, \"off\" is none.",
             },
+            FolderNumber::TrashDays => NumberRule {
+                key: Key::TrashDays,
+                // (a hundred years)
+                range: NumberRange {
+                    low: 0,
+                    high: 36_500,
+                    default: 0,
+                },
+                sentence: "How many days what a peer's record replaces or deletes is kept in .stversions; 0 is not at all.",
+            },
         }
     }
 
@@ -103,6 +115,7 @@ impl FolderNumber {
             FolderNumber::HistoryLimit => None,
             FolderNumber::MaxConflicts => None,
             FolderNumber::Rescan => None,
+            FolderNumber::TrashDays => None,
         }
     }
 
@@ -117,6 +130,7 @@ impl FolderNumber {
             FolderNumber::HistoryLimit => None,
             FolderNumber::MaxConflicts => None,
             FolderNumber::Rescan => None,
+            FolderNumber::TrashDays => None,
         }
     }
 
@@ -129,6 +143,7 @@ impl FolderNumber {
             FolderNumber::MaxConflicts => Problem::NotInteger,
             FolderNumber::Rescan => Problem::NotInteger,
             FolderNumber::Look => Problem::NotLook,
+            FolderNumber::TrashDays => Problem::NotInteger,
         }
     }
 }

@@ -1,7 +1,7 @@
 //! The folders of a document.
 ghost use Rattle.std.specs.Prelude.{◌≡◌, []};
 ghost use Rattle.toml.specs.View.{items_view, table_view, view};
-ghost use Rattle.node_config.specs.Folders.{checked_id, folder_of, folders_after, folders_at, has_id, numbers_of};
+ghost use Rattle.node_config.specs.Folders.{checked_id, files_of, folder_of, folders_after, folders_at, has_id, id_at, numbers_of};
 ghost use Rattle.std.specs.List.{list_any};
 ghost use Rattle.node_config.specs.Values.{Finds, Reads};
 
@@ -9,6 +9,8 @@ use crate::config::FolderConfig;
 use crate::fault::ConfigFault;
 use crate::folder_numbers::FolderNumber;
 use crate::key::{Key, Place, Problem};
+use crate::mode::mode_at;
+use crate::path::path_at;
 use crate::values::{number_at, table_of, text_at, value_at};
 use bep_messages::{Items, Text};
 use std::alloc::Global;
@@ -54,9 +56,10 @@ fn read_folder(
 {
     let table = table_of(value, Key::Folder)?;
     let place = Place::Folder(earlier.len() + 1);
-    let id = checked_id(earlier, place, text_at(table, place, Key::Id)?)?;
-    let path = text_at(table, place, Key::Path)?;
+    let id = id_at(earlier, table, place)?;
+    let path = path_at(table, place, Key::Path)?;
     let numbers = read_numbers(table, place)?;
+    let files = read_files(table, place)?;
     Ok(FolderConfig {
         id: Text::from_str(alloc, id)?,
         path: Text::from_str(alloc, path)?,
@@ -64,10 +67,12 @@ fn read_folder(
         max_conflicts: numbers.max_conflicts,
         rescan: numbers.rescan,
         look: numbers.look,
+        trash_days: files.trash_days,
+        mode: files.mode,
     })
 }
 
-/// The numbers of a folder.
+/// The numbers of a folder that say when, and how much.
 #[derive(Clone, Copy)]
 struct Numbers {
     history_limit: u64,
@@ -90,6 +95,36 @@ fn read_numbers(table: &Table, place: Place) -> Result<Numbers, ConfigFault>
         rescan: rescan as u64,
         look: look as i32,
     })
+}
+
+/// What is done with files that are replaced, and with new ones.
+#[derive(Clone, Copy)]
+struct FileRules {
+    trash_days: u64,
+    mode: Option<u32>,
+}
+
+/// What a table says of files that are replaced, and of new ones.
+fn read_files(table: &Table, place: Place) -> Result<FileRules, ConfigFault>
+    ensures { result ≡ files_of (table_view table.now) place }
+{
+    let trash_days = number_at(table, place, FolderNumber::TrashDays)?;
+    let mode = mode_at(table, place)?;
+    Ok(FileRules {
+        trash_days: trash_days as u64,
+        mode,
+    })
+}
+
+/// The id of a table, after the earlier folders.
+fn id_at<'a>(
+    earlier: &[FolderConfig],
+    table: &'a Table,
+    place: Place,
+) -> Result<&'a str, ConfigFault>
+    ensures { Finds (λ text. text.now) (id_at earlier.now (table_view table.now) place) result }
+{
+    checked_id(earlier, place, text_at(table, place, Key::Id)?)
 }
 
 /// An id that is not empty, and not that of an earlier folder.

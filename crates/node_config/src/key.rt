@@ -1,5 +1,5 @@
 ghost use Rattle.std.specs.Prelude.{◌≡◌, Some};
-ghost use Rattle.node_config.specs.Keys.{key_name};
+ghost use Rattle.node_config.specs.Keys.{key_name, keys_of};
 ghost use Rattle.node_config.specs.Lines.{place_text, problem_text};
 
 use std::fmt::{self, Display, Formatter};
@@ -18,6 +18,8 @@ pub enum Key {
     MaxConflicts,
     Rescan,
     Look,
+    TrashDays,
+    Mode,
     Folders,
     Dial,
     Listen,
@@ -40,6 +42,8 @@ impl Key {
             Key::MaxConflicts => "max_conflicts",
             Key::Rescan => "rescan",
             Key::Look => "look",
+            Key::TrashDays => "trash_days",
+            Key::Mode => "mode",
             Key::Folders => "folders",
             Key::Dial => "dial",
             Key::Listen => "listen",
@@ -66,6 +70,28 @@ pub enum Place {
     Peer(usize),
 }
 
+impl Place {
+    /// The keys of the table, in the order of the crate's page. O(1).
+    pub fn keys(self) -> &'static [Key]
+        ensures { result.now ≡ keys_of self }
+    {
+        match self {
+            Place::Node => &[Key::Device, Key::Name, Key::State, Key::Folder, Key::Peer],
+            Place::Folder(_) => &[
+                Key::Id,
+                Key::Path,
+                Key::HistoryLimit,
+                Key::MaxConflicts,
+                Key::Rescan,
+                Key::Look,
+                Key::TrashDays,
+                Key::Mode,
+            ],
+            Place::Peer(_) => &[Key::Device, Key::Folders, Key::Dial, Key::Listen],
+        }
+    }
+}
+
 impl Display for Place {
     ghost output = { λ place. Some (place_text place) };
 
@@ -89,6 +115,8 @@ pub enum Problem {
     NotInteger,
     /// Its value is not one of the words of `look`, and not an integer.
     NotLook,
+    /// Its value is not a string of three octal digits of which the first is 6 or 7.
+    NotMode,
     /// Its value is not an array of tables.
     NotTables,
     /// Its value is not an array of strings.
@@ -99,6 +127,8 @@ pub enum Problem {
     OutOfRange { low: i64, high: i64 },
     /// Its string is empty.
     Empty,
+    /// Its path is `~`, or begins with `~/`.
+    BeginsWithTilde,
     /// Its string is that of an earlier folder or peer.
     Repeats,
     /// Its string is the identity of this device or of an earlier peer.
@@ -124,11 +154,17 @@ impl Display for Problem {
             Problem::NotString => f.write_str("is not a string"),
             Problem::NotInteger => f.write_str("is not an integer"),
             Problem::NotLook => { f.write_str("is not \"auto\", \"off\", or a number of seconds") }
+            Problem::NotMode => f.write_str(
+                "is not three octal digits whose first is 6 or 7, as \"600\"",
+            ),
             Problem::NotTables => f.write_str("is not an array of tables"),
             Problem::NotStrings => f.write_str("is not an array of strings"),
             Problem::NotDevice => f.write_str("is not 64 hexadecimal digits"),
             Problem::OutOfRange { low, high } => write!(f, "is not from {low} to {high}"),
             Problem::Empty => f.write_str("is empty"),
+            Problem::BeginsWithTilde => f.write_str(
+                "begins with ~, which only a shell reads: write the whole path",
+            ),
             Problem::Repeats => f.write_str("repeats an earlier one"),
             Problem::SameDevice => f.write_str("is that of another device"),
             Problem::SameShortId => f.write_str("begins with the same 8 bytes as another device"),

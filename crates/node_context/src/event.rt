@@ -1,20 +1,62 @@
 //! The events of a node, and why a scan skips a name.
+use bep_messages::Text;
 use file_dir::SkipReason;
 use file_store::StoreRefusal;
 use folder_calls::ScanRefusal;
 use peer_reader::ReaderStop;
 use std::fmt::{self, Display, Formatter};
+use std::io;
+use std::net::SocketAddr;
 use sync_names::SafeName;
 use sync_pull::{PullFailure, PullRefusal};
 use sync_record::DeviceId;
 use sync_scan::{ScanSum, Scanned};
 
+/// What who is connected as a peer says of itself. Nobody verified it.
+#[derive(Debug, Drop)]
+pub struct Heard {
+    /// The name of its device.
+    pub name: Text,
+    /// Its program, and the version of that.
+    pub program: Text,
+    pub version: Text,
+    /// From where it is connected, where the system says that.
+    pub address: Option<SocketAddr>,
+}
+
+/// Why a folder isn't kept alike with a peer, by the peer's ClusterConfig.
+#[derive(Clone, Copy, Debug, PartialEq, Eq)]
+pub enum ShareGap {
+    /// The peer doesn't have it.
+    NotThere,
+    /// The peer doesn't have it, and has one whose id differs only in which letters are capitals.
+    OtherCase,
+    /// The peer has it, and here it isn't shared with the peer.
+    NotHere,
+    /// The peer has it, and doesn't share it with this device.
+    NotWithUs,
+    /// The peer doesn't list itself among the folder's devices.
+    WithoutPeer,
+}
+
 /// What happened. Folders are named by their ids.
 #[derive(Clone, Copy)]
 pub enum Event<'a> {
-    /// A connection with a peer is up: its ClusterConfig came.
-    Connected(DeviceId),
-    /// It ended, or another one before its ClusterConfig came.
+    /// The program began, by the configuration at this path.
+    Begun(&'a str),
+    /// A peer may connect at this address.
+    Listening(DeviceId, SocketAddr),
+    /// A folder at this path, of which so many files and directories are recorded, is kept alike.
+    Keeping(&'a str, &'a str, u64),
+    /// There are no more commands, and the node ends.
+    InputEnded,
+    /// A connection with a peer is up: its Hello and its ClusterConfig came.
+    Connected(DeviceId, &'a Heard),
+    /// A folder isn't kept alike with the peer that is connected.
+    Unshared(DeviceId, &'a str, ShareGap),
+    /// A peer could not be reached at this address, and is dialled again after so many seconds.
+    Unreached(DeviceId, SocketAddr, io::Error, u64),
+    /// A connection ended, perhaps before its ClusterConfig came.
     Gone(DeviceId, &'a ReaderStop),
     /// It was ended, for this reason, and another one is to begin.
     Anew(DeviceId, &'a str),
@@ -24,6 +66,8 @@ pub enum Event<'a> {
     Received(&'a str, DeviceId, u64),
     /// A scan of a folder recorded changes, or left names out.
     Scanned(&'a str, ScanSum),
+    /// A scan of a folder was ended with the node.
+    ScanEnded(&'a str, ScanSum),
     /// A scan of a folder left out this name, which was not so before.
     Skipped(&'a str, &'a str, SkipWhy),
     /// It left out so many more.
@@ -42,8 +86,8 @@ pub enum Event<'a> {
     Kept(&'a str, &'a SafeName),
     /// So many names of a folder were pulled, of so many.
     Pulling(&'a str, u64, u64),
-    /// A name of a folder could not be pulled.
-    Failed(&'a str, &'a SafeName, PullFailure),
+    /// A name of a folder could not be pulled, and what the system said, where that is why.
+    Failed(&'a str, &'a SafeName, PullFailure, Option<io::Error>),
     /// The same, for the folder refused it, or memory is out.
     Refused(&'a str, &'a SafeName, PullRefusal),
     /// The same, for its best is neither a file nor a directory.
@@ -52,10 +96,12 @@ pub enum Event<'a> {
     HistoryFull(&'a str),
     /// The state is an older one than a peer was told of, and the node begins anew.
     OlderState,
-    /// The state could not be written while the node runs.
-    NotKept,
+    /// The state could not be written while the node runs: which file, and why, where that is known.
+    NotKept(Option<&'a str>),
     /// A file of a folder could not be written, since the disk is full.
     NoRoom(&'a str),
+    /// So many versions of a folder's files were removed, which were kept for so many days.
+    Emptied(&'a str, u64, u64),
 }
 
 impl Event<'_> {

@@ -1,5 +1,6 @@
 //! The text of each event, as it is told on standard error.
-use crate::event::{Event, SkipWhy};
+use crate::VERSION;
+use crate::event::{Event, Heard, ShareGap, SkipWhy};
 use bep_messages::Text;
 use jiff::Timestamp;
 use peer_reader::ReaderStop;
@@ -24,9 +25,44 @@ pub(crate) fn push_line(line: &mut Vec<u8>, now: Moment, event: &Event) -> io::R
 /// Appends what happened.
 pub(crate) fn push_event(line: &mut Vec<u8>, event: &Event) -> io::Result<()> {
     match event {
-        Event::Connected(peer) => {
-            line.extend_from_slice(b"connected ")?;
+        Event::Begun(config) => {
+            write!(line, "bepd v{VERSION} runs by ")?;
+            Ok(push_text(line, config)?)
+        }
+        Event::Listening(peer, address) => {
+            write!(line, "listening on {address} for ")?;
             push_device(line, *peer)
+        }
+        Event::Keeping(folder, path, count) => {
+            write!(line, "folder {folder}: {count} names recorded, in ")?;
+            Ok(push_text(line, path)?)
+        }
+        Event::InputEnded => {
+            line.extend_from_slice(
+                b"the input ended, and so does this run; one that is closed (<&-) is as none, and runs on",
+            )?;
+            Ok(())
+        }
+        Event::Connected(peer, heard) => {
+            line.extend_from_slice(b"connected ")?;
+            push_device(line, *peer)?;
+            push_heard(line, heard)
+        }
+        Event::Unshared(peer, folder, gap) => {
+            line.extend_from_slice(b"not shared ")?;
+            push_text(line, folder)?;
+            line.extend_from_slice(b": ")?;
+            push_device(line, *peer)?;
+            line.extend_from_slice(gap_text(*gap).as_bytes())?;
+            Ok(())
+        }
+        Event::Unreached(peer, address, why, seconds) => {
+            line.extend_from_slice(b"not reached ")?;
+            push_device(line, *peer)?;
+            write!(
+                line,
+                ": {address}: {why}; tried again each {seconds} seconds"
+            )
         }
         Event::Gone(peer, why) => {
             line.extend_from_slice(b"gone ")?;
@@ -48,7 +84,15 @@ pub(crate) fn push_event(line: &mut Vec<u8>, event: &Event) -> io::Result<()> {
             write!(line, "received {folder} up to {sequence} from ")?;
             push_device(line, *peer)
         }
-        Event::Scanned(folder, sum) => push_scanned(line, folder, sum),
+        Event::Scanned(folder, sum) => {
+            push_sum(line, folder, sum)?;
+            push_stop(line, sum)
+        }
+        Event::ScanEnded(folder, sum) => {
+            push_sum(line, folder, sum)?;
+            line.extend_from_slice(b": stopped")?;
+            Ok(())
+        }
         Event::Skipped(folder, name, why) => push_skipped(line, folder, name, *why),
         Event::SkippedMore(folder, count) => write!(
             line,
@@ -61,9 +105,13 @@ pub(crate) fn push_event(line: &mut Vec<u8>, event: &Event) -> io::Result<()> {
         Event::Pulled(folder, name) => push_named(line, "pulled", folder, name),
         Event::Kept(folder, name) => push_named(line, "conflict copy", folder, name),
         Event::Pulling(folder, at, of) => write!(line, "pulling {folder} {at} of {of}"),
-        Event::Failed(folder, name, why) => {
+        Event::Failed(folder, name, why, said) => {
             push_named(line, "failed", folder, name)?;
-            write!(line, ": {} {why}{}", why.number(), advice(*why))
+            write!(line, ": {} {why}{}", why.number(), advice(*why))?;
+            match said {
+                Some(error) => write!(line, ": {error}"),
+                None => Ok(()),
+            }
         }
         Event::Refused(folder, name, why) => {
             push_named(line, "failed", folder, name)?;
@@ -82,9 +130,18 @@ pub(crate) fn push_event(line: &mut Vec<u8>, event: &Event) -> io::Result<()> {
             )?;
             Ok(())
         }
-        Event::NotKept => {
+        Event::NotKept(why) => {
             line.extend_from_slice(b"state not written: it is tried again")?;
-            Ok(())
+            match why {
+                Some(why) => write!(line, ": {why}"),
+                None => Ok(()),
+            }
+        }
+        Event::Emptied(folder, count, days) => {
+            write!(
+                line,
+                "trash {folder}: removed {count}, kept for {days} days"
+            )
         }
         Event::NoRoom(folder) => write!(
             line,
@@ -93,16 +150,43 @@ pub(crate) fn push_event(line: &mut Vec<u8>, event: &Event) -> io::Result<()> {
     }
 }
 
-fn push_scanned(line: &mut Vec<u8>, folder: &str, sum: &ScanSum) -> io::Result<()> {
+fn push_heard(line: &mut Vec<u8>, heard: &Heard) -> io::Result<()> {
+    line.extend_from_slice(b": ")?;
+    push_reason(line, &heard.name)?;
+    line.extend_from_slice(b", ")?;
+    push_reason(line, &heard.program)?;
+    line.push(b' ')?;
+    push_reason(line, &heard.version)?;
+    match heard.address {
+        Some(address) => write!(line, ", from {address} (not verified)"),
+        None => write!(line, " (not verified)"),
+    }
+}
+
+fn gap_text(gap: ShareGap) -> &'static str {
+    match gap {
+        ShareGap::NotThere => " does not share it: add it there",
+        ShareGap::OtherCase =>
+            " does not share it, but one that differs in capitals: give both one id",
+        ShareGap::NotHere => " shares it, and here it is not shared with that device: add it here",
+        ShareGap::NotWithUs => " has it, and does not share it with this device: share it there",
+        ShareGap::WithoutPeer => " has it, and does not list itself among its devices",
+    }
+}
+
+fn push_sum(line: &mut Vec<u8>, folder: &str, sum: &ScanSum) -> io::Result<()> {
     write!(
         line,
         "scanned {folder} recorded {} unchanged {} other {}",
         sum.recorded, sum.unchanged, sum.other
-    )?;
-    if let Some(stop) = sum.stopped {
-        write!(line, ": {} {stop}", stop.number())?;
+    )
+}
+
+fn push_stop(line: &mut Vec<u8>, sum: &ScanSum) -> io::Result<()> {
+    match sum.stopped {
+        Some(stop) => write!(line, ": {} {stop}", stop.number()),
+        None => Ok(()),
     }
-    Ok(())
 }
 
 fn push_skipped(line: &mut Vec<u8>, folder: &str, name: &str, why: SkipWhy) -> io::Result<()> {
@@ -141,9 +225,12 @@ fn push_why(line: &mut Vec<u8>, why: &ReaderStop) -> io::Result<()> {
     Ok(())
 }
 
-// Appends what a peer says, with `?` for each control character.
+// The most characters of what a peer says that are told.
+const MAX_CHARS: usize = 200;
+
+// Appends what a peer says, or the front of it, with `?` for each control character.
 fn push_reason(line: &mut Vec<u8>, reason: &Text) -> io::Result<()> {
-    for char in reason.as_str().chars() {
+    for char in reason.as_str().chars().take(MAX_CHARS) {
         let shown = if char.is_control() { '?' } else { char };
         write!(line, "{shown}")?;
     }

@@ -18,16 +18,12 @@ pub enum NodeFault {
     NoFolder,
     /// A folder has open pulls.
     OpenPulls,
-    /// The path of a folder is no directory.
-    StoreFault,
-    /// Another run has the folder at this place.
-    FolderInUse(usize),
     /// An address can't be listened on.
     BadAddress,
 }
 
 impl NodeFault {
-    /// The number under which programs report it: 33, 34, 35, 40, 60, 62 or 64. O(1).
+    /// The number under which programs report it: 33, 34, 35, 60 or 62. O(1).
     pub fn number(self) -> u8
         ensures { result ≡ node_fault_number self }
     {
@@ -36,8 +32,6 @@ impl NodeFault {
             NodeFault::OpenPulls => 34,
             NodeFault::PassesFull => 35,
             NodeFault::NoFolder => 60,
-            NodeFault::StoreFault => 40,
-            NodeFault::FolderInUse(_) => 64,
             NodeFault::BadAddress => 62,
         }
     }
@@ -52,8 +46,6 @@ impl Display for NodeFault {
             NodeFault::OpenPulls => "Stray",
             NodeFault::PassesFull => "PassesFull",
             NodeFault::NoFolder => "BadConfig",
-            NodeFault::StoreFault => "StoreFault",
-            NodeFault::FolderInUse(_) => "FolderInUse",
             NodeFault::BadAddress => "BadAddress",
         })
     }

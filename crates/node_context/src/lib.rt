@@ -14,8 +14,11 @@ mod log;
 pub use clock::moment;
 pub use connections::{ConnectionId, Connections};
 pub use context::Context;
-pub use event::{Event, SkipWhy};
+pub use event::{Event, Heard, ShareGap, SkipWhy};
 pub use fault::NodeFault;
 pub use host::Host;
 pub use lent::{Lent, LentCalls, lend_all, next_of};
 pub use log::{Log, ProgressStyle, write_log};
+
+/// The version of the program.
+pub const VERSION: &str = "0.1.0";

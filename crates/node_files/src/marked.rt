@@ -2,6 +2,7 @@
 use file_dir::Skipped;
 use file_store::StoreRefusal;
 use folder_look::Facts;
+use std::io;
 use sync_names::SafeName;
 
 /// Where a folder is.
@@ -33,8 +34,14 @@ pub trait Marked {
     /// The file that is put in place next at this name gets this modification time, as far as the folder can.
     fn set_modified(&mut self, name: &SafeName, seconds: i64, nanoseconds: u32);
 
+    /// Removes the versions of files that were kept before so many seconds since 1970, if the folder is there. Returns how many these were.
+    fn remove_versions(&mut self, before: u64) -> Result<usize, StoreRefusal>;
+
     /// Whether the last `StoreFault` came of a disk that is full, or of a quota.
     fn lacks_room(&self) -> bool;
+
+    /// What the system said where the last call was a `StoreFault`, if it came of an error of the system.
+    fn last_error(&self) -> Option<io::Error>;
 
     /// What the system says of what is at a path; nothing where nothing is. Fails with `StoreFault` where that can't be found out. It does not look whether
     /// the folder is there.

@@ -11,6 +11,7 @@ use crate::stores::Stores;
 use file_dir::{LockRefusal, Skipped};
 use file_store::{FileStore, Listing, Stat, StoreRefusal};
 use std::alloc::Global;
+use std::io;
 use sync_names::SafeName;
 
 /// The directory of a folder.
@@ -148,11 +149,30 @@ impl<T: Stores<Store = S>, S: FileStore + Drop> Root<'_, T, S> {
         }
     }
 
+    /// Removes the versions of moments before so many seconds since 1970, if the directory is there. Returns how many files these were.
+    pub(crate) fn remove_versions(&mut self, before: u64) -> Result<usize, StoreRefusal>
+        ensures plain { IfErr result IsPlain }
+        ensures path { self.new.path ≡ self.old.path }
+    {
+        let mut store = self.opened_there()?;
+        let answer = self.stores.remove_versions(&mut store, before);
+        self.store = Some(store);
+        answer
+    }
+
     /// Whether the last `StoreFault` came of a disk that is full, or of a quota.
     pub(crate) fn lacks_room(&self) -> bool {
         match &self.store {
             Some(store) => self.stores.lacks_room(store),
             None => false,
+        }
+    }
+
+    /// What the system said where the last call was a `StoreFault`, if it came of an error of the system.
+    pub(crate) fn last_error(&self) -> Option<io::Error> {
+        match &self.store {
+            Some(store) => self.stores.last_error(store),
+            None => None,
         }
     }
 

@@ -16,6 +16,7 @@ use file_dir::Skipped;
 use file_store::{FileStore, Listing, Stat, StoreRefusal};
 use folder_look::Facts;
 use std::alloc::Global;
+use std::io;
 use sync_names::SafeName;
 
 /// The files of a folder, as a worker of a node reads and writes them.
@@ -67,8 +68,16 @@ impl<T: Stores<Store = S>, S: FileStore + Drop, E> Marked for FolderStore<'_, T,
         self.root.set_modified(name, seconds, nanoseconds);
     }
 
+    fn remove_versions(&mut self, before: u64) -> Result<usize, StoreRefusal> {
+        self.root.remove_versions(before)
+    }
+
     fn lacks_room(&self) -> bool {
         self.root.lacks_room()
+    }
+
+    fn last_error(&self) -> Option<io::Error> {
+        self.root.last_error()
     }
 
     fn facts_at(&self, path: &str) -> Result<Option<Facts>, StoreRefusal> {

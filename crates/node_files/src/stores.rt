@@ -5,13 +5,21 @@ ghost use Rattle.file_store.specs.Refusals.{IsPlain};
 ghost use Rattle.file_store.specs.declared.refusal.StoreRefusal.{StoreRefusal};
 
 use crate::seen::{facts_at, names_at};
-use file_dir::{DirStore, LockRefusal, MarkerLock, Skipped};
+use file_dir::{DirStore, Habits, LockRefusal, MarkerLock, Skipped};
 use file_store::{FileStore, StoreRefusal};
 use folder_look::Facts;
 use std::alloc::{AllocError, Global};
 use std::fs::{File, Files};
+use std::io;
 use std::sync::{Mutex, Wait};
+use std::time::Clock;
 use sync_names::SafeName;
+
+/// How the files of a folder are kept of which nothing else was said.
+const PLAIN: Habits = Habits {
+    keeps_versions: false,
+    mode: None,
+};
 
 /// Where a node's folders are.
 pub trait Stores {
@@ -30,6 +38,10 @@ pub trait Stores {
 
     /// What taking the folder at a path may answer.
     ghost takes: { Self.Store → List ℕ → Result (Unit {0}) LockRefusal → Self.Store → Type 0 };
+
+    /// From now on the files of the folder at a path are kept like this, by those who open it. Until this is said, no versions are kept, and files are made as
+    /// the system makes any. O(n) for n folders.
+    fn keep_by(&self, path: &str, habits: Habits) -> Result<(), AllocError>;
 
     /// The folder at a path, for one more worker. Fails with `StoreFault` where there is none.
     fn open(&self, alloc: Global, path: &str) -> Result<Self::Store, StoreRefusal>
@@ -54,6 +66,9 @@ pub trait Stores {
     /// Whether the last `StoreFault` came of a disk that is full, or of a quota.
     fn lacks_room(&self, store: &Self::Store) -> bool;
 
+    /// What the system said where the store's last call was a `StoreFault`, if it came of an error of the system.
+    fn last_error(&self, store: &Self::Store) -> Option<io::Error>;
+
     /// Gives the folder at a path its marker, if it is a new one; takes it, and removes temporary files that an earlier run left, if it has one. Fails
     /// with `StoreFault` where no directory is there, and with `InUse` where another run has it.
     fn begin(&self, alloc: Global, path: &str, is_new: bool) -> Result<(), LockRefusal>;
@@ -65,6 +80,10 @@ pub trait Stores {
 
     /// Lets go of the folder at a path, if these have it.
     fn let_go(&self, path: &str);
+
+    /// Removes the versions of moments before so many seconds since 1970, and returns how many files these were.
+    fn remove_versions(&self, store: &mut Self::Store, before: u64) -> Result<usize, StoreRefusal>
+        ensures plain { IfErr result IsPlain };
 
     /// What the store's last listing left out, once.
     fn take_skipped(&self, store: &mut Self::Store) -> Vec<Skipped>;
@@ -82,8 +101,23 @@ pub trait Stores {
 pub struct Disks<'a, R> {
     files: &'a R,
     alloc: Global,
-    // The folders that these have.
-    taken: Mutex<Vec<Taken>>,
+    known: Mutex<Known>,
+}
+
+// What is known of a disk's folders.
+#[derive(Drop)]
+struct Known {
+    // Those that these have.
+    taken: Vec<Taken>,
+    // How the files of some are kept.
+    kept: Vec<Kept>,
+}
+
+// How the files of the folder at a path are kept.
+#[derive(Drop)]
+struct Kept {
+    path: String,
+    habits: Habits,
 }
 
 // A folder that no other run has.
@@ -99,12 +133,28 @@ impl<'a, R> Disks<'a, R> {
         Disks {
             files,
             alloc,
-            taken: Mutex::new(Vec::new(alloc)),
+            known: Mutex::new(Known {
+                taken: Vec::new(alloc),
+                kept: Vec::new(alloc),
+            }),
         }
     }
 }
 
-impl<'a, R: Files<File = File> + Sync + Wait> Stores for Disks<'a, R> {
+impl<R: Wait> Disks<'_, R> {
+    // How the files of the folder at a path are kept.
+    fn habits_of(&self, path: &str) -> Habits {
+        let known = self.known.lock(self.files);
+        for kept in known.kept.iter() {
+            if kept.path.as_str() == path {
+                return kept.habits;
+            }
+        }
+        PLAIN
+    }
+}
+
+impl<'a, R: Files<File = File> + Clock + Sync + Wait> Stores for Disks<'a, R> {
     type Store = DirStore<&'a R>;
 
     ghost use Rattle.std.specs.Prelude.{⊤};
@@ -115,8 +165,21 @@ impl<'a, R: Files<File = File> + Sync + Wait> Stores for Disks<'a, R> {
 
     ghost takes = { λ _ _ _ _. ⊤ };
 
+    fn keep_by(&self, path: &str, habits: Habits) -> Result<(), AllocError> {
+        let mut known = self.known.lock(self.files);
+        for kept in known.kept.iter_mut() {
+            if kept.path.as_str() == path {
+                kept.habits = habits;
+                return Ok(());
+            }
+        }
+        let path = String::from_str(self.alloc, path)?;
+        known.kept.push(Kept { path, habits })?;
+        Ok(())
+    }
+
     fn open(&self, alloc: Global, path: &str) -> Result<DirStore<&'a R>, StoreRefusal> {
-        DirStore::open(self.files, alloc, path)
+        DirStore::open(self.files, alloc, path, self.habits_of(path))
     }
 
     fn is_marked(&self, store: &mut DirStore<&'a R>) -> Result<bool, StoreRefusal> {
@@ -137,8 +200,12 @@ impl<'a, R: Files<File = File> + Sync + Wait> Stores for Disks<'a, R> {
         store.lacks_room()
     }
 
+    fn last_error(&self, store: &DirStore<&'a R>) -> Option<io::Error> {
+        store.last_error()
+    }
+
     fn begin(&self, alloc: Global, path: &str, is_new: bool) -> Result<(), LockRefusal> {
-        let mut store = DirStore::open(self.files, alloc, path).map_err(refusal_of)?;
+        let mut store = self.open(alloc, path).map_err(refusal_of)?;
         if is_new {
             store.make_marker().map_err(refusal_of)?;
         }
@@ -150,21 +217,29 @@ impl<'a, R: Files<File = File> + Sync + Wait> Stores for Disks<'a, R> {
     }
 
     fn take(&self, store: &mut DirStore<&'a R>, path: &str) -> Result<(), LockRefusal> {
-        let mut taken = self.taken.lock(self.files);
-        if taken.iter().any(|it| it.path.as_str() == path) {
+        let mut known = self.known.lock(self.files);
+        if known.taken.iter().any(|it| it.path.as_str() == path) {
             return Ok(());
         }
         let path = String::from_str(self.alloc, path)?;
         let _lock = store.lock_marker()?;
-        match taken.push(Taken { path, _lock }) {
+        match known.taken.push(Taken { path, _lock }) {
             Ok(()) => Ok(()),
             Err(_) => Err(LockRefusal::OutOfMemory),
         }
     }
 
     fn let_go(&self, path: &str) {
-        let mut taken = self.taken.lock(self.files);
-        taken.retain(|it| it.path.as_str() != path);
+        let mut known = self.known.lock(self.files);
+        known.taken.retain(|it| it.path.as_str() != path);
+    }
+
+    fn remove_versions(
+        &self,
+        store: &mut DirStore<&'a R>,
+        before: u64,
+    ) -> Result<usize, StoreRefusal> {
+        store.remove_versions(before)
     }
 
     fn take_skipped(&self, store: &mut DirStore<&'a R>) -> Vec<Skipped> {

@@ -2,3 +2,5 @@
 pub mod Schedules
 -- which names are scanned again soon
 pub mod LeftOver
+-- when versions are removed
+pub mod Trash

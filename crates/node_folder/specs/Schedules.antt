@@ -1,8 +1,10 @@
 -- When a folder is scanned next, and how many seconds lie between two scans (own rule).
-use Rattle.std.specs.Prelude.{ℕ, ◌+◌, ◌-◌, ◌*◌, ◌/◌, ◌%◌, ◌^◌, ◌==◌, nat_lt, if◌then◌else◌, min, Option, Some, None}
+use Rattle.std.specs.Prelude.{ℕ, ◌+◌, ◌-◌, ◌*◌, ◌/◌, ◌%◌, ◌^◌, ◌==◌, nat_lt, if◌then◌else◌, min, ◌||◌, is_some, Option, Some, None}
+use Rattle.node_folder.specs.declared.schedule.FolderScan.{FolderScan}
 use Rattle.node_folder.specs.declared.schedule.ScanOutcome.{ScanOutcome}
 use Rattle.node_folder.specs.declared.schedule.ScanOutcome.TheVariants.{Whole, Partly, Away, Unseen}
 use Rattle.node_folder.specs.declared.schedule.ScanSchedule.{ScanSchedule}
+use Rattle.sync_scan.specs.declared.sum.ScanSum.{ScanSum}
 
 -- in how many seconds it is scanned next, if it is to be
 abbrev pub next_scan : ScanSchedule → Option ℕ
@@ -44,3 +46,11 @@ settled Unseen s = record s { left = Some 1 }
 -- from three quarters to five quarters of the seconds, by the folder's number; just as many where they are less than an hour
 abbrev pub spread : ℕ → ℕ → ℕ
 spread rescan number = if nat_lt rescan 3600 then rescan else min ((rescan - rescan / 4) + number % (2 * (rescan / 4) + 1)) (2 ^ 64 - 1)
+
+-- how many names a scan counts, as far as they fit
+abbrev pub counted : ScanSum → ℕ
+counted sum = min (min (sum.recorded + sum.unchanged) (2 ^ 64 - 1) + sum.other) (2 ^ 64 - 1)
+
+-- it came to its end, and looked at each name that it counts; or it didn't
+abbrev pub outcome_of : FolderScan → ScanOutcome
+outcome_of scan = if is_some scan.sum.stopped || nat_lt scan.seen (counted scan.sum) then Partly else Whole

@@ -27,6 +27,8 @@ pub struct FolderSettings {
     pub rescan: u64,
     /// How often it is looked at for what changed.
     pub looking: Looking,
+    /// For how many days versions are kept of files that are replaced or removed, or 0 for none.
+    pub trash_days: u64,
 }
 
 /// A folder of a node, but for its records and its files.

@@ -9,6 +9,7 @@ mod scan_times;
 mod scanner;
 mod schedule;
 mod skips;
+mod trash;
 
 pub use ends::{GivesUp, WorkerEnds};
 pub use folder::{FolderSettings, FolderWorker, NodeFolder};
@@ -16,5 +17,6 @@ pub use left_over::is_left_over;
 pub use notes::{Notes, Noticed};
 pub use scan_times::ScanTimes;
 pub use scanner::{ScannedFolder, run_scanner, scan_due, scan_folder};
-pub use schedule::{ScanOutcome, ScanSchedule, spread};
+pub use schedule::{FolderScan, ScanOutcome, ScanSchedule, spread};
 pub use skips::{LeftOut, Skips};
+pub use trash::{TrashSchedule, first_turn};

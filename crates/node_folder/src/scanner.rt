@@ -2,11 +2,12 @@
 use crate::folder::FolderWorker;
 use crate::left_over::is_left_over;
 use crate::notes::Notes;
-use crate::schedule::{ScanOutcome, ScanSchedule, spread};
+use crate::schedule::{FolderScan, ScanOutcome, ScanSchedule, spread};
 use crate::skips::LeftOut;
+use crate::trash::{TrashSchedule, first_turn};
 use file_store::{FileStore, Gate, StoreRefusal};
 use folder_calls::FolderCalls;
-use node_context::{Connections, Context, Event, Host, Log};
+use node_context::{Connections, Context, Event, Host, Log, moment};
 use node_files::{Marked, Whereabouts};
 use std::sync::Wait;
 use std::time::Clock;
@@ -21,6 +22,7 @@ const NEVER_SECONDS: u64 = 31_536_000;
 pub struct ScannedFolder<'x, S, W> {
     worker: FolderWorker<'x, S, W>,
     schedule: ScanSchedule,
+    trash: TrashSchedule,
     at: Whereabouts,
 }
 
@@ -29,9 +31,11 @@ impl<'x, S, W> ScannedFolder<'x, S, W> {
     pub fn new(worker: FolderWorker<'x, S, W>) -> ScannedFolder<'x, S, W> {
         let settings = &worker.folder.settings;
         let schedule = ScanSchedule::new(spread(settings.rescan, settings.index_id));
+        let trash = TrashSchedule::new(settings.trash_days);
         ScannedFolder {
             worker,
             schedule,
+            trash,
             at: Whereabouts::There,
         }
     }
@@ -46,12 +50,15 @@ where
     G: Gate,
 {
     for _ in cx.rt.forever() {
-        let seconds = folder.schedule.left().unwrap_or(NEVER_SECONDS);
+        let turn = first_turn(folder.schedule.left(), folder.trash.left());
+        let seconds = turn.unwrap_or(NEVER_SECONDS);
         if cx.pause(seconds) {
             return;
         }
         folder.schedule.pass(seconds);
+        folder.trash.pass(seconds);
         scan_due(cx, folder);
+        empty_trash(cx, folder);
     }
 }
 
@@ -66,6 +73,26 @@ where
     if folder.schedule.is_due() {
         let outcome = scan_if_there(cx, folder);
         folder.schedule.settle(outcome);
+    }
+}
+
+// Removes the folder's old versions, if that is to be done now, and tells how many there were. Where the folder is away, that is tried again in an hour.
+fn empty_trash<R, S, W, G>(cx: &Context<R, G>, folder: &mut ScannedFolder<S, W>)
+where
+    R: Host,
+    S: FileStore + Marked,
+    W: FolderCalls,
+    G: Gate,
+{
+    let Some(before) = folder.trash.take_turn(moment(cx.rt).seconds()) else {
+        return;
+    };
+    if let Ok(count) = folder.worker.store.remove_versions(before) {
+        if count > 0 {
+            let settings = &folder.worker.folder.settings;
+            let (id, days) = (settings.id.as_str(), settings.trash_days);
+            cx.tell(&Event::Emptied(id, count as u64, days));
+        }
     }
 }
 
@@ -92,10 +119,7 @@ where
     if !folder.worker.folder.notes.is_seen(cx.rt) {
         return ScanOutcome::Unseen;
     }
-    match scan_folder(cx, &mut folder.worker, true).stopped {
-        Some(_) => ScanOutcome::Partly,
-        None => ScanOutcome::Whole,
-    }
+    scan_folder(cx, &mut folder.worker, true).outcome()
 }
 
 /// Scans all names of a folder, and keeps what is left out. What came of it is told, and how far it is, if `is_told`.
@@ -103,7 +127,7 @@ pub fn scan_folder<R, S, W, G>(
     cx: &Context<R, G>,
     worker: &mut FolderWorker<S, W>,
     is_told: bool,
-) -> ScanSum
+) -> FolderScan
 where
     R: Host,
     S: FileStore + Marked,
@@ -123,15 +147,30 @@ where
         left_out: LeftOut::new(cx),
         notes: &folder.notes,
         connections: cx.connections,
+        count: 0,
     };
     let sum = scan_all(cx.rt, cx.alloc, store, calls, cx.gate, moment, &mut seen);
-    if is_told && (sum.recorded > 0 || sum.other > 0 || sum.stopped.is_some()) {
-        cx.tell(&Event::Scanned(folder.id(), sum));
+    let scan = FolderScan {
+        sum,
+        seen: seen.count,
+    };
+    if is_told {
+        tell_scan(cx, folder.id(), sum);
     }
     folder
         .skips
         .take(cx, folder.id(), store, seen.left_out, &sum);
-    sum
+    scan
+}
+
+// Tells what a scan came to. One that ended with the node stopped there.
+fn tell_scan<R: Clock + Wait, G>(cx: &Context<R, G>, id: &str, sum: ScanSum) {
+    let is_news = sum.recorded > 0 || sum.other > 0 || sum.stopped.is_some();
+    if is_news && cx.is_stopping() {
+        cx.tell(&Event::ScanEnded(id, sum));
+    } else if is_news {
+        cx.tell(&Event::Scanned(id, sum));
+    }
 }
 
 fn tell_whereabouts<R: Clock + Wait, G>(cx: &Context<R, G>, id: &str, at: Whereabouts) {
@@ -152,6 +191,8 @@ struct Seen<'a, R> {
     left_out: LeftOut<'a, R>,
     notes: &'a Notes,
     connections: &'a Connections,
+    // How many names it came to.
+    count: u64,
 }
 
 impl<R: Clock + Wait> Progress for Seen<'_, R> {
@@ -164,6 +205,7 @@ impl<R: Clock + Wait> Progress for Seen<'_, R> {
     }
 
     fn came_to(&mut self, name: &SafeName, scanned: &Result<Scanned, StoreRefusal>) {
+        self.count = self.count.saturating_add(1);
         self.left_out.came_to(name, scanned);
         // (once the node stops each name is a fault)
         if is_left_over(scanned) && !self.connections.is_stopping(self.rt) {

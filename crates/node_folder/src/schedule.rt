@@ -1,6 +1,8 @@
 //! When a folder is scanned next, and how many seconds lie between two scans.
 ghost use Rattle.std.specs.Prelude.{◌≡◌, ◌↔◌, IsTrue};
-ghost use Rattle.node_folder.specs.Schedules.{by_clock, first_of, later, next_retry, next_scan, settled, spread, unscanned};
+ghost use Rattle.node_folder.specs.Schedules.{by_clock, counted, first_of, later, next_retry, next_scan, outcome_of, settled, spread, unscanned};
+
+use sync_scan::ScanSum;
 
 /// After how many seconds a folder is scanned again of which a scan stopped before its end. Each time that this is so once more they are twice as many, up to
 /// an hour.
@@ -23,12 +25,47 @@ const MAX_SOON_SECONDS: u64 = 3_600;
 pub enum ScanOutcome {
     /// It came to its end.
     Whole,
-    /// It stopped before its end.
+    /// It stopped before its end, or passed over names in a directory that can't be read.
     Partly,
     /// The folder isn't there.
     Away,
     /// It is there, and nobody looked at it yet.
     Unseen,
+}
+
+/// What a scan of all names of a folder came to.
+#[derive(Clone, Copy, Debug)]
+pub struct FolderScan {
+    /// Its counts.
+    pub sum: ScanSum,
+    /// How many names it looked at. It counts those too that it passed over, since they are in a directory that can't be read.
+    pub seen: u64,
+}
+
+impl FolderScan {
+    /// Whether it came to its end, and looked at each name that it counts. O(1).
+    pub fn outcome(&self) -> ScanOutcome
+        ensures { result ≡ outcome_of self.now }
+    {
+        if self.sum.stopped.is_some() || self.seen < self.counted() {
+            ScanOutcome::Partly
+        } else {
+            ScanOutcome::Whole
+        }
+    }
+
+    // How many names it counts.
+    fn counted(&self) -> u64
+        ensures { result ≡ counted self.now.sum }
+    {
+        let ScanSum {
+            recorded,
+            unchanged,
+            other,
+            ..
+        } = self.sum;
+        recorded.saturating_add(unchanged).saturating_add(other)
+    }
 }
 
 /// When a folder is scanned next, in seconds from now.

@@ -1,4 +1,5 @@
 //! A connection, from its socket to its end.
+use crate::greeted::{Ends, ListenedTo, ids_of};
 use crate::peer::Greeting;
 use crate::told::own_config;
 use file_store::{FileStore, Gate};
@@ -71,7 +72,6 @@ where
     W: KeptCalls + Drop + Send,
     G: Gate + Sync,
 {
-    cx.tell(&Event::Connected(greeting.peer.device));
     let (folders, is_anew) = link(cx, greeting, folders, &begun);
     let _ = begun.stream.shutdown(Shutdown::Both);
     cx.connections.end(cx.rt, greeting.peer.place, begun.id);
@@ -99,7 +99,16 @@ where
     if !are_apart(folders.read.as_slice(), peer.device) {
         return (folders, false);
     }
+    let Ok(ids) = ids_of(cx.alloc, folders.read.as_slice()) else {
+        return (folders, false);
+    };
     let stream = &begun.stream;
+    let ends = Ends {
+        me: greeting.me,
+        peer: peer.device,
+        ids,
+        address: stream.peer_addr().ok(),
+    };
     // (so that the reader looks at the clock each second)
     let _ = stream.set_read_timeout(Some(Duration::from_secs(1)));
     let _ = stream.set_nodelay(true);
@@ -113,7 +122,7 @@ where
         folders,
         cx.gate,
         peer.book,
-        begun.came.as_slice().chain(stream),
+        ListenedTo::new(cx, ends, begun.came.as_slice().chain(stream)),
         AfterHello {
             written: begun.written,
             stream,

@@ -2,9 +2,10 @@
 use crate::connection::{Begun, run_connection};
 use crate::peer::Greeting;
 use file_store::{FileStore, Gate};
-use node_context::{Context, Host};
+use node_context::{Context, Event, Host};
 use peer_conn::KeptCalls;
 use peer_link::LinkFolders;
+use std::io::{self, ErrorKind};
 use std::net::{SocketAddr, TcpStream};
 use std::sync::Wait;
 use std::time::{Clock, Duration};
@@ -30,13 +31,27 @@ where
 {
     let mut folders = folders;
     let mut last_anew = None;
+    // (why it was not reached the last time, if it was not)
+    let mut told: Option<ErrorKind> = None;
     for _ in cx.rt.forever() {
         if cx.is_stopping() {
             break;
         }
         let mut is_anew = false;
-        if let Some(begun) = dial(cx, greeting, address) {
-            (folders, is_anew) = run_connection(cx, greeting, folders, begun);
+        match dial(cx, address) {
+            Ok(stream) => {
+                told = None;
+                if let Some(begun) = begin(cx, greeting, stream) {
+                    (folders, is_anew) = run_connection(cx, greeting, folders, begun);
+                }
+            }
+            Err(why) => {
+                if told != Some(why.kind()) && !cx.is_stopping() {
+                    told = Some(why.kind());
+                    let peer = greeting.peer.device;
+                    cx.tell(&Event::Unreached(peer, *address, why, DIAL_SECONDS));
+                }
+            }
         }
         if is_anew && is_later(cx.rt, &mut last_anew) {
             continue;
@@ -48,14 +63,14 @@ where
     folders
 }
 
-// Makes a connection. It has the peer's place at once, since this device makes no other meanwhile.
-fn dial<R: Host, G>(
-    cx: &Context<R, G>,
-    greeting: &Greeting,
-    address: &SocketAddr,
-) -> Option<Begun> {
+// Makes a connection.
+fn dial<R: Host, G>(cx: &Context<R, G>, address: &SocketAddr) -> io::Result<TcpStream> {
     let limit = Duration::from_secs(CONNECT_SECONDS);
-    let stream = TcpStream::connect_timeout(cx.rt, address, limit).ok()?;
+    TcpStream::connect_timeout(cx.rt, address, limit)
+}
+
+// Gives a connection the peer's place. It has it at once, since this device makes no other meanwhile.
+fn begin<R: Host, G>(cx: &Context<R, G>, greeting: &Greeting, stream: TcpStream) -> Option<Begun> {
     let clone = stream.try_clone().ok()?;
     let id = cx.connections.begin(cx.rt, greeting.peer.place, clone)?;
     Some(Begun {

@@ -142,8 +142,8 @@ impl Guest {
     }
 }
 
-// The seconds since an arbitrary moment, or the last ones where there is no clock.
-fn seconds<R: Clock>(rt: &R, last: Moment) -> Moment {
+/// The seconds since an arbitrary moment, or the last ones where there is no clock.
+pub(crate) fn seconds<R: Clock>(rt: &R, last: Moment) -> Moment {
     match rt.monotonic() {
         Ok(time) => Moment::new(time.as_secs()).unwrap_or(last),
         Err(_) => last,
@@ -167,7 +167,8 @@ fn has_both(folder: &Folder, me: DeviceId, peer: DeviceId) -> bool
     has(folder, me) && has(folder, peer)
 }
 
-fn has(folder: &Folder, device: DeviceId) -> bool
+/// Whether a folder of a ClusterConfig has the device.
+pub(crate) fn has(folder: &Folder, device: DeviceId) -> bool
     ensures { result ≡ has device folder.now }
 {
     folder

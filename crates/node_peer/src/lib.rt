@@ -4,8 +4,10 @@
 mod accept;
 mod connection;
 mod dial;
+mod greeted;
 mod guest;
 mod peer;
+mod shares;
 mod told;
 
 pub use peer::{Peer, PeerWorker, Reach, run_peer};

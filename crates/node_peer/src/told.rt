@@ -4,6 +4,7 @@ ghost use Rattle.node_peer.specs.Told.{IsKnown, received};
 
 use bep_messages::{ClusterConfig, Hello, Items, Text};
 use folder_calls::FolderCalls;
+use node_context::VERSION;
 use peer_conn::{FolderTold, IndexedFolder, KeptCalls, cluster_config};
 use peer_link::LinkFolders;
 use peer_reader::PeerFolder;
@@ -15,7 +16,7 @@ pub(crate) fn hello_of(alloc: Global, name: &str) -> Result<Hello, AllocError> {
     Ok(Hello {
         device_name: Text::from_str(alloc, name)?,
         client_name: Text::from_str(alloc, "bepd")?,
-        client_version: Text::from_str(alloc, "v0.1.0")?,
+        client_version: Text::from_string(format!(in alloc; "v{VERSION}")?),
     })
 }
 

@@ -11,6 +11,7 @@ use node_folder::{FolderWorker, NodeFolder};
 use node_need::{Miss, Wanted};
 use peer_asks::{FolderPeer, PeerBook, PeerSource};
 use std::alloc::{AllocError, Global};
+use std::io;
 use std::sync::Wait;
 use sync_names::SafeName;
 use sync_pull::{PullAnswer, PullFailure};
@@ -134,7 +135,11 @@ where
     let count = batch.wanted.len() as u64;
     cx.tell(&Event::Pulling(id, place as u64 + 1, count));
     if puller.note(cx.rt, batch.turn, wanted, place, answer)? {
-        tell_answer(cx, id, &wanted.name, answer);
+        let said = match answer {
+            PullAnswer::Failed(PullFailure::StoreFault) => puller.worker.store.last_error(),
+            _ => None,
+        };
+        tell_answer(cx, id, &wanted.name, answer, said);
     }
     Ok(())
 }
@@ -219,11 +224,20 @@ impl<'x, S: Marked, W> Puller<'x, S, W> {
     }
 }
 
-// Tells what a pull of a name came to.
-fn tell_answer<R: Host, G>(cx: &Context<R, G>, id: &str, name: &SafeName, answer: PullAnswer) {
+// Tells what a pull of a name came to. That the node stops is no failure of the name.
+fn tell_answer<R: Host, G>(
+    cx: &Context<R, G>,
+    id: &str,
+    name: &SafeName,
+    answer: PullAnswer,
+    said: Option<io::Error>,
+) {
+    if cx.is_stopping() && !matches!(answer, PullAnswer::Done(_)) {
+        return;
+    }
     match answer {
         PullAnswer::Done(_) => cx.tell(&Event::Pulled(id, name)),
-        PullAnswer::Failed(why) => cx.tell(&Event::Failed(id, name, why)),
+        PullAnswer::Failed(why) => cx.tell(&Event::Failed(id, name, why, said)),
         PullAnswer::Refused(why) => cx.tell(&Event::Refused(id, name, why)),
         PullAnswer::Unsupported => cx.tell(&Event::Unsupported(id, name)),
         PullAnswer::NotNeeded

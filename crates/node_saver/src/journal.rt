@@ -24,4 +24,7 @@ pub trait DiskJournal: FrameJournal {
 
     /// Whatever is on the disk is written anew in less room, if it has become long. What counts stays the same.
     fn fold(&mut self);
+
+    /// Which file could not be written last, and why, if one could not and memory was there to say so.
+    fn trouble(&self) -> Option<&str>;
 }

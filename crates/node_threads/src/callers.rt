@@ -18,34 +18,31 @@ pub(crate) struct Callers<W> {
     pub(crate) answerers: Vec<W>,
 }
 
-/// Those who work, in this order: the scanner of each folder; those who look at each folder; the pullers of each folder; and of each peer a reader, a server
-/// and an indexer of each folder that is shared with it.
+/// Those who work, in this order: of each folder its scanner, those who look at it and its pullers; and then of each peer a reader, a server and an indexer of
+/// each folder that is shared with it.
 pub(crate) fn work_callers<'a, C: FolderCore + Drop, R: Wait>(
     rt: &'a R,
     alloc: Global,
     folders: &'a [SharedFolder<C>],
     peers: &[NodePeer],
 ) -> Result<Vec<Member<'a, C, R>>, NodeFault> {
-    let mut callers = each_caller(rt, alloc, folders)?;
-    for count in [LOOKERS, PULLERS] {
-        for folder in folders {
-            for _ in 0..count {
-                add_caller(rt, folder, &mut callers)?;
-            }
-        }
+    let mut callers = Vec::new(alloc);
+    for folder in folders {
+        add_callers(rt, folder, FOLDER_CALLERS, &mut callers)?;
     }
     for peer in peers {
         for share in peer.shares.iter() {
             let Some(folder) = folders.get(share.folder) else {
                 return Err(NodeFault::NoFolder);
             };
-            for _ in 0..SHARE_CALLERS {
-                add_caller(rt, folder, &mut callers)?;
-            }
+            add_callers(rt, folder, SHARE_CALLERS, &mut callers)?;
         }
     }
     Ok(callers)
 }
+
+/// How many callers work on a folder.
+const FOLDER_CALLERS: usize = 1 + LOOKERS + PULLERS;
 
 /// How many callers there are for a folder that is shared with a peer.
 const SHARE_CALLERS: usize = 3;
@@ -61,6 +58,18 @@ pub(crate) fn each_caller<'a, C: FolderCore + Drop, R: Wait>(
         add_caller(rt, folder, &mut callers)?;
     }
     Ok(callers)
+}
+
+fn add_callers<'a, C: FolderCore + Drop, R: Wait>(
+    rt: &'a R,
+    folder: &'a SharedFolder<C>,
+    count: usize,
+    callers: &mut Vec<Member<'a, C, R>>,
+) -> Result<(), NodeFault> {
+    for _ in 0..count {
+        add_caller(rt, folder, callers)?;
+    }
+    Ok(())
 }
 
 fn add_caller<'a, C: FolderCore + Drop, R: Wait>(

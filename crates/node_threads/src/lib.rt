@@ -10,5 +10,5 @@ mod threads;
 mod workers;
 
 pub use folders::StartFolder;
-pub use peers::{Listeners, NodeAddress, NodePeer, Share, listen_all};
+pub use peers::{ListenFault, Listeners, NodeAddress, NodePeer, Share, listen_all};
 pub use run::{NodeEnd, NodeOutside, NodeStart, run_node};

@@ -1,7 +1,7 @@
 //! The peers of a node, and how they are reached.
 use node_context::{Connections, NodeFault};
 use node_peer::Reach;
-use std::alloc::Global;
+use std::alloc::{AllocError, AllocFailed, Global};
 use std::io;
 use std::net::{Net, SocketAddr, TcpListener, TcpStream};
 use std::os::fd::OwnedFd;
@@ -43,22 +43,51 @@ pub struct Listeners {
     pub(crate) reaches: Vec<Reach>,
 }
 
-/// Listens for each peer that makes the connection. Fails with `BadAddress` where an address can't be listened on, and if out of memory.
+/// Why the peers can't be listened for.
+#[derive(Clone, Copy, Debug)]
+pub enum ListenFault {
+    /// The address for the peer at this place can't be listened on.
+    Address { peer: usize, error: io::Error },
+    /// Memory ran out.
+    OutOfMemory,
+}
+
+impl From<AllocError> for ListenFault {
+    fn from(_failed: AllocError) -> ListenFault {
+        ListenFault::OutOfMemory
+    }
+}
+
+impl<T: Drop> From<AllocFailed<T>> for ListenFault {
+    fn from(_failed: AllocFailed<T>) -> ListenFault {
+        ListenFault::OutOfMemory
+    }
+}
+
+/// Listens for each peer that makes the connection.
 pub fn listen_all<R: Net<Listener = TcpListener, Stream = TcpStream>>(
     rt: &R,
     alloc: Global,
     peers: &[NodePeer],
-) -> Result<Listeners, NodeFault> {
+) -> Result<Listeners, ListenFault> {
     let mut reaches = Vec::with_capacity(alloc, peers.len())?;
-    for peer in peers {
-        reaches.push(match peer.address {
-            NodeAddress::Dial(address) => Reach::Dial(address),
-            NodeAddress::Listen(address) => {
-                Reach::Listen(TcpListener::bind(rt, address).map_err(no_address)?)
-            }
-        })?;
+    for (place, peer) in peers.iter().enumerate() {
+        match reach_of(rt, &peer.address) {
+            Ok(reach) => reaches.push(reach)?,
+            Err(error) => return Err(ListenFault::Address { peer: place, error }),
+        }
     }
     Ok(Listeners { reaches })
+}
+
+fn reach_of<R: Net<Listener = TcpListener, Stream = TcpStream>>(
+    rt: &R,
+    address: &NodeAddress,
+) -> io::Result<Reach> {
+    match address {
+        NodeAddress::Dial(address) => Ok(Reach::Dial(*address)),
+        NodeAddress::Listen(address) => Ok(Reach::Listen(TcpListener::bind(rt, *address)?)),
+    }
 }
 
 /// The socket that listens, if one does, is shut down once the node stops.

@@ -106,7 +106,7 @@ where
                 saver.journal.take_back();
                 keeper.fail(cx.rt);
                 if retry == 0 {
-                    cx.tell(&Event::NotKept);
+                    cx.tell(&Event::NotKept(saver.journal.trouble()));
                 }
                 retry = retry.saturating_mul(2).max(1).min(MAX_RETRY_SECONDS);
             }

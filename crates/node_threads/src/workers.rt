@@ -110,19 +110,31 @@ pub(crate) fn workers_of<'x, 'b, F: FolderFiles, W: FolderCalls, R: Wait>(
     reaches: Vec<Reach>,
     callers: &mut Lender<'x, 'b, W, R>,
 ) -> Result<Workers<'x, F::Store, WorkerCalls<'x, 'b, W, R>>, NodeFault> {
-    let scanned = scanned_of(alloc, files, node, callers)?;
-    let watched = watched_of(alloc, files, node, callers)?;
-    let pulled = pulled_of(alloc, files, node, callers)?;
-    let peers = peers_of(alloc, files, node, reaches, callers)?;
     let mut folders = Vec::with_capacity(alloc, node.folders.len())?;
-    for ((scanned, watched), pulled) in scanned.into_iter().zip(watched).zip(pulled) {
-        folders.push(WorkedFolder {
-            scanned,
-            watched,
-            pulled,
-        })?;
+    for (place, folder) in node.folders.iter().enumerate() {
+        folders.push(worked(alloc, files, node, folder, place, callers)?)?;
     }
+    let peers = peers_of(alloc, files, node, reaches, callers)?;
     Ok(Workers { folders, peers })
+}
+
+// What works on the folder at a place.
+fn worked<'x, 'b, F: FolderFiles, W: FolderCalls, R: Wait>(
+    alloc: Global,
+    files: &F,
+    node: Node<'x>,
+    folder: &'x NodeFolder,
+    place: usize,
+    callers: &mut Lender<'x, 'b, W, R>,
+) -> Result<WorkedFolder<'x, F::Store, WorkerCalls<'x, 'b, W, R>>, NodeFault> {
+    let scanner = worker_of(files, folder, place, GivesUp::AtStop, callers)?;
+    let watched = watched(alloc, files, folder, place, callers)?;
+    let pulled = pulled(alloc, files, node, folder, place, callers)?;
+    Ok(WorkedFolder {
+        scanned: ScannedFolder::new(scanner),
+        watched,
+        pulled,
+    })
 }
 
 // A worker of the folder at a place.
@@ -156,55 +168,36 @@ pub(crate) fn answered_of<'x, 'b, F: FolderFiles, W: FolderCalls, R: Wait>(
     Ok(workers)
 }
 
-fn scanned_of<'x, 'b, F: FolderFiles, W: FolderCalls, R: Wait>(
+fn watched<'x, 'b, F: FolderFiles, W: FolderCalls, R: Wait>(
     alloc: Global,
     files: &F,
-    node: Node<'x>,
+    folder: &'x NodeFolder,
+    place: usize,
     callers: &mut Lender<'x, 'b, W, R>,
-) -> Result<Vec<ScannedFolder<'x, F::Store, WorkerCalls<'x, 'b, W, R>>>, NodeFault> {
-    let mut scanned = Vec::with_capacity(alloc, node.folders.len())?;
-    for (place, folder) in node.folders.iter().enumerate() {
+) -> Result<WatchedFolder<'x, F::Store, WorkerCalls<'x, 'b, W, R>>, NodeFault> {
+    let mut lookers = Vec::with_capacity(alloc, LOOKERS)?;
+    for _ in 0..LOOKERS {
         let worker = worker_of(files, folder, place, GivesUp::AtStop, callers)?;
-        scanned.push(ScannedFolder::new(worker))?;
+        lookers.push(Looker::new(alloc, worker))?;
     }
-    Ok(scanned)
+    Ok(WatchedFolder::new(alloc, lookers))
 }
 
-fn watched_of<'x, 'b, F: FolderFiles, W: FolderCalls, R: Wait>(
+fn pulled<'x, 'b, F: FolderFiles, W: FolderCalls, R: Wait>(
     alloc: Global,
     files: &F,
     node: Node<'x>,
+    folder: &'x NodeFolder,
+    place: usize,
     callers: &mut Lender<'x, 'b, W, R>,
-) -> Result<Vec<WatchedFolder<'x, F::Store, WorkerCalls<'x, 'b, W, R>>>, NodeFault> {
-    let mut watched = Vec::with_capacity(alloc, node.folders.len())?;
-    for (place, folder) in node.folders.iter().enumerate() {
-        let mut lookers = Vec::with_capacity(alloc, LOOKERS)?;
-        for _ in 0..LOOKERS {
-            let worker = worker_of(files, folder, place, GivesUp::AtStop, callers)?;
-            lookers.push(Looker::new(alloc, worker))?;
-        }
-        watched.push(WatchedFolder::new(alloc, lookers))?;
+) -> Result<PulledFolder<'x, F::Store, WorkerCalls<'x, 'b, W, R>>, NodeFault> {
+    let books = books_of(alloc, node, place)?;
+    let mut pullers = Vec::with_capacity(alloc, PULLERS)?;
+    for _ in 0..PULLERS {
+        let worker = worker_of(files, folder, place, GivesUp::AtStop, callers)?;
+        pullers.push(Puller::new(alloc, worker))?;
     }
-    Ok(watched)
-}
-
-fn pulled_of<'x, 'b, F: FolderFiles, W: FolderCalls, R: Wait>(
-    alloc: Global,
-    files: &F,
-    node: Node<'x>,
-    callers: &mut Lender<'x, 'b, W, R>,
-) -> Result<Vec<PulledFolder<'x, F::Store, WorkerCalls<'x, 'b, W, R>>>, NodeFault> {
-    let mut pulled = Vec::with_capacity(alloc, node.folders.len())?;
-    for (place, folder) in node.folders.iter().enumerate() {
-        let mut pullers = Vec::with_capacity(alloc, PULLERS)?;
-        for _ in 0..PULLERS {
-            let worker = worker_of(files, folder, place, GivesUp::AtStop, callers)?;
-            pullers.push(Puller::new(alloc, worker))?;
-        }
-        let books = books_of(alloc, node, place)?;
-        pulled.push(PulledFolder::new(alloc, folder, pullers, books)?)?;
-    }
-    Ok(pulled)
+    Ok(PulledFolder::new(alloc, folder, pullers, books)?)
 }
 
 // The peers that the folder at a place is shared with.

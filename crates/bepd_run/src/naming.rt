@@ -1,0 +1,100 @@
+//! What a failure is named by: a file, a folder or an address, and what is wrong with it.
+ghost use Rattle.std.specs.Prelude.{◌≡◌, IfErr, IfOk, OnErr};
+ghost use Rattle.std.specs.IoError.{error_kind};
+ghost use Rattle.bepd_run.specs.Addresses.{IsReadAs, IsUnread};
+ghost use Rattle.bepd_run.specs.Naming.{IsAt, IsOfAddress, IsOfFile};
+ghost use Rattle.bepd_run.specs.declared.failure.RunFailure.TheVariants as failure;
+
+use crate::addresses::address_of;
+use crate::failure::RunFailure;
+use bep_messages::Text;
+use node_config::{Config, PeerAddress, PeerConfig};
+use node_state::StateFault;
+use node_threads::{ListenFault, NodeAddress};
+use std::alloc::Global;
+use std::io::{self, ErrorKind};
+
+/// A file at the path can't be read or written, for this reason of the system.
+pub(crate) fn file_failure(alloc: Global, what: &str, path: &str, error: io::Error) -> RunFailure
+    ensures named { IsOfFile result }
+    ensures memory { error_kind error ≡ ErrorKind.OutOfMemory → result ≡ failure.OutOfMemory }
+{
+    if error.kind() == ErrorKind::OutOfMemory {
+        return RunFailure::OutOfMemory;
+    }
+    match format!(in alloc; "{what} {path}: {error}") {
+        Ok(about) => RunFailure::File(Text::from_string(about)),
+        Err(_) => RunFailure::OutOfMemory,
+    }
+}
+
+/// The same failure, of the state at the path, where it is one of a state.
+pub(crate) fn at_state(alloc: Global, path: &str, failure: RunFailure) -> RunFailure
+    ensures { IsAt failure result }
+{
+    match failure {
+        RunFailure::State(StateFault::BadState(problem)) => {
+            match format!(in alloc; "state {path}: {BAD_STATE}") {
+                Ok(about) => {
+                    let about = Text::from_string(about);
+                    RunFailure::StateAt(StateFault::BadState(problem), about)
+                }
+                Err(_) => RunFailure::OutOfMemory,
+            }
+        }
+        failure => failure,
+    }
+}
+
+// What to do about a state that is refused.
+const BAD_STATE: &str =
+    "it is damaged, or not the state of this device: give back the one that was there, or move it away and all is scanned and received anew";
+
+/// How a connection with the peer at a place of the configuration comes about. Fails where its address can't be read.
+pub(crate) fn peer_address(
+    alloc: Global,
+    place: usize,
+    peer: &PeerConfig,
+) -> Result<NodeAddress, RunFailure>
+    ensures read { IfOk result (IsReadAs peer.now.address) }
+    ensures refused { OnErr result (IsUnread peer.now.address) }
+    ensures named { IfErr result IsOfAddress }
+{
+    match address_of(&peer.address) {
+        Ok(address) => Ok(address),
+        Err(_) => Err(address_failure(alloc, place, peer, UNREADABLE)),
+    }
+}
+
+// What an address is.
+const UNREADABLE: &str =
+    "is neither an IPv4 address and a port, as 192.0.2.1:22000, nor localhost and a port";
+
+/// An address of the configuration can't be listened on.
+pub(crate) fn listen_failure(alloc: Global, config: &Config, fault: ListenFault) -> RunFailure {
+    let ListenFault::Address { peer, error } = fault else {
+        return RunFailure::OutOfMemory;
+    };
+    let Some(of) = config.peers.as_slice().get(peer) else {
+        return RunFailure::OutOfMemory;
+    };
+    match format!(in alloc; "can't be listened on: {error}") {
+        Ok(why) => address_failure(alloc, peer, of, why.as_str()),
+        Err(_) => RunFailure::OutOfMemory,
+    }
+}
+
+// What is wrong with the address of the peer at a place.
+fn address_failure(alloc: Global, place: usize, peer: &PeerConfig, why: &str) -> RunFailure
+    ensures { IsOfAddress result }
+{
+    let number = place.saturating_add(1);
+    let (key, address) = match &peer.address {
+        PeerAddress::Dial(text) => ("dial", text.as_str()),
+        PeerAddress::Listen(text) => ("listen", text.as_str()),
+    };
+    match format!(in alloc; "peer {number}: {key} {address:?} {why}") {
+        Ok(about) => RunFailure::Address(Text::from_string(about)),
+        Err(_) => RunFailure::OutOfMemory,
+    }
+}

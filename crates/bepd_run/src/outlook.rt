@@ -1,0 +1,237 @@
+//! What a run would meet at its start.
+use crate::failure::RunFailure;
+use crate::files::StateFiles;
+use crate::last_run::{StatePaths, read_last_run};
+use crate::naming::{at_state, listen_failure, peer_address};
+use bep_messages::Text;
+use folder_core::FolderCore;
+use node_config::{Config, FolderConfig, unknown_keys};
+use node_state::State;
+use node_threads::{ListenFault, NodeAddress};
+use std::alloc::{AllocError, Global};
+use std::fs::{self, File, Files, OpenFile, OpenOptions, TryLockError};
+use std::io::{ErrorKind, Write};
+use std::net::{Net, TcpListener, TcpStream};
+
+/// The name of a file that is made to see whether a directory may be written. It is a temporary one, which no scan records.
+const PROBE: &str = ".syncthing.check.tmp";
+
+/// Writes a line for each key of a configuration's text that is none. Fails where the text is no TOML document, if out of memory, and where a write fails.
+pub(crate) fn tell_unknown_keys<W: Write>(
+    alloc: Global,
+    text: &[u8],
+    to: &mut W,
+) -> Result<(), RunFailure> {
+    let keys = unknown_keys(alloc, text)?;
+    for key in keys.as_slice() {
+        writeln!(to, "{key}")?;
+    }
+    Ok(())
+}
+
+/// Writes a line for each thing that a run of the configuration would meet at its start: a state that can't be kept or that another run has, an address that
+/// can't be listened on, a folder that isn't there or can't be written, or has no marker. Returns the failure with which the run would end by then.
+///
+/// In each directory that is there, a file is made and removed. An address is listened on until all were tried.
+pub(crate) fn tell_outlook<R, O>(
+    rt: &R,
+    alloc: Global,
+    config: &Config,
+    output: &mut O,
+) -> Result<Option<RunFailure>, RunFailure>
+where
+    R: Files<File = File> + Net<Listener = TcpListener, Stream = TcpStream> + StateFiles,
+    O: Write,
+{
+    let mut stop = state_stop(rt, alloc, config.state.as_str(), output)?;
+    let mut state = None;
+    if stop.is_none() {
+        let paths = StatePaths::new(alloc, config.state.as_str())?;
+        match read_last_run(rt, alloc, config.device, &paths) {
+            Ok(last) => state = Some(last.state),
+            Err(failure) => stop = Some(at_state(alloc, config.state.as_str(), failure)),
+        }
+    }
+    let addresses = addresses_stop(rt, alloc, config, output)?;
+    if stop.is_none() {
+        stop = addresses;
+    }
+    for folder in config.folders.as_slice() {
+        let is_new = match &state {
+            Some(state) => Some(!is_recorded(state, &folder.id)),
+            None => None,
+        };
+        let is_ready = tell_folder(rt, alloc, folder, is_new, output)?;
+        if stop.is_none() && is_new == Some(true) && !is_ready {
+            stop = Some(no_folder(alloc, folder)?);
+        }
+    }
+    Ok(stop)
+}
+
+// Whether the state can be kept at the path. Returns why a run would end, where it can't.
+fn state_stop<R: Files<File = File>, O: Write>(
+    rt: &R,
+    alloc: Global,
+    state: &str,
+    output: &mut O,
+) -> Result<Option<RunFailure>, RunFailure> {
+    let directory = match state.rsplit_once('/') {
+        Some(("", _)) => "/",
+        Some((directory, _)) => directory,
+        None => ".",
+    };
+    if !is_directory(rt, directory) {
+        writeln!(output, "state: {directory}: no directory is there")?;
+        return Ok(Some(no_state(alloc, state, "no directory is there")?));
+    }
+    if !can_be_written(rt, alloc, directory)? {
+        writeln!(output, "state: {directory}: can't be written")?;
+        return Ok(Some(no_state(alloc, state, "its directory can't be written")?));
+    }
+    if is_locked(rt, alloc, state)? {
+        writeln!(output, "state: {state}: another run has it")?;
+        return Ok(Some(RunFailure::StateInUse(Text::from_str(alloc, state)?)));
+    }
+    Ok(None)
+}
+
+// The state can't be kept, for this reason.
+fn no_state(alloc: Global, state: &str, why: &str) -> Result<RunFailure, AllocError> {
+    let about = format!(in alloc; "state {state}: {why}")?;
+    Ok(RunFailure::File(Text::from_string(about)))
+}
+
+// Whether another run has the state.
+fn is_locked<R: Files<File = File>>(
+    rt: &R,
+    alloc: Global,
+    state: &str,
+) -> Result<bool, AllocError> {
+    let path = format!(in alloc; "{state}.lock")?;
+    let Ok(file) = File::open(rt, path.as_str()) else {
+        return Ok(false);
+    };
+    Ok(matches!(file.try_lock(), Err(TryLockError::WouldBlock)))
+}
+
+// Listens on each address on which a run would. Returns why it would end, where that fails.
+fn addresses_stop<R, O>(
+    rt: &R,
+    alloc: Global,
+    config: &Config,
+    output: &mut O,
+) -> Result<Option<RunFailure>, RunFailure>
+where
+    R: Net<Listener = TcpListener, Stream = TcpStream>,
+    O: Write,
+{
+    let mut stop = None;
+    let mut listeners = Vec::new(alloc);
+    for (place, peer) in config.peers.as_slice().iter().enumerate() {
+        let NodeAddress::Listen(address) = peer_address(alloc, place, peer)? else {
+            continue;
+        };
+        match TcpListener::bind(rt, address) {
+            Ok(listener) => listeners.push(listener)?,
+            Err(error) => {
+                let number = place + 1;
+                let kind = error.kind();
+                writeln!(output, "peer {number}: listen {address}: {kind}")?;
+                let fault = ListenFault::Address { peer: place, error };
+                stop = Some(listen_failure(alloc, config, fault));
+            }
+        }
+    }
+    Ok(stop)
+}
+
+// A new folder can't begin there.
+fn no_folder(alloc: Global, folder: &FolderConfig) -> Result<RunFailure, AllocError> {
+    let (id, path) = (folder.id.as_str(), folder.path.as_str());
+    let about = format!(in alloc;
+        "folder {id}: {path}: no directory is there, or it can't be written"
+    )?;
+    Ok(RunFailure::NoFolder(Text::from_string(about)))
+}
+
+// Whether something of the folder with this id was recorded.
+fn is_recorded(state: &State, id: &Text) -> bool {
+    for stored in state.folders.as_slice() {
+        if stored.id.as_str() == id.as_str() {
+            let counts = stored.folder.counts();
+            return counts.files != 0 || counts.directories != 0 || counts.deletions != 0;
+        }
+    }
+    false
+}
+
+// What a run would find where the folder is, of which nothing may have been recorded, if that is known. Returns whether a run could begin there with such a one.
+fn tell_folder<R: Files, O: Write>(
+    rt: &R,
+    alloc: Global,
+    folder: &FolderConfig,
+    is_new: Option<bool>,
+    output: &mut O,
+) -> Result<bool, RunFailure> {
+    let (id, path) = (folder.id.as_str(), folder.path.as_str());
+    if !is_directory(rt, path) {
+        let why = no_directory(rt, path);
+        writeln!(output, "folder {id}: {path}: {why}")?;
+        return Ok(false);
+    }
+    let can_be_written = can_be_written(rt, alloc, path)?;
+    if !can_be_written {
+        writeln!(output, "folder {id}: {path}: can't be written")?;
+    }
+    let marker = format!(in alloc; "{path}/.stfolder")?;
+    if fs::metadata(rt, marker.as_str()).is_ok() {
+        return Ok(true);
+    }
+    match is_new {
+        Some(true) => {
+            writeln!(
+                output,
+                "folder {id}: no marker yet, it is made at the start"
+            )?;
+        }
+        Some(false) => {
+            writeln!(
+                output,
+                "folder {id}: no marker, it is away until .stfolder is there"
+            )?;
+        }
+        None => {}
+    }
+    Ok(can_be_written)
+}
+
+// What is wrong with a path at which no directory is.
+fn no_directory<R: Files>(rt: &R, path: &str) -> &'static str {
+    match fs::symlink_metadata(rt, path) {
+        Ok(_) => "it is no directory, or a link that leads to none",
+        Err(_) => "nothing is there: make the directory, or mount its disk",
+    }
+}
+
+// Whether a directory is at the path, links followed.
+fn is_directory<R: Files>(rt: &R, path: &str) -> bool {
+    match fs::metadata(rt, path) {
+        Ok(found) => found.is_dir(),
+        Err(_) => false,
+    }
+}
+
+// Whether a file can be made in the directory. It is removed then.
+fn can_be_written<R: Files>(rt: &R, alloc: Global, directory: &str) -> Result<bool, AllocError> {
+    let path = format!(in alloc; "{directory}/{PROBE}")?;
+    let mut options = OpenOptions::new();
+    options.write(true).create_new(true);
+    match options.open(rt, path.as_str()) {
+        Ok(_made) => {
+            let _ = fs::remove_file(rt, path.as_str());
+            Ok(true)
+        }
+        Err(error) => Ok(error.kind() == ErrorKind::AlreadyExists),
+    }
+}
