@@ -23,6 +23,8 @@ counting = threading.Lock()
 ports_given, giving = set(), threading.Lock()
 # How long a run waits for what is to come, in seconds.
 PATIENCE = int(os.environ.get("PATIENCE", 60))
+# How many seconds an answer or an end may take that comes at once where the machine does nothing else.
+SOON = 8
 # The identities of the node whose peers are played, and of the first of these.
 ME, PEER = bytes([9]) * 32, bytes([1]) * 32
 

@@ -16,7 +16,7 @@ use Rattle.node_context.specs.declared.fault.NodeFault.{NodeFault}
 use Rattle.node_context.specs.declared.fault.NodeFault.TheVariants as node
 use Rattle.node_context.specs.Faults.{node_fault_name, node_fault_number}
 use Rattle.bepd_run.specs.declared.failure.RunFailure.{RunFailure}
-use Rattle.bepd_run.specs.declared.failure.RunFailure.TheVariants.{Address, Config, ConfigExists, File, FolderInUse, Node, NoFolder, OutOfMemory, ReadOrWrite, State, StateAt, StateInUse}
+use Rattle.bepd_run.specs.declared.failure.RunFailure.TheVariants.{Address, Config, ConfigExists, ConfigWith, File, FolderInUse, Node, NoFolder, OutOfMemory, ReadOrWrite, State, StateAt, StateInUse}
 
 abbrev pub config_status : ConfigFault → ℕ
 config_status (config.NotToml line) = 1
@@ -37,6 +37,7 @@ node_status node.BadAddress = 7
 -- the exit status
 abbrev pub run_failure_status : RunFailure → ℕ
 run_failure_status (Config fault) = config_status fault
+run_failure_status (ConfigWith fault about) = config_status fault
 run_failure_status (State fault) = state_status fault
 run_failure_status (Node fault) = node_status fault
 run_failure_status (StateAt fault about) = state_status fault
@@ -66,6 +67,7 @@ numbered number name = codes "fault " ++ decimal number ++ codes " " ++ name
 -- what is told on standard error, without its last line feed
 abbrev pub run_failure_text : RunFailure → List ℕ
 run_failure_text (Config fault) = numbered (number_of fault) (fault_name fault) ++ codes "\n" ++ fault_text fault
+run_failure_text (ConfigWith fault about) = numbered (number_of fault) (fault_name fault) ++ codes "\n" ++ fault_text fault ++ codes "\n" ++ about
 run_failure_text (State fault) = numbered (state_fault_number fault) (state_fault_name fault)
 run_failure_text (Node fault) = numbered (node_fault_number fault) (node_fault_name fault)
 run_failure_text (StateAt fault about) = numbered (state_fault_number fault) (state_fault_name fault) ++ codes "\n" ++ about

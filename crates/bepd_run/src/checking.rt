@@ -1,7 +1,7 @@
 //! What a node would do by a configuration, written without a run.
 use crate::failure::RunFailure;
 use crate::files::{StateFiles, read_config_file};
-use crate::naming::peer_address;
+use crate::naming::{config_failure, peer_address};
 use crate::outlook::{tell_outlook, tell_unknown_keys};
 use crate::paths::require_apart;
 use crate::placing::placed_config;
@@ -28,7 +28,10 @@ where
     O: Write,
 {
     let text = read_config_file(rt, alloc, path)?;
-    let told = read_config(alloc, text.as_slice())?;
+    let told = match read_config(alloc, text.as_slice()) {
+        Ok(config) => config,
+        Err(fault) => return Err(config_failure(alloc, text.as_slice(), fault)),
+    };
     let config = placed_config(alloc, path, read_config(alloc, text.as_slice())?)?;
     require_apart(rt, alloc, &config)?;
     for (place, peer) in config.peers.as_slice().iter().enumerate() {

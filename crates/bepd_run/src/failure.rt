@@ -15,11 +15,13 @@ use std::io;
 use thiserror::Error;
 
 /// Why a node did not run, or did not end well. Displayed, it is the line for standard error; for a configuration that is refused a
-/// second line names the key, or the line of the file, and what is wrong with it; for a file, an address, a folder or a state a second line says which one, and what to do.
+/// second line names the key, or the line of the file, and what is wrong with it, and further ones each key that is none; for a file, an address, a folder or a state a second line says which one, and what to do.
 #[derive(Debug, Drop, Error)]
 pub enum RunFailure {
     /// The configuration is refused, or there was no memory for it.
     Config(ConfigFault),
+    /// The configuration is refused. This says which of its keys are none.
+    ConfigWith(ConfigFault, Text),
     /// The state file is refused, or there was no memory for it.
     State(StateFault),
     /// The state file is refused. This says which one it is, and what to do.
@@ -53,6 +55,8 @@ impl RunFailure {
         match self {
             RunFailure::Config(ConfigFault::OutOfMemory) => 4,
             RunFailure::Config(_) => 1,
+            RunFailure::ConfigWith(ConfigFault::OutOfMemory, _) => 4,
+            RunFailure::ConfigWith(_, _) => 1,
             RunFailure::State(StateFault::OutOfMemory) => 4,
             RunFailure::State(_) => 6,
             RunFailure::StateAt(StateFault::OutOfMemory, _) => 4,
@@ -80,6 +84,10 @@ impl Display for RunFailure {
         match self {
             RunFailure::Config(fault) => {
                 write!(f, "fault {} {}\n{fault}", fault.number(), fault.name())
+            }
+            RunFailure::ConfigWith(fault, about) => {
+                let (number, name) = (fault.number(), fault.name());
+                write!(f, "fault {number} {name}\n{fault}\n{}", about.as_str())
             }
             RunFailure::State(fault) => write!(f, "fault {} {fault}", fault.number()),
             RunFailure::Node(fault) => write!(f, "fault {} {fault}", fault.number()),

@@ -20,7 +20,10 @@ state = STATE
 ";
 
 /// What it has after these.
-const PEER: &str = "
+const PEER: &str = "\
+# The permissions of its new files, three octal digits. Where it is left out, the system's.
+#mode = \"640\"
+
 # A peer; as many as you like. One of the two devices has `listen`, an address of its own, and the other one `dial`, that address.
 #[[peer]]
 #device = \"THE IDENTITY OF THE PEER\"
@@ -28,7 +31,7 @@ const PEER: &str = "
 #listen = \"192.0.2.1:22000\"
 ";
 
-/// Makes the directory, if it is not there, and writes a configuration with an identity of its own to the file `config.toml` in it. Writes the identity and
+/// Makes the directory, and those above it, where they are not there, and writes a configuration with an identity of its own to the file `config.toml` in it. Writes the identity and
 /// the path to the output.
 ///
 /// Fails with `ConfigExists` where the file is there already, which then stays as it is.
@@ -39,6 +42,7 @@ pub fn new_config<R: Files, O: Write>(
     output: &mut O,
 ) -> Result<(), RunFailure> {
     let device = fresh_identity(rt, alloc)?;
+    make_above(rt, directory);
     if let Err(error) = fs::create_dir(rt, directory) {
         if error.kind() != ErrorKind::AlreadyExists {
             return Err(file_failure(alloc, "directory", directory, error));
@@ -70,6 +74,17 @@ pub fn new_config<R: Files, O: Write>(
     writeln!(output, "device {device}\nconfiguration {path}")?;
     output.flush()?;
     Ok(())
+}
+
+// Makes the directories above a path, where they are not there. What can't be made shows when the path is used.
+fn make_above<R: Files>(rt: &R, path: &str) {
+    for (place, char) in path.char_indices() {
+        if char == '/' && place > 0 {
+            if let Some(above) = path.get(..place) {
+                let _ = fs::create_dir(rt, above);
+            }
+        }
+    }
 }
 
 // The numbers of a folder, as they are where they are left out.

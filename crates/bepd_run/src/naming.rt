@@ -2,13 +2,13 @@
 ghost use Rattle.std.specs.Prelude.{◌≡◌, IfErr, IfOk, OnErr};
 ghost use Rattle.std.specs.IoError.{error_kind};
 ghost use Rattle.bepd_run.specs.Addresses.{IsReadAs, IsUnread};
-ghost use Rattle.bepd_run.specs.Naming.{IsAt, IsOfAddress, IsOfFile};
+ghost use Rattle.bepd_run.specs.Naming.{IsAt, IsOfAddress, IsOfConfig, IsOfFile};
 ghost use Rattle.bepd_run.specs.declared.failure.RunFailure.TheVariants as failure;
 
 use crate::addresses::address_of;
 use crate::failure::RunFailure;
 use bep_messages::Text;
-use node_config::{Config, PeerAddress, PeerConfig};
+use node_config::{Config, ConfigFault, PeerAddress, PeerConfig, unknown_keys};
 use node_state::StateFault;
 use node_threads::{ListenFault, NodeAddress};
 use std::alloc::Global;
@@ -26,6 +26,33 @@ pub(crate) fn file_failure(alloc: Global, what: &str, path: &str, error: io::Err
         Ok(about) => RunFailure::File(Text::from_string(about)),
         Err(_) => RunFailure::OutOfMemory,
     }
+}
+
+/// The configuration with this text is refused for a fault. Each key of it that is none is named with that: it may be the one that is missed.
+pub(crate) fn config_failure(alloc: Global, text: &[u8], fault: ConfigFault) -> RunFailure
+    ensures { IsOfConfig fault result }
+{
+    match unknown_lines(alloc, text) {
+        Some(about) => RunFailure::ConfigWith(fault, about),
+        None => RunFailure::Config(fault),
+    }
+}
+
+// A line for each key of a configuration's text that is none; nothing where none is such a key, or they can't be found.
+fn unknown_lines(alloc: Global, text: &[u8]) -> Option<Text> {
+    let keys = unknown_keys(alloc, text).ok()?;
+    let mut lines = String::new(alloc);
+    for key in keys.as_slice() {
+        if !lines.is_empty() {
+            lines.push('\n').ok()?;
+        }
+        let line = format!(in alloc; "{key}").ok()?;
+        lines.push_str(line.as_str()).ok()?;
+    }
+    if lines.is_empty() {
+        return None;
+    }
+    Some(Text::from_string(lines))
 }
 
 /// The same failure, of the state at the path, where it is one of a state.

@@ -8,7 +8,7 @@ use crate::files::{StateFiles, read_config_file};
 use crate::journal::StateJournal;
 use crate::last_run::{FolderPlans, StatePaths, read_last_run};
 use crate::lock::lock_state;
-use crate::naming::at_state;
+use crate::naming::{at_state, config_failure};
 use crate::nodes::{NextNode, Outside, run_nodes};
 use crate::outlet::{Channel, Outlet};
 use crate::paths::require_apart;
@@ -78,18 +78,23 @@ pub struct RunStyle {
 /// | `not shared F: ID ..` | the folder isn't kept alike with the peer that is connected, and what to do |
 /// | `not reached ID: ADDRESS: WHY; ..` | no connection with the peer can be made; told again where it is for another reason |
 /// | `gone ID: WHY` | the connection ended |
+/// | `stranger ADDRESS: ..` | it did so before its ClusterConfig came: it was not taken for the peer |
+/// | `waiting for ID: ..` | nobody has connected as the peer for a minute |
+/// | `two devices as ID: ..` | connections as the peer come from two addresses in turn |
 /// | `received F up to N from ID` | more of the peer's index of the folder F came |
 /// | `scanned F recorded N unchanged N other N` | a scan that recorded changes, or left names out |
 /// | `scanned F ..: stopped` | a scan ended with the run |
 /// | `skipped F NAME: WHY` | a scan left the name out, and did not before |
 /// | `skipped F: N more; ..` | it left out more than 100 |
 /// | `away F: ..`, `back F` | the folder isn't there, has no marker, or another run has it; it is there again |
+/// | `held F: ..` | the folder is there, and of the names that are recorded of it none is: it waits for the command `scan F` |
 /// | `pulled F NAME` | the best of the name is in place |
 /// | `conflict copy F NAME` | what was there before is kept under this name |
 /// | `failed F NAME: WHY` | the name could not be pulled; it is tried again, and told again where it is for another reason |
 /// | `history full F: ..` | the node ends, and begins anew |
 /// | `older state: ..` | a peer was told more than the state has; the node ends, and begins anew, and tells everything again |
 /// | `state not written: ..` | the journal can't be written: nothing is put in place, and peers are told nothing; it is tried again within 30 seconds |
+/// | `state written again` | it can be |
 /// | `no room F: ..` | the disk is full; it is tried again each minute |
 /// | `scanning F N of N`, `pulling F N of N` | how far a scan or a pull of many names is |
 /// | `the input ended, ..` | there are no more commands, and the run ends |
@@ -265,7 +270,10 @@ struct Configured {
 
 fn config_at<R: Files>(rt: &R, alloc: Global, path: &str) -> Result<Configured, RunFailure> {
     let text = read_config_file(rt, alloc, path)?;
-    let config = placed_config(alloc, path, read_config(alloc, text.as_slice())?)?;
+    let config = match read_config(alloc, text.as_slice()) {
+        Ok(config) => placed_config(alloc, path, config)?,
+        Err(fault) => return Err(config_failure(alloc, text.as_slice(), fault)),
+    };
     require_apart(rt, alloc, &config)?;
     let unknown = unknown_keys(alloc, text.as_slice())?;
     Ok(Configured { config, unknown })

@@ -17,6 +17,8 @@ pub enum SkipReason {
     Special,
     /// A component of the name has more than 240 bytes. It is listed, but on many file systems there can be no temporary file beside it.
     TooLong,
+    /// A directory that can't be read, or something that can't be looked at. Nothing in it is listed, and nothing that is recorded of it counts as deleted.
+    Unreadable,
 }
 
 impl Display for SkipReason {
@@ -29,6 +31,7 @@ impl Display for SkipReason {
             SkipReason::Link => "a symbolic link",
             SkipReason::Special => "a pipe, a socket or a device",
             SkipReason::TooLong => "too long (over 240 bytes)",
+            SkipReason::Unreadable => "can't be read: are its permissions right?",
         })
     }
 }

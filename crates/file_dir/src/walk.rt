@@ -168,6 +168,7 @@ where
 fn add_unread(alloc: Global, folder: &str, found: &mut Walk) -> Result<(), StoreRefusal>
     ensures { IfErr result IsPlain }
 {
+    skip(found, String::from_str(alloc, folder)?, SkipReason::Unreadable)?;
     let mut name = folder;
     for _ in 0..folder.len() {
         match SafeName::parse(alloc, name) {
@@ -280,6 +281,7 @@ fn add_safe<R: Files>(
         Ok(Found::Nothing) => Ok(()),
         Err(_) => {
             found.unread.push(name.copy()?).map_err(AllocError::from)?;
+            skip_safe(disk.alloc, &name, SkipReason::Unreadable, found)?;
             add_listed(disk.alloc, name, Kind::Directory, found)
         }
     }

@@ -223,13 +223,15 @@ fn scan<R: Host, S: FileStore + Marked, W: FolderCalls, G: Gate, O: Write>(
     worker: &mut FolderWorker<S, W>,
     output: &mut O,
 ) -> Result<(), Refusal> {
-    if worker.look() != Whereabouts::There {
+    // (that none of its names is there is what who asks for it says)
+    if !matches!(worker.look(cx.rt), Whereabouts::There | Whereabouts::Held) {
         return Err(Refusal::FolderMissing);
     }
     let sum = scan_folder(cx, worker, false).sum;
     if let Some(stop) = sum.stopped {
         return Err(Refusal::Scan(stop));
     }
+    worker.folder.presence.check(cx.rt);
     writeln!(
         output,
         "scan {} recorded {} unchanged {} other {}",

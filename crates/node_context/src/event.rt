@@ -6,7 +6,7 @@ use folder_calls::ScanRefusal;
 use peer_reader::ReaderStop;
 use std::fmt::{self, Display, Formatter};
 use std::io;
-use std::net::SocketAddr;
+use std::net::{IpAddr, SocketAddr};
 use sync_names::SafeName;
 use sync_pull::{PullFailure, PullRefusal};
 use sync_record::DeviceId;
@@ -54,6 +54,14 @@ pub enum Event<'a> {
     Connected(DeviceId, &'a Heard),
     /// A folder isn't kept alike with the peer that is connected.
     Unshared(DeviceId, &'a str, ShareGap),
+    /// The peer that is connected has so many more folders that aren't shared with it here.
+    UnsharedMore(DeviceId, u64),
+    /// A connection from this address ended, or was ended, before its ClusterConfig came. It was not taken for the peer's.
+    Stranger(DeviceId, SocketAddr),
+    /// Nobody has connected as this peer at this address for so many seconds.
+    NobodyDialled(DeviceId, SocketAddr, u64),
+    /// Devices at these two addresses connect as this peer in turn.
+    InTurn(DeviceId, IpAddr, IpAddr),
     /// A peer could not be reached at this address, and is dialled again after so many seconds.
     Unreached(DeviceId, SocketAddr, io::Error, u64),
     /// A connection ended, perhaps before its ClusterConfig came.
@@ -80,6 +88,8 @@ pub enum Event<'a> {
     Away(&'a str),
     /// It is there again.
     Back(&'a str),
+    /// A folder is there, and of so many names that are recorded of it none is: it is neither scanned nor pulled.
+    Held(&'a str, u64),
     /// What is at the name of a folder is now its best.
     Pulled(&'a str, &'a SafeName),
     /// What was at a name of a folder is kept under this one.
@@ -98,6 +108,8 @@ pub enum Event<'a> {
     OlderState,
     /// The state could not be written while the node runs: which file, and why, where that is known.
     NotKept(Option<&'a str>),
+    /// The state is written again.
+    KeptAgain,
     /// A file of a folder could not be written, since the disk is full.
     NoRoom(&'a str),
     /// So many versions of a folder's files were removed, which were kept for so many days.

@@ -50,11 +50,38 @@ pub(crate) fn push_event(line: &mut Vec<u8>, event: &Event) -> io::Result<()> {
         }
         Event::Unshared(peer, folder, gap) => {
             line.extend_from_slice(b"not shared ")?;
-            push_text(line, folder)?;
+            push_front(line, folder)?;
             line.extend_from_slice(b": ")?;
             push_device(line, *peer)?;
             line.extend_from_slice(gap_text(*gap).as_bytes())?;
             Ok(())
+        }
+        Event::UnsharedMore(peer, count) => {
+            write!(line, "not shared: {count} more folders of ")?;
+            push_device(line, *peer)
+        }
+        Event::Stranger(peer, address) => {
+            write!(
+                line,
+                "stranger {address}: no ClusterConfig came from there, so it was not taken for "
+            )?;
+            push_device(line, *peer)
+        }
+        Event::NobodyDialled(peer, address, seconds) => {
+            line.extend_from_slice(b"waiting for ")?;
+            push_device(line, *peer)?;
+            write!(
+                line,
+                ": it has not connected in {seconds} seconds: it must dial {address}, or be dialled from here"
+            )
+        }
+        Event::InTurn(peer, one, other) => {
+            line.extend_from_slice(b"two devices as ")?;
+            push_device(line, *peer)?;
+            write!(
+                line,
+                ": {one} and {other} connect in turn: each device needs an identity of its own, or edits are lost"
+            )
         }
         Event::Unreached(peer, address, why, seconds) => {
             line.extend_from_slice(b"not reached ")?;
@@ -100,8 +127,15 @@ pub(crate) fn push_event(line: &mut Vec<u8>, event: &Event) -> io::Result<()> {
         ),
         Event::InUse(folder) => write!(line, "away {folder}: another run has it"),
         Event::Scanning(folder, at, of) => write!(line, "scanning {folder} {at} of {of}"),
-        Event::Away(folder) => write!(line, "away {folder}: it has no .stfolder, or isn't there"),
+        Event::Away(folder) => write!(
+            line,
+            "away {folder}: it has no .stfolder, or isn't there, or can't be written"
+        ),
         Event::Back(folder) => write!(line, "back {folder}"),
+        Event::Held(folder, count) => write!(
+            line,
+            "held {folder}: none of its {count} names is there: is its path right? The command `scan {folder}` says so, and all devices delete them"
+        ),
         Event::Pulled(folder, name) => push_named(line, "pulled", folder, name),
         Event::Kept(folder, name) => push_named(line, "conflict copy", folder, name),
         Event::Pulling(folder, at, of) => write!(line, "pulling {folder} {at} of {of}"),
@@ -136,6 +170,10 @@ pub(crate) fn push_event(line: &mut Vec<u8>, event: &Event) -> io::Result<()> {
                 Some(why) => write!(line, ": {why}"),
                 None => Ok(()),
             }
+        }
+        Event::KeptAgain => {
+            line.extend_from_slice(b"state written again")?;
+            Ok(())
         }
         Event::Emptied(folder, count, days) => {
             write!(
@@ -230,7 +268,12 @@ const MAX_CHARS: usize = 200;
 
 // Appends what a peer says, or the front of it, with `?` for each control character.
 fn push_reason(line: &mut Vec<u8>, reason: &Text) -> io::Result<()> {
-    for char in reason.as_str().chars().take(MAX_CHARS) {
+    push_front(line, reason.as_str())
+}
+
+// Appends a text that a peer gave, or the front of it, in the same way.
+fn push_front(line: &mut Vec<u8>, text: &str) -> io::Result<()> {
+    for char in text.chars().take(MAX_CHARS) {
         let shown = if char.is_control() { '?' } else { char };
         write!(line, "{shown}")?;
     }

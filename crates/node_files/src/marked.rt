@@ -16,6 +16,8 @@ pub enum Whereabouts {
     InUse,
     /// It is there again, but what pulls of the last run left in it wasn't looked at yet.
     Unsettled,
+    /// It is there, and of the names that are recorded of it none is: it waits until somebody says what that means.
+    Held,
     /// Memory ran out before that was known.
     Unknown,
 }

@@ -2,12 +2,14 @@
 ghost use Rattle.std.specs.Prelude.{◌≡◌};
 
 use crate::notes::Notes;
+use crate::presence::Presence;
 use crate::scan_times::ScanTimes;
 use crate::skips::Skips;
 use bep_messages::Text;
 use folder_look::Looking;
 use node_files::{Marked, Whereabouts};
 use std::alloc::Global;
+use std::sync::Wait;
 use sync_pull::MaxConflicts;
 
 /// How a folder is kept.
@@ -42,6 +44,8 @@ pub struct NodeFolder {
     pub skips: Skips,
     /// What its scans and pulls tell who looks at it.
     pub notes: Notes,
+    /// Whether it is there, as it was told last.
+    pub presence: Presence,
     /// Whether pulls of the last run may have put something in place that wasn't looked at yet, since the folder was away.
     pub is_unsettled: bool,
 }
@@ -56,6 +60,7 @@ impl NodeFolder {
             times: ScanTimes::new(),
             skips: Skips::new(alloc),
             notes: Notes::new(alloc),
+            presence: Presence::new(),
             is_unsettled,
         }
     }
@@ -80,10 +85,11 @@ pub struct FolderWorker<'x, S, W> {
 }
 
 impl<S: Marked, W> FolderWorker<'_, S, W> {
-    /// Where the folder is now. One that is to be looked at first is neither scanned nor pulled.
-    pub fn look(&mut self) -> Whereabouts {
+    /// Where the folder is now. One that is to be looked at first, or of whose names nobody knows yet whether they are there, is neither scanned nor pulled.
+    pub fn look<R: Wait>(&mut self, rt: &R) -> Whereabouts {
         match self.store.look() {
             Whereabouts::There if self.folder.is_unsettled => Whereabouts::Unsettled,
+            Whereabouts::There if !self.folder.presence.is_checked(rt) => Whereabouts::Held,
             at => at,
         }
     }

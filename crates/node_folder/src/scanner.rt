@@ -2,6 +2,7 @@
 use crate::folder::FolderWorker;
 use crate::left_over::is_left_over;
 use crate::notes::Notes;
+use crate::presence::look_at_folder;
 use crate::schedule::{FolderScan, ScanOutcome, ScanSchedule, spread};
 use crate::skips::LeftOut;
 use crate::trash::{TrashSchedule, first_turn};
@@ -23,7 +24,6 @@ pub struct ScannedFolder<'x, S, W> {
     worker: FolderWorker<'x, S, W>,
     schedule: ScanSchedule,
     trash: TrashSchedule,
-    at: Whereabouts,
 }
 
 impl<'x, S, W> ScannedFolder<'x, S, W> {
@@ -36,7 +36,6 @@ impl<'x, S, W> ScannedFolder<'x, S, W> {
             worker,
             schedule,
             trash,
-            at: Whereabouts::There,
         }
     }
 }
@@ -96,8 +95,8 @@ where
     }
 }
 
-// Scans a folder, if it is there, and was looked at, so that what changes while it is scanned is seen. Where what the last run left in it is to be looked at
-// first, the node stops, to begin anew.
+// Scans a folder, if it is there with its names, and was looked at, so that what changes while it is scanned is seen. Where what the last run left in it is to
+// be looked at first, the node stops, to begin anew.
 fn scan_if_there<R, S, W, G>(cx: &Context<R, G>, folder: &mut ScannedFolder<S, W>) -> ScanOutcome
 where
     R: Host,
@@ -105,16 +104,14 @@ where
     W: FolderCalls,
     G: Gate,
 {
-    let at = folder.worker.look();
-    if folder.at != at && at != Whereabouts::Unknown {
-        folder.at = at;
-        tell_whereabouts(cx, folder.worker.folder.id(), at);
-    }
-    if at == Whereabouts::Unsettled {
-        cx.stop();
-    }
-    if at != Whereabouts::There {
-        return ScanOutcome::Away;
+    match look_at_folder(cx, &mut folder.worker) {
+        Whereabouts::There => {}
+        Whereabouts::Held => return ScanOutcome::Partly,
+        Whereabouts::Unsettled => {
+            cx.stop();
+            return ScanOutcome::Away;
+        }
+        Whereabouts::Away | Whereabouts::InUse | Whereabouts::Unknown => return ScanOutcome::Away,
     }
     if !folder.worker.folder.notes.is_seen(cx.rt) {
         return ScanOutcome::Unseen;
@@ -170,15 +167,6 @@ fn tell_scan<R: Clock + Wait, G>(cx: &Context<R, G>, id: &str, sum: ScanSum) {
         cx.tell(&Event::ScanEnded(id, sum));
     } else if is_news {
         cx.tell(&Event::Scanned(id, sum));
-    }
-}
-
-fn tell_whereabouts<R: Clock + Wait, G>(cx: &Context<R, G>, id: &str, at: Whereabouts) {
-    match at {
-        Whereabouts::There | Whereabouts::Unsettled => cx.tell(&Event::Back(id)),
-        Whereabouts::Away => cx.tell(&Event::Away(id)),
-        Whereabouts::InUse => cx.tell(&Event::InUse(id)),
-        Whereabouts::Unknown => {}
     }
 }
 

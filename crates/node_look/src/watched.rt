@@ -11,10 +11,16 @@ use folder_calls::FolderCalls;
 use folder_look::Looking;
 use node_context::{Context, Host};
 use node_files::{Marked, Whereabouts};
-use node_folder::{FolderWorker, Noticed};
+use node_folder::{Noticed, look_at_folder};
 use std::alloc::{AllocError, Global};
 use std::time::{Clock, Duration};
 use sync_names::SafeName;
+
+/// How many milliseconds pass before it is looked once more whether the names of a folder are there of which none was.
+const HELD_MILLIS: u64 = 60_000;
+
+/// How many pass before it is looked once more whether a folder is back that was away.
+const AWAY_MILLIS: u64 = 1000;
 
 /// How many milliseconds lie between two looks at what scans and pulls told, and at names that changed.
 const STEP: u64 = 250;
@@ -82,7 +88,7 @@ fn milliseconds<R: Clock>(rt: &R) -> u64 {
     }
 }
 
-// Looks for the first time, unless the folder isn't there.
+// Looks for the first time, unless the folder isn't there, or is held.
 fn look_first<'x, R, S, W, G>(
     cx: &Context<'x, R, G>,
     folder: &mut WatchedFolder<'x, S, W>,
@@ -109,12 +115,17 @@ where
         worker.folder.notes.see(cx.rt);
         return Ok(());
     }
-    if worker.look() != Whereabouts::There {
-        return Ok(());
-    }
     let began = milliseconds(cx.rt);
+    match look_at_folder(cx, worker) {
+        Whereabouts::There => {}
+        Whereabouts::Held => {
+            *directories_due = after(began, Some(HELD_MILLIS));
+            return Ok(());
+        }
+        _ => return Ok(()),
+    }
     let found = find(cx, &worker.store, settings.path.as_str(), look, Scope::All)?;
-    if worker.look() != Whereabouts::There || found.is_empty() {
+    if worker.look(cx.rt) != Whereabouts::There || found.is_empty() {
         return Ok(());
     }
     look.take(found)?;
@@ -160,14 +171,39 @@ where
     let Noticed { placed, asked } = looker.worker.folder.notes.take(cx.rt);
     folder.names.ask(asked)?;
     if !is_seen {
-        return look_first(cx, folder);
+        return match folder.directories_due {
+            Some(due) if now < due => Ok(()),
+            _ => look_first(cx, folder),
+        };
     }
     let ready = look_again(cx, folder, placed, now)?;
     if !ready.is_empty() {
-        let left = scan_ready(cx, folder.lookers.as_mut_slice(), ready)?;
+        let left = scan_if_there(cx, folder.lookers.as_mut_slice(), ready)?;
         folder.names.add_left(left, milliseconds(cx.rt))?;
     }
     Ok(())
+}
+
+// Scans names, where the folder is there. Returns those that are to be scanned once more.
+fn scan_if_there<'x, R, S, W, G>(
+    cx: &Context<'x, R, G>,
+    lookers: &mut [Looker<'x, S, W>],
+    ready: Vec<Ready>,
+) -> Result<Vec<Ready>, AllocError>
+where
+    R: Host,
+    S: FileStore + Marked + Drop + Send,
+    W: FolderCalls + Drop + Send,
+    G: Gate + Sync,
+{
+    let is_there = match lookers.first_mut() {
+        Some(looker) => looker.worker.look(cx.rt) == Whereabouts::There,
+        None => false,
+    };
+    if !is_there {
+        return Ok(ready);
+    }
+    scan_ready(cx, lookers, ready)
 }
 
 // Whether it is time.
@@ -200,25 +236,30 @@ where
     let Some(looker) = lookers.first_mut() else {
         return Ok(Vec::new(cx.alloc));
     };
-    let FolderWorker {
-        folder,
-        store,
-        calls,
-    } = &mut looker.worker;
-    let settings = &folder.settings;
+    let worker = &mut looker.worker;
+    let settings = &worker.folder.settings;
     let path = settings.path.as_str();
-    let ready = settle(cx, store, path, calls, names, placed, now)?;
+    let ready = settle(cx, &worker.store, path, &mut worker.calls, names, placed, now)?;
     let is_all = is_due(*all_due, now);
     if is_all || is_due(*directories_due, now) {
+        let at = look_at_folder(cx, worker);
+        if at != Whereabouts::There {
+            let later = after(now, Some(pause_of(at)));
+            *directories_due = later;
+            if is_all {
+                *all_due = later;
+            }
+            return Ok(ready);
+        }
         let scope = if is_all {
             Scope::All
         } else {
             Scope::Directories
         };
-        let found = find(cx, store, path, look, scope)?;
+        let found = find(cx, &worker.store, path, look, scope)?;
         let ended = milliseconds(cx.rt);
         let took = u32::try_from(ended.saturating_sub(now)).unwrap_or(u32::MAX);
-        if store.look() == Whereabouts::There {
+        if worker.look(cx.rt) == Whereabouts::There {
             names.add(look.changes(found.as_slice())?, now)?;
             look.take(found)?;
         }
@@ -233,6 +274,14 @@ where
         names.known.clear();
     }
     Ok(ready)
+}
+
+// How many milliseconds pass before a folder that is away or held is looked at again.
+fn pause_of(at: Whereabouts) -> u64 {
+    match at {
+        Whereabouts::Held => HELD_MILLIS,
+        _ => AWAY_MILLIS,
+    }
 }
 
 // What a look finds.

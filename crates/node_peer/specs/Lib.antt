@@ -1,3 +1,4 @@
+pub mod Arrivals
 pub mod Lists
 pub mod Shares
 pub mod Told

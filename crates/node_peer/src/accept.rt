@@ -1,7 +1,8 @@
 //! A peer that dials this device.
+use crate::arrivals::{Arrival, Arrivals};
 use crate::connection::{Begun, run_connection};
 use crate::dial::is_later;
-use crate::guest::{Greeted, Guest, Standing};
+use crate::guest::{Greeted, Guest, Standing, seconds};
 use crate::peer::Greeting;
 use crossbeam_channel::{Receiver, Sender, bounded};
 use file_store::{FileStore, Gate};
@@ -10,16 +11,21 @@ use peer_conn::KeptCalls;
 use peer_link::LinkFolders;
 use std::alloc::{AllocError, Global};
 use std::io::ErrorKind;
-use std::net::{TcpListener, TcpStream};
+use std::net::{IpAddr, Ipv4Addr, SocketAddr, TcpListener, TcpStream};
 use std::sync::Wait;
 use std::thread::join;
 use std::time::Duration;
+use sync_record::DeviceId;
+use sync_version::Moment;
 
 /// How many connections may wait for their ClusterConfig. Where another one comes, the one that waits longest is closed.
 const MAX_GUESTS: usize = 16;
 
 /// How many milliseconds lie between two looks at those that wait.
 const LOOK_MILLIS: u64 = 20;
+
+/// After how many seconds it is told that the peer has not connected yet.
+const WAIT_SECONDS: u64 = 60;
 
 /// How many connections may wait until the one whose place they take has ended.
 const MAX_BEGUN: usize = 4;
@@ -59,11 +65,15 @@ fn accept<R: Host, G>(
     let mut door = Door {
         guests: Vec::new(cx.alloc),
         last_replaced: None,
+        arrivals: Arrivals::none(),
+        is_turn_told: false,
+        waits_since: Some(now(cx)),
         to_link,
     };
     for _ in cx.rt.forever() {
-        // (with nobody to look at it waits in the call)
-        let _ = listener.set_nonblocking(!door.guests.is_empty());
+        door.wait(cx, greeting, listener);
+        // (with nothing to look at it waits in the call)
+        let _ = listener.set_nonblocking(!door.guests.is_empty() || door.waits_since.is_some());
         let mut is_quiet = false;
         match listener.accept() {
             // (out of memory it is closed)
@@ -94,10 +104,60 @@ struct Door {
     guests: Vec<Guest>,
     // When one took the place of another, in seconds.
     last_replaced: Option<u64>,
+    // From where those came that did.
+    arrivals: Arrivals,
+    // Whether it was told that two devices do so in turn.
+    is_turn_told: bool,
+    // As long as none has come and that was not told: since when one is waited for, in seconds.
+    waits_since: Option<u64>,
     to_link: Sender<Begun>,
 }
 
+// The seconds since an arbitrary moment.
+fn now<R: Host, G>(cx: &Context<R, G>) -> u64 {
+    seconds(cx.rt, Moment::new(0).unwrap()).seconds()
+}
+
 impl Door {
+    // Tells, once, that nobody has connected for a minute.
+    fn wait<R: Host, G>(&mut self, cx: &Context<R, G>, greeting: &Greeting, listener: &TcpListener) {
+        let Some(since) = self.waits_since else {
+            return;
+        };
+        if now(cx).saturating_sub(since) < WAIT_SECONDS {
+            return;
+        }
+        self.waits_since = None;
+        if let Ok(address) = listener.local_addr() {
+            let peer = greeting.peer.device;
+            cx.tell(&Event::NobodyDialled(peer, address, WAIT_SECONDS));
+        }
+    }
+
+    // Tells, once, that two devices have connections as this peer in turn, if they do, once one has come.
+    fn arrive<R: Host, G>(
+        &mut self,
+        cx: &Context<R, G>,
+        greeting: &Greeting,
+        stream: &TcpStream,
+        has_replaced: bool,
+    ) {
+        self.waits_since = None;
+        let Ok(SocketAddr::V4(address)) = stream.peer_addr() else {
+            return;
+        };
+        let from = address.ip().to_bits();
+        let arrival = Arrival { from, at: now(cx) };
+        if let Some(other) = self.arrivals.take(arrival, has_replaced) {
+            if !self.is_turn_told {
+                self.is_turn_told = true;
+                let other = IpAddr::V4(Ipv4Addr::from_bits(other));
+                let peer = greeting.peer.device;
+                cx.tell(&Event::InTurn(peer, other, IpAddr::V4(*address.ip())));
+            }
+        }
+    }
+
     fn let_in<R: Host, G>(
         &mut self,
         cx: &Context<R, G>,
@@ -121,13 +181,20 @@ impl Door {
                 return;
             }
             let guest = self.guests.remove(0);
-            match guest.look(cx.rt, cx.alloc, greeting.me, greeting.peer.device) {
+            let (peer, from) = (greeting.peer.device, guest.from);
+            match guest.look(cx.rt, cx.alloc, greeting.me, peer) {
                 Standing::Waits(guest) => {
                     let _ = self.guests.push(guest);
                 }
                 Standing::Greeted(greeted) => self.begin(cx, greeting, greeted),
-                Standing::Gone(why) => cx.tell(&Event::Gone(greeting.peer.device, &why)),
-                Standing::Silent => cx.tell(&Event::Silent(greeting.peer.device)),
+                Standing::Gone(why) => {
+                    cx.tell(&Event::Gone(peer, &why));
+                    tell_stranger(cx, peer, from);
+                }
+                Standing::Silent => {
+                    cx.tell(&Event::Silent(peer));
+                    tell_stranger(cx, peer, from);
+                }
             }
         }
     }
@@ -142,6 +209,7 @@ impl Door {
         if is_up && !(greeted.lists_both && is_later(cx.rt, &mut self.last_replaced)) {
             return;
         }
+        self.arrive(cx, greeting, &greeted.stream, is_up);
         let Some(id) = cx.connections.replace(cx.rt, greeting.peer.place, clone) else {
             return;
         };
@@ -154,6 +222,13 @@ impl Door {
         if self.to_link.try_send(cx.rt, begun).is_err() {
             cx.connections.end(cx.rt, greeting.peer.place, id);
         }
+    }
+}
+
+// Tells from where one came that wasn't taken, where the system says that.
+fn tell_stranger<R: Host, G>(cx: &Context<R, G>, peer: DeviceId, from: Option<SocketAddr>) {
+    if let Some(address) = from {
+        cx.tell(&Event::Stranger(peer, address));
     }
 }
 

@@ -1,6 +1,6 @@
 //! What a peer says first on a connection: who it is, and which folders it shares. It is told once it came.
 use crate::guest::seconds;
-use crate::shares::{gap_of, has_other_case, is_among};
+use crate::shares::{gap_of, has_other_case, is_among, is_other_case};
 use bep_messages::{ClusterConfig, Hello, Text};
 use bep_session::{Event as Said, Session};
 use node_context::{Context, Event, Heard, ShareGap};
@@ -12,6 +12,9 @@ use std::sync::Wait;
 use std::time::Clock;
 use sync_record::DeviceId;
 use sync_version::Moment;
+
+/// How many folders of a peer are named that are not shared here; of further ones it is told how many there are.
+const MOST_NAMED: u64 = 20;
 
 /// Two devices that have a connection, and the ids of the folders that are shared here.
 #[derive(Drop)]
@@ -105,10 +108,21 @@ impl<'g, 'x, R: Clock + Wait, G, I> ListenedTo<'g, 'x, R, G, I> {
             };
             cx.tell(&Event::Unshared(peer, id.as_str(), gap));
         }
+        let ids = self.ends.ids.as_slice();
+        let mut count = 0u64;
         for folder in config.folders.as_slice() {
-            if !is_among(self.ends.ids.as_slice(), folder.id.as_str()) {
-                cx.tell(&Event::Unshared(peer, folder.id.as_str(), ShareGap::NotHere));
+            let id = folder.id.as_str();
+            // (of one that differs in capitals it was told above what to do)
+            if is_among(ids, id) || is_other_case(cx.alloc, ids, id) {
+                continue;
             }
+            count = count.saturating_add(1);
+            if count <= MOST_NAMED {
+                cx.tell(&Event::Unshared(peer, id, ShareGap::NotHere));
+            }
+        }
+        if count > MOST_NAMED {
+            cx.tell(&Event::UnsharedMore(peer, count - MOST_NAMED));
         }
     }
 }

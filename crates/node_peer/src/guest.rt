@@ -10,7 +10,7 @@ use peer_reader::ReaderStop;
 use std::alloc::{AllocError, Global};
 use std::io::{self, ErrorKind, Read, Write};
 use std::mem::replace;
-use std::net::TcpStream;
+use std::net::{SocketAddr, TcpStream};
 use std::time::{Clock, Duration};
 use sync_record::DeviceId;
 use sync_version::Moment;
@@ -43,6 +43,8 @@ pub(crate) struct Guest {
     session: Session,
     // When it came, in seconds since an arbitrary moment.
     since: Moment,
+    /// From where, where the system says that.
+    pub(crate) from: Option<SocketAddr>,
 }
 
 /// How far a guest is.
@@ -69,8 +71,10 @@ impl Guest {
         let mut line = &stream;
         line.write_all(hello)?;
         let since = seconds(rt, Moment::new(0).unwrap());
+        let from = stream.peer_addr().ok();
         Ok(Guest {
             stream,
+            from,
             came: Vec::new(alloc),
             session: Session::new(alloc, since),
             since,

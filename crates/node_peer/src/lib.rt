@@ -2,6 +2,7 @@
 #![tactic(auto)]
 
 mod accept;
+mod arrivals;
 mod connection;
 mod dial;
 mod greeted;

@@ -53,3 +53,18 @@ pub(crate) fn has_other_case(alloc: Global, config: &ClusterConfig, id: &str) ->
     }
     false
 }
+
+/// Whether one of the ids differs from this one only in which letters of ASCII are capitals. Where memory runs out, it is said not to.
+pub(crate) fn is_other_case(alloc: Global, ids: &[Text], id: &str) -> bool {
+    let Ok(id) = id.to_ascii_lowercase(alloc) else {
+        return false;
+    };
+    for of in ids {
+        if let Ok(of) = of.as_str().to_ascii_lowercase(alloc) {
+            if of.as_str() == id.as_str() {
+                return true;
+            }
+        }
+    }
+    false
+}

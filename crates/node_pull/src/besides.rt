@@ -61,7 +61,7 @@ where
         return Ok(());
     }
     let needed = needed_besides(cx, batch, puller)?;
-    if puller.worker.look() != Whereabouts::There {
+    if puller.worker.look(cx.rt) != Whereabouts::There {
         return Ok(());
     }
     pull_live(cx, batch, puller, needed.as_slice(), up.as_slice())

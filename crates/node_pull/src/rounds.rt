@@ -199,7 +199,7 @@ where
         *idle_at = Some(at);
         return Ok(None);
     }
-    if puller.worker.look() != Whereabouts::There {
+    if puller.worker.look(cx.rt) != Whereabouts::There {
         return Ok(None);
     }
     let calls = &mut puller.worker.calls;

@@ -101,7 +101,12 @@ where
             keeper.wait_for_end(cx.rt, Duration::from_secs(retry))
         };
         match save(cx, keeper, saver, callers) {
-            Ok(()) => retry = 0,
+            Ok(()) => {
+                if retry != 0 {
+                    cx.tell(&Event::KeptAgain);
+                }
+                retry = 0;
+            }
             Err(_) => {
                 saver.journal.take_back();
                 keeper.fail(cx.rt);

@@ -67,7 +67,11 @@ A folder may have more; where it has not, it is as if it had
 
 ";
 
-const REST: &str = "
+const REST: &str = "\
+    mode = \"640\"
+        The permissions of its new files, three octal digits. Where it is left out,
+        the system's.
+
 Input: on standard input a command a line, with one space between words. F is the
 id of a folder.
 
@@ -109,6 +113,7 @@ time in UTC, and
                                        again where it is for another reason
     no room F: WHY                     the disk is full; it is tried again each minute
     away F: WHY, back F                the folder lacks its marker; it has it again
+    held F: WHY                        none of its names is there: it waits for scan F
     history full F: WHY                the node ends, and begins anew
     older state: WHY                   a peer was told more than the state has: the node
                                        ends, begins anew, and tells everything again

@@ -1,0 +1,155 @@
+//! Whether a folder is there, and what is recorded of it with it.
+ghost use Rattle.std.specs.Prelude.{◌↔◌, ◌≢◌, IsTrue};
+ghost use Rattle.node_files.specs.declared.marked.Whereabouts.TheVariants.{Unknown};
+
+use crate::folder::FolderWorker;
+use file_store::{FileStore, Stat};
+use folder_calls::FolderCalls;
+use node_context::{Context, Event};
+use node_files::{Marked, Whereabouts};
+use std::alloc::AllocError;
+use std::sync::{Mutex, Wait};
+use std::time::Clock;
+
+/// How many names must be recorded of a folder for it to wait where none of them is there.
+const MIN_NAMES: u64 = 10;
+
+/// How many records are read at once.
+const PAGE_RECORDS: usize = 64;
+
+/// Where a folder is, as it was told last, and whether its names were looked for since it came, for all threads.
+#[derive(Drop)]
+pub struct Presence {
+    told: Mutex<Told>,
+}
+
+// What stands under the lock.
+#[derive(Drop)]
+struct Told {
+    at: Whereabouts,
+    is_checked: bool,
+    is_held: bool,
+}
+
+impl Presence {
+    /// It is taken to be there, and nobody looked for its names yet. Does not allocate.
+    pub fn new() -> Presence {
+        Presence {
+            told: Mutex::new(Told {
+                at: Whereabouts::There,
+                is_checked: false,
+                is_held: false,
+            }),
+        }
+    }
+
+    /// Whether its names were looked for since it came, and are there, or need not be.
+    pub fn is_checked<R: Wait>(&self, rt: &R) -> bool {
+        self.told.lock(rt).is_checked
+    }
+
+    /// Its names are there, or need not be.
+    pub fn check<R: Wait>(&self, rt: &R) {
+        let mut told = self.told.lock(rt);
+        told.is_checked = true;
+        told.is_held = false;
+    }
+
+    // Takes where it is now. Returns whether that is news.
+    fn take<R: Wait>(&self, rt: &R, at: Whereabouts) -> bool {
+        let mut told = self.told.lock(rt);
+        if !is_news(told.at, at) {
+            return false;
+        }
+        told.at = at;
+        told.is_checked = false;
+        told.is_held = false;
+        true
+    }
+
+    // It waits. Returns whether that is news.
+    fn hold<R: Wait>(&self, rt: &R) -> bool {
+        let mut told = self.told.lock(rt);
+        let is_news = !told.is_held;
+        told.is_held = true;
+        is_news
+    }
+}
+
+// Whether it is to be told that a folder is there or not, after this was told last.
+fn is_news(told: Whereabouts, at: Whereabouts) -> bool
+    ensures { IsTrue result ↔ ((at ≢ told) × (at ≢ Unknown)) }
+{
+    at != told && at != Whereabouts::Unknown
+}
+
+/// Where the folder is now, which is told where it is news. One that has come, and of whose names that are recorded none is there, though there are ten or more
+/// of them, is held: that is told too. O(n) for n such names, and else O(1).
+pub fn look_at_folder<R, S, W, G>(
+    cx: &Context<R, G>,
+    worker: &mut FolderWorker<S, W>,
+) -> Whereabouts
+where
+    R: Clock + Wait,
+    S: FileStore + Marked,
+    W: FolderCalls,
+{
+    let folder = worker.folder;
+    let at = worker.look(cx.rt);
+    let found = match at {
+        Whereabouts::Held => Whereabouts::There,
+        at => at,
+    };
+    if folder.presence.take(cx.rt, found) {
+        tell_whereabouts(cx, folder.id(), found);
+    }
+    if found != Whereabouts::There || folder.presence.is_checked(cx.rt) {
+        return found;
+    }
+    match names_lost(worker) {
+        Ok(0) => {
+            folder.presence.check(cx.rt);
+            Whereabouts::There
+        }
+        Ok(count) => {
+            if folder.presence.hold(cx.rt) {
+                cx.tell(&Event::Held(folder.id(), count));
+            }
+            Whereabouts::Held
+        }
+        Err(AllocError) => Whereabouts::Unknown,
+    }
+}
+
+fn tell_whereabouts<R: Clock + Wait, G>(cx: &Context<R, G>, id: &str, at: Whereabouts) {
+    match at {
+        Whereabouts::There | Whereabouts::Unsettled => cx.tell(&Event::Back(id)),
+        Whereabouts::Away => cx.tell(&Event::Away(id)),
+        Whereabouts::InUse => cx.tell(&Event::InUse(id)),
+        Whereabouts::Held | Whereabouts::Unknown => {}
+    }
+}
+
+// How many files and directories are recorded, where none of them is there; 0 where one is, or may be, or they are fewer than ten.
+fn names_lost<S: FileStore, W: FolderCalls>(
+    worker: &mut FolderWorker<S, W>,
+) -> Result<u64, AllocError> {
+    let FolderWorker { store, calls, .. } = worker;
+    let (mut count, mut after) = (0u64, 0u64);
+    loop {
+        let page = calls.local_since(after, PAGE_RECORDS)?.value;
+        let Some(last) = page.as_slice().last() else {
+            return Ok(if count < MIN_NAMES { 0 } else { count });
+        };
+        after = last.sequence();
+        for record in page.as_slice() {
+            if record.is_deleted() {
+                continue;
+            }
+            if !matches!(store.stat(record.name()), Ok(Stat::Missing)) {
+                return Ok(0);
+            }
+            count = count.saturating_add(1);
+        }
+    }
+}
