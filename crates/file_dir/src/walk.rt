@@ -168,7 +168,11 @@ where
 fn add_unread(alloc: Global, folder: &str, found: &mut Walk) -> Result<(), StoreRefusal>
     ensures { IfErr result IsPlain }
 {
-    skip(found, String::from_str(alloc, folder)?, SkipReason::Unreadable)?;
+    skip(
+        found,
+        String::from_str(alloc, folder)?,
+        SkipReason::Unreadable,
+    )?;
     let mut name = folder;
     for _ in 0..folder.len() {
         match SafeName::parse(alloc, name) {

@@ -239,7 +239,15 @@ where
     let worker = &mut looker.worker;
     let settings = &worker.folder.settings;
     let path = settings.path.as_str();
-    let ready = settle(cx, &worker.store, path, &mut worker.calls, names, placed, now)?;
+    let ready = settle(
+        cx,
+        &worker.store,
+        path,
+        &mut worker.calls,
+        names,
+        placed,
+        now,
+    )?;
     let is_all = is_due(*all_due, now);
     if is_all || is_due(*directories_due, now) {
         let at = look_at_folder(cx, worker);

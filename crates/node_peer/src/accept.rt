@@ -120,7 +120,12 @@ fn now<R: Host, G>(cx: &Context<R, G>) -> u64 {
 
 impl Door {
     // Tells, once, that nobody has connected for a minute.
-    fn wait<R: Host, G>(&mut self, cx: &Context<R, G>, greeting: &Greeting, listener: &TcpListener) {
+    fn wait<R: Host, G>(
+        &mut self,
+        cx: &Context<R, G>,
+        greeting: &Greeting,
+        listener: &TcpListener,
+    ) {
         let Some(since) = self.waits_since else {
             return;
         };
