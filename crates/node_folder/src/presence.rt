@@ -136,10 +136,10 @@ fn names_lost<S: FileStore, W: FolderCalls>(
 ) -> Result<u64, AllocError> {
     let FolderWorker { store, calls, .. } = worker;
     let (mut count, mut after) = (0u64, 0u64);
-    loop {
+    for _ in 0..u64::MAX {
         let page = calls.local_since(after, PAGE_RECORDS)?.value;
         let Some(last) = page.as_slice().last() else {
-            return Ok(if count < MIN_NAMES { 0 } else { count });
+            break;
         };
         after = last.sequence();
         for record in page.as_slice() {
@@ -152,4 +152,5 @@ fn names_lost<S: FileStore, W: FolderCalls>(
             count = count.saturating_add(1);
         }
     }
+    Ok(if count < MIN_NAMES { 0 } else { count })
 }
