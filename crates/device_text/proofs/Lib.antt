@@ -1,0 +1,10 @@
+pub mod Digits
+pub mod Characters
+pub mod Groups
+pub mod Again
+pub mod Luhn
+pub mod Others
+pub mod Window
+pub mod Reading
+pub mod Small
+pub mod Faults

@@ -1,0 +1,4 @@
+pub mod Base32
+pub mod Checks
+pub mod Written
+pub mod Read
