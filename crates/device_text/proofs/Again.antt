@@ -112,7 +112,7 @@ written identity long32 bytes =
 hex_kept : (c : ℕ) → is_hex_digit c ≡ true → 46 ≤ c
 hex_kept c h = grind (arith, nat_tests)
 
-hex_is_no_other : (text : List ℕ) (a b : Identity) → IsHexText text a → IsSyncthingText text b → ⊥
+pub hex_is_no_other : (text : List ℕ) (a b : Identity) → IsHexText text a → IsSyncthingText text b → ⊥
 hex_is_no_other text a b h s =
     let digits = decode_of-ok text a h.1 in
     let same : characters text ≡ text = all_kept text (λ i k. hex_kept (get_or text i 0) (digits.1 i 0 k)) in

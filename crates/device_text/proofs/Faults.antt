@@ -23,7 +23,7 @@ pub syncthing_text : (text cs vs others : List ℕ) (identity device : Identity)
 syncthing_text text cs vs others identity device found long small same checked left is made =
     (vs, are_read text cs vs found long small same, checked, made ∙ is ∙ ap identity_of left)
 
-read_long : (text vs : List ℕ) → AreRead text vs → length (characters text) ≡ 56
+pub read_long : (text vs : List ℕ) → AreRead text vs → length (characters text) ≡ 56
 read_long text vs read =
     omega (arith, read.count, ap (λ (l : List ℕ). length l) read.same, length-map (characters text) as_read, length-map vs base32_digit)
 

@@ -8,3 +8,7 @@ pub mod Window
 pub mod Reading
 pub mod Small
 pub mod Faults
+pub mod Values
+pub mod Tests
+pub mod Syncthing
+pub mod Found

@@ -1,9 +1,10 @@
 //! What the definitions say, as contracts of functions that do nothing.
-ghost use Rattle.std.specs.Prelude.{◌≡◌, ◌↔◌, ℕ, List, [], ◌∷◌, codes, length};
+ghost use Rattle.std.specs.Prelude.{◌≡◌, ◌↔◌, ℕ, List, [], ◌∷◌, codes, length, Ok};
 ghost use Rattle.hex.specs.Hex.{IsBytes, encode_lower};
 ghost use Rattle.sync_record.specs.Devices.{Identity};
 ghost use Rattle.device_text.specs.Written.{device_text};
 ghost use Rattle.device_text.specs.Read.{IsDeviceText};
+ghost use Rattle.device_text.specs.Found.{device_of};
 
 /// Reading what is written gives the identity, and no other.
 pub fn written_is_read()
@@ -14,6 +15,11 @@ pub fn written_is_read()
 /// A text is read as one identity at most.
 pub fn read_as_one()
     ensures { (text : List ℕ) (a b : Identity) → IsDeviceText text a → IsDeviceText text b → a ≡ b }
+{}
+
+/// A text is read as an identity exactly where `device_of` gives that identity.
+pub fn value_is_what_is_read()
+    ensures { (text : List ℕ) (identity : Identity) → IsDeviceText text identity ↔ (device_of text ≡ Ok identity) }
 {}
 
 /// What a real Syncthing printed for three certificates.

@@ -3,6 +3,7 @@ ghost use Rattle.sync_names.specs.Base32.{base32_digit};
 ghost use Rattle.sync_record.specs.Devices.{Identity};
 ghost use Rattle.device_text.specs.Base32.{AreBase32};
 ghost use Rattle.device_text.specs.Read.{IsDeviceText, IsHexText, IsSyncthingText, HasFault, IsValueOf, is_separator, characters, as_read, IsChecked, without_checks};
+ghost use Rattle.device_text.specs.Found.{device_of};
 
 use crate::DeviceFault;
 use crate::base32::identity_of;
@@ -16,6 +17,7 @@ pub fn read_device(text: &str) -> Result<DeviceId, DeviceFault>
     ensures value { IfOk result (λ device. IsDeviceText text.now device) }
     ensures fault { IfErr result (λ fault. HasFault text.now fault) }
     ensures no_device { IfErr result (λ fault. (device : Identity) → IsDeviceText text.now device → ⊥) }
+    ensures found { result ≡ device_of text.now }
 {
     match DeviceId::from_hex(text) {
         Some(device) => Ok(device),
