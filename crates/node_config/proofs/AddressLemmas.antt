@@ -19,7 +19,9 @@ use Rattle.std.proofs.lemmas.List.Sums.{fails_before_first}
 use Rattle.std.proofs.lemmas.Slice.Eq.{starts_is}
 use Rattle.std.proofs.lemmas.Str.Parse.{IsNumeralModel}
 use Rattle.std.proofs.lemmas.Str.Pattern.{IsSplitOnceResult, split_after, split_parts}
-use Rattle.node_config.specs.Addresses.{IsAddressText, IsHost, IsPort, socket_text}
+use Rattle.node_config.specs.Addresses.{IsAddressText, IsEndpointText, IsHost, IsPort, is_socket_path, socket_text}
+use Rattle.node_config.specs.declared.address.Endpoint.{Endpoint}
+use Rattle.node_config.specs.declared.address.Endpoint.TheVariants.{Ip, Unix}
 
 -- ---- where a text is cut
 
@@ -84,6 +86,13 @@ port_of digits (Some port) none h = (h.0, h.1, leads_alone digits none)
 -- a zero that leads, and is not alone, is in no port
 pub no_port : (digits : List ℕ) → (rest : List ℕ) × (digits ≡ codes "0" ++ rest) × (rest ≢ []) → (port : ℕ) → ¬ (IsPort digits port)
 no_port digits (rest, e, more) port is = more (is.2 rest e)
+
+-- ---- where a socket is
+
+pub no_endpoint : (text : List ℕ) → ((address : SocketAddrV4) → ¬ (IsAddressText text address))
+    → ((path : List ℕ) → text ≡ codes "unix:" ++ path → is_socket_path path ≢ true) → (endpoint : Endpoint) → ¬ (IsEndpointText text endpoint)
+no_endpoint text no_address no_path (Ip address) is = no_address address is
+no_endpoint text no_address no_path (Unix path) is = no_path path.now is.0 is.1
 
 -- ---- which texts mean the same
 

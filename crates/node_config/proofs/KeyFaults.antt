@@ -6,7 +6,8 @@ use Rattle.toml.specs.Data.{Data, Items, no_items, item, Members, get_member, as
 use Rattle.node_config.specs.Keys.{key_name}
 use Rattle.node_config.specs.Modes.{mode_at, mode_of_text, mode_or_none}
 use Rattle.node_config.specs.Paths.{path_at}
-use Rattle.node_config.specs.Values.{◌>>=◌, text_at, number_or_default, number_at, device_at, tables_of}
+use Rattle.device_text.specs.declared.fault.DeviceFault.{DeviceFault}
+use Rattle.node_config.specs.Values.{◌>>=◌, text_at, number_or_default, number_at, device_at, or_no_device, tables_of}
 use Rattle.node_config.specs.Folders.{checked_id, files_of, folder_of, folders_after, folders_at, id_at, numbers_of}
 use Rattle.node_config.specs.Peers.{checked_device, place_of, places_after, places_at, address_of, address_at, peer_of, peers_after, peers_at}
 use Rattle.node_config.specs.Documents.{config_of}
@@ -68,8 +69,12 @@ mode_fails table place = mode_or_none_fails place (get_member (key_name Mode) ta
 number_fails : (table : Members) (place : Place) (number : FolderNumber) → FailsAtKey (number_at table place number)
 number_fails table place number = default_fails place number _
 
+or_no_device_fails : (place : Place) (r : Result (List ℕ) DeviceFault) → FailsAtKey (or_no_device place r)
+or_no_device_fails place (Ok device) = tt
+or_no_device_fails place (Err fault) = tt
+
 pub device_fails : (table : Members) (place : Place) → FailsAtKey (device_at table place)
-device_fails table place = search (or_fails, then_fails, text_fails)
+device_fails table place = search (or_no_device_fails, then_fails, text_fails)
 
 tables_fail : (key : Key) (o : Option Data) → FailsAtKey (tables_of key o)
 tables_fail key None = tt

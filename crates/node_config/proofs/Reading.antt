@@ -1,12 +1,6 @@
 -- What a look-up in a table found, and what a text that is read gives.
-use Rattle.std.proofs.Common.{◌≡◌, ℕ, suc, List, [], IsOk, length, ◌==◌, Bool, true, false, cond, Option, Some, None, option_map, Result, Ok, Err, Bor, MatchOption, IfOk, IfErr, ◌⊎◌, inl, inr, sym, refl, subst, arith}
+use Rattle.std.proofs.Common.{◌≡◌, ℕ, suc, List, [], IsOk, length, Option, Some, None, option_map, Result, Ok, Err, Bor, MatchOption, IfOk, IfErr, ◌⊎◌, inl, inr, sym, refl, subst, arith}
 use Rattle.std.proofs.lemmas.Result.{IfErr-at_err}
-use Rattle.std.specs.List.{AllPass}
-use Rattle.std.specs.Result.{result_ok}
-use Rattle.std.proofs.lemmas.Bool.Decides.{nat_tests}
-use Rattle.hex.specs.Hex.{decode_of, is_hex_digit}
-use Rattle.hex.specs.declared.error.FromHexError.{FromHexError}
-use Rattle.hex.proofs.HexLemmas.{decode_of-ok}
 use Rattle.toml.specs.Data.{Data, Members, no_members}
 use Rattle.toml.specs.Errors.{IsBlank}
 use Rattle.toml.specs.Parse.{parse_document, skip_bom}
@@ -18,7 +12,7 @@ use Rattle.node_config.specs.Documents.{IsDocument, IsFaultOf, config_of}
 use Rattle.node_config.specs.Folders.{folders_at}
 use Rattle.node_config.specs.Paths.{path_at}
 use Rattle.node_config.specs.Peers.{peers_at}
-use Rattle.node_config.specs.Values.{Reads, device_at, device_of, text_at}
+use Rattle.node_config.specs.Values.{Reads, device_at, text_at}
 use Rattle.node_config.specs.declared.config.FolderConfig.{FolderConfig}
 use Rattle.node_config.specs.declared.key.Key.TheVariants.{Name, State}
 use Rattle.node_config.specs.declared.key.Place.TheVariants.{Node}
@@ -30,22 +24,6 @@ use Rattle.node_config.proofs.KeyFaults.{IsOfKey, config_fails, device_fails}
 pub found_member : (r : Option (Bor Value)) (o : Option Data) → option_map (λ x. view x.now) r ≡ o → MatchOption r (o ≡ None) (λ value. o ≡ Some (view value.now))
 found_member None o e = sym e
 found_member (Some x) o e = sym e
-
-undecoded : (r : Result (List ℕ) FromHexError) → ((bytes : List ℕ) → r ≡ Ok bytes → ⊥) → result_ok r ≡ None
-undecoded (Ok bytes) h = absurd (h bytes refl)
-undecoded (Err e) h = refl
-
-under_test : (b : Bool) (o : Option (List ℕ)) → (b ≡ true → o ≡ None) → cond b o None ≡ None
-under_test true o h = h refl
-under_test false o h = refl
-
-is_64 : (n : ℕ) → (n == 64) ≡ true → n ≡ 64
-is_64 n h = grind (arith, nat_tests)
-
--- a text that is no 64 hexadecimal digits is no device
-pub no_device : (text : List ℕ) → ((length text ≡ 64) × AllPass is_hex_digit text → false ≡ true) → device_of text ≡ None
-no_device text found =
-    under_test (length text == 64) _ (λ same. undecoded (decode_of text) (λ bytes e. cc (found (is_64 _ same, (decode_of-ok text bytes e).1))))
 
 -- what reading a document's configuration fails with is a fault of the text
 pub fault_of_document : (text : List ℕ) (document : Members) → IsDocument text document → (r : Result Config ConfigFault) → Reads (config_of document) r → IfErr r (IsFaultOf text)

@@ -9,7 +9,7 @@ use Rattle.node_config.specs.declared.key.Key.{Key}
 use Rattle.node_config.specs.declared.key.Place.{Place}
 use Rattle.node_config.specs.declared.key.Place.TheVariants.{Node, Folder, Peer}
 use Rattle.node_config.specs.declared.key.Problem.{Problem}
-use Rattle.node_config.specs.declared.key.Problem.TheVariants.{Absent, NotString, NotInteger, NotLook, NotMode, NotTables, NotStrings, NotDevice, OutOfRange, Empty, BeginsWithTilde, Repeats, SameDevice, SameShortId, UnknownFolder, BothAddresses, NoAddress, Inside}
+use Rattle.node_config.specs.declared.key.Problem.TheVariants.{Absent, NotString, NotInteger, NotLook, NotMode, NotTables, NotStrings, NotDevice, NotDeviceCharacter, Mistyped, OutOfRange, Empty, BeginsWithTilde, Repeats, SameDevice, SameShortId, UnknownFolder, BothAddresses, NoAddress, Inside}
 use Rattle.node_config.specs.declared.unknown.UnknownKey.{UnknownKey}
 
 abbrev pub place_text : Place → List ℕ
@@ -23,9 +23,11 @@ problem_text NotString = codes "is not a string"
 problem_text NotInteger = codes "is not an integer"
 problem_text NotLook = codes "is not \"auto\", \"off\", or a number of seconds"
 problem_text NotMode = codes "is not three octal digits whose first is 6 or 7, as \"600\""
-problem_text NotTables = codes "is not an array of tables"
+problem_text NotTables = codes "is not an array of tables: write it in two brackets, as [[folder]]"
 problem_text NotStrings = codes "is not an array of strings"
-problem_text NotDevice = codes "is not 64 hexadecimal digits"
+problem_text NotDevice = codes "is neither 64 hexadecimal digits nor a device ID as Syncthing shows it"
+problem_text NotDeviceCharacter = codes "has a character that no device ID has"
+problem_text (Mistyped group) = codes "is mistyped: its check character " ++ (decimal group ++ codes " of 4 does not fit")
 problem_text (OutOfRange low high) = codes "is not from " ++ (signed_decimal low ++ (codes " to " ++ signed_decimal high))
 problem_text Empty = codes "is empty"
 problem_text BeginsWithTilde = codes "begins with ~, which only a shell reads: write the whole path"

@@ -1,8 +1,9 @@
 -- The value of a key of a table, or what is wrong with it.
-use Rattle.std.specs.Prelude.{◌≡◌, ℕ, ℤ, List, ◌==◌, ◌&&◌, ◌⊎◌, length, if◌then◌else◌, int_le, Option, Some, None, Result, Ok, Err, MatchResult}
+use Rattle.std.specs.Prelude.{◌≡◌, ℕ, ℤ, List, ◌&&◌, ◌⊎◌, if◌then◌else◌, int_le, Option, Some, None, Result, Ok, Err, MatchResult}
 use Rattle.std.specs.Option.{ok_or}
-use Rattle.std.specs.Result.{result_ok}
-use Rattle.hex.specs.Hex.{decode_of}
+use Rattle.device_text.specs.Found.{device_of}
+use Rattle.device_text.specs.declared.fault.DeviceFault.{DeviceFault}
+use Rattle.device_text.specs.declared.fault.DeviceFault.TheVariants.{Length, Character, Check}
 use Rattle.toml.specs.Data.{Data, Items, no_items, Members, get_member, as_str, as_integer, as_array, as_table}
 use Rattle.node_config.specs.FolderNumbers.{key_of, no_number, range_of, word_of}
 use Rattle.node_config.specs.Keys.{key_name}
@@ -13,7 +14,8 @@ use Rattle.node_config.specs.declared.key.Key.{Key}
 use Rattle.node_config.specs.declared.key.Key.TheVariants.{Device}
 use Rattle.node_config.specs.declared.key.Place.{Place}
 use Rattle.node_config.specs.declared.key.Place.TheVariants.{Node}
-use Rattle.node_config.specs.declared.key.Problem.TheVariants.{Absent, NotString, NotTables, NotStrings, NotDevice, OutOfRange}
+use Rattle.node_config.specs.declared.key.Problem.{Problem}
+use Rattle.node_config.specs.declared.key.Problem.TheVariants.{Absent, NotString, NotTables, NotStrings, NotDevice, NotDeviceCharacter, Mistyped, OutOfRange}
 
 -- the next step, where the one before found a value
 infixl 10 ◌>>=◌
@@ -66,14 +68,19 @@ number_or_default place number (Some value) = number_of_value place number value
 abbrev pub number_at : Members → Place → FolderNumber → Result ℤ ConfigFault
 number_at table place number = number_or_default place number (get_member (key_name (key_of number)) table)
 
--- the bytes of 64 hexadecimal digits
-abbrev pub device_of : List ℕ → Option (List ℕ)
-device_of text = if length text == 64 then result_ok (decode_of text) else None
+-- what is wrong with a text that is no identity
+abbrev pub no_device : DeviceFault → Problem
+no_device Length = NotDevice
+no_device Character = NotDeviceCharacter
+no_device (Check group) = Mistyped group
 
+abbrev pub or_no_device : Place → Result (List ℕ) DeviceFault → Result (List ℕ) ConfigFault
+or_no_device place (Ok device) = Ok device
+or_no_device place (Err fault) = Err (BadKey place Device (no_device fault))
+
+-- the identity of a device, in hexadecimal digits or as Syncthing shows it
 abbrev pub device_at : Members → Place → Result (List ℕ) ConfigFault
-device_at table place = do
-  text ← text_at table place Device
-  ok_or (device_of text) (BadKey place Device NotDevice)
+device_at table place = text_at table place Device >>= λ text. or_no_device place (device_of text)
 
 -- the tables that are the value of a key, which may be absent
 abbrev pub tables_of : Key → Option Data → Result Items ConfigFault

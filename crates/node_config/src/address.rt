@@ -1,10 +1,57 @@
 //! The addresses at which peers connect.
-ghost use Rattle.std.specs.Prelude.{◌≡◌, ◌≢◌, ◌<◌, ◌^◌, ◌++◌, ◌↔◌, ℕ, List, [], bytes_eq, codes, IsTrue, MatchOption};
+ghost use Rattle.std.specs.Prelude.{◌≡◌, ◌≢◌, ◌<◌, ◌^◌, ◌++◌, ◌↔◌, ℕ, List, [], bytes_eq, codes, IsTrue, MatchOption, true};
 ghost use Rattle.std.specs.Net.Grammar.{IsNumber};
 ghost use Rattle.std.specs.Net.Socket.{v4_ip, v4_port};
-ghost use Rattle.node_config.specs.Addresses.{IsAddressText, IsHost, IsPort, socket_text};
+ghost use Rattle.node_config.specs.Addresses.{IsAddressText, IsEndpointText, IsHost, IsPort, is_socket_path, socket_text};
+ghost use Rattle.node_config.specs.declared.address.Endpoint.{Endpoint as AnyEndpoint};
 
 use std::net::{Ipv4Addr, SocketAddrV4};
+
+/// How many bytes the path of a Unix socket may have (`sun_path` of Linux, less the zero at its end).
+const MAX_SOCKET_PATH: usize = 107;
+
+/// Where a socket is.
+#[derive(Clone, Copy, Debug)]
+pub enum Endpoint<'a> {
+    /// At an IPv4 address and a port.
+    Ip(SocketAddrV4),
+    /// At this path: a Unix socket.
+    Unix(&'a str),
+}
+
+/// Reads where a socket is: an address ([`read_address`]), or `unix:` and an absolute path, as `unix:/home/me/.config/bepd/bepd.socket`, which has 107 bytes at
+/// most, and no byte 0. `None` for any other text. Does not allocate. O(n).
+pub fn read_endpoint(text: &str) -> Option<Endpoint<'_>>
+    ensures { MatchOption result ((endpoint : AnyEndpoint) → ¬ (IsEndpointText text.now endpoint)) (IsEndpointText text.now) }
+{
+    if let Some(address) = read_address(text) {
+        return Some(Endpoint::Ip(address));
+    }
+    match read_socket_path(text) {
+        Some(path) => Some(Endpoint::Unix(path)),
+        None => None,
+    }
+}
+
+/// The path of a Unix socket.
+fn read_socket_path(text: &str) -> Option<&str>
+    ensures { MatchOption result ((path : List ℕ) → text.now ≡ codes "unix:" ++ path → is_socket_path path ≢ true) (λ path. (text.now ≡ codes "unix:" ++ path.now) × (is_socket_path path.now ≡ true)) }
+{
+    let path = after(text, "unix:")?;
+    if is_socket_path(path) {
+        Some(path)
+    } else {
+        None
+    }
+}
+
+/// Whether a path is absolute, has no byte 0, and is not too long for a socket.
+fn is_socket_path(path: &str) -> bool
+    ensures { result ≡ is_socket_path path.now }
+{
+    let bytes = path.as_bytes();
+    bytes.starts_with(b"/") && bytes.len() <= MAX_SOCKET_PATH && !bytes.contains(&0)
+}
 
 /// Reads an address: a host, a colon and a port, as `192.0.2.1:22000`. A host is an IPv4 address, or `localhost`, which is 127.0.0.1.
 ///

@@ -121,8 +121,12 @@ pub enum Problem {
     NotTables,
     /// Its value is not an array of strings.
     NotStrings,
-    /// Its string is not 64 hexadecimal digits.
+    /// Its string is neither 64 hexadecimal digits nor the 56 characters of a device ID.
     NotDevice,
+    /// It has the 56 characters, one of which is in no device ID.
+    NotDeviceCharacter,
+    /// It has the 56 characters, and this one of its four groups of 14, counted from 1, does not end in its check character.
+    Mistyped { group: u8 },
     /// Its integer is below `low` or above `high`.
     OutOfRange { low: i64, high: i64 },
     /// Its string is empty.
@@ -157,9 +161,18 @@ impl Display for Problem {
             Problem::NotMode => f.write_str(
                 "is not three octal digits whose first is 6 or 7, as \"600\"",
             ),
-            Problem::NotTables => f.write_str("is not an array of tables"),
+            Problem::NotTables => f.write_str(
+                "is not an array of tables: write it in two brackets, as [[folder]]",
+            ),
             Problem::NotStrings => f.write_str("is not an array of strings"),
-            Problem::NotDevice => f.write_str("is not 64 hexadecimal digits"),
+            Problem::NotDevice => f.write_str(
+                "is neither 64 hexadecimal digits nor a device ID as Syncthing shows it",
+            ),
+            Problem::NotDeviceCharacter => f.write_str("has a character that no device ID has"),
+            Problem::Mistyped { group } => write!(
+                f,
+                "is mistyped: its check character {group} of 4 does not fit"
+            ),
             Problem::OutOfRange { low, high } => write!(f, "is not from {low} to {high}"),
             Problem::Empty => f.write_str("is empty"),
             Problem::BeginsWithTilde => f.write_str(

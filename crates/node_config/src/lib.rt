@@ -2,7 +2,7 @@
 //!
 //! | Key | Value |
 //! |---|---|
-//! | `device` | the identity of this device: 64 hexadecimal digits, in either case |
+//! | `device` | the identity of this device: 64 hexadecimal digits, in either case, or as Syncthing shows it |
 //! | `name` | a string that peers see |
 //! | `state` | the path of the state file: not empty, not `~`, and not from `~/` on, which only a shell reads |
 //! | `[[folder]]` `id` | a string that is not empty, unlike that of each other folder |
@@ -15,7 +15,7 @@
 //! | `[[folder]]` `mode` | the permission bits of new files: a string of three octal digits whose first is 6 or 7, as `"640"`; those that the system gives where it is absent |
 //! | `[[peer]]` `device` | as above, unlike that of each other device, also in its first 8 bytes |
 //! | `[[peer]]` `folders` | an array of the ids of folders above |
-//! | `[[peer]]` `dial` or `listen` | one of them: an address; no two peers have the same in `listen`, where `localhost` is 127.0.0.1 |
+//! | `[[peer]]` `dial` or `listen` | one of them: an address, or `unix:` and the path of a socket; no two peers have the same in `listen`, where `localhost` is 127.0.0.1 |
 //!
 //! All but the five numbers and `mode` are required. There may be no `[[folder]]` and no `[[peer]]`. Other keys are ignored; [`unknown_keys`] tells them.
 #![tactic(auto)]
@@ -35,7 +35,7 @@ mod peers;
 mod unknown;
 mod values;
 
-pub use address::read_address;
+pub use address::{Endpoint, read_address, read_endpoint};
 pub use config::{Config, FolderConfig, PeerAddress, PeerConfig};
 pub use document::read_config;
 pub use fault::ConfigFault;

@@ -4,12 +4,13 @@ ghost use Rattle.toml.specs.Data.{get_member};
 ghost use Rattle.toml.specs.View.{array_view, table_view, view};
 ghost use Rattle.node_config.specs.FolderNumbers.{IsIn, range_of};
 ghost use Rattle.node_config.specs.Keys.{key_name};
-ghost use Rattle.node_config.specs.Values.{Finds, Reads, array_at, device_at, integer_of, number_at, number_of_value, required_at, table_of, text_at, text_of};
+ghost use Rattle.node_config.specs.Values.{Finds, Reads, array_at, device_at, integer_of, no_device, number_at, number_of_value, required_at, table_of, text_at, text_of};
 
 use crate::fault::ConfigFault;
 use crate::folder_numbers::{FolderNumber, NumberRange, NumberRule};
 use crate::key::{Key, Place, Problem};
 use bep_messages::Text;
+use device_text::{DeviceFault, read_device};
 use std::alloc::Global;
 use sync_record::DeviceId;
 use toml::value::Array;
@@ -139,13 +140,24 @@ pub(crate) fn device_at(table: &Table, place: Place) -> Result<DeviceId, ConfigF
     ensures { result ≡ device_at (table_view table.now) place }
 {
     let text = text_at(table, place, Key::Device)?;
-    match DeviceId::from_hex(text) {
-        Some(device) => Ok(device),
-        None => Err(ConfigFault::BadKey {
+    match read_device(text) {
+        Ok(device) => Ok(device),
+        Err(fault) => Err(ConfigFault::BadKey {
             place,
             key: Key::Device,
-            problem: Problem::NotDevice,
+            problem: no_device(fault),
         }),
+    }
+}
+
+/// What is wrong with a text that is no identity.
+fn no_device(fault: DeviceFault) -> Problem
+    ensures { result ≡ no_device fault }
+{
+    match fault {
+        DeviceFault::Length => Problem::NotDevice,
+        DeviceFault::Character => Problem::NotDeviceCharacter,
+        DeviceFault::Check { group } => Problem::Mistyped { group },
     }
 }
 
