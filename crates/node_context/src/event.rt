@@ -1,4 +1,5 @@
 //! The events of a node, and why a scan skips a name.
+use crate::endpoint::Endpoint;
 use bep_messages::Text;
 use file_dir::SkipReason;
 use file_store::StoreRefusal;
@@ -39,88 +40,113 @@ pub enum ShareGap {
     WithoutPeer,
 }
 
-/// What happened. Folders are named by their ids.
+/// What happened.
 #[derive(Clone, Copy)]
 pub enum Event<'a> {
     /// The program began, by the configuration at this path.
     Begun(&'a str),
-    /// A peer may connect at this address.
-    Listening(DeviceId, SocketAddr),
-    /// A folder at this path, of which so many files and directories are recorded, is kept alike.
-    Keeping(&'a str, &'a str, u64),
     /// There are no more commands, and the node ends.
     InputEnded,
-    /// A connection with a peer is up: its Hello and its ClusterConfig came.
-    Connected(DeviceId, &'a Heard),
-    /// A folder isn't kept alike with the peer that is connected.
-    Unshared(DeviceId, &'a str, ShareGap),
-    /// The peer that is connected has so many more folders that aren't shared with it here.
-    UnsharedMore(DeviceId, u64),
-    /// A connection from this address ended, or was ended, before its ClusterConfig came. It was not taken for the peer's.
-    Stranger(DeviceId, SocketAddr),
-    /// Nobody has connected as this peer at this address for so many seconds.
-    NobodyDialled(DeviceId, SocketAddr, u64),
-    /// Devices at these two addresses connect as this peer in turn.
-    InTurn(DeviceId, IpAddr, IpAddr),
-    /// A peer could not be reached at this address, and is dialled again after so many seconds.
-    Unreached(DeviceId, SocketAddr, io::Error, u64),
-    /// A connection ended, perhaps before its ClusterConfig came.
-    Gone(DeviceId, &'a ReaderStop),
-    /// It was ended, for this reason, and another one is to begin.
-    Anew(DeviceId, &'a str),
-    /// One was ended, since no ClusterConfig came in time.
-    Silent(DeviceId),
-    /// An index of a folder came from a peer, whose records have sequences up to this one.
-    Received(&'a str, DeviceId, u64),
-    /// A scan of a folder recorded changes, or left names out.
-    Scanned(&'a str, ScanSum),
-    /// A scan of a folder was ended with the node.
-    ScanEnded(&'a str, ScanSum),
-    /// A scan of a folder left out this name, which was not so before.
-    Skipped(&'a str, &'a str, SkipWhy),
-    /// It left out so many more.
-    SkippedMore(&'a str, u64),
-    /// A folder is away: another run has it.
-    InUse(&'a str),
-    /// A scan of a folder is at this name of so many.
-    Scanning(&'a str, u64, u64),
-    /// A folder isn't there, or has no marker.
-    Away(&'a str),
-    /// It is there again.
-    Back(&'a str),
-    /// A folder is there, and of so many names that are recorded of it none is: it is neither scanned nor pulled.
-    Held(&'a str, u64),
-    /// What is at the name of a folder is now its best.
-    Pulled(&'a str, &'a SafeName),
-    /// What was at a name of a folder is kept under this one.
-    Kept(&'a str, &'a SafeName),
-    /// So many names of a folder were pulled, of so many.
-    Pulling(&'a str, u64, u64),
-    /// A name of a folder could not be pulled, and what the system said, where that is why.
-    Failed(&'a str, &'a SafeName, PullFailure, Option<io::Error>),
-    /// The same, for the folder refused it, or memory is out.
-    Refused(&'a str, &'a SafeName, PullRefusal),
-    /// The same, for its best is neither a file nor a directory.
-    Unsupported(&'a str, &'a SafeName),
-    /// The history of a folder is full, and the node begins anew.
-    HistoryFull(&'a str),
     /// The state is an older one than a peer was told of, and the node begins anew.
     OlderState,
     /// The state could not be written while the node runs: which file, and why, where that is known.
     NotKept(Option<&'a str>),
     /// The state is written again.
     KeptAgain,
-    /// A file of a folder could not be written, since the disk is full.
-    NoRoom(&'a str),
-    /// So many versions of a folder's files were removed, which were kept for so many days.
-    Emptied(&'a str, u64, u64),
+    /// It happened to connections of this peer.
+    Peer(DeviceId, PeerEvent<'a>),
+    /// It happened to the files of the folder with this id.
+    Scan(&'a str, ScanEvent<'a>),
+    /// It happened to what other devices have of the folder with this id.
+    Pull(&'a str, PullEvent<'a>),
+}
+
+/// What happened to connections of a peer.
+#[derive(Clone, Copy)]
+pub enum PeerEvent<'a> {
+    /// It may connect there.
+    Listening(&'a Endpoint),
+    /// A connection is up: the peer's Hello and its ClusterConfig came.
+    Connected(&'a Heard),
+    /// This folder isn't kept alike with the peer that is connected.
+    Unshared(&'a str, ShareGap),
+    /// The peer that is connected has so many more folders that aren't shared with it here.
+    UnsharedMore(u64),
+    /// A connection from this address ended, or was ended, before its ClusterConfig came. It was not taken for the peer's.
+    Stranger(SocketAddr),
+    /// Who is connected says that it is this device. It was not taken for the peer.
+    OwnIdentity,
+    /// Nobody has connected there for so many seconds.
+    NobodyDialled(&'a Endpoint, u64),
+    /// Two devices connect as this peer in turn: the addresses from which they do, where these tell them apart.
+    InTurn(Option<(IpAddr, IpAddr)>),
+    /// It could not be reached there, and is dialled again after so many seconds.
+    Unreached(&'a Endpoint, io::Error, u64),
+    /// A connection ended, perhaps before its ClusterConfig came.
+    Gone(&'a ReaderStop),
+    /// It was ended, for this reason, and another one is to begin.
+    Anew(&'a str),
+    /// One was ended, since no ClusterConfig came in time.
+    Silent,
+}
+
+/// What happened to the files of a folder.
+#[derive(Clone, Copy)]
+pub enum ScanEvent<'a> {
+    /// It is kept alike at this path, and so many of its files and directories are recorded.
+    Keeping(&'a str, u64),
+    /// A scan recorded changes, or left names out.
+    Scanned(ScanSum),
+    /// A scan was ended with the node.
+    Ended(ScanSum),
+    /// A scan is at this name of so many.
+    At(u64, u64),
+    /// A scan left out this name, which was not so before.
+    Skipped(&'a str, SkipWhy),
+    /// It left out so many more.
+    SkippedMore(u64),
+    /// The folder isn't there, at this path, or has no marker.
+    Away(&'a str),
+    /// It is away: another run has it.
+    InUse,
+    /// It is there again.
+    Back,
+    /// It is there, at this path, and of so many names that are recorded of it none is: it is neither scanned nor pulled.
+    Held(&'a str, u64),
+    /// So many versions of its files were removed, which were kept for so many days.
+    Emptied(u64, u64),
+}
+
+/// What happened to what other devices have of a folder.
+#[derive(Clone, Copy)]
+pub enum PullEvent<'a> {
+    /// An index came from this peer, whose records have sequences up to this one.
+    Received(DeviceId, u64),
+    /// What is at the name is now its best.
+    Pulled(&'a SafeName),
+    /// What was at a name is kept under this one.
+    Kept(&'a SafeName),
+    /// So many names were pulled, of so many.
+    At(u64, u64),
+    /// The name could not be pulled, and what the system said, where that is why.
+    Failed(&'a SafeName, PullFailure, Option<io::Error>),
+    /// The same, for the folder refused it, or memory is out.
+    Refused(&'a SafeName, PullRefusal),
+    /// The same, for its best is neither a file nor a directory.
+    Unsupported(&'a SafeName),
+    /// The history of the folder is full, and the node begins anew.
+    HistoryFull,
+    /// A file could not be written, since the disk is full.
+    NoRoom,
 }
 
 impl Event<'_> {
     // How far something is, where it only says that.
     pub(crate) fn far(&self) -> Option<u64> {
         match self {
-            Event::Scanning(_, at, _) | Event::Pulling(_, at, _) => Some(*at),
+            Event::Scan(_, ScanEvent::At(at, _)) | Event::Pull(_, PullEvent::At(at, _)) => {
+                Some(*at)
+            }
             _ => None,
         }
     }

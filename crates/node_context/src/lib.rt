@@ -4,17 +4,21 @@
 mod clock;
 mod connections;
 mod context;
+mod endpoint;
 mod event;
 mod event_line;
 mod fault;
+mod folder_line;
 mod host;
 mod lent;
 mod log;
+mod peer_line;
 
 pub use clock::moment;
 pub use connections::{ConnectionId, Connections};
 pub use context::Context;
-pub use event::{Event, Heard, ShareGap, SkipWhy};
+pub use endpoint::Endpoint;
+pub use event::{Event, Heard, PeerEvent, PullEvent, ScanEvent, ShareGap, SkipWhy};
 pub use fault::NodeFault;
 pub use host::Host;
 pub use lent::{Lent, LentCalls, lend_all, next_of};

@@ -2,10 +2,10 @@
 ghost use Rattle.std.specs.Prelude.{◌↔◌, ◌≢◌, IsTrue};
 ghost use Rattle.node_files.specs.declared.marked.Whereabouts.TheVariants.{Unknown};
 
-use crate::folder::FolderWorker;
+use crate::folder::{FolderWorker, NodeFolder};
 use file_store::{FileStore, Stat};
 use folder_calls::FolderCalls;
-use node_context::{Context, Event};
+use node_context::{Context, Event, ScanEvent};
 use node_files::{Marked, Whereabouts};
 use std::alloc::AllocError;
 use std::sync::{Mutex, Wait};
@@ -101,7 +101,7 @@ where
         at => at,
     };
     if folder.presence.take(cx.rt, found) {
-        tell_whereabouts(cx, folder.id(), found);
+        tell_whereabouts(cx, folder, found);
     }
     if found != Whereabouts::There || folder.presence.is_checked(cx.rt) {
         return found;
@@ -113,7 +113,8 @@ where
         }
         Ok(count) => {
             if folder.presence.hold(cx.rt) {
-                cx.tell(&Event::Held(folder.id(), count));
+                let path = folder.settings.path.as_str();
+                cx.tell(&Event::Scan(folder.id(), ScanEvent::Held(path, count)));
             }
             Whereabouts::Held
         }
@@ -121,13 +122,14 @@ where
     }
 }
 
-fn tell_whereabouts<R: Clock + Wait, G>(cx: &Context<R, G>, id: &str, at: Whereabouts) {
-    match at {
-        Whereabouts::There | Whereabouts::Unsettled => cx.tell(&Event::Back(id)),
-        Whereabouts::Away => cx.tell(&Event::Away(id)),
-        Whereabouts::InUse => cx.tell(&Event::InUse(id)),
-        Whereabouts::Held | Whereabouts::Unknown => {}
-    }
+fn tell_whereabouts<R: Clock + Wait, G>(cx: &Context<R, G>, folder: &NodeFolder, at: Whereabouts) {
+    let event = match at {
+        Whereabouts::There | Whereabouts::Unsettled => ScanEvent::Back,
+        Whereabouts::Away => ScanEvent::Away(folder.settings.path.as_str()),
+        Whereabouts::InUse => ScanEvent::InUse,
+        Whereabouts::Held | Whereabouts::Unknown => return,
+    };
+    cx.tell(&Event::Scan(folder.id(), event));
 }
 
 // How many files and directories are recorded, where none of them is there; 0 where one is, or may be, or they are fewer than ten.

@@ -8,7 +8,7 @@ use crate::skips::LeftOut;
 use crate::trash::{TrashSchedule, first_turn};
 use file_store::{FileStore, Gate, StoreRefusal};
 use folder_calls::FolderCalls;
-use node_context::{Connections, Context, Event, Host, Log, moment};
+use node_context::{Connections, Context, Event, Host, Log, ScanEvent, moment};
 use node_files::{Marked, Whereabouts};
 use std::sync::Wait;
 use std::time::Clock;
@@ -90,7 +90,7 @@ where
         if count > 0 {
             let settings = &folder.worker.folder.settings;
             let (id, days) = (settings.id.as_str(), settings.trash_days);
-            cx.tell(&Event::Emptied(id, count as u64, days));
+            cx.tell(&Event::Scan(id, ScanEvent::Emptied(count as u64, days)));
         }
     }
 }
@@ -164,9 +164,9 @@ where
 fn tell_scan<R: Clock + Wait, G>(cx: &Context<R, G>, id: &str, sum: ScanSum) {
     let is_news = sum.recorded > 0 || sum.other > 0 || sum.stopped.is_some();
     if is_news && cx.is_stopping() {
-        cx.tell(&Event::ScanEnded(id, sum));
+        cx.tell(&Event::Scan(id, ScanEvent::Ended(sum)));
     } else if is_news {
-        cx.tell(&Event::Scanned(id, sum));
+        cx.tell(&Event::Scan(id, ScanEvent::Scanned(sum)));
     }
 }
 
@@ -188,7 +188,7 @@ impl<R: Clock + Wait> Progress for Seen<'_, R> {
 
     fn scanned(&mut self, names: u64, listed: u64) {
         if let Some(log) = self.log {
-            log.tell(self.rt, &Event::Scanning(self.id, names, listed));
+            log.tell(self.rt, &Event::Scan(self.id, ScanEvent::At(names, listed)));
         }
     }
 

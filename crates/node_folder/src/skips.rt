@@ -1,7 +1,7 @@
 //! What scans leave out.
 use file_dir::Skipped;
 use file_store::StoreRefusal;
-use node_context::{Connections, Context, Event, SkipWhy};
+use node_context::{Connections, Context, Event, ScanEvent, SkipWhy};
 use node_files::{Marked, Whereabouts};
 use record_lines::push_text;
 use std::alloc::{AllocError, Global};
@@ -158,12 +158,12 @@ fn tell_new<R: Clock + Wait, G>(cx: &Context<R, G>, folder: &str, old: &[Skip], 
         if !is_among(old, skip) {
             count = count.saturating_add(1);
             if count <= MOST_TOLD {
-                cx.tell(&Event::Skipped(folder, skip.name.as_str(), skip.why));
+                cx.tell(&Event::Scan(folder, ScanEvent::Skipped(skip.name.as_str(), skip.why)));
             }
         }
     }
     if count > MOST_TOLD {
-        cx.tell(&Event::SkippedMore(folder, count - MOST_TOLD));
+        cx.tell(&Event::Scan(folder, ScanEvent::SkippedMore(count - MOST_TOLD)));
     }
 }
 

@@ -3,7 +3,7 @@ use crate::restless::Ready;
 use file_store::{FileStore, Gate, StoreRefusal};
 use folder_calls::FolderCalls;
 use folder_core::ScanAnswer;
-use node_context::{Context, Event, Host};
+use node_context::{Context, Event, Host, ScanEvent};
 use node_files::Marked;
 use node_folder::{FolderWorker, is_left_over};
 use std::alloc::{AllocError, Global};
@@ -145,7 +145,7 @@ fn gather<R: Host, S, W, G>(
     }
     if all.recorded > 0 {
         if let Some(looker) = lookers.first() {
-            cx.tell(&Event::Scanned(looker.worker.folder.id(), all));
+            cx.tell(&Event::Scan(looker.worker.folder.id(), ScanEvent::Scanned(all)));
         }
     }
     Ok(left)

@@ -10,27 +10,31 @@ no_arrivals = record { before = None; last = None }
 abbrev pub only : Arrival → Arrivals
 only now = record { before = None; last = Some now }
 
--- it came from there
-abbrev pub is_from : ℕ → Option Arrival → Bool
-is_from from None = false
-is_from from (Some a) = a.from == from
+-- both are of one device: they came from one address, with one index
+abbrev pub is_same : Arrival → Arrival → Bool
+is_same a b = (a.from == b.from) && (a.index_id == b.index_id)
 
--- it came as well: the one before it is the last one from another address
+-- the last one is of the device of this one
+abbrev pub is_of : Arrival → Option Arrival → Bool
+is_of now None = false
+is_of now (Some last) = is_same last now
+
+-- it came as well: the one before it is the last one of another device
 abbrev pub after : Arrival → Arrivals → Arrivals
-after now a = record { before = if is_from now.from a.last then a.before else a.last; last = Some now }
+after now a = record { before = if is_of now a.last then a.before else a.last; last = Some now }
 
 abbrev pub came : Bool → Arrival → Arrivals → Arrivals
 came has_replaced now a = if has_replaced then after now a else only now
 
--- at most two minutes after the one before, from the same address
+-- at most two minutes after the one before, of the same device
 abbrev pub is_back : Arrival → Arrival → Bool
-is_back now before = (before.from == now.from) && nat_le (now.at - before.at) 120
+is_back now before = is_same before now && nat_le (now.at - before.at) 120
 
 -- from where the one came that had the place meanwhile, if the one before is back
 abbrev pub other_of : Arrival → Option Arrival → Option Arrival → Option ℕ
 other_of now None last = None
 other_of now (Some before) None = None
-other_of now (Some before) (Some last) = if is_back now before && not (last.from == now.from) then Some last.from else None
+other_of now (Some before) (Some last) = if is_back now before && not (is_same last now) then Some last.from else None
 
 abbrev pub in_turn : Bool → Arrival → Arrivals → Option ℕ
 in_turn has_replaced now a = if has_replaced then other_of now a.before a.last else None

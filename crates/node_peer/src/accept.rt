@@ -4,14 +4,15 @@ use crate::connection::{Begun, run_connection};
 use crate::dial::is_later;
 use crate::guest::{Greeted, Guest, Standing, seconds};
 use crate::peer::Greeting;
+use crate::socket::Listener;
 use crossbeam_channel::{Receiver, Sender, bounded};
 use file_store::{FileStore, Gate};
-use node_context::{Context, Event, Host};
+use node_context::{Context, Endpoint, Event, Host, PeerEvent};
 use peer_conn::KeptCalls;
 use peer_link::LinkFolders;
 use std::alloc::{AllocError, Global};
 use std::io::ErrorKind;
-use std::net::{IpAddr, Ipv4Addr, SocketAddr, TcpListener, TcpStream};
+use std::net::{IpAddr, Ipv4Addr, SocketAddr, TcpStream};
 use std::sync::Wait;
 use std::thread::join;
 use std::time::Duration;
@@ -30,12 +31,19 @@ const WAIT_SECONDS: u64 = 60;
 /// How many connections may wait until the one whose place they take has ended.
 const MAX_BEGUN: usize = 4;
 
+/// A socket at which the peer is listened for, and where it is.
+#[derive(Clone, Copy)]
+pub(crate) struct Listening<'a> {
+    pub(crate) listener: &'a Listener,
+    pub(crate) endpoint: &'a Endpoint,
+}
+
 /// Takes the connections of the peer. One gets its place once its ClusterConfig is there; where another one is up by then, only if its ClusterConfig lists both
 /// devices, and at most once each 10 seconds: else it is closed.
 pub(crate) fn accept_each<R, S, W, G>(
     cx: &Context<R, G>,
     greeting: &Greeting,
-    listener: &TcpListener,
+    listening: &Listening,
     folders: LinkFolders<S, W>,
 ) -> LinkFolders<S, W>
 where
@@ -49,7 +57,7 @@ where
     };
     let ((), folders) = join(
         cx.rt,
-        || accept(cx, greeting, listener, to_link),
+        || accept(cx, greeting, listening, to_link),
         || run_each(cx, greeting, folders, begun),
     );
     folders
@@ -59,9 +67,10 @@ where
 fn accept<R: Host, G>(
     cx: &Context<R, G>,
     greeting: &Greeting,
-    listener: &TcpListener,
+    listening: &Listening,
     to_link: Sender<Begun>,
 ) {
+    let listener = listening.listener;
     let mut door = Door {
         guests: Vec::new(cx.alloc),
         last_replaced: None,
@@ -71,13 +80,13 @@ fn accept<R: Host, G>(
         to_link,
     };
     for _ in cx.rt.forever() {
-        door.wait(cx, greeting, listener);
+        door.wait(cx, greeting, listening.endpoint);
         // (with nothing to look at it waits in the call)
         let _ = listener.set_nonblocking(!door.guests.is_empty() || door.waits_since.is_some());
         let mut is_quiet = false;
         match listener.accept() {
             // (out of memory it is closed)
-            Ok((stream, _)) => {
+            Ok(stream) => {
                 let _ = door.let_in(cx, greeting, stream);
             }
             Err(error) if error.kind() == ErrorKind::WouldBlock => is_quiet = true,
@@ -120,12 +129,7 @@ fn now<R: Host, G>(cx: &Context<R, G>) -> u64 {
 
 impl Door {
     // Tells, once, that nobody has connected for a minute.
-    fn wait<R: Host, G>(
-        &mut self,
-        cx: &Context<R, G>,
-        greeting: &Greeting,
-        listener: &TcpListener,
-    ) {
+    fn wait<R: Host, G>(&mut self, cx: &Context<R, G>, greeting: &Greeting, endpoint: &Endpoint) {
         let Some(since) = self.waits_since else {
             return;
         };
@@ -133,10 +137,8 @@ impl Door {
             return;
         }
         self.waits_since = None;
-        if let Ok(address) = listener.local_addr() {
-            let peer = greeting.peer.device;
-            cx.tell(&Event::NobodyDialled(peer, address, WAIT_SECONDS));
-        }
+        let event = PeerEvent::NobodyDialled(endpoint, WAIT_SECONDS);
+        cx.tell(&Event::Peer(greeting.peer.device, event));
     }
 
     // Tells, once, that two devices have connections as this peer in turn, if they do, once one has come.
@@ -144,22 +146,26 @@ impl Door {
         &mut self,
         cx: &Context<R, G>,
         greeting: &Greeting,
-        stream: &TcpStream,
+        greeted: &Greeted,
         has_replaced: bool,
     ) {
         self.waits_since = None;
-        let Ok(SocketAddr::V4(address)) = stream.peer_addr() else {
+        let from = match greeted.stream.peer_addr() {
+            Ok(SocketAddr::V4(address)) => address.ip().to_bits(),
+            _ => 0,
+        };
+        let arrival = Arrival {
+            from,
+            index_id: greeted.index_id,
+            at: now(cx),
+        };
+        let Some(other) = self.arrivals.take(arrival, has_replaced) else {
             return;
         };
-        let from = address.ip().to_bits();
-        let arrival = Arrival { from, at: now(cx) };
-        if let Some(other) = self.arrivals.take(arrival, has_replaced) {
-            if !self.is_turn_told {
-                self.is_turn_told = true;
-                let other = IpAddr::V4(Ipv4Addr::from_bits(other));
-                let peer = greeting.peer.device;
-                cx.tell(&Event::InTurn(peer, other, IpAddr::V4(*address.ip())));
-            }
+        if !self.is_turn_told {
+            self.is_turn_told = true;
+            let event = PeerEvent::InTurn(both(other, from));
+            cx.tell(&Event::Peer(greeting.peer.device, event));
         }
     }
 
@@ -193,11 +199,11 @@ impl Door {
                 }
                 Standing::Greeted(greeted) => self.begin(cx, greeting, greeted),
                 Standing::Gone(why) => {
-                    cx.tell(&Event::Gone(peer, &why));
+                    cx.tell(&Event::Peer(peer, PeerEvent::Gone(&why)));
                     tell_stranger(cx, peer, from);
                 }
                 Standing::Silent => {
-                    cx.tell(&Event::Silent(peer));
+                    cx.tell(&Event::Peer(peer, PeerEvent::Silent));
                     tell_stranger(cx, peer, from);
                 }
             }
@@ -214,7 +220,7 @@ impl Door {
         if is_up && !(greeted.lists_both && is_later(cx.rt, &mut self.last_replaced)) {
             return;
         }
-        self.arrive(cx, greeting, &greeted.stream, is_up);
+        self.arrive(cx, greeting, &greeted, is_up);
         let Some(id) = cx.connections.replace(cx.rt, greeting.peer.place, clone) else {
             return;
         };
@@ -230,10 +236,19 @@ impl Door {
     }
 }
 
+// The addresses of two devices, where these tell them apart.
+fn both(one: u32, other: u32) -> Option<(IpAddr, IpAddr)> {
+    if one == other {
+        return None;
+    }
+    let address = |bits: u32| IpAddr::V4(Ipv4Addr::from_bits(bits));
+    Some((address(one), address(other)))
+}
+
 // Tells from where one came that wasn't taken, where the system says that.
 fn tell_stranger<R: Host, G>(cx: &Context<R, G>, peer: DeviceId, from: Option<SocketAddr>) {
     if let Some(address) = from {
-        cx.tell(&Event::Stranger(peer, address));
+        cx.tell(&Event::Peer(peer, PeerEvent::Stranger(address)));
     }
 }
 

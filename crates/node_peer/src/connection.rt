@@ -1,9 +1,9 @@
 //! A connection, from its socket to its end.
-use crate::greeted::{Ends, ListenedTo, ids_of};
+use crate::greeted::{Ends, ListenedTo, ids_of, indexes_of};
 use crate::peer::Greeting;
 use crate::told::own_config;
 use file_store::{FileStore, Gate};
-use node_context::{ConnectionId, Context, Event, Host};
+use node_context::{ConnectionId, Context, Event, Host, PeerEvent};
 use peer_conn::KeptCalls;
 use peer_link::{Line, LinkEnd, LinkFolders, run_link};
 use peer_reader::{ReaderStop, are_apart};
@@ -102,12 +102,17 @@ where
     let Ok(ids) = ids_of(cx.alloc, folders.read.as_slice()) else {
         return (folders, false);
     };
+    let Ok(own) = indexes_of(cx.alloc, folders.indexed.as_slice()) else {
+        return (folders, false);
+    };
     let stream = &begun.stream;
     let ends = Ends {
         me: greeting.me,
         peer: peer.device,
         ids,
+        own,
         address: stream.peer_addr().ok(),
+        doubles: &greeting.doubles,
     };
     // (so that the reader looks at the clock each second)
     let _ = stream.set_read_timeout(Some(Duration::from_secs(1)));
@@ -141,13 +146,14 @@ where
             let mut folders = folders;
             told.forget_lost(folders.read.as_mut_slice());
             match told.anew() {
-                Some(why) => cx.tell(&Event::Anew(peer.device, why.as_str())),
-                None => cx.tell(&Event::Gone(peer.device, &reader.why)),
+                Some(why) => cx.tell(&Event::Peer(peer.device, PeerEvent::Anew(why.as_str()))),
+                None => cx.tell(&Event::Peer(peer.device, PeerEvent::Gone(&reader.why))),
             }
             (folders, told.anew().is_some())
         }
         Err(folders) => {
-            cx.tell(&Event::Gone(peer.device, &ReaderStop::OutOfMemory));
+            let event = PeerEvent::Gone(&ReaderStop::OutOfMemory);
+            cx.tell(&Event::Peer(peer.device, event));
             (folders, false)
         }
     }

@@ -1,12 +1,13 @@
 //! A peer that is dialled, and when it is dialled again.
 use crate::connection::{Begun, run_connection};
 use crate::peer::Greeting;
+use crate::socket::connect;
 use file_store::{FileStore, Gate};
-use node_context::{Context, Event, Host};
+use node_context::{Context, Endpoint, Event, Host, PeerEvent};
 use peer_conn::KeptCalls;
 use peer_link::LinkFolders;
 use std::io::{self, ErrorKind};
-use std::net::{SocketAddr, TcpStream};
+use std::net::TcpStream;
 use std::sync::Wait;
 use std::time::{Clock, Duration};
 
@@ -20,7 +21,7 @@ const DIAL_SECONDS: u64 = 10;
 pub(crate) fn dial_again<R, S, W, G>(
     cx: &Context<R, G>,
     greeting: &Greeting,
-    address: &SocketAddr,
+    endpoint: &Endpoint,
     folders: LinkFolders<S, W>,
 ) -> LinkFolders<S, W>
 where
@@ -38,7 +39,7 @@ where
             break;
         }
         let mut is_anew = false;
-        match dial(cx, address) {
+        match dial(cx, endpoint) {
             Ok(stream) => {
                 told = None;
                 if let Some(begun) = begin(cx, greeting, stream) {
@@ -49,7 +50,8 @@ where
                 if told != Some(why.kind()) && !cx.is_stopping() {
                     told = Some(why.kind());
                     let peer = greeting.peer.device;
-                    cx.tell(&Event::Unreached(peer, *address, why, DIAL_SECONDS));
+                    let event = PeerEvent::Unreached(endpoint, why, DIAL_SECONDS);
+                    cx.tell(&Event::Peer(peer, event));
                 }
             }
         }
@@ -64,9 +66,8 @@ where
 }
 
 // Makes a connection.
-fn dial<R: Host, G>(cx: &Context<R, G>, address: &SocketAddr) -> io::Result<TcpStream> {
-    let limit = Duration::from_secs(CONNECT_SECONDS);
-    TcpStream::connect_timeout(cx.rt, address, limit)
+fn dial<R: Host, G>(cx: &Context<R, G>, endpoint: &Endpoint) -> io::Result<TcpStream> {
+    connect(cx.rt, endpoint, Duration::from_secs(CONNECT_SECONDS))
 }
 
 // Gives a connection the peer's place. It has it at once, since this device makes no other meanwhile.

@@ -3,6 +3,7 @@ ghost use Rattle.std.specs.Prelude.{◌≡◌};
 ghost use Rattle.std.specs.List.{list_any};
 ghost use Rattle.node_peer.specs.Lists.{has, has_both};
 
+use crate::shares::first_index;
 use bep_messages::{ClusterConfig, Folder};
 use bep_session::{Event, Session};
 use node_context::Host;
@@ -33,6 +34,15 @@ pub(crate) struct Greeted {
     pub(crate) came: Vec<u8>,
     /// Whether the ClusterConfig has a folder with this device and the peer.
     pub(crate) lists_both: bool,
+    /// The number of the peer's index that it has first; 0 where it has none.
+    pub(crate) index_id: u64,
+}
+
+// What a guest's ClusterConfig says.
+#[derive(Clone, Copy)]
+struct Said {
+    lists_both: bool,
+    index_id: u64,
 }
 
 /// A connection that waits for the peer's ClusterConfig. This device's Hello was written.
@@ -93,11 +103,12 @@ impl Guest {
         let now = seconds(rt, guest.since);
         match guest.read(alloc, now, me, peer) {
             Ok(None) => {}
-            Ok(Some(lists_both)) => {
+            Ok(Some(said)) => {
                 return Standing::Greeted(Greeted {
                     stream: guest.stream,
                     came: guest.came,
-                    lists_both,
+                    lists_both: said.lists_both,
+                    index_id: said.index_id,
                 });
             }
             Err(why) => return Standing::Gone(why),
@@ -110,14 +121,14 @@ impl Guest {
         Standing::Waits(guest)
     }
 
-    // Whether the ClusterConfig lists both, once it is there.
+    // What the ClusterConfig says, once it is there.
     fn read(
         &mut self,
         alloc: Global,
         now: Moment,
         me: DeviceId,
         peer: DeviceId,
-    ) -> Result<Option<bool>, ReaderStop> {
+    ) -> Result<Option<Said>, ReaderStop> {
         let mut piece = vec![in alloc; 0u8; PIECE_BYTES]?;
         let mut line = &self.stream;
         let count = match line.read(piece.as_mut_slice()) {
@@ -136,7 +147,12 @@ impl Guest {
         self.came.extend_from_slice(piece)?;
         for event in self.session.feed(piece, now)? {
             match event {
-                Event::PeerConfig(config) => return Ok(Some(lists_both(&config, me, peer))),
+                Event::PeerConfig(config) => {
+                    return Ok(Some(Said {
+                        lists_both: lists_both(&config, me, peer),
+                        index_id: first_index(&config, peer),
+                    }));
+                }
                 Event::PeerClosed(reason) => return Err(ReaderStop::Closed(reason)),
                 Event::Ended(fault) => return Err(ReaderStop::Fault(fault)),
                 _ => {}

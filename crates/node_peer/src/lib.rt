@@ -9,6 +9,8 @@ mod greeted;
 mod guest;
 mod peer;
 mod shares;
+mod socket;
 mod told;
 
 pub use peer::{Peer, PeerWorker, Reach, run_peer};
+pub use socket::{Listener, UnixSockets};

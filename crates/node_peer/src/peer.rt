@@ -1,26 +1,27 @@
 //! A peer, which is dialled or listened for.
-use crate::accept::accept_each;
+use crate::accept::{Listening, accept_each};
 use crate::dial::dial_again;
+use crate::socket::Listener;
 use crate::told::hello_of;
 use bep_frames::{WriteFault, write_hello};
 use bep_messages::Hello;
 use file_store::{FileStore, Gate};
-use node_context::{Context, Host};
+use node_context::{Context, Endpoint, Host};
 use peer_asks::AskBook;
 use peer_conn::KeptCalls;
 use peer_link::LinkFolders;
 use peer_reader::PeerFolder;
 use std::alloc::Global;
-use std::net::{SocketAddr, TcpListener};
+use std::sync::Mutex;
 use sync_record::DeviceId;
 
 /// How a connection with a peer comes about.
 #[derive(Drop)]
 pub enum Reach {
-    /// This device makes it.
-    Dial(SocketAddr),
-    /// The peer makes it.
-    Listen(TcpListener),
+    /// This device makes it, there.
+    Dial(Endpoint),
+    /// The peer makes it, at a socket of this device, which is there.
+    Listen(Listener, Endpoint),
 }
 
 /// What stays the same for all connections of a peer.
@@ -42,7 +43,7 @@ pub struct PeerWorker<'x, S, W> {
     /// The peer.
     pub peer: Peer<'x>,
     /// How a connection with it comes about.
-    pub reach: Reach,
+    pub reach: &'x Reach,
     /// The folders.
     pub folders: LinkFolders<S, W>,
 }
@@ -64,8 +65,11 @@ where
         return folders;
     };
     match reach {
-        Reach::Dial(address) => dial_again(cx, &greeting, &address, folders),
-        Reach::Listen(listener) => accept_each(cx, &greeting, &listener, folders),
+        Reach::Dial(endpoint) => dial_again(cx, &greeting, endpoint, folders),
+        Reach::Listen(listener, endpoint) => {
+            let listening = Listening { listener, endpoint };
+            accept_each(cx, &greeting, &listening, folders)
+        }
     }
 }
 
@@ -78,6 +82,8 @@ pub(crate) struct Greeting<'x> {
     /// The Hello of this device, and its frame.
     pub(crate) hello: Hello,
     pub(crate) frame: Vec<u8>,
+    /// The numbers of the indexes that devices with this one's identity have said that they have.
+    pub(crate) doubles: Mutex<Vec<u64>>,
 }
 
 impl<'x> Greeting<'x> {
@@ -99,6 +105,7 @@ impl<'x> Greeting<'x> {
             me,
             hello,
             frame,
+            doubles: Mutex::new(Vec::new(alloc)),
         })
     }
 }

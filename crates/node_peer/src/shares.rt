@@ -1,11 +1,11 @@
 //! Which folders are not kept alike with a peer, by its ClusterConfig, and why.
-ghost use Rattle.std.specs.Prelude.{◌≡◌};
+ghost use Rattle.std.specs.Prelude.{◌≡◌, ◌==◌, [], find, option_copied};
 ghost use Rattle.std.specs.List.{list_any};
 ghost use Rattle.node_peer.specs.Lists.{has};
-ghost use Rattle.node_peer.specs.Shares.{gap_of, has_text};
+ghost use Rattle.node_peer.specs.Shares.{gap_of, first_index, has_another_index, has_text, index_of, is_own_identity, is_told_as_own, is_with_another_index};
 
 use crate::guest::has;
-use bep_messages::{ClusterConfig, Text};
+use bep_messages::{ClusterConfig, Device, Folder, Text};
 use node_context::ShareGap;
 use peer_conn::folder_of;
 use std::alloc::Global;
@@ -30,6 +30,93 @@ pub(crate) fn gap_of(
         return Some(ShareGap::WithoutPeer);
     }
     None
+}
+
+/// Whether a ClusterConfig is that of a device that has this one's identity: a folder has this device with the number of an index that is none of its own, and
+/// the peer with none. (Each device tells the number of its own index.) Does not allocate. O(n m) for n devices of the folders and m indexes of this device.
+pub(crate) fn is_own_identity(
+    config: &ClusterConfig,
+    me: DeviceId,
+    peer: DeviceId,
+    own: &[u64],
+) -> bool
+    ensures { result ≡ is_own_identity me peer own.now config.now }
+{
+    config
+        .folders
+        .as_slice()
+        .iter()
+        .any(|folder| is_told_as_own(folder, me, peer, own))
+}
+
+fn is_told_as_own(folder: &Folder, me: DeviceId, peer: DeviceId, own: &[u64]) -> bool
+    ensures { result ≡ is_told_as_own me peer own.now folder.now }
+{
+    has_another_index(folder, me, own) && has(folder, peer) && !has_another_index(folder, peer, &[])
+}
+
+// Whether a folder has a device with the number of an index that is none of these.
+fn has_another_index(folder: &Folder, device: DeviceId, but: &[u64]) -> bool
+    ensures { result ≡ has_another_index device but.now folder.now }
+{
+    folder
+        .devices
+        .as_slice()
+        .iter()
+        .any(|of| is_with_another_index(of, device, but))
+}
+
+fn is_with_another_index(of: &Device, device: DeviceId, but: &[u64]) -> bool
+    ensures { result ≡ is_with_another_index device but.now of.now }
+{
+    of.id.as_slice() == device.bytes().as_slice()
+        && of.index_id != 0
+        && !is_one_of(of.index_id, but)
+}
+
+fn is_one_of(number: u64, of: &[u64]) -> bool
+    ensures { result ≡ list_any (λ n. n == number) of.now }
+{
+    of.iter().any(|it| *it == number)
+}
+
+/// The number of the peer's index that its ClusterConfig has first, or 0 where it has none. Does not allocate. O(n) for n devices of the folders.
+pub(crate) fn first_index(config: &ClusterConfig, peer: DeviceId) -> u64
+    ensures { result ≡ first_index peer config.now }
+{
+    match with_index(config, peer) {
+        Some(folder) => index_in(folder, peer),
+        None => 0,
+    }
+}
+
+// The first folder that has the device with the number of an index.
+fn with_index(config: &ClusterConfig, device: DeviceId) -> Option<&Folder>
+    ensures { option_copied result ≡ find (has_another_index device []) config.now.folders }
+{
+    let folders = config.folders.as_slice();
+    folders
+        .iter()
+        .find(|folder| has_another_index(folder, device, &[]))
+}
+
+// The first such number of a folder.
+fn index_in(folder: &Folder, device: DeviceId) -> u64
+    ensures { result ≡ index_of (find (is_with_another_index device []) folder.now.devices) }
+{
+    match entry_with_index(folder, device) {
+        Some(of) => of.index_id,
+        None => 0,
+    }
+}
+
+fn entry_with_index(folder: &Folder, device: DeviceId) -> Option<&Device>
+    ensures { option_copied result ≡ find (is_with_another_index device []) folder.now.devices }
+{
+    let devices = folder.devices.as_slice();
+    devices
+        .iter()
+        .find(|of| is_with_another_index(of, device, &[]))
 }
 
 /// Whether one of the ids is this one.

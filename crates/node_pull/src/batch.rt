@@ -5,7 +5,7 @@ use crate::puller::pull;
 use crate::turn::Turn;
 use file_store::{FileStore, Gate, GatePlace};
 use folder_calls::FolderCalls;
-use node_context::{Context, Event, Host};
+use node_context::{Context, Event, Host, PullEvent};
 use node_files::Marked;
 use node_folder::{FolderWorker, NodeFolder};
 use node_need::{Miss, Wanted};
@@ -133,7 +133,7 @@ where
     let answer = pull(cx, &mut puller.worker, source, &wanted.name);
     notice(cx, &mut puller.worker, wanted, answer)?;
     let count = batch.wanted.len() as u64;
-    cx.tell(&Event::Pulling(id, place as u64 + 1, count));
+    cx.tell(&Event::Pull(id, PullEvent::At(place as u64 + 1, count)));
     if puller.note(cx.rt, batch.turn, wanted, place, answer)? {
         let said = match answer {
             PullAnswer::Failed(PullFailure::StoreFault) => puller.worker.store.last_error(),
@@ -235,14 +235,15 @@ fn tell_answer<R: Host, G>(
     if cx.is_stopping() && !matches!(answer, PullAnswer::Done(_)) {
         return;
     }
-    match answer {
-        PullAnswer::Done(_) => cx.tell(&Event::Pulled(id, name)),
-        PullAnswer::Failed(why) => cx.tell(&Event::Failed(id, name, why, said)),
-        PullAnswer::Refused(why) => cx.tell(&Event::Refused(id, name, why)),
-        PullAnswer::Unsupported => cx.tell(&Event::Unsupported(id, name)),
+    let event = match answer {
+        PullAnswer::Done(_) => PullEvent::Pulled(name),
+        PullAnswer::Failed(why) => PullEvent::Failed(name, why, said),
+        PullAnswer::Refused(why) => PullEvent::Refused(name, why),
+        PullAnswer::Unsupported => PullEvent::Unsupported(name),
         PullAnswer::NotNeeded
         | PullAnswer::Busy
         | PullAnswer::LocalMoved
-        | PullAnswer::Superseded => {}
-    }
+        | PullAnswer::Superseded => return,
+    };
+    cx.tell(&Event::Pull(id, event));
 }

@@ -3,7 +3,7 @@ use crate::batch::Source;
 use crate::obstacle::pull_past;
 use file_store::{FileStore, Gate, GatePlace};
 use folder_calls::FolderCalls;
-use node_context::{Context, Event, Host, moment};
+use node_context::{Context, Event, Host, PullEvent, moment};
 use node_files::Marked;
 use node_folder::FolderWorker;
 use std::alloc::AllocError;
@@ -78,7 +78,7 @@ where
     W: FolderCalls,
     G: Gate,
 {
-    cx.tell(&Event::Kept(worker.folder.id(), copy));
+    cx.tell(&Event::Pull(worker.folder.id(), PullEvent::Kept(copy)));
     let moment = worker.folder.times.of_new(cx.rt);
     let _ = scan_name(
         cx.rt,

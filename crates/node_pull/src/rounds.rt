@@ -3,7 +3,7 @@ use crate::batch::{Batch, Puller, needs_peer, pull_batch, pull_side};
 use crate::turn::Turn;
 use file_store::{FileStore, Gate};
 use folder_calls::FolderCalls;
-use node_context::{Context, Event, Host};
+use node_context::{Context, Event, Host, PullEvent};
 use node_files::{Marked, Whereabouts};
 use node_folder::NodeFolder;
 use node_need::{PullOrder, Retries, Wanted};
@@ -86,7 +86,7 @@ where
         // (out of memory ends a round; the next one begins anew)
         let has_pulled = matches!(pull_round(cx, folder, is_later), Ok(true));
         if is_full(folder) {
-            cx.tell(&Event::HistoryFull(folder.folder.id()));
+            cx.tell(&Event::Pull(folder.folder.id(), PullEvent::HistoryFull));
             cx.stop();
         }
         pause = if has_pulled {
@@ -219,7 +219,7 @@ fn tell_received<R: Host, W: FolderCalls, G>(
         let device = peer.device;
         let now = calls.known(device).value;
         if now > *known {
-            cx.tell(&Event::Received(id, device, now));
+            cx.tell(&Event::Pull(id, PullEvent::Received(device, now)));
         }
         *known = now;
     }
@@ -245,7 +245,7 @@ fn settle<R: Host, S, W, G>(
         }
         for miss in puller.failed.iter() {
             if miss.lacks_room && retries.lack_room() {
-                cx.tell(&Event::NoRoom(folder.id()));
+                cx.tell(&Event::Pull(folder.id(), PullEvent::NoRoom));
             }
             if let Some(wanted) = wanted.get(miss.place) {
                 retries.begin(wanted.told(miss.told)?, up, miss.lacks_room)?;

@@ -10,5 +10,6 @@ mod threads;
 mod workers;
 
 pub use folders::StartFolder;
+pub use node_peer::{Listener, UnixSockets};
 pub use peers::{ListenFault, Listeners, NodeAddress, NodePeer, Share, listen_all};
 pub use run::{NodeEnd, NodeOutside, NodeStart, run_node};

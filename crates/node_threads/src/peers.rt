@@ -1,20 +1,19 @@
 //! The peers of a node, and how they are reached.
-use node_context::{Connections, NodeFault};
-use node_peer::Reach;
+use node_context::{Connections, Endpoint, NodeFault};
+use node_peer::{Listener, Reach, UnixSockets};
 use std::alloc::{AllocError, AllocFailed, Global};
-use std::io;
-use std::net::{Net, SocketAddr, TcpListener, TcpStream};
-use std::os::fd::OwnedFd;
+use std::io::{self, ErrorKind};
+use std::net::{Net, TcpListener, TcpStream};
 use std::sync::Wait;
 use sync_record::DeviceId;
 
 /// How a connection with a peer comes about.
-#[derive(Clone, Copy, Debug)]
+#[derive(Debug, Drop)]
 pub enum NodeAddress {
-    /// This device makes it, to this address.
-    Dial(SocketAddr),
-    /// The peer makes it, to this address of this device.
-    Listen(SocketAddr),
+    /// This device makes it, there.
+    Dial(Endpoint),
+    /// The peer makes it, at this one of this device.
+    Listen(Endpoint),
 }
 
 /// A folder that is shared with a peer.
@@ -65,28 +64,37 @@ impl<T: Drop> From<AllocFailed<T>> for ListenFault {
 }
 
 /// Listens for each peer that makes the connection.
-pub fn listen_all<R: Net<Listener = TcpListener, Stream = TcpStream>>(
-    rt: &R,
-    alloc: Global,
-    peers: &[NodePeer],
-) -> Result<Listeners, ListenFault> {
+pub fn listen_all<R>(rt: &R, alloc: Global, peers: &[NodePeer]) -> Result<Listeners, ListenFault>
+where
+    R: Net<Listener = TcpListener, Stream = TcpStream> + UnixSockets,
+{
     let mut reaches = Vec::with_capacity(alloc, peers.len())?;
     for (place, peer) in peers.iter().enumerate() {
-        match reach_of(rt, &peer.address) {
+        match reach_of(rt, alloc, &peer.address) {
             Ok(reach) => reaches.push(reach)?,
-            Err(error) => return Err(ListenFault::Address { peer: place, error }),
+            Err(error) => return Err(listen_fault(place, error)),
         }
     }
     Ok(Listeners { reaches })
 }
 
-fn reach_of<R: Net<Listener = TcpListener, Stream = TcpStream>>(
-    rt: &R,
-    address: &NodeAddress,
-) -> io::Result<Reach> {
+fn reach_of<R>(rt: &R, alloc: Global, address: &NodeAddress) -> io::Result<Reach>
+where
+    R: Net<Listener = TcpListener, Stream = TcpStream> + UnixSockets,
+{
     match address {
-        NodeAddress::Dial(address) => Ok(Reach::Dial(*address)),
-        NodeAddress::Listen(address) => Ok(Reach::Listen(TcpListener::bind(rt, *address)?)),
+        NodeAddress::Dial(endpoint) => Ok(Reach::Dial(endpoint.copy(alloc)?)),
+        NodeAddress::Listen(endpoint) => {
+            let copy = endpoint.copy(alloc)?;
+            Ok(Reach::Listen(Listener::new(rt, endpoint)?, copy))
+        }
+    }
+}
+
+fn listen_fault(peer: usize, error: io::Error) -> ListenFault {
+    match error.kind() {
+        ErrorKind::OutOfMemory => ListenFault::OutOfMemory,
+        _ => ListenFault::Address { peer, error },
     }
 }
 
@@ -96,9 +104,9 @@ pub(crate) fn end_at_stop<R: Wait>(
     connections: &Connections,
     reach: &Reach,
 ) -> Result<(), NodeFault> {
-    if let Reach::Listen(listener) = reach {
-        let clone = listener.try_clone().map_err(no_address)?;
-        connections.add_listener(rt, TcpStream::from(OwnedFd::from(clone)))?;
+    if let Reach::Listen(listener, _) = reach {
+        let handle = listener.handle().map_err(no_address)?;
+        connections.add_listener(rt, handle)?;
     }
     Ok(())
 }

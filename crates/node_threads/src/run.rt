@@ -111,7 +111,15 @@ where
     // (made now, so that what is recorded from here on isn't lost for want of them)
     let cores = Vec::with_capacity(alloc, opened.shared.len())?;
     let rooms = rooms_for(alloc, opened.shared.len())?;
-    let left = run_opened(rt, alloc, &opened, reaches, outside, lines, output)?;
+    let left = run_opened(
+        rt,
+        alloc,
+        &opened,
+        reaches.as_slice(),
+        outside,
+        lines,
+        output,
+    )?;
     let saved = saved_of(rt, alloc, &opened).unwrap_or(Vec::new(alloc));
     let is_behind = opened.keeper.is_behind(rt);
     let Opened { shared, .. } = opened;
@@ -149,7 +157,7 @@ fn run_opened<'x, R, T, C, G, J, L, O>(
     rt: &'x R,
     alloc: Global,
     opened: &'x Opened<C>,
-    reaches: Vec<Reach>,
+    reaches: &'x [Reach],
     outside: NodeOutside<'x, G, J, T>,
     lines: L,
     output: &mut O,
@@ -199,7 +207,7 @@ where
 fn run_members<'x, R, G, F, C, J, L, O>(
     cx: &Context<'x, R, G>,
     work: &Work<'_, 'x, F>,
-    reaches: Vec<Reach>,
+    reaches: &'x [Reach],
     shared: &'x [SharedFolder<C>],
     journal: &mut J,
     lines: L,
@@ -245,7 +253,7 @@ struct Tools<'a, 'j, C: FolderCore + Drop, R, J> {
 fn run_threads<'x, R, G, F, C, J, L, O>(
     cx: &Context<'x, R, G>,
     work: &Work<'_, 'x, F>,
-    reaches: Vec<Reach>,
+    reaches: &'x [Reach],
     tools: Tools<'x, '_, C, R, J>,
     callers: &mut Callers<Member<'x, C, R>>,
     lines: L,

@@ -56,7 +56,7 @@ pub(crate) struct Answered<L> {
 pub(crate) fn work_and_save<'x, R, G, F, J, C>(
     cx: &Context<'x, R, G>,
     work: &Work<'_, 'x, F>,
-    reaches: Vec<Reach>,
+    reaches: &'x [Reach],
     workers: &mut [Member<'x, C, R>],
     saver: &mut Saver<'_, J>,
     savers: &mut [Member<'x, C, R>],
@@ -90,7 +90,7 @@ fn work_by_members<'x, R, G, F, C>(
     cx: &Context<'x, R, G>,
     files: &F,
     node: Node<'x>,
-    reaches: Vec<Reach>,
+    reaches: &'x [Reach],
     callers: &mut [Member<'x, C, R>],
 ) -> Result<Kept, NodeFault>
 where
@@ -182,7 +182,7 @@ fn work_by<'x, R, G, F, W>(
     cx: &Context<'x, R, G>,
     files: &F,
     node: Node<'x>,
-    reaches: Vec<Reach>,
+    reaches: &'x [Reach],
     callers: &mut [W],
 ) -> Result<Kept, NodeFault>
 where

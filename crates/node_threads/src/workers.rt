@@ -107,7 +107,7 @@ pub(crate) fn workers_of<'x, 'b, F: FolderFiles, W: FolderCalls, R: Wait>(
     alloc: Global,
     files: &F,
     node: Node<'x>,
-    reaches: Vec<Reach>,
+    reaches: &'x [Reach],
     callers: &mut Lender<'x, 'b, W, R>,
 ) -> Result<Workers<'x, F::Store, WorkerCalls<'x, 'b, W, R>>, NodeFault> {
     let mut folders = Vec::with_capacity(alloc, node.folders.len())?;
@@ -223,7 +223,7 @@ fn peers_of<'x, 'b, F: FolderFiles, W: FolderCalls, R: Wait>(
     alloc: Global,
     files: &F,
     node: Node<'x>,
-    reaches: Vec<Reach>,
+    reaches: &'x [Reach],
     callers: &mut Lender<'x, 'b, W, R>,
 ) -> Result<Vec<PeerWorker<'x, F::Store, WorkerCalls<'x, 'b, W, R>>>, NodeFault> {
     let mut workers = Vec::with_capacity(alloc, node.peers.len())?;

@@ -1,0 +1,140 @@
+//! The text of what happened to a folder.
+use crate::event::{PullEvent, ScanEvent, SkipWhy};
+use crate::peer_line::push_device;
+use record_lines::{push_name, push_text};
+use std::io::{self, Write};
+use sync_names::SafeName;
+use sync_pull::PullFailure;
+use sync_scan::ScanSum;
+
+/// Appends what happened to the files of the folder.
+pub(crate) fn push_scan_event(
+    line: &mut Vec<u8>,
+    folder: &str,
+    event: &ScanEvent,
+) -> io::Result<()> {
+    match event {
+        ScanEvent::Keeping(path, count) => {
+            write!(line, "folder {folder}: {count} names recorded, in ")?;
+            Ok(push_text(line, path)?)
+        }
+        ScanEvent::Scanned(sum) => {
+            push_sum(line, folder, sum)?;
+            push_stop(line, sum)
+        }
+        ScanEvent::Ended(sum) => {
+            push_sum(line, folder, sum)?;
+            Ok(line.extend_from_slice(b": stopped")?)
+        }
+        ScanEvent::At(at, of) => write!(line, "scanning {folder} {at} of {of}"),
+        ScanEvent::Skipped(name, why) => push_skipped(line, folder, name, *why),
+        ScanEvent::SkippedMore(count) => write!(
+            line,
+            "skipped {folder}: {count} more; the command `skipped {folder}` lists them"
+        ),
+        ScanEvent::Away(path) => {
+            write!(line, "away {folder}: ")?;
+            push_text(line, path)?;
+            Ok(line.extend_from_slice(b" isn't there, or has no .stfolder")?)
+        }
+        ScanEvent::InUse => write!(line, "away {folder}: another run has it"),
+        ScanEvent::Back => write!(line, "back {folder}"),
+        ScanEvent::Held(path, count) => {
+            write!(line, "held {folder}: none of its {count} names is in ")?;
+            push_text(line, path)?;
+            write!(
+                line,
+                ": is that right? The command `scan {folder}` says so, and all devices delete them"
+            )
+        }
+        ScanEvent::Emptied(count, days) => {
+            write!(
+                line,
+                "trash {folder}: removed {count}, kept for {days} days"
+            )
+        }
+    }
+}
+
+/// Appends what happened to what other devices have of the folder.
+pub(crate) fn push_pull_event(
+    line: &mut Vec<u8>,
+    folder: &str,
+    event: &PullEvent,
+) -> io::Result<()> {
+    match event {
+        PullEvent::Received(peer, sequence) => {
+            write!(line, "received {folder} up to {sequence} from ")?;
+            push_device(line, *peer)
+        }
+        PullEvent::Pulled(name) => push_named(line, "pulled", folder, name),
+        PullEvent::Kept(name) => push_named(line, "conflict copy", folder, name),
+        PullEvent::At(at, of) => write!(line, "pulling {folder} {at} of {of}"),
+        PullEvent::Failed(name, why, said) => {
+            push_named(line, "failed", folder, name)?;
+            write!(line, ": {} {why}{}", why.number(), advice(*why))?;
+            match said {
+                Some(error) => write!(line, ": {error}"),
+                None => Ok(()),
+            }
+        }
+        PullEvent::Refused(name, why) => {
+            push_named(line, "failed", folder, name)?;
+            write!(line, ": {} {why}", why.number())
+        }
+        PullEvent::Unsupported(name) => {
+            push_named(line, "failed", folder, name)?;
+            write!(line, ": it is neither a file nor a directory{UNSUPPORTED}")
+        }
+        PullEvent::HistoryFull => write!(line, "history full {folder}: the node begins anew"),
+        PullEvent::NoRoom => write!(
+            line,
+            "no room {folder}: the disk is full, or a quota: make room, it is tried again each minute"
+        ),
+    }
+}
+
+fn push_sum(line: &mut Vec<u8>, folder: &str, sum: &ScanSum) -> io::Result<()> {
+    write!(
+        line,
+        "scanned {folder} recorded {} unchanged {} other {}",
+        sum.recorded, sum.unchanged, sum.other
+    )
+}
+
+fn push_stop(line: &mut Vec<u8>, sum: &ScanSum) -> io::Result<()> {
+    match sum.stopped {
+        Some(stop) => write!(line, ": {} {stop}", stop.number()),
+        None => Ok(()),
+    }
+}
+
+fn push_skipped(line: &mut Vec<u8>, folder: &str, name: &str, why: SkipWhy) -> io::Result<()> {
+    write!(line, "skipped {folder} ")?;
+    push_text(line, name)?;
+    write!(line, ": {why}")
+}
+
+fn push_named(line: &mut Vec<u8>, word: &str, folder: &str, name: &SafeName) -> io::Result<()> {
+    write!(line, "{word} {folder} ")?;
+    push_name(line, name)?;
+    Ok(())
+}
+
+// What to do about a name that can't be pulled, after a semicolon, where it takes more than to wait.
+fn advice(why: PullFailure) -> &'static str {
+    match why {
+        PullFailure::LocalChanged =>
+            "; the file changed here: it is pulled once the folder was scanned",
+        PullFailure::ConflictNameTaken => "; rename it, or what has the name of its conflict copy",
+        PullFailure::NotEmpty =>
+            "; the directory is to go, but something is left in it: move that away",
+        PullFailure::BadParent =>
+            "; a file is in the place of its directory: scan the folder, or rename the file",
+        PullFailure::StoreFault | PullFailure::NoSource => "",
+    }
+}
+
+// The same, of what is neither a file nor a directory.
+const UNSUPPORTED: &str =
+    "; it is not made here: remove it where it was made, or put a file in its place there";
