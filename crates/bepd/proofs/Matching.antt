@@ -201,7 +201,7 @@ asked_at words folder request.Pair given h = pair_not_best (subcommand_of bepd_a
 asked_at words folder (request.Run path) given h = run_not_best (subcommand_of bepd_app words) folder path.now given.1 h.0.1
 asked_at words folder (request.QuietRun path) given h = run_not_best (subcommand_of bepd_app words) folder path.now given.1 h.0.1
 asked_at words folder (request.Check path) given h = run_not_best (subcommand_of bepd_app words) folder path.now given.1 h.1
-asked_at words folder (request.New directory) given h = new_not_best (subcommand_of bepd_app words) folder directory.now given.1 h.1
+asked_at words folder (request.New new) given h = new_not_best (subcommand_of bepd_app words) folder new.directory.now given.1 h.1
 asked_at words folder (request.Text t) given h = no_mistake words folder h.0 given h.1 (λ out. elim h.2 [
   | inl help ↦ help_not (sym help ∙ out)
   | inr version ↦ version_not (sym version ∙ out)
@@ -239,7 +239,7 @@ pair_asked_at words request.Pair given h = tt
 pair_asked_at words (request.Run path) given h = run_not_pair (subcommand_of bepd_app words) path.now h.0.1 given.1
 pair_asked_at words (request.QuietRun path) given h = run_not_pair (subcommand_of bepd_app words) path.now h.0.1 given.1
 pair_asked_at words (request.Check path) given h = run_not_pair (subcommand_of bepd_app words) path.now h.1 given.1
-pair_asked_at words (request.New directory) given h = new_not_pair (subcommand_of bepd_app words) directory.now h.1 given.1
+pair_asked_at words (request.New new) given h = new_not_pair (subcommand_of bepd_app words) new.directory.now h.1 given.1
 pair_asked_at words (request.Text t) given h = no_pair_mistake words h.0 given h.1 (λ out. elim h.2 [
   | inl help ↦ help_not (sym help ∙ out)
   | inr version ↦ version_not (sym version ∙ out)
@@ -280,7 +280,7 @@ run_asked_at words path request.Pair given h = run_not_pair (subcommand_of bepd_
 run_asked_at words path (request.Run p) given h = is_some_of (config_at (subcommand_of bepd_app words)) p.now path h.0.1 given.0.1
 run_asked_at words path (request.QuietRun p) given h = true≢false (sym h.1 ∙ given.1)
 run_asked_at words path (request.Check p) given h = true≢false (sym h.2 ∙ given.0.2)
-run_asked_at words path (request.New directory) given h = new_not_run (subcommand_of bepd_app words) path directory.now given.0.1 h.1
+run_asked_at words path (request.New new) given h = new_not_run (subcommand_of bepd_app words) path new.directory.now given.0.1 h.1
 run_asked_at words path (request.Text t) given h = no_run_mistake words path h.0 given h.1 (λ out. elim h.2 [
   | inl help ↦ help_not (sym help ∙ out)
   | inr version ↦ version_not (sym version ∙ out)

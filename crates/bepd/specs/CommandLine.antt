@@ -1,6 +1,6 @@
--- The command lines of `bepd` (own rule): `best FOLDER`, `pair`, `run --config FILE`, `new DIRECTORY`, and calls for help and the version. How words become commands and
+-- The command lines of `bepd` (own rule): `best FOLDER`, `pair`, `run --config FILE`, `new DIRECTORY` with what is for Syncthing, and calls for help and the version. How words become commands and
 -- values is the rule of `clap`.
-use Rattle.std.specs.Prelude.{◌≡◌, ◌≢◌, ◌⊎◌, ⊤, Bool, true, false, ◌==◌, List, [], ◌∷◌, Option, Some, None, Result, Ok, Err, String, Vec, option_and_then, codes, map, if◌then◌else◌, bytes_eq}
+use Rattle.std.specs.Prelude.{◌≡◌, ◌≢◌, ◌⊎◌, ⊤, Bool, true, false, ◌==◌, List, [], ◌∷◌, Option, Some, None, Result, Ok, Err, String, Vec, option_and_then, option_map, codes, map, if◌then◌else◌, bytes_eq}
 use Rattle.std.specs.declared.alloc.Global.{Global}
 use Rattle.std.specs.IoError.{error_kind}
 use Rattle.std.specs.Borrow.{Bor}
@@ -12,6 +12,7 @@ use Rattle.clap.specs.Simple.{on_top}
 use Rattle.clap.specs.declared.error.kind.ErrorKind.{ErrorKind}
 use Rattle.clap.specs.declared.error.kind.ErrorKind.TheVariants.{DisplayHelp, DisplayVersion, MissingSubcommand, OutOfMemory}
 use Rattle.clap.specs.declared.builder.action.ArgAction.TheVariants.{SetTrue}
+use Rattle.bepd_new.specs.declared.purpose.NewWords.{NewWords}
 use Rattle.bepd.specs.declared.command.Request.{Request}
 use Rattle.bepd.specs.declared.command.Request.TheVariants as request
 
@@ -39,8 +40,20 @@ run_app = with_rule (with_rule (with_rule (new_app (codes "run")) config_rule) c
 abbrev pub directory_rule : Rule
 directory_rule = record (new_rule (codes "DIRECTORY")) { required = true }
 
+abbrev pub syncthing_rule : Rule
+syncthing_rule = record (new_rule (codes "syncthing")) { long = Some (codes "syncthing"); action = Some SetTrue }
+
+abbrev pub dial_rule : Rule
+dial_rule = record (new_rule (codes "dial")) { long = Some (codes "dial"); value_names = 1 }
+
+abbrev pub listen_rule : Rule
+listen_rule = record (new_rule (codes "listen")) { long = Some (codes "listen"); value_names = 1 }
+
+abbrev pub shared_rule : Rule
+shared_rule = record (new_rule (codes "folder")) { long = Some (codes "folder"); value_names = 1 }
+
 abbrev pub fresh_app : App
-fresh_app = with_rule (new_app (codes "new")) directory_rule
+fresh_app = with_rule (with_rule (with_rule (with_rule (with_rule (new_app (codes "new")) directory_rule) syncthing_rule) dial_rule) listen_rule) shared_rule
 
 abbrev pub bepd_app : App
 bepd_app = with_subcommand (with_subcommand (with_subcommand (with_subcommand (on_top (λ s. record s { has_version = true }) (new_app (codes "bepd"))) best_app.top) pair_app.top) run_app.top) fresh_app.top
@@ -68,6 +81,22 @@ quiet_at command = value_at (codes "run") (codes "quiet") command
 -- the value of DIRECTORY, where the command is `new`
 abbrev pub directory_at : Option (Text × List Row) → Option Text
 directory_at command = value_at (codes "new") (codes "DIRECTORY") command
+
+-- the value of `--syncthing`, where the command is `new`
+abbrev pub syncthing_at : Option (Text × List Row) → Option Text
+syncthing_at command = value_at (codes "new") (codes "syncthing") command
+
+-- the value of `--dial`, where the command is `new`
+abbrev pub dial_at : Option (Text × List Row) → Option Text
+dial_at command = value_at (codes "new") (codes "dial") command
+
+-- the value of `--listen`, where the command is `new`
+abbrev pub listen_at : Option (Text × List Row) → Option Text
+listen_at command = value_at (codes "new") (codes "listen") command
+
+-- the value of `--folder`, where the command is `new`
+abbrev pub shared_at : Option (Text × List Row) → Option Text
+shared_at command = value_at (codes "new") (codes "folder") command
 
 abbrev pub is_true : Option Text → Bool
 is_true None = false
@@ -99,9 +128,15 @@ IsRunGiven words path check = (faults words ≡ []) × (config_at (subcommand_of
 abbrev pub IsQuiet : List Text → Bool → Type 0
 IsQuiet words quiet = is_true (quiet_at (subcommand_of bepd_app words)) ≡ quiet
 
--- the words call for a first configuration in this directory
-abbrev pub IsNewGiven : List Text → Text → Type 0
-IsNewGiven words directory = (faults words ≡ []) × (directory_at (subcommand_of bepd_app words) ≡ Some directory)
+-- the words call for a first configuration: its directory, whether its peer has Syncthing, where that is or is to connect, and a folder
+abbrev pub IsNewGiven : List Text → NewWords → Type 0
+IsNewGiven words new =
+    (faults words ≡ [])
+    × (directory_at (subcommand_of bepd_app words) ≡ Some new.directory.now)
+    × (is_true (syncthing_at (subcommand_of bepd_app words)) ≡ new.is_for_syncthing)
+    × (dial_at (subcommand_of bepd_app words) ≡ option_map (λ s. s.now) new.dial)
+    × (listen_at (subcommand_of bepd_app words) ≡ option_map (λ s. s.now) new.listen)
+    × (shared_at (subcommand_of bepd_app words) ≡ option_map (λ s. s.now) new.folder)
 
 -- the words name this command
 abbrev pub IsNamed : List Text → Request → Type 0
@@ -110,7 +145,7 @@ IsNamed words request.Pair = IsPairGiven words
 IsNamed words (request.Run path) = IsRunGiven words path.now false × IsQuiet words false
 IsNamed words (request.QuietRun path) = IsRunGiven words path.now false × IsQuiet words true
 IsNamed words (request.Check path) = IsRunGiven words path.now true
-IsNamed words (request.New directory) = IsNewGiven words directory.now
+IsNamed words (request.New new) = IsNewGiven words new
 IsNamed words _ = ⊥
 
 -- the words name no command, for this reason
@@ -127,7 +162,7 @@ IsAnswered kind request.Pair = ⊥
 IsAnswered kind (request.Run path) = ⊥
 IsAnswered kind (request.QuietRun path) = ⊥
 IsAnswered kind (request.Check path) = ⊥
-IsAnswered kind (request.New directory) = ⊥
+IsAnswered kind (request.New new) = ⊥
 IsAnswered kind (request.Text text) = (kind ≡ DisplayHelp) ⊎ (kind ≡ DisplayVersion)
 IsAnswered kind (request.Refused text) = (kind ≢ DisplayHelp) × (kind ≢ DisplayVersion) × (kind ≢ OutOfMemory)
 IsAnswered kind request.OutOfMemory = ⊤
@@ -139,7 +174,7 @@ IsAsked words request.Pair = IsPairGiven words
 IsAsked words (request.Run path) = IsRunGiven words path.now false × IsQuiet words false
 IsAsked words (request.QuietRun path) = IsRunGiven words path.now false × IsQuiet words true
 IsAsked words (request.Check path) = IsRunGiven words path.now true
-IsAsked words (request.New directory) = IsNewGiven words directory.now
+IsAsked words (request.New new) = IsNewGiven words new
 IsAsked words asked = (kind : ErrorKind) × IsErrorAt words kind × IsAnswered kind asked
 
 -- and words that can't be read: only out of memory isn't their fault

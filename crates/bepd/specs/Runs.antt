@@ -82,7 +82,7 @@ Does Pair outcome old new = Plays outcome old new
 Does (Run path) outcome old new = TellsRun outcome old new
 Does (QuietRun path) outcome old new = RunsNode outcome old new
 Does (Check path) outcome old new = (new.input ≡ old.input) × RunsNode outcome old new
-Does (New directory) outcome old new = (new.input ≡ old.input) × RunsNode outcome old new
+Does (New words) outcome old new = (new.input ≡ old.input) × RunsNode outcome old new
 Does (Text text) outcome old new =
     (new.input ≡ old.input) × Shows (string_bytes text) outcome old.output new.output old.errors new.errors
 Does (Refused text) outcome old new = (new.input ≡ old.input) × (new.output ≡ old.output) × (outcome.status ≡ 1)

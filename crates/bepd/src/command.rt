@@ -1,7 +1,7 @@
 //! The command line.
 ghost use Rattle.std.specs.Prelude.{◌≡◌, ◌⊎◌, false, Some, IfErr, IfOk, map, option_map};
 ghost use Rattle.std.specs.String.{string_bytes};
-ghost use Rattle.bepd.specs.CommandLine.{IsAnswered, IsNamed, IsRequested, IsErrorAt, bepd_app, best_app, check_at, check_rule, config_at, config_rule, directory_at, folder_at, fresh_app, is_pair, is_true, pair_app, quiet_at, quiet_rule, run_app};
+ghost use Rattle.bepd.specs.CommandLine.{IsAnswered, IsNamed, IsRequested, IsErrorAt, bepd_app, best_app, check_at, check_rule, config_at, config_rule, dial_at, dial_rule, directory_at, folder_at, fresh_app, is_pair, is_true, listen_at, listen_rule, pair_app, quiet_at, quiet_rule, run_app, shared_at, shared_rule, syncthing_at, syncthing_rule};
 ghost use Rattle.clap.specs.declared.builder.command.Command.{out-Command};
 ghost use Rattle.clap.specs.Words.{app_of, kind_of, rule_of, subcommand_rows_of};
 
@@ -10,10 +10,14 @@ mod new_help;
 mod pair_help;
 mod run_help;
 
+use bepd_new::NewWords;
 use best_help::{BEST_ABOUT, BEST_FOLDER, BEST_LONG_ABOUT, BEST_STATUSES};
 use clap::error::ErrorKind;
 use clap::{Arg, ArgAction, ArgMatches, Command, Error};
-use new_help::{NEW_ABOUT, NEW_DIRECTORY, NEW_LONG_ABOUT, NEW_STATUSES};
+use new_help::{
+    NEW_ABOUT, NEW_DIAL, NEW_DIRECTORY, NEW_FOLDER, NEW_LISTEN, NEW_LONG_ABOUT, NEW_STATUSES,
+    NEW_SYNCTHING,
+};
 use pair_help::{PAIR_ABOUT, PAIR_LONG_ABOUT, PAIR_STATUSES};
 pub(crate) use run_help::run_about;
 use run_help::{RUN_ABOUT, RUN_CHECK, RUN_CONFIG, RUN_QUIET, RUN_STATUSES};
@@ -46,8 +50,8 @@ pub(crate) enum Request<'a> {
     QuietRun(&'a str),
     /// What a node by the configuration in this file would do.
     Check(&'a str),
-    /// A first configuration in this directory.
-    New(&'a str),
+    /// A first configuration, by these words.
+    New(NewWords<'a>),
     /// This text: the help or the version.
     Text(String),
     /// Nothing that the program does. The text says why.
@@ -114,7 +118,13 @@ fn command_of<'a>(
         return Ok(Request::Run(path));
     }
     if let Some(directory) = directory_in(&matches) {
-        return Ok(Request::New(directory));
+        return Ok(Request::New(NewWords {
+            directory,
+            is_for_syncthing: is_syncthing(&matches),
+            dial: dial_in(&matches),
+            listen: listen_in(&matches),
+            folder: shared_in(&matches),
+        }));
     }
     match folder_in(&matches) {
         Some(folder) => Ok(Request::Best(folder)),
@@ -190,6 +200,41 @@ fn directory_in<'a>(matches: &ArgMatches<'a>) -> Option<&'a str>
     ensures { option_map (λ s. s.now) result ≡ directory_at (subcommand_rows_of matches.now) }
 {
     matches.subcommand_matches("new")?.get_str("DIRECTORY")
+}
+
+/// Whether the command is `new` with `--syncthing`.
+fn is_syncthing(matches: &ArgMatches<'_>) -> bool
+    ensures { result ≡ is_true (syncthing_at (subcommand_rows_of matches.now)) }
+{
+    is_true(syncthing_in(matches))
+}
+
+/// The value of `--syncthing`, where the command is `new`.
+fn syncthing_in<'a>(matches: &ArgMatches<'a>) -> Option<&'a str>
+    ensures { option_map (λ s. s.now) result ≡ syncthing_at (subcommand_rows_of matches.now) }
+{
+    matches.subcommand_matches("new")?.get_str("syncthing")
+}
+
+/// The value of `--dial`, where the command is `new`.
+fn dial_in<'a>(matches: &ArgMatches<'a>) -> Option<&'a str>
+    ensures { option_map (λ s. s.now) result ≡ dial_at (subcommand_rows_of matches.now) }
+{
+    matches.subcommand_matches("new")?.get_str("dial")
+}
+
+/// The value of `--listen`, where the command is `new`.
+fn listen_in<'a>(matches: &ArgMatches<'a>) -> Option<&'a str>
+    ensures { option_map (λ s. s.now) result ≡ listen_at (subcommand_rows_of matches.now) }
+{
+    matches.subcommand_matches("new")?.get_str("listen")
+}
+
+/// The value of `--folder`, where the command is `new`.
+fn shared_in<'a>(matches: &ArgMatches<'a>) -> Option<&'a str>
+    ensures { option_map (λ s. s.now) result ≡ shared_at (subcommand_rows_of matches.now) }
+{
+    matches.subcommand_matches("new")?.get_str("folder")
 }
 
 /// The error for words that are not UTF-8.
@@ -297,6 +342,50 @@ fn run_command<'a>(
         .arg(quiet)
 }
 
+/// `--syncthing`.
+fn syncthing_arg<'a>(alloc: Global) -> Arg<'a>
+    ensures rule { rule_of result ≡ syncthing_rule }
+    ensures local { result.global ≡ false }
+{
+    Arg::new(alloc, "syncthing")
+        .long("syncthing")
+        .action(ArgAction::SetTrue)
+        .help(NEW_SYNCTHING)
+}
+
+/// `--dial HOST:PORT`.
+fn dial_arg<'a>(alloc: Global) -> Arg<'a>
+    ensures rule { rule_of result ≡ dial_rule }
+    ensures local { result.global ≡ false }
+{
+    Arg::new(alloc, "dial")
+        .long("dial")
+        .value_name("HOST:PORT")
+        .help(NEW_DIAL)
+}
+
+/// `--listen ADDRESS:PORT`.
+fn listen_arg<'a>(alloc: Global) -> Arg<'a>
+    ensures rule { rule_of result ≡ listen_rule }
+    ensures local { result.global ≡ false }
+{
+    Arg::new(alloc, "listen")
+        .long("listen")
+        .value_name("ADDRESS:PORT")
+        .help(NEW_LISTEN)
+}
+
+/// `--folder ID=PATH`.
+fn shared_arg<'a>(alloc: Global) -> Arg<'a>
+    ensures rule { rule_of result ≡ shared_rule }
+    ensures local { result.global ≡ false }
+{
+    Arg::new(alloc, "folder")
+        .long("folder")
+        .value_name("ID=PATH")
+        .help(NEW_FOLDER)
+}
+
 /// The command `new`, and what it takes.
 fn fresh_command<'a>(alloc: Global) -> Result<Command<'a>, AllocError>
     ensures { IfOk result (λ command.
@@ -305,11 +394,19 @@ fn fresh_command<'a>(alloc: Global) -> Result<Command<'a>, AllocError>
     let directory = Arg::new(alloc, "DIRECTORY")
         .required(true)
         .help(NEW_DIRECTORY);
+    let syncthing = syncthing_arg(alloc);
+    let dial = dial_arg(alloc);
+    let listen = listen_arg(alloc);
+    let shared = shared_arg(alloc);
     Command::new(alloc, "new")
         .about(NEW_ABOUT)
         .long_about(NEW_LONG_ABOUT)
         .after_help(NEW_STATUSES)
-        .arg(directory)
+        .arg(directory)?
+        .arg(syncthing)?
+        .arg(dial)?
+        .arg(listen)?
+        .arg(shared)
 }
 
 /// The program with its commands.

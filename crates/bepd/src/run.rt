@@ -6,6 +6,8 @@ ghost use Rattle.bepd.specs.CommandLine.{AreForTelling, IsCommandLine, IsRequest
 ghost use Rattle.bepd.specs.Runs.{Does, Ends, EndsRun, Lists, Plays, Shows, TellsRun, streams};
 ghost use Rattle.bepd.specs.declared.command.Request.{Request as AnyRequest};
 ghost use Rattle.bepd.specs.declared.ending.Ending.TheVariants.{Done};
+ghost use Rattle.bepd_new.specs.Failures.{new_failure_status, new_failure_text};
+ghost use Rattle.bepd_run.specs.Failures.{run_failure_status, run_failure_text};
 
 use crate::best::best;
 use crate::command::{Request, request_of, run_about};
@@ -13,9 +15,10 @@ use crate::counted::{CountedReader, CountedWriter};
 use crate::ending::{Ending, Failure};
 use crate::playing::ending_of;
 use crate::received::own_device;
+use bepd_new::{NewFailure, new_config};
 use bepd_pair::pair;
 use bepd_run::{
-    ProgressStyle, RunFailure, RunStyle, StateFiles, Stores, check_config, new_config, run_config,
+    ProgressStyle, RunFailure, RunStyle, StateFiles, Stores, UnixSockets, check_config, run_config,
     tell_failure,
 };
 use folder_db::IndexedFolder;
@@ -70,6 +73,7 @@ where
         + StateFiles
         + Sync
         + Threads
+        + UnixSockets
         + Wait,
     S: Stores + Sync,
     S::Store: Send,
@@ -135,9 +139,9 @@ where
             let checked = check_config(rt, alloc, path, &mut output.inner);
             end_run(rt, checked, errors)
         }
-        Request::New(directory) => {
-            let made = new_config(rt, alloc, directory, &mut output.inner);
-            end_run(rt, made, errors)
+        Request::New(words) => {
+            let made = new_config(rt, alloc, &words, &mut output.inner);
+            end_run(rt, made.map_err(run_failure), errors)
         }
         Request::Text(text) => show(text.as_str(), output, errors),
         Request::Refused(text) => Outcome {
@@ -181,6 +185,20 @@ fn end_run<T: AllocGlobal + Net + Wait, E: Write + AsRawFd>(
             status: failure.status(),
             reported: tell_failure(rt, rt.alloc(), &failure, errors),
         },
+    }
+}
+
+/// How it is told why no configuration was made.
+fn run_failure(failure: NewFailure) -> RunFailure
+    ensures status { run_failure_status result ≡ new_failure_status failure }
+    ensures text { run_failure_text result ≡ new_failure_text failure }
+{
+    match failure {
+        NewFailure::Refused(about) => RunFailure::Refused(about),
+        NewFailure::Exists(name) => RunFailure::Exists(name),
+        NewFailure::File(about) => RunFailure::File(about),
+        NewFailure::OutOfMemory => RunFailure::OutOfMemory,
+        NewFailure::ReadOrWrite => RunFailure::ReadOrWrite,
     }
 }
 

@@ -1,30 +1,47 @@
 -- How a connection with a peer comes about, by its configuration (own rule).
-use Rattle.std.specs.Prelude.{ℕ, List}
-use Rattle.std.specs.declared.net.socket_addr.SocketAddr.{SocketAddr}
+use Rattle.std.specs.Prelude.{◌≡◌, ◌++◌, ⊤, ℕ, List, codes, true}
 use Rattle.std.specs.declared.net.socket_addr.SocketAddr.TheVariants.{V4, V6}
-use Rattle.std.specs.declared.net.socket_addr.SocketAddrV4.{SocketAddrV4}
-use Rattle.node_config.specs.Addresses.{IsAddressText}
+use Rattle.node_config.specs.Addresses.{IsAddressText, IsEndpointText, is_socket_path}
+use Rattle.node_config.specs.declared.address.Endpoint as config
 use Rattle.node_config.specs.declared.config.PeerAddress.{PeerAddress}
 use Rattle.node_config.specs.declared.config.PeerAddress.TheVariants as told
+use Rattle.node_context.specs.declared.endpoint.Endpoint.{Endpoint}
+use Rattle.node_context.specs.declared.endpoint.Endpoint.TheVariants.{Ip, Unix}
+use Rattle.node_context.specs.declared.fault.NodeFault.{NodeFault}
+use Rattle.node_context.specs.declared.fault.NodeFault.TheVariants.{BadAddress, OutOfMemory}
 use Rattle.node_threads.specs.declared.peers.NodeAddress.{NodeAddress}
 use Rattle.node_threads.specs.declared.peers.NodeAddress.TheVariants.{Dial, Listen}
+use Rattle.bepd_run.specs.declared.failure.RunFailure.{RunFailure}
+use Rattle.bepd_run.specs.declared.failure.RunFailure.TheVariants as failure
 
--- the text is that of the address
-abbrev pub IsOneAddress : List ℕ → SocketAddr → Type 0
-IsOneAddress text (V4 address) = IsAddressText text address
-IsOneAddress text (V6 address) = ⊥
+-- the text says that the socket is there
+abbrev pub IsEndpoint : List ℕ → Endpoint → Type 0
+IsEndpoint text (Ip (V4 address)) = IsAddressText text address
+IsEndpoint text (Ip (V6 address)) = ⊥
+IsEndpoint text (Unix path) = (text ≡ codes "unix:" ++ path) × (is_socket_path path ≡ true)
 
--- it is that of none
-abbrev pub IsNoAddress : List ℕ → Type 0
-IsNoAddress text = (address : SocketAddrV4) → IsAddressText text address → ⊥
+-- it says so of none
+abbrev pub IsNoEndpoint : List ℕ → Type 0
+IsNoEndpoint text = (endpoint : config.Endpoint) → IsEndpointText text endpoint → ⊥
+
+abbrev pub IsFaultOf : NodeFault → Type 0
+IsFaultOf BadAddress = ⊤
+IsFaultOf OutOfMemory = ⊤
+IsFaultOf _ = ⊥
 
 -- a node dials where the configuration has `dial`, and listens where it has `listen`
 abbrev pub IsReadAs : PeerAddress → NodeAddress → Type 0
-IsReadAs (told.Dial text) (Dial address) = IsOneAddress text address
-IsReadAs (told.Listen text) (Listen address) = IsOneAddress text address
+IsReadAs (told.Dial text) (Dial endpoint) = IsEndpoint text endpoint
+IsReadAs (told.Listen text) (Listen endpoint) = IsEndpoint text endpoint
 IsReadAs _ _ = ⊥
 
--- its text is that of no address
+-- its text says of no socket where it is
 abbrev pub IsUnread : PeerAddress → Type 0
-IsUnread (told.Dial text) = IsNoAddress text
-IsUnread (told.Listen text) = IsNoAddress text
+IsUnread (told.Dial text) = IsNoEndpoint text
+IsUnread (told.Listen text) = IsNoEndpoint text
+
+-- the run ends for that, named, or since memory ran out for it or the name
+abbrev pub IsRefused : PeerAddress → RunFailure → Type 0
+IsRefused address (failure.Address about) = IsUnread address
+IsRefused address failure.OutOfMemory = ⊤
+IsRefused address _ = ⊥

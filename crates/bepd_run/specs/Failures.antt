@@ -16,7 +16,7 @@ use Rattle.node_context.specs.declared.fault.NodeFault.{NodeFault}
 use Rattle.node_context.specs.declared.fault.NodeFault.TheVariants as node
 use Rattle.node_context.specs.Faults.{node_fault_name, node_fault_number}
 use Rattle.bepd_run.specs.declared.failure.RunFailure.{RunFailure}
-use Rattle.bepd_run.specs.declared.failure.RunFailure.TheVariants.{Address, Config, ConfigExists, ConfigWith, File, FolderInUse, Node, NoFolder, OutOfMemory, ReadOrWrite, State, StateAt, StateInUse}
+use Rattle.bepd_run.specs.declared.failure.RunFailure.TheVariants.{Address, Config, ConfigWith, Exists, File, FolderInUse, Node, NoFolder, OutOfMemory, ReadOrWrite, Refused, State, StateAt, StateInUse}
 
 abbrev pub config_status : ConfigFault → ℕ
 config_status (config.NotToml line) = 1
@@ -44,7 +44,8 @@ run_failure_status (StateAt fault about) = state_status fault
 run_failure_status (StateInUse path) = 6
 run_failure_status (FolderInUse path) = 6
 run_failure_status OutOfMemory = 4
-run_failure_status ConfigExists = 5
+run_failure_status (Refused about) = 1
+run_failure_status (Exists name) = 5
 run_failure_status (NoFolder about) = 5
 run_failure_status (Address about) = 7
 run_failure_status (File about) = 5
@@ -74,7 +75,8 @@ run_failure_text (StateAt fault about) = numbered (state_fault_number fault) (st
 run_failure_text (StateInUse path) = codes "fault 63 StateInUse\n" ++ (path ++ codes ": another run has it; end that one, or give this one another state")
 run_failure_text (FolderInUse path) = codes "fault 64 FolderInUse\n" ++ (path ++ codes ": another run has it; end that one, or give the folder another path")
 run_failure_text OutOfMemory = codes "fault 33 OutOfMemory"
-run_failure_text ConfigExists = codes "fault config.toml is there already"
+run_failure_text (Refused about) = codes "fault " ++ about
+run_failure_text (Exists name) = codes "fault " ++ (name ++ codes " is there already")
 run_failure_text (NoFolder about) = codes "fault 40 StoreFault\n" ++ about
 run_failure_text (Address about) = codes "fault 62 BadAddress\n" ++ about
 run_failure_text (File about) = codes "fault read or write\n" ++ about

@@ -8,3 +8,4 @@ pub mod Plans
 pub mod Renumbered
 pub mod Starts
 pub mod Placed
+pub mod Marks

@@ -1,32 +1,37 @@
 //! The addresses of a configuration, read from text.
-ghost use Rattle.std.specs.Prelude.{◌≡◌, IfErr, IfOk, OnErr};
-ghost use Rattle.node_context.specs.declared.fault.NodeFault.TheVariants.{BadAddress};
-ghost use Rattle.bepd_run.specs.Addresses.{IsNoAddress, IsOneAddress, IsReadAs, IsUnread};
+ghost use Rattle.std.specs.Prelude.{◌≡◌, IfErr, IfOk, IsErrOf};
+ghost use Rattle.node_context.specs.declared.fault.NodeFault.TheVariants.{BadAddress, OutOfMemory};
+ghost use Rattle.bepd_run.specs.Addresses.{IsEndpoint, IsFaultOf, IsNoEndpoint, IsReadAs, IsUnread};
 
-use node_config::{PeerAddress, read_address};
-use node_context::NodeFault;
+use bep_messages::Text;
+use node_config::{PeerAddress, read_endpoint};
+use node_context::{Endpoint, NodeFault};
 use node_threads::NodeAddress;
+use std::alloc::Global;
 use std::net::SocketAddr;
 
-/// How a connection with a peer comes about. Fails with `BadAddress` where the text is no address. O(n).
-pub(crate) fn address_of(address: &PeerAddress) -> Result<NodeAddress, NodeFault>
+/// How a connection with a peer comes about. Fails with `BadAddress` where the text says of no socket where it is, and with `OutOfMemory`. O(n).
+pub(crate) fn address_of(alloc: Global, address: &PeerAddress) -> Result<NodeAddress, NodeFault>
     ensures read { IfOk result (IsReadAs address.now) }
-    ensures fault { IfErr result (λ fault. fault ≡ BadAddress) }
-    ensures refused { OnErr result (IsUnread address.now) }
+    ensures fault { IfErr result IsFaultOf }
+    ensures refused { IsErrOf result BadAddress → IsUnread address.now }
 {
     match address {
-        PeerAddress::Dial(text) => Ok(NodeAddress::Dial(socket(text.as_str())?)),
-        PeerAddress::Listen(text) => Ok(NodeAddress::Listen(socket(text.as_str())?)),
+        PeerAddress::Dial(text) => Ok(NodeAddress::Dial(endpoint_of(alloc, text.as_str())?)),
+        PeerAddress::Listen(text) => Ok(NodeAddress::Listen(endpoint_of(alloc, text.as_str())?)),
     }
 }
 
-fn socket(text: &str) -> Result<SocketAddr, NodeFault>
-    ensures read { IfOk result (IsOneAddress text.now) }
-    ensures fault { IfErr result (λ fault. fault ≡ BadAddress) }
-    ensures refused { OnErr result (IsNoAddress text.now) }
+fn endpoint_of(alloc: Global, text: &str) -> Result<Endpoint, NodeFault>
+    ensures read { IfOk result (IsEndpoint text.now) }
+    ensures fault { IfErr result IsFaultOf }
+    ensures refused { IsErrOf result BadAddress → IsNoEndpoint text.now }
 {
-    match read_address(text) {
-        Some(address) => Ok(SocketAddr::V4(address)),
+    match read_endpoint(text) {
+        Some(node_config::Endpoint::Ip(address)) => Ok(Endpoint::Ip(SocketAddr::V4(address))),
+        Some(node_config::Endpoint::Unix(path)) => {
+            Ok(Endpoint::Unix(Text::from_str(alloc, path)?))
+        }
         None => Err(NodeFault::BadAddress),
     }
 }

@@ -7,7 +7,7 @@ use file_dir::{Habits, LockRefusal};
 use folder_core::FolderCore;
 use folder_look::EntryKind;
 use node_config::Config;
-use node_context::{Event, Log};
+use node_context::{Event, Log, PeerEvent, ScanEvent};
 use node_files::Stores;
 use node_folder::FolderSettings;
 use node_threads::{NodeAddress, StartFolder};
@@ -19,15 +19,17 @@ use std::time::Clock;
 pub(crate) fn tell_begun<R: Clock + Wait>(rt: &R, log: &Log, config: &str, node: &NextNode) {
     log.tell(rt, &Event::Begun(config));
     for peer in node.peers.iter() {
-        if let NodeAddress::Listen(address) = peer.address {
-            log.tell(rt, &Event::Listening(peer.device, address));
+        if let NodeAddress::Listen(endpoint) = &peer.address {
+            let event = PeerEvent::Listening(endpoint);
+            log.tell(rt, &Event::Peer(peer.device, event));
         }
     }
     for folder in node.folders.iter() {
         let counts = folder.core.counts();
         let names = counts.files.saturating_add(counts.directories);
         let FolderSettings { id, path, .. } = &folder.settings;
-        log.tell(rt, &Event::Keeping(id.as_str(), path.as_str(), names));
+        let event = ScanEvent::Keeping(path.as_str(), names);
+        log.tell(rt, &Event::Scan(id.as_str(), event));
     }
 }
 

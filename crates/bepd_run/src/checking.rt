@@ -5,14 +5,16 @@ use crate::naming::{config_failure, peer_address};
 use crate::outlook::{tell_outlook, tell_unknown_keys};
 use crate::paths::require_apart;
 use crate::placing::placed_config;
+use device_text::device_text;
 use node_config::{Config, FolderConfig, FolderNumber, Key, PeerAddress, PeerConfig, read_config};
+use node_threads::UnixSockets;
 use std::alloc::Global;
 use std::fs::{File, Files};
 use std::io::Write;
 use std::net::{Net, TcpListener, TcpStream};
 
 /// Reads the configuration at the path, and writes what a node would do by it: a line for this device, its name and its state file, one for each
-/// folder and one for each peer, with the keys and the paths of the configuration; then one for each key that is none, and one for each thing that a run would
+/// folder and one for each peer, with each identity in both of its forms, the keys and the paths of the configuration; then one for each key that is none, and one for each thing that a run would
 /// meet at its start.
 ///
 /// Fails where [`run_config`](crate::run_config) would by the configuration or an address that can't be read; then nothing is written. Where it would end
@@ -24,7 +26,10 @@ pub fn check_config<R, O>(
     output: &mut O,
 ) -> Result<(), RunFailure>
 where
-    R: Files<File = File> + Net<Listener = TcpListener, Stream = TcpStream> + StateFiles,
+    R: Files<File = File>
+        + Net<Listener = TcpListener, Stream = TcpStream>
+        + StateFiles
+        + UnixSockets,
     O: Write,
 {
     let text = read_config_file(rt, alloc, path)?;
@@ -49,7 +54,8 @@ where
 
 fn tell<O: Write>(alloc: Global, config: &Config, output: &mut O) -> Result<(), RunFailure> {
     let device = hex::encode(alloc, config.device.bytes())?;
-    writeln!(output, "device {device}")?;
+    let shown = device_text(alloc, &config.device)?;
+    writeln!(output, "device {device} {shown}")?;
     writeln!(output, "name {:?}", config.name.as_str())?;
     writeln!(output, "state {:?}", config.state.as_str())?;
     for folder in config.folders.as_slice() {
@@ -86,11 +92,12 @@ fn tell_peer<O: Write>(
     output: &mut O,
 ) -> Result<(), RunFailure> {
     let device = hex::encode(alloc, peer.device.bytes())?;
+    let shown = device_text(alloc, &peer.device)?;
     let (word, address) = match &peer.address {
         PeerAddress::Dial(text) => ("dial", text.as_str()),
         PeerAddress::Listen(text) => ("listen", text.as_str()),
     };
-    write!(output, "peer {device} {word} {address} folders")?;
+    write!(output, "peer {device} {shown} {word} {address} folders")?;
     for place in peer.folders.as_slice() {
         if let Some(folder) = config.folders.as_slice().get(*place) {
             write!(output, " {:?}", folder.id.as_str())?;

@@ -34,8 +34,10 @@ pub enum RunFailure {
     Node(NodeFault),
     /// Memory ran out.
     OutOfMemory,
-    /// A configuration that was to be made is there already.
-    ConfigExists,
+    /// The words for a first configuration, or a certificate, are refused. This says what is wrong.
+    Refused(Text),
+    /// A file that was to be made is there already: this one.
+    Exists(Text),
     /// A folder's path is no directory. This says whose, and what to do.
     NoFolder(Text),
     /// An address can't be read, or not be listened on. This says which one, and why.
@@ -47,7 +49,7 @@ pub enum RunFailure {
 }
 
 impl RunFailure {
-    /// The exit status of a program that ends so: 1 for a configuration that is refused, 4 where memory ran out, 6 for a state file that is
+    /// The exit status of a program that ends so: 1 for a configuration or words that are refused, 4 where memory ran out, 6 for a state file that is
     /// refused or that another run has and for a folder that another run has, 7 for an address, and 5 for all else that can't be read or written.
     pub fn status(&self) -> u8
         ensures { result ≡ run_failure_status self.now }
@@ -68,7 +70,8 @@ impl RunFailure {
             RunFailure::Node(NodeFault::BadAddress) => 7,
             RunFailure::Node(NodeFault::OpenPulls) => 5,
             RunFailure::OutOfMemory => 4,
-            RunFailure::ConfigExists => 5,
+            RunFailure::Refused(_) => 1,
+            RunFailure::Exists(_) => 5,
             RunFailure::NoFolder(_) => 5,
             RunFailure::Address(_) => 7,
             RunFailure::File(_) => 5,
@@ -105,7 +108,8 @@ impl Display for RunFailure {
                 path.as_str()
             ),
             RunFailure::OutOfMemory => f.write_str("fault 33 OutOfMemory"),
-            RunFailure::ConfigExists => f.write_str("fault config.toml is there already"),
+            RunFailure::Refused(about) => write!(f, "fault {}", about.as_str()),
+            RunFailure::Exists(name) => write!(f, "fault {} is there already", name.as_str()),
             RunFailure::NoFolder(about) => { write!(f, "fault 40 StoreFault\n{}", about.as_str()) }
             RunFailure::Address(about) => write!(f, "fault 62 BadAddress\n{}", about.as_str()),
             RunFailure::File(about) => write!(f, "fault read or write\n{}", about.as_str()),

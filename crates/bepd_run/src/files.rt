@@ -46,6 +46,9 @@ pub trait StateFiles {
 
     /// Removes the file at the path, if one is there.
     fn remove(&self, path: &str);
+
+    /// Whether a directory is at the path, links followed.
+    fn is_directory(&self, path: &str) -> bool;
 }
 
 impl<R: Files<File = File>> StateFiles for R {
@@ -84,6 +87,13 @@ impl<R: Files<File = File>> StateFiles for R {
     fn remove(&self, path: &str) {
         // (what stays is taken for nothing)
         let _ = fs::remove_file(self, path);
+    }
+
+    fn is_directory(&self, path: &str) -> bool {
+        match fs::metadata(self, path) {
+            Ok(found) => found.is_dir(),
+            Err(_) => false,
+        }
     }
 }
 

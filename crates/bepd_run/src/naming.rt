@@ -1,7 +1,7 @@
 //! What a failure is named by: a file, a folder or an address, and what is wrong with it.
-ghost use Rattle.std.specs.Prelude.{◌≡◌, IfErr, IfOk, OnErr};
+ghost use Rattle.std.specs.Prelude.{◌≡◌, IfErr, IfOk};
 ghost use Rattle.std.specs.IoError.{error_kind};
-ghost use Rattle.bepd_run.specs.Addresses.{IsReadAs, IsUnread};
+ghost use Rattle.bepd_run.specs.Addresses.{IsReadAs, IsRefused};
 ghost use Rattle.bepd_run.specs.Naming.{IsAt, IsOfAddress, IsOfConfig, IsOfFile};
 ghost use Rattle.bepd_run.specs.declared.failure.RunFailure.TheVariants as failure;
 
@@ -9,6 +9,7 @@ use crate::addresses::address_of;
 use crate::failure::RunFailure;
 use bep_messages::Text;
 use node_config::{Config, ConfigFault, PeerAddress, PeerConfig, unknown_keys};
+use node_context::NodeFault;
 use node_state::StateFault;
 use node_threads::{ListenFault, NodeAddress};
 use std::alloc::Global;
@@ -84,18 +85,18 @@ pub(crate) fn peer_address(
     peer: &PeerConfig,
 ) -> Result<NodeAddress, RunFailure>
     ensures read { IfOk result (IsReadAs peer.now.address) }
-    ensures refused { OnErr result (IsUnread peer.now.address) }
-    ensures named { IfErr result IsOfAddress }
+    ensures refused { IfErr result (IsRefused peer.now.address) }
 {
-    match address_of(&peer.address) {
+    match address_of(alloc, &peer.address) {
         Ok(address) => Ok(address),
-        Err(_) => Err(address_failure(alloc, place, peer, UNREADABLE)),
+        Err(NodeFault::BadAddress) => Err(address_failure(alloc, place, peer, UNREADABLE)),
+        Err(_) => Err(RunFailure::OutOfMemory),
     }
 }
 
 // What an address is.
 const UNREADABLE: &str =
-    "is neither an IPv4 address and a port, as 192.0.2.1:22000, nor localhost and a port";
+    "is neither an IPv4 address and a port, as 192.0.2.1:22000, nor localhost and a port, nor unix: and the whole path of a socket, of 107 bytes at most";
 
 /// An address of the configuration can't be listened on.
 pub(crate) fn listen_failure(alloc: Global, config: &Config, fault: ListenFault) -> RunFailure {

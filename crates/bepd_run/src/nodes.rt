@@ -18,7 +18,8 @@ use node_files::Stores;
 use node_resume::{Share, index_id_at, resume_all, state_left};
 use node_state::State;
 use node_threads::{
-    Listeners, NodeEnd, NodeOutside, NodePeer, NodeStart, StartFolder, listen_all, run_node,
+    Listeners, NodeEnd, NodeOutside, NodePeer, NodeStart, StartFolder, UnixSockets, listen_all,
+    run_node,
 };
 use std::alloc::{AllocError, Global};
 use std::io::{self, Write};
@@ -42,7 +43,7 @@ pub(crate) struct NextNode {
 
 impl NextNode {
     /// By the configuration and the state. Where something may be missing that peers were told (`is_left`), all indexes have a new number.
-    pub(crate) fn new<R: Clock + Net<Listener = TcpListener, Stream = TcpStream>>(
+    pub(crate) fn new<R: Clock + Net<Listener = TcpListener, Stream = TcpStream> + UnixSockets>(
         rt: &R,
         alloc: Global,
         config: &Config,
@@ -115,7 +116,13 @@ pub(crate) fn run_nodes<R, T, L, O>(
     output: &mut O,
 ) -> Result<io::Result<()>, RunFailure>
 where
-    R: Clock + Net<Listener = TcpListener, Stream = TcpStream> + StateFiles + Sync + Threads + Wait,
+    R: Clock
+        + Net<Listener = TcpListener, Stream = TcpStream>
+        + StateFiles
+        + Sync
+        + Threads
+        + UnixSockets
+        + Wait,
     T: Stores + Sync,
     T::Store: Send,
     L: CommandLines + Drop,
@@ -228,7 +235,13 @@ fn run_once<R, T, L, O>(
     output: &mut O,
 ) -> Result<NodeLeft<L>, RunFailure>
 where
-    R: Clock + Net<Listener = TcpListener, Stream = TcpStream> + StateFiles + Sync + Threads + Wait,
+    R: Clock
+        + Net<Listener = TcpListener, Stream = TcpStream>
+        + StateFiles
+        + Sync
+        + Threads
+        + UnixSockets
+        + Wait,
     T: Stores + Sync,
     T::Store: Send,
     L: CommandLines + Drop,

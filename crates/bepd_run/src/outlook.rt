@@ -2,16 +2,19 @@
 use crate::failure::RunFailure;
 use crate::files::StateFiles;
 use crate::last_run::{StatePaths, read_last_run};
+use crate::marks::told_elsewhere;
 use crate::naming::{at_state, listen_failure, peer_address};
 use bep_messages::Text;
 use folder_core::FolderCore;
 use node_config::{Config, FolderConfig, unknown_keys};
+use node_context::Endpoint;
 use node_state::State;
-use node_threads::{ListenFault, NodeAddress};
+use node_threads::{ListenFault, Listener, NodeAddress, UnixSockets};
 use std::alloc::{AllocError, Global};
 use std::fs::{self, File, Files, OpenFile, OpenOptions, TryLockError};
 use std::io::{ErrorKind, Write};
 use std::net::{Net, TcpListener, TcpStream};
+use sync_record::DeviceId;
 
 /// The name of a file that is made to see whether a directory may be written. It is a temporary one, which no scan records.
 const PROBE: &str = ".syncthing.check.tmp";
@@ -40,7 +43,10 @@ pub(crate) fn tell_outlook<R, O>(
     output: &mut O,
 ) -> Result<Option<RunFailure>, RunFailure>
 where
-    R: Files<File = File> + Net<Listener = TcpListener, Stream = TcpStream> + StateFiles,
+    R: Files<File = File>
+        + Net<Listener = TcpListener, Stream = TcpStream>
+        + StateFiles
+        + UnixSockets,
     O: Write,
 {
     let mut stop = state_stop(rt, alloc, config.state.as_str(), output)?;
@@ -64,6 +70,13 @@ where
         let is_ready = tell_folder(rt, alloc, folder, is_new, output)?;
         if stop.is_none() && is_new == Some(true) && !is_ready {
             stop = Some(no_folder(alloc, folder)?);
+        }
+        if stop.is_none() && is_in_use(rt, alloc, folder)? {
+            let path = Text::from_str(alloc, folder.path.as_str())?;
+            stop = Some(RunFailure::FolderInUse(path));
+        }
+        if stop.is_none() && has_names(&state, &folder.id) {
+            stop = elsewhere(rt, alloc, config.device, folder)?;
         }
     }
     Ok(stop)
@@ -102,7 +115,7 @@ fn no_state(alloc: Global, state: &str, why: &str) -> Result<RunFailure, AllocEr
     Ok(RunFailure::File(Text::from_string(about)))
 }
 
-// Whether another run has the state.
+// Whether another run has the state, or a folder: what stands before `.lock`.
 fn is_locked<R: Files<File = File>>(
     rt: &R,
     alloc: Global,
@@ -123,27 +136,37 @@ fn addresses_stop<R, O>(
     output: &mut O,
 ) -> Result<Option<RunFailure>, RunFailure>
 where
-    R: Net<Listener = TcpListener, Stream = TcpStream>,
+    R: Files<File = File> + Net<Listener = TcpListener, Stream = TcpStream> + UnixSockets,
     O: Write,
 {
     let mut stop = None;
     let mut listeners = Vec::new(alloc);
     for (place, peer) in config.peers.as_slice().iter().enumerate() {
-        let NodeAddress::Listen(address) = peer_address(alloc, place, peer)? else {
+        let NodeAddress::Listen(endpoint) = peer_address(alloc, place, peer)? else {
             continue;
         };
-        match TcpListener::bind(rt, address) {
-            Ok(listener) => listeners.push(listener)?,
+        match Listener::new(rt, &endpoint) {
+            Ok(listener) => {
+                remove_socket(rt, &endpoint);
+                listeners.push(listener)?;
+            }
             Err(error) => {
                 let number = place + 1;
                 let kind = error.kind();
-                writeln!(output, "peer {number}: listen {address}: {kind}")?;
+                writeln!(output, "peer {number}: listen {endpoint}: {kind}")?;
                 let fault = ListenFault::Address { peer: place, error };
                 stop = Some(listen_failure(alloc, config, fault));
             }
         }
     }
     Ok(stop)
+}
+
+// Removes the file of a Unix socket that was made there.
+fn remove_socket<R: Files>(rt: &R, endpoint: &Endpoint) {
+    if let Endpoint::Unix(path) = endpoint {
+        let _ = fs::remove_file(rt, path.as_str());
+    }
 }
 
 // A new folder can't begin there.
@@ -153,6 +176,47 @@ fn no_folder(alloc: Global, folder: &FolderConfig) -> Result<RunFailure, AllocEr
         "folder {id}: {path}: no directory is there, or it can't be written"
     )?;
     Ok(RunFailure::NoFolder(Text::from_string(about)))
+}
+
+// Whether another run has the folder.
+fn is_in_use<R: Files<File = File>>(
+    rt: &R,
+    alloc: Global,
+    folder: &FolderConfig,
+) -> Result<bool, AllocError> {
+    let path = folder.path.as_str();
+    is_locked(
+        rt,
+        alloc,
+        format!(in alloc; "{path}/.stfolder/bepd")?.as_str(),
+    )
+}
+
+// Why a run would end where the folder, of which names are recorded, is elsewhere, if it is.
+fn elsewhere<R: StateFiles>(
+    rt: &R,
+    alloc: Global,
+    device: DeviceId,
+    folder: &FolderConfig,
+) -> Result<Option<RunFailure>, AllocError> {
+    match told_elsewhere(rt, alloc, device, &folder.id, &folder.path)? {
+        Some(found) => Ok(Some(RunFailure::NoFolder(found.about))),
+        None => Ok(None),
+    }
+}
+
+// Whether names of the folder with this id are recorded that are there.
+fn has_names(state: &Option<State>, id: &Text) -> bool {
+    let Some(state) = state else {
+        return false;
+    };
+    for stored in state.folders.as_slice() {
+        if stored.id.as_str() == id.as_str() {
+            let counts = stored.folder.counts();
+            return counts.files != 0 || counts.directories != 0;
+        }
+    }
+    false
 }
 
 // Whether something of the folder with this id was recorded.
@@ -167,7 +231,7 @@ fn is_recorded(state: &State, id: &Text) -> bool {
 }
 
 // What a run would find where the folder is, of which nothing may have been recorded, if that is known. Returns whether a run could begin there with such a one.
-fn tell_folder<R: Files, O: Write>(
+fn tell_folder<R: Files<File = File>, O: Write>(
     rt: &R,
     alloc: Global,
     folder: &FolderConfig,
@@ -186,6 +250,9 @@ fn tell_folder<R: Files, O: Write>(
     }
     let marker = format!(in alloc; "{path}/.stfolder")?;
     if fs::metadata(rt, marker.as_str()).is_ok() {
+        if is_in_use(rt, alloc, folder)? {
+            writeln!(output, "folder {id}: {path}: another run has it")?;
+        }
         return Ok(true);
     }
     match is_new {

@@ -8,6 +8,7 @@ use crate::files::{StateFiles, read_config_file};
 use crate::journal::StateJournal;
 use crate::last_run::{FolderPlans, StatePaths, read_last_run};
 use crate::lock::lock_state;
+use crate::marks::{require_marks, write_marks};
 use crate::naming::{at_state, config_failure};
 use crate::nodes::{NextNode, Outside, run_nodes};
 use crate::outlet::{Channel, Outlet};
@@ -21,6 +22,7 @@ use node_commands::{InputLine, read_commands};
 use node_config::{Config, UnknownKey, read_config, unknown_keys};
 use node_context::{Log, ProgressStyle, write_log};
 use node_files::Stores;
+use node_threads::UnixSockets;
 use std::alloc::Global;
 use std::fs::{File, Files};
 use std::io::{self, BufRead, Write};
@@ -79,8 +81,9 @@ pub struct RunStyle {
 /// | `not reached ID: ADDRESS: WHY; ..` | no connection with the peer can be made; told again where it is for another reason |
 /// | `gone ID: WHY` | the connection ended |
 /// | `stranger ADDRESS: ..` | it did so before its ClusterConfig came: it was not taken for the peer |
+/// | `not taken for ID: ..` | who is connected has this device's own identity |
 /// | `waiting for ID: ..` | nobody has connected as the peer for a minute |
-/// | `two devices as ID: ..` | connections as the peer come from two addresses in turn |
+/// | `two devices as ID: ..` | connections as the peer come from two devices in turn |
 /// | `received F up to N from ID` | more of the peer's index of the folder F came |
 /// | `scanned F recorded N unchanged N other N` | a scan that recorded changes, or left names out |
 /// | `scanned F ..: stopped` | a scan ended with the run |
@@ -115,6 +118,7 @@ where
         + StateFiles
         + Sync
         + Threads
+        + UnixSockets
         + Wait,
     T: Stores + Sync,
     T::Store: Send,
@@ -191,7 +195,13 @@ fn answer_ready<'a, R, T, I, O>(
     output: &mut O,
 ) -> Result<io::Result<()>, RunFailure>
 where
-    R: Clock + Net<Listener = TcpListener, Stream = TcpStream> + StateFiles + Sync + Threads + Wait,
+    R: Clock
+        + Net<Listener = TcpListener, Stream = TcpStream>
+        + StateFiles
+        + Sync
+        + Threads
+        + UnixSockets
+        + Wait,
     T: Stores + Sync,
     T::Store: Send,
     I: BufRead + Send,
@@ -228,7 +238,13 @@ fn run_ready<'a, R, T, I, O>(
     output: &mut O,
 ) -> Result<io::Result<()>, RunFailure>
 where
-    R: Clock + Net<Listener = TcpListener, Stream = TcpStream> + StateFiles + Sync + Threads + Wait,
+    R: Clock
+        + Net<Listener = TcpListener, Stream = TcpStream>
+        + StateFiles
+        + Sync
+        + Threads
+        + UnixSockets
+        + Wait,
     T: Stores + Sync,
     T::Store: Send,
     I: BufRead + Send,
@@ -298,7 +314,11 @@ impl<'a, R> Ready<'a, R> {
         paths: &'a StatePaths<'a>,
     ) -> Result<Ready<'a, R>, RunFailure>
     where
-        R: Clock + Net<Listener = TcpListener, Stream = TcpStream> + StateFiles + Wait,
+        R: Clock
+            + Net<Listener = TcpListener, Stream = TcpStream>
+            + StateFiles
+            + UnixSockets
+            + Wait,
         T: Stores,
     {
         let last = match read_last_run(rt, alloc, config.device, paths) {
@@ -310,7 +330,10 @@ impl<'a, R> Ready<'a, R> {
         }
         let mut node = NextNode::new(rt, alloc, config, &last.state, last.is_in_doubt)?;
         keep_all(stores, config)?;
+        require_marks(rt, alloc, config.device, node.folders.as_slice(), false)?;
         make_ready(alloc, stores, node.folders.as_slice())?;
+        require_marks(rt, alloc, config.device, node.folders.as_slice(), true)?;
+        write_marks(rt, alloc, config.device, node.folders.as_slice())?;
         let mut plans = last.plans;
         node.folders = settle_all(alloc, stores, node.folders, &mut plans)?;
         let journal = match &last.journal {

@@ -60,8 +60,9 @@ Configuration, by example:
     dial = \"192.0.2.1:22000\"
 
 A device's identity has 64 hexadecimal digits, of which the first 16 must differ
-between devices. In place of dial, listen has the address of this device at which
-the peer makes the connection; localhost:22000 is an address too.
+between devices; it may be written as Syncthing shows it, too. In place of dial, listen
+has the address of this device at which the peer makes the connection. localhost:22000
+is an address too, and unix:/home/me/bepd.socket a Unix socket at that path.
 
 A folder may have more; where it has not, it is as if it had
 
@@ -104,6 +105,7 @@ Standard error has a line for each thing that happens, unless --quiet is given: 
 time in UTC, and
 
     connected ID, gone ID: WHY
+    not taken for ID: WHY              who is there has this device's own identity
     received F up to N from ID         more of a peer's index came, up to sequence N
     scanned F recorded R unchanged U other O
     skipped F NAME: WHY                a scan left it out, and did not before
@@ -131,8 +133,9 @@ Exit status; from 1 on a line on standard error says why:
   1  the command line was refused, or `fault 60 BadConfig`, and a second line says
      which key, or which line of the file, is wrong
   4  `fault 33 OutOfMemory`: memory ran out
-  5  `fault 40 StoreFault`: the path of a folder is no directory; or `fault read or
-     write`: a file, or the commands, or an answer could not be read or written
+  5  `fault 40 StoreFault`: the path of a folder is no directory, or leads to another
+     one than before; or `fault read or write`: a file, or the commands, or an answer
+     could not be read or written
   6  `fault 61 BadState`: the state file is not one; `fault 63 StateInUse`: another run
      has it; `fault 64 FolderInUse`: another run has a folder, whose path is on a second
      line

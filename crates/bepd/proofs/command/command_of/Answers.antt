@@ -1,7 +1,7 @@
-use Rattle.std.proofs.Common.{map, Some, false, true, sym, ◌∙◌}
+use Rattle.std.proofs.Common.{map, Some, None, false, true, sym, inl, inr, option_map, ◌∙◌}
 use Rattle.std.specs.String.{string_bytes}
 use Rattle.clap.specs.Words.{app_of}
-use Rattle.bepd.specs.CommandLine.{check_at, config_at, directory_at, folder_at, is_pair, is_true, quiet_at}
+use Rattle.bepd.specs.CommandLine.{check_at, config_at, dial_at, directory_at, folder_at, is_pair, is_true, listen_at, quiet_at, shared_at, syncthing_at}
 use Rattle.bepd.proofs.Matching.{at_error, error_at, no_faults, read_at}
 use Rattle.bepd.proofs.command.command_of.Goals as goal
 
@@ -66,4 +66,24 @@ returns-in-Some-directory_in-clause-named c =
     let app = app_of c.in_ok-command.command in (
       no_faults app words c.in_ok-command.ensures c.in_ok-matches.ensures.kinds,
       read_at directory_at app words c.in_ok-matches.matches (Some c.in-Some-directory_in.directory.now) c.in_ok-command.ensures c.in_ok-matches.ensures.ok.2 c.in-Some-directory_in.ensures,
+      read_at (λ command. is_true (syncthing_at command)) app words c.in_ok-matches.matches c.is_syncthing.result c.in_ok-command.ensures c.in_ok-matches.ensures.ok.2 c.is_syncthing.ensures,
+      read_at dial_at app words c.in_ok-matches.matches (option_map (λ s. s.now) c.dial_in.result) c.in_ok-command.ensures c.in_ok-matches.ensures.ok.2 c.dial_in.ensures,
+      read_at listen_at app words c.in_ok-matches.matches (option_map (λ s. s.now) c.listen_in.result) c.in_ok-command.ensures c.in_ok-matches.ensures.ok.2 c.listen_in.ensures,
+      read_at shared_at app words c.in_ok-matches.matches (option_map (λ s. s.now) c.shared_in.result) c.in_ok-command.ensures c.in_ok-matches.ensures.ok.2 c.shared_in.ensures,
     )
+
+pub returns-clause-error : goal.returns-clause-error
+returns-clause-error c =
+    let words = map string_bytes c.args.words.now in
+    let app = app_of c.in_ok-command.command in
+    let m = c.in_ok-matches.matches in
+    elim c.error_in.ensures [
+      | inl missing ↦ inr (inr (
+        read_at folder_at app words m None c.in_ok-command.ensures c.in_ok-matches.ensures.ok.2 c.in-None.ensures,
+        read_at is_pair app words m false c.in_ok-command.ensures c.in_ok-matches.ensures.ok.2 (sym c.if-is_pair.false ∙ c.is_pair.ensures),
+        read_at config_at app words m None c.in_ok-command.ensures c.in_ok-matches.ensures.ok.2 c.in_default.ensures,
+        read_at directory_at app words m None c.in_ok-command.ensures c.in_ok-matches.ensures.ok.2 c.in_default-directory_in.ensures,
+        missing,
+      ))
+      | inr out ↦ inl out
+    ]

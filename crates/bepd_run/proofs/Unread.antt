@@ -1,6 +1,0 @@
--- What holds where a call fails.
-use Rattle.std.specs.Prelude.{Result, Ok, Err, OnErr}
-
-pub on_err : {T E P : Type 0} (r : Result T E) → P → OnErr r P
-on_err (Ok x) p = tt
-on_err (Err e) p = p
