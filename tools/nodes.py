@@ -152,6 +152,11 @@ class Node:
         with open(self.file(name), "wb") as out:
             out.write(data)
 
+    def mark(self):
+        """Gives its folder the marker by which one of which something is recorded is known: an empty file in it says that the names belong there."""
+        os.mkdir(self.file(".stfolder"))
+        open(self.file(".stfolder/bepd.lock"), "w", encoding="utf-8").close()
+
     def ask(self, command):
         """The lines that answer a command, without `end`."""
         self.ran.stdin.write(command.encode() + b"\n")

@@ -19,7 +19,7 @@ import urllib.parse
 import urllib.request
 import xml.etree.ElementTree as xml
 
-from nodes import PATIENCE, Differs, Node, event_of, free_port, same, work
+from nodes import PATIENCE, PROGRAM, Differs, Node, event_of, free_port, same, work
 
 # The programs, and the packages of Debian that have them.
 PROGRAMS = {"syncthing": "syncthing", "stunnel4": "stunnel4", "openssl": "openssl"}
@@ -111,6 +111,18 @@ def short_of(identity):
     return letters_of(identity)[:7]
 
 
+def read_text(path):
+    with open(path, encoding="utf-8") as it:
+        return it.read()
+
+
+def changed(text, old, new):
+    """The text with this in place of that, which it has once."""
+    if text.count(old) != 1:
+        raise Differs(f"{old!r} is {text.count(old)} times in {text!r}")
+    return text.replace(old, new)
+
+
 class Side:
     """A device with folders below its `path`. What both kinds of it can do."""
 
@@ -177,30 +189,51 @@ class Side:
 
 
 class Ours(Side, Node):
-    """The program `bepd`, with a certificate, over folders of its own. Its lines with its peers are made by `Line`."""
+    """The program `bepd`, with a certificate, over folders of its own. Its configuration is the one that `bepd new --syncthing` writes for its first line with a Syncthing (see
+    `Line`), with what a user adds to that: further folders and peers, and keys."""
 
     kind = "bepd"
 
     def __init__(self, name="bepd", folders=("f",), keys="", named="syncthing"):
         """Of each folder the configuration has these lines more; `named` is the name in the certificate."""
-        self.name, self.keys, self.peers, self.asking = name, keys, [], threading.RLock()
+        self.name, self.keys, self.lines, self.peers, self.asking = name, keys or 'look = "off"\n', [], [], threading.RLock()
         Node.__init__(self, name, [], folders, text="", starts=False)
-        certificate(self.path, named)
-        # what the certificate says, and what stands in the configuration
-        self.identity = self.written = identity_of(f"{self.path}/cert.pem")
+        # its configuration, its certificate and its state are in a directory whose name is not as usual
+        self.home = f"{self.path}/its \"own\" 'files', 100 %"
+        os.makedirs(self.home)
+        certificate(self.home, named)
+        self.identity = identity_of(f"{self.home}/cert.pem")
+        # what stands in the configuration in place of its identity, and of its peer's, where that is something else
+        self.written = self.written_of_peer = None
         self.ran = None
 
-    def know(self, identity, how, port, folders=None):
-        """A peer more: by `dial` or `listen`, at a port of this machine."""
-        self.peers.append((identity, how, port, folders or self.folders))
+    def know(self, identity, how, port):
+        """A peer more, without stunnel: by `dial` or `listen`, at a port of this machine."""
+        self.peers.append((identity, how, port))
+
+    def text(self):
+        """Its configuration."""
+        if not self.lines:
+            raise Differs(f"{self.name} has no line")
+        text = read_text(f"{self.lines[0].path}/config.toml")
+        text = changed(text, 'name = "bepd"', f'name = "{self.name}"')
+        path = f'path = "{self.path}/{self.folders[0]}"\n'
+        text = changed(text, path, path + self.keys)
+        folders = f"folders = {json.dumps(list(self.folders))}"
+        text = changed(text, f'folders = ["{self.folders[0]}"]', folders)
+        (first, own), (second, peer) = zip(self.lines[0].shown, (self.written, self.written_of_peer))
+        text = changed(changed(text, first, "FIRST"), second, "SECOND").replace("FIRST", own or first).replace("SECOND", peer or second)
+        for it in self.folders[1:]:
+            text += f'[[folder]]\nid = "{it}"\npath = "{self.path}/{it}"\n{self.keys}'
+        for line in self.lines[1:]:
+            # (of the configuration of a further line the peer is taken)
+            text += "[[peer]]\n" + changed(read_text(f"{line.path}/config.toml").split("\n[[peer]]\n")[1], f'folders = ["{self.folders[0]}"]', folders)
+        for identity, how, port in self.peers:
+            text += f'[[peer]]\ndevice = "{identity}"\n{how} = "127.0.0.1:{port}"\n{folders}\n'
+        return text
 
     def start(self):
-        text = f'device = "{self.written}"\nname = "{self.name}"\nstate = "{self.path}/state"\n'
-        for it in self.folders:
-            text += f'[[folder]]\nid = "{it}"\npath = "{self.path}/{it}"\nlook = "off"\n'.replace('look = "off"\n', self.keys or 'look = "off"\n')
-        for identity, how, port, folders in self.peers:
-            text += f'[[peer]]\ndevice = "{identity}"\n{how} = "127.0.0.1:{port}"\nfolders = {json.dumps(list(folders))}\n'
-        self.configure([], self.folders, text)
+        self.configure([], self.folders, self.text())
         with beginning:
             if is_over:
                 raise Differs("the run ended")
@@ -414,51 +447,72 @@ class Theirs(Side):
 
 
 class Line:
-    """stunnel at a node of `bepd`, by the recipe of docs/SYNCTHING.md: a plain port, and TLS with the peer's certificate pinned. It can be cut."""
+    """stunnel at a node of `bepd`, as `bepd new --syncthing` sets it up and as docs/SYNCTHING.md has it: TLS with the peer's certificate pinned, and a Unix socket between the
+    two. It can be cut."""
 
-    def __init__(self, ours, theirs, dials=True, pinned=None):
+    def __init__(self, ours, theirs, dials=True):
         self.ours, self.theirs, self.dials = ours, theirs, dials
-        self.plain, self.tls = free_port(), theirs.port if dials else free_port()
-        self.path = tempfile.mkdtemp(dir=work)
-        for it in "cert.pem", "key.pem":
-            shutil.copy(f"{ours.path}/{it}", self.path)
-        shutil.copy(pinned or f"{theirs.home}/cert.pem", f"{self.path}/peer.pem")
-        accept, connect = (self.plain, self.tls) if dials else (self.tls, self.plain)
-        with open(f"{self.path}/stunnel.conf", "w") as out:
-            out.write(f"""foreground = yes
-syslog = no
-pid =
-[syncthing]
-{"client = yes" if dials else ""}
-accept = 127.0.0.1:{accept}
-connect = 127.0.0.1:{connect}
-cert = cert.pem
-key = key.pem
-CAfile = peer.pem
-verifyPeer = yes
-sslVersionMin = TLSv1.3
-""")
-        self.accept, self.ran = accept, None
+        # (the first one is in the directory of the node, and each other one in its own)
+        self.path = f"{ours.home}/{len(ours.lines)}" if ours.lines else ours.home
+        os.makedirs(self.path, exist_ok=True)
+        if ours.lines:
+            for it in "cert.pem", "key.pem":
+                shutil.copy(f"{ours.home}/{it}", self.path)
+        ours.lines.append(self)
+        shutil.copy(f"{theirs.home}/cert.pem", f"{self.path}/peer.pem")
+        self.tls = theirs.port if dials else free_port()
+        self.socket = f"{self.path}/{'stunnel' if dials else 'bepd'}.socket"
+        way = "--dial" if dials else "--listen", f"127.0.0.1:{self.tls}"
+        folder = "--folder", f"{ours.folders[0]}={ours.path}/{ours.folders[0]}"
+        made = subprocess.run([PROGRAM, "new", self.path, "--syncthing", *way, *folder], capture_output=True, text=True, timeout=PATIENCE)
+        said = made.stdout.splitlines()
+        same((made.returncode, made.stderr, [it.split(" ")[:2] for it in said[:2]]), (0, "", [["device", ours.identity], ["peer", theirs.identity]]))
+        # how both are shown
+        self.shown = [it.split(" ")[2] for it in said[:2]]
+        same(self.shown[1], theirs.id)
+        self.unit = read_text(f"{self.path}/bepd-stunnel.service")
+        self.ran = None
 
     def start(self):
+        """Runs it, as its unit does."""
+        commands = {key: words_of(value) for key, value in re.findall(r"(?m)^(ExecStartPre|ExecStart)=-?(.*)$", self.unit)}
+        if "ExecStartPre" in commands:
+            subprocess.run(commands["ExecStartPre"], stdin=subprocess.DEVNULL, capture_output=True)
         with open(f"{self.path}/told", "ab") as out:
-            self.ran = begin(["stunnel4", "stunnel.conf"], cwd=self.path, stdout=out, stderr=out)
-        entry = f" 0100007F:{self.accept:04X} 00000000:0000 0A "
-        until(lambda: self.listens(entry), lambda: f"stunnel does not listen; it told {self.errors()[-5:]}")
+            self.ran = begin(commands["ExecStart"], cwd="/", stdout=out, stderr=out, umask=0o077)
+        until(self.listens, lambda: f"stunnel does not listen; it told {self.errors()[-5:]}")
 
-    def listens(self, entry):
-        """Whether somebody listens at the port, without a connection to it."""
+    def listens(self):
+        """Whether it listens, without a connection to it."""
         if self.ran.poll() is not None:
             raise Differs(f"stunnel ended; it told {self.errors()[-5:]}")
-        with open("/proc/net/tcp") as table:
-            return any(entry in it for it in table)
+        if not self.dials:
+            with open("/proc/net/tcp") as table:
+                return any(f" 0100007F:{self.tls:04X} 00000000:0000 0A " in it for it in table)
+        # (in the fourth column of a socket that listens is __SO_ACCEPTCON)
+        with open("/proc/net/unix") as table:
+            return any(it.rstrip("\n").endswith(f" {self.socket}") and it.split()[3] == "00010000" for it in table)
 
     def errors(self):
         with open(f"{self.path}/told", encoding="utf-8", errors="replace") as it:
             return it.read().splitlines()
 
     def cut(self):
+        """Ends it as a user or its unit does, at once; where it does not end it is killed."""
+        self.ran.send_signal(signal.SIGTERM)
+        with contextlib.suppress(subprocess.TimeoutExpired):
+            self.ran.wait(5)
         kill(self.ran)
+
+    def kill(self):
+        """What it has no time for is not done: its socket stays."""
+        kill(self.ran)
+
+
+def words_of(command):
+    """The words of an Exec line of a unit: quotes, what is escaped in them, and `%%` and `$$`."""
+    words = [re.sub(r"\\(.)", r"\1", it[1:-1]) if it.startswith('"') else it for it in re.findall(r'"(?:[^"\\]|\\.)*"|[^ "]+', command)]
+    return [it.replace("%%", "%").replace("$$", "$") for it in words]
 
 
 class Pair:
@@ -480,7 +534,6 @@ class Pair:
         else:
             self.here = Ours("here", self.folders, keys, named)
             self.line = Line(self.here, there, dials)
-            self.here.know(there.identity, "dial" if dials else "listen", self.line.plain)
         self.there, self.before, self.connects, self.knows = there, before, connects, knows or {}
 
     def __enter__(self):
