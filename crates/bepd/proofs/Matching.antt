@@ -20,7 +20,7 @@ use Rattle.clap.specs.declared.parser.matches.ArgMatches.{ArgMatches}
 use Rattle.std.specs.Result.{IsErrAnd}
 use Rattle.clap.specs.declared.parser.matches.Found.{Found}
 use Rattle.clap.proofs.OnLiterals.{clap_on_literals}
-use Rattle.bepd.specs.CommandLine.{IsAsked, IsCommandLine, IsErrorAt, IsGiven, IsPairGiven, IsQuiet, IsRequested, IsRunGiven, begins_with_hyphen, bepd_app, config_at, directory_at, faults, folder_at, is_pair, value_at}
+use Rattle.bepd.specs.CommandLine.{IsAsked, IsCommandLine, IsErrorAt, IsGiven, IsPairGiven, IsQuiet, IsRequested, IsRunGiven, ask_config_at, begins_with_hyphen, bepd_app, config_at, directory_at, faults, folder_at, is_pair, value_at}
 
 pub bepd_is_simple : is_simple_and_free bepd_app ≡ true
 unfolding clap_on_literals
@@ -191,6 +191,18 @@ new_not_run : (c : Option (Text × List Row)) (path directory : Text) → config
 new_not_run c path directory f d =
     one_name (codes "new") (codes "run") (option_map (λ p. p.0) c) refl (entered (codes "new") (codes "DIRECTORY") c directory d) (entered (codes "run") (codes "config") c path f)
 
+ask_not_best : (c : Option (Text × List Row)) (folder path : Text) → folder_at c ≡ Some folder → ask_config_at c ≡ Some path → ⊥
+ask_not_best c folder path f p =
+    one_name (codes "ask") (codes "best") (option_map (λ p. p.0) c) refl (entered (codes "ask") (codes "config") c path p) (entered (codes "best") (codes "FOLDER") c folder f)
+
+ask_not_pair : (c : Option (Text × List Row)) (path : Text) → ask_config_at c ≡ Some path → is_pair c ≡ true → ⊥
+ask_not_pair c path f p =
+    one_name (codes "pair") (codes "ask") (option_map (λ p. p.0) c) refl (pair_named c p) (entered (codes "ask") (codes "config") c path f)
+
+ask_not_run : (c : Option (Text × List Row)) (run_path path : Text) → config_at c ≡ Some run_path → ask_config_at c ≡ Some path → ⊥
+ask_not_run c run_path path f p =
+    one_name (codes "ask") (codes "run") (option_map (λ p. p.0) c) refl (entered (codes "ask") (codes "config") c path p) (entered (codes "run") (codes "config") c run_path f)
+
 run_not_pair : (c : Option (Text × List Row)) (path : Text) → config_at c ≡ Some path → is_pair c ≡ true → ⊥
 run_not_pair c path f p =
     one_name (codes "pair") (codes "run") (option_map (λ p. p.0) c) refl (pair_named c p) (entered (codes "run") (codes "config") c path f)
@@ -198,8 +210,9 @@ run_not_pair c path f p =
 asked_at : (words : List Text) (folder : Text) (asked : Request) → IsGiven words folder → IsAsked words asked → IsBestOf folder asked
 asked_at words folder (request.Best f) given h = is_some_of (folder_at (subcommand_of bepd_app words)) f.now folder h.1 given.1
 asked_at words folder request.Pair given h = pair_not_best (subcommand_of bepd_app words) folder given.1 h.1
-asked_at words folder (request.Run path) given h = run_not_best (subcommand_of bepd_app words) folder path.now given.1 h.0.1
-asked_at words folder (request.QuietRun path) given h = run_not_best (subcommand_of bepd_app words) folder path.now given.1 h.0.1
+asked_at words folder (request.Run run) given h = run_not_best (subcommand_of bepd_app words) folder run.path.now given.1 h.0.1
+asked_at words folder (request.QuietRun run) given h = run_not_best (subcommand_of bepd_app words) folder run.path.now given.1 h.0.1
+asked_at words folder (request.Ask ask) given h = ask_not_best (subcommand_of bepd_app words) folder ask.config.now given.1 h.1.0
 asked_at words folder (request.Check path) given h = run_not_best (subcommand_of bepd_app words) folder path.now given.1 h.1
 asked_at words folder (request.New new) given h = new_not_best (subcommand_of bepd_app words) folder new.directory.now given.1 h.1
 asked_at words folder (request.Text t) given h = no_mistake words folder h.0 given h.1 (λ out. elim h.2 [
@@ -236,8 +249,9 @@ no_pair_mistake words kind given (inr (inr none)) not = true≢false (sym given.
 pair_asked_at : (words : List Text) (asked : Request) → IsPairGiven words → IsAsked words asked → IsPairRequest asked
 pair_asked_at words (request.Best f) given h = pair_not_best (subcommand_of bepd_app words) f.now h.1 given.1
 pair_asked_at words request.Pair given h = tt
-pair_asked_at words (request.Run path) given h = run_not_pair (subcommand_of bepd_app words) path.now h.0.1 given.1
-pair_asked_at words (request.QuietRun path) given h = run_not_pair (subcommand_of bepd_app words) path.now h.0.1 given.1
+pair_asked_at words (request.Run run) given h = run_not_pair (subcommand_of bepd_app words) run.path.now h.0.1 given.1
+pair_asked_at words (request.QuietRun run) given h = run_not_pair (subcommand_of bepd_app words) run.path.now h.0.1 given.1
+pair_asked_at words (request.Ask ask) given h = ask_not_pair (subcommand_of bepd_app words) ask.config.now h.1.0 given.1
 pair_asked_at words (request.Check path) given h = run_not_pair (subcommand_of bepd_app words) path.now h.1 given.1
 pair_asked_at words (request.New new) given h = new_not_pair (subcommand_of bepd_app words) new.directory.now h.1 given.1
 pair_asked_at words (request.Text t) given h = no_pair_mistake words h.0 given h.1 (λ out. elim h.2 [
@@ -265,7 +279,7 @@ run_line program (b ∷ bs) h = ((simp h refl, simp h refl, simp h refl), simp h
 
 -- the request is for a node by this configuration, or memory ran out
 abbrev pub IsRunOf : Text → Request → Type 0
-IsRunOf path (request.Run p) = p.now ≡ path
+IsRunOf path (request.Run run) = run.path.now ≡ path
 IsRunOf path request.OutOfMemory = Unit {0}
 IsRunOf path _ = ⊥
 
@@ -277,8 +291,9 @@ no_run_mistake words path kind given (inr (inr none)) not = some_none path (sym 
 run_asked_at : (words : List Text) (path : Text) (asked : Request) → IsTold words path → IsAsked words asked → IsRunOf path asked
 run_asked_at words path (request.Best f) given h = run_not_best (subcommand_of bepd_app words) f.now path h.1 given.0.1
 run_asked_at words path request.Pair given h = run_not_pair (subcommand_of bepd_app words) path given.0.1 h.1
-run_asked_at words path (request.Run p) given h = is_some_of (config_at (subcommand_of bepd_app words)) p.now path h.0.1 given.0.1
-run_asked_at words path (request.QuietRun p) given h = true≢false (sym h.1 ∙ given.1)
+run_asked_at words path (request.Run run) given h = is_some_of (config_at (subcommand_of bepd_app words)) run.path.now path h.0.1 given.0.1
+run_asked_at words path (request.QuietRun run) given h = true≢false (sym h.1.0 ∙ given.1)
+run_asked_at words path (request.Ask ask) given h = ask_not_run (subcommand_of bepd_app words) path ask.config.now given.0.1 h.1.0
 run_asked_at words path (request.Check p) given h = true≢false (sym h.2 ∙ given.0.2)
 run_asked_at words path (request.New new) given h = new_not_run (subcommand_of bepd_app words) path new.directory.now given.0.1 h.1
 run_asked_at words path (request.Text t) given h = no_run_mistake words path h.0 given h.1 (λ out. elim h.2 [

@@ -1,9 +1,8 @@
--- The command lines of `bepd` (own rule): `best FOLDER`, `pair`, `run --config FILE`, `new DIRECTORY` with what is for Syncthing, and calls for help and the version. How words become commands and
+-- The command lines of `bepd` (own rule): `best FOLDER`, `pair`, `run --config FILE`, `ask --config FILE COMMAND`, `new DIRECTORY` with what is for Syncthing, and calls for help and the version. How words become commands and
 -- values is the rule of `clap`.
 use Rattle.std.specs.Prelude.{◌≡◌, ◌≢◌, ◌⊎◌, ⊤, Bool, true, false, ◌==◌, List, [], ◌∷◌, Option, Some, None, Result, Ok, Err, String, Vec, option_and_then, option_map, codes, map, if◌then◌else◌, bytes_eq}
 use Rattle.std.specs.declared.alloc.Global.{Global}
 use Rattle.std.specs.IoError.{error_kind}
-use Rattle.std.specs.Borrow.{Bor}
 use Rattle.std.specs.String.{string_bytes}
 use Rattle.std.specs.declared.io.Error.{Error as IoError}
 use Rattle.std.specs.declared.io.ErrorKind.TheVariants as io
@@ -13,6 +12,8 @@ use Rattle.clap.specs.declared.error.kind.ErrorKind.{ErrorKind}
 use Rattle.clap.specs.declared.error.kind.ErrorKind.TheVariants.{DisplayHelp, DisplayVersion, MissingSubcommand, OutOfMemory}
 use Rattle.clap.specs.declared.builder.action.ArgAction.TheVariants.{SetTrue}
 use Rattle.bepd_new.specs.declared.purpose.NewWords.{NewWords}
+use Rattle.bepd_run.specs.declared.asking.AskWords.{AskWords}
+use Rattle.bepd.specs.declared.command.RunWords.{RunWords}
 use Rattle.bepd.specs.declared.command.Request.{Request}
 use Rattle.bepd.specs.declared.command.Request.TheVariants as request
 
@@ -34,8 +35,20 @@ check_rule = record (new_rule (codes "check")) { long = Some (codes "check"); ac
 abbrev pub quiet_rule : Rule
 quiet_rule = record (new_rule (codes "quiet")) { long = Some (codes "quiet"); action = Some SetTrue }
 
+abbrev pub no_input_rule : Rule
+no_input_rule = record (new_rule (codes "no-input")) { long = Some (codes "no-input"); action = Some SetTrue }
+
 abbrev pub run_app : App
-run_app = with_rule (with_rule (with_rule (new_app (codes "run")) config_rule) check_rule) quiet_rule
+run_app = with_rule (with_rule (with_rule (with_rule (new_app (codes "run")) config_rule) check_rule) quiet_rule) no_input_rule
+
+abbrev pub command_rule : Rule
+command_rule = record (new_rule (codes "COMMAND")) { required = true }
+
+abbrev pub about_rule : Rule
+about_rule = new_rule (codes "FOLDER")
+
+abbrev pub ask_app : App
+ask_app = with_rule (with_rule (with_rule (new_app (codes "ask")) config_rule) command_rule) about_rule
 
 abbrev pub directory_rule : Rule
 directory_rule = record (new_rule (codes "DIRECTORY")) { required = true }
@@ -56,7 +69,7 @@ abbrev pub fresh_app : App
 fresh_app = with_rule (with_rule (with_rule (with_rule (with_rule (new_app (codes "new")) directory_rule) syncthing_rule) dial_rule) listen_rule) shared_rule
 
 abbrev pub bepd_app : App
-bepd_app = with_subcommand (with_subcommand (with_subcommand (with_subcommand (on_top (λ s. record s { has_version = true }) (new_app (codes "bepd"))) best_app.top) pair_app.top) run_app.top) fresh_app.top
+bepd_app = with_subcommand (with_subcommand (with_subcommand (with_subcommand (with_subcommand (on_top (λ s. record s { has_version = true }) (new_app (codes "bepd"))) best_app.top) pair_app.top) run_app.top) fresh_app.top) ask_app.top
 
 -- the value of an argument, where the command has this name
 abbrev pub value_at : Text → Text → Option (Text × List Row) → Option Text
@@ -77,6 +90,22 @@ check_at command = value_at (codes "run") (codes "check") command
 -- the value of `--quiet`, where the command is `run`
 abbrev pub quiet_at : Option (Text × List Row) → Option Text
 quiet_at command = value_at (codes "run") (codes "quiet") command
+
+-- the value of `--no-input`, where the command is `run`
+abbrev pub no_input_at : Option (Text × List Row) → Option Text
+no_input_at command = value_at (codes "run") (codes "no-input") command
+
+-- the value of `--config`, where the command is `ask`
+abbrev pub ask_config_at : Option (Text × List Row) → Option Text
+ask_config_at command = value_at (codes "ask") (codes "config") command
+
+-- the value of COMMAND, where the command is `ask`
+abbrev pub ask_command_at : Option (Text × List Row) → Option Text
+ask_command_at command = value_at (codes "ask") (codes "COMMAND") command
+
+-- the value of FOLDER, where the command is `ask`
+abbrev pub ask_folder_at : Option (Text × List Row) → Option Text
+ask_folder_at command = value_at (codes "ask") (codes "FOLDER") command
 
 -- the value of DIRECTORY, where the command is `new`
 abbrev pub directory_at : Option (Text × List Row) → Option Text
@@ -128,6 +157,27 @@ IsRunGiven words path check = (faults words ≡ []) × (config_at (subcommand_of
 abbrev pub IsQuiet : List Text → Bool → Type 0
 IsQuiet words quiet = is_true (quiet_at (subcommand_of bepd_app words)) ≡ quiet
 
+-- the node is to read no commands from its input, or those
+abbrev pub HasNoInput : List Text → Bool → Type 0
+HasNoInput words none = is_true (no_input_at (subcommand_of bepd_app words)) ≡ none
+
+-- the words call for a node by the configuration in this file, which reads commands or not
+abbrev pub IsNodeGiven : List Text → RunWords → Bool → Type 0
+IsNodeGiven words run quiet = IsRunGiven words run.path.now false × IsQuiet words quiet × HasNoInput words run.has_no_input
+
+-- the command `ask` has these values
+abbrev pub IsAskedBy : Option (Text × List Row) → AskWords → Type 0
+IsAskedBy command ask = (ask_config_at command ≡ Some ask.config.now) × (ask_command_at command ≡ Some ask.command.now)
+    × (ask_folder_at command ≡ option_map (λ s. s.now) ask.folder)
+
+-- it is another one, or lacks one of those that it must have
+abbrev pub IsNotAsked : Option (Text × List Row) → Type 0
+IsNotAsked command = (ask_config_at command ≡ None) ⊎ (ask_command_at command ≡ None)
+
+-- the words ask for a command of a run: the configuration of that, the word of the command, and the folder that it is about
+abbrev pub IsAskGiven : List Text → AskWords → Type 0
+IsAskGiven words ask = (faults words ≡ []) × IsAskedBy (subcommand_of bepd_app words) ask
+
 -- the words call for a first configuration: its directory, whether its peer has Syncthing, where that is or is to connect, and a folder
 abbrev pub IsNewGiven : List Text → NewWords → Type 0
 IsNewGiven words new =
@@ -142,9 +192,10 @@ IsNewGiven words new =
 abbrev pub IsNamed : List Text → Request → Type 0
 IsNamed words (request.Best folder) = IsGiven words folder.now
 IsNamed words request.Pair = IsPairGiven words
-IsNamed words (request.Run path) = IsRunGiven words path.now false × IsQuiet words false
-IsNamed words (request.QuietRun path) = IsRunGiven words path.now false × IsQuiet words true
+IsNamed words (request.Run run) = IsNodeGiven words run false
+IsNamed words (request.QuietRun run) = IsNodeGiven words run true
 IsNamed words (request.Check path) = IsRunGiven words path.now true
+IsNamed words (request.Ask ask) = IsAskGiven words ask
 IsNamed words (request.New new) = IsNewGiven words new
 IsNamed words _ = ⊥
 
@@ -153,15 +204,17 @@ abbrev pub IsErrorAt : List Text → ErrorKind → Type 0
 IsErrorAt words kind = (kind ≡ OutOfMemory)
     ⊎ (IsAmong kind (faults words)
     ⊎ ((folder_at (subcommand_of bepd_app words) ≡ None) × (is_pair (subcommand_of bepd_app words) ≡ false)
-    × (config_at (subcommand_of bepd_app words) ≡ None) × (directory_at (subcommand_of bepd_app words) ≡ None) × (kind ≡ MissingSubcommand)))
+    × (config_at (subcommand_of bepd_app words) ≡ None) × (directory_at (subcommand_of bepd_app words) ≡ None)
+    × IsNotAsked (subcommand_of bepd_app words) × (kind ≡ MissingSubcommand)))
 
 -- the answer to such words
 abbrev pub IsAnswered : ErrorKind → Request → Type 0
 IsAnswered kind (request.Best folder) = ⊥
 IsAnswered kind request.Pair = ⊥
-IsAnswered kind (request.Run path) = ⊥
-IsAnswered kind (request.QuietRun path) = ⊥
+IsAnswered kind (request.Run run) = ⊥
+IsAnswered kind (request.QuietRun run) = ⊥
 IsAnswered kind (request.Check path) = ⊥
+IsAnswered kind (request.Ask ask) = ⊥
 IsAnswered kind (request.New new) = ⊥
 IsAnswered kind (request.Text text) = (kind ≡ DisplayHelp) ⊎ (kind ≡ DisplayVersion)
 IsAnswered kind (request.Refused text) = (kind ≢ DisplayHelp) × (kind ≢ DisplayVersion) × (kind ≢ OutOfMemory)
@@ -171,9 +224,10 @@ IsAnswered kind request.OutOfMemory = ⊤
 abbrev pub IsAsked : List Text → Request → Type 0
 IsAsked words (request.Best folder) = IsGiven words folder.now
 IsAsked words request.Pair = IsPairGiven words
-IsAsked words (request.Run path) = IsRunGiven words path.now false × IsQuiet words false
-IsAsked words (request.QuietRun path) = IsRunGiven words path.now false × IsQuiet words true
+IsAsked words (request.Run run) = IsNodeGiven words run false
+IsAsked words (request.QuietRun run) = IsNodeGiven words run true
 IsAsked words (request.Check path) = IsRunGiven words path.now true
+IsAsked words (request.Ask ask) = IsAskGiven words ask
 IsAsked words (request.New new) = IsNewGiven words new
 IsAsked words asked = (kind : ErrorKind) × IsErrorAt words kind × IsAnswered kind asked
 
@@ -189,7 +243,7 @@ IsRequested (Err error) asked = IsUnread error asked
 
 -- the words ask for a node that tells what happens
 abbrev pub AreForTelling : Result (Vec (String Global) Global) IoError → Type 0
-AreForTelling words = (path : Bor Text) × IsRequested words (request.Run path)
+AreForTelling words = (run : RunWords) × IsRequested words (request.Run run)
 
 -- the words were read, and are these
 abbrev pub IsCommandLine : Result (Vec (String Global) Global) IoError → List Text → Type 0

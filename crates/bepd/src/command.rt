@@ -1,16 +1,21 @@
 //! The command line.
-ghost use Rattle.std.specs.Prelude.{◌≡◌, ◌⊎◌, false, Some, IfErr, IfOk, map, option_map};
+ghost use Rattle.std.specs.Prelude.{◌≡◌, ◌⊎◌, false, Some, IfErr, IfOk, MatchOption, map, option_map};
 ghost use Rattle.std.specs.String.{string_bytes};
-ghost use Rattle.bepd.specs.CommandLine.{IsAnswered, IsNamed, IsRequested, IsErrorAt, bepd_app, best_app, check_at, check_rule, config_at, config_rule, dial_at, dial_rule, directory_at, folder_at, fresh_app, is_pair, is_true, listen_at, listen_rule, pair_app, quiet_at, quiet_rule, run_app, shared_at, shared_rule, syncthing_at, syncthing_rule};
+ghost use Rattle.bepd.specs.CommandLine.{IsAnswered, IsAskedBy, IsNamed, IsNotAsked, IsRequested, IsErrorAt, about_rule, ask_app, ask_command_at, ask_config_at, ask_folder_at, bepd_app, best_app, check_at, check_rule, command_rule, config_at, config_rule, dial_at, dial_rule, directory_at, folder_at, fresh_app, is_pair, is_true, listen_at, listen_rule, no_input_at, no_input_rule, pair_app, quiet_at, quiet_rule, run_app, shared_at, shared_rule, syncthing_at, syncthing_rule};
 ghost use Rattle.clap.specs.declared.builder.command.Command.{out-Command};
 ghost use Rattle.clap.specs.Words.{app_of, kind_of, rule_of, subcommand_rows_of};
 
+mod ask_help;
 mod best_help;
 mod new_help;
 mod pair_help;
 mod run_help;
 
+use ask_help::{
+    ASK_ABOUT, ASK_COMMAND, ASK_CONFIG, ASK_FOLDER, ASK_LONG_ABOUT, ASK_STATUSES,
+};
 use bepd_new::NewWords;
+use bepd_run::AskWords;
 use best_help::{BEST_ABOUT, BEST_FOLDER, BEST_LONG_ABOUT, BEST_STATUSES};
 use clap::error::ErrorKind;
 use clap::{Arg, ArgAction, ArgMatches, Command, Error};
@@ -20,7 +25,7 @@ use new_help::{
 };
 use pair_help::{PAIR_ABOUT, PAIR_LONG_ABOUT, PAIR_STATUSES};
 pub(crate) use run_help::run_about;
-use run_help::{RUN_ABOUT, RUN_CHECK, RUN_CONFIG, RUN_QUIET, RUN_STATUSES};
+use run_help::{RUN_ABOUT, RUN_CHECK, RUN_CONFIG, RUN_NO_INPUT, RUN_QUIET, RUN_STATUSES};
 use std::alloc::{AllocError, Global};
 use std::io;
 
@@ -34,8 +39,18 @@ Exit status: 0 for this help and the version, 1 for a command line that is refus
 the help of a command has the others.
 
 Examples: bepd run --config laptop.toml
+          bepd ask --config laptop.toml scan docs
           bepd best docs < docs.frames
           bepd pair < commands";
+
+/// What is said of a node.
+#[derive(Clone, Copy, Debug)]
+pub(crate) struct RunWords<'a> {
+    /// Its configuration.
+    pub(crate) path: &'a str,
+    /// Whether it reads no commands from the input.
+    pub(crate) has_no_input: bool,
+}
 
 /// What a command line asks for.
 #[derive(Debug, Drop)]
@@ -44,12 +59,14 @@ pub(crate) enum Request<'a> {
     Best(&'a str),
     /// Two peers in memory, by commands.
     Pair,
-    /// A node by the configuration in this file, which tells what happens.
-    Run(&'a str),
+    /// A node, which tells what happens.
+    Run(RunWords<'a>),
     /// One that tells nothing.
-    QuietRun(&'a str),
+    QuietRun(RunWords<'a>),
     /// What a node by the configuration in this file would do.
     Check(&'a str),
+    /// A command for a node that runs.
+    Ask(AskWords<'a>),
     /// A first configuration, by these words.
     New(NewWords<'a>),
     /// This text: the help or the version.
@@ -93,8 +110,8 @@ fn request_at<'a>(alloc: Global, error: &Error) -> Request<'a>
     }
 }
 
-/// The command in the words: `PROGRAM best FOLDER`, `PROGRAM pair`, `PROGRAM run --config FILE`, with `--check`, with `--quiet` or
-/// without, or `PROGRAM new DIRECTORY`.
+/// The command in the words: `PROGRAM best FOLDER`, `PROGRAM pair`, `PROGRAM run --config FILE`, with `--check`, with `--quiet` and
+/// `--no-input` or without, `PROGRAM ask --config FILE COMMAND`, or `PROGRAM new DIRECTORY`.
 fn command_of<'a>(
     alloc: Global,
     words: &'a [String],
@@ -112,10 +129,17 @@ fn command_of<'a>(
         if is_check(&matches) {
             return Ok(Request::Check(path));
         }
+        let run = RunWords {
+            path,
+            has_no_input: has_no_input(&matches),
+        };
         if is_quiet(&matches) {
-            return Ok(Request::QuietRun(path));
+            return Ok(Request::QuietRun(run));
         }
-        return Ok(Request::Run(path));
+        return Ok(Request::Run(run));
+    }
+    if let Some(ask) = asked_in(&matches) {
+        return Ok(Request::Ask(ask));
     }
     if let Some(directory) = directory_in(&matches) {
         return Ok(Request::New(NewWords {
@@ -193,6 +217,54 @@ fn quiet_in<'a>(matches: &ArgMatches<'a>) -> Option<&'a str>
     ensures { option_map (λ s. s.now) result ≡ quiet_at (subcommand_rows_of matches.now) }
 {
     matches.subcommand_matches("run")?.get_str("quiet")
+}
+
+/// Whether the command is `run` with `--no-input`.
+fn has_no_input(matches: &ArgMatches<'_>) -> bool
+    ensures { result ≡ is_true (no_input_at (subcommand_rows_of matches.now)) }
+{
+    is_true(no_input_in(matches))
+}
+
+/// The value of `--no-input`, where the command is `run`.
+fn no_input_in<'a>(matches: &ArgMatches<'a>) -> Option<&'a str>
+    ensures { option_map (λ s. s.now) result ≡ no_input_at (subcommand_rows_of matches.now) }
+{
+    matches.subcommand_matches("run")?.get_str("no-input")
+}
+
+/// What is asked of a node, where the command is `ask`.
+fn asked_in<'a>(matches: &ArgMatches<'a>) -> Option<AskWords<'a>>
+    ensures { MatchOption result (IsNotAsked (subcommand_rows_of matches.now)) (λ words. IsAskedBy (subcommand_rows_of matches.now) words) }
+{
+    let config = ask_config_in(matches)?;
+    let command = ask_command_in(matches)?;
+    Some(AskWords {
+        config,
+        command,
+        folder: ask_folder_in(matches),
+    })
+}
+
+/// The value of `--config`, where the command is `ask`.
+fn ask_config_in<'a>(matches: &ArgMatches<'a>) -> Option<&'a str>
+    ensures { option_map (λ s. s.now) result ≡ ask_config_at (subcommand_rows_of matches.now) }
+{
+    matches.subcommand_matches("ask")?.get_str("config")
+}
+
+/// The value of COMMAND, where the command is `ask`.
+fn ask_command_in<'a>(matches: &ArgMatches<'a>) -> Option<&'a str>
+    ensures { option_map (λ s. s.now) result ≡ ask_command_at (subcommand_rows_of matches.now) }
+{
+    matches.subcommand_matches("ask")?.get_str("COMMAND")
+}
+
+/// The value of FOLDER, where the command is `ask`.
+fn ask_folder_in<'a>(matches: &ArgMatches<'a>) -> Option<&'a str>
+    ensures { option_map (λ s. s.now) result ≡ ask_folder_at (subcommand_rows_of matches.now) }
+{
+    matches.subcommand_matches("ask")?.get_str("FOLDER")
 }
 
 /// The value of DIRECTORY, where the command is `new`.
@@ -286,7 +358,7 @@ fn pair_command<'a>(alloc: Global) -> Command<'a>
 }
 
 /// `--config FILE`.
-fn config_arg<'a>(alloc: Global) -> Arg<'a>
+fn config_arg<'a>(alloc: Global, help: &'a str) -> Arg<'a>
     ensures rule { rule_of result ≡ config_rule }
     ensures local { result.global ≡ false }
 {
@@ -294,7 +366,7 @@ fn config_arg<'a>(alloc: Global) -> Arg<'a>
         .long("config")
         .value_name("FILE")
         .required(true)
-        .help(RUN_CONFIG)
+        .help(help)
 }
 
 /// `--check`.
@@ -319,6 +391,17 @@ fn quiet_arg<'a>(alloc: Global) -> Arg<'a>
         .help(RUN_QUIET)
 }
 
+/// `--no-input`.
+fn no_input_arg<'a>(alloc: Global) -> Arg<'a>
+    ensures rule { rule_of result ≡ no_input_rule }
+    ensures local { result.global ≡ false }
+{
+    Arg::new(alloc, "no-input")
+        .long("no-input")
+        .action(ArgAction::SetTrue)
+        .help(RUN_NO_INPUT)
+}
+
 /// The command `run`, and what it takes.
 fn run_command<'a>(
     alloc: Global,
@@ -330,16 +413,51 @@ fn run_command<'a>(
     let Ok(about) = about else {
         return Err(AllocError);
     };
-    let config = config_arg(alloc);
+    let config = config_arg(alloc, RUN_CONFIG);
     let check = check_arg(alloc);
     let quiet = quiet_arg(alloc);
+    let no_input = no_input_arg(alloc);
     Command::new(alloc, "run")
         .about(RUN_ABOUT)
         .long_about(about.as_str())
         .after_help(RUN_STATUSES)
         .arg(config)?
         .arg(check)?
-        .arg(quiet)
+        .arg(quiet)?
+        .arg(no_input)
+}
+
+/// COMMAND.
+fn command_arg<'a>(alloc: Global) -> Arg<'a>
+    ensures rule { rule_of result ≡ command_rule }
+    ensures local { result.global ≡ false }
+{
+    Arg::new(alloc, "COMMAND").required(true).help(ASK_COMMAND)
+}
+
+/// FOLDER.
+fn about_arg<'a>(alloc: Global) -> Arg<'a>
+    ensures rule { rule_of result ≡ about_rule }
+    ensures local { result.global ≡ false }
+{
+    Arg::new(alloc, "FOLDER").help(ASK_FOLDER)
+}
+
+/// The command `ask`, and what it takes.
+fn ask_command<'a>(alloc: Global) -> Result<Command<'a>, AllocError>
+    ensures { IfOk result (λ command.
+        (app_of command ≡ ask_app) × ((out-Command command).has_globals ≡ false)) }
+{
+    let config = config_arg(alloc, ASK_CONFIG);
+    let command = command_arg(alloc);
+    let about = about_arg(alloc);
+    Command::new(alloc, "ask")
+        .about(ASK_ABOUT)
+        .long_about(ASK_LONG_ABOUT)
+        .after_help(ASK_STATUSES)
+        .arg(config)?
+        .arg(command)?
+        .arg(about)
 }
 
 /// `--syncthing`.
@@ -420,6 +538,7 @@ fn program<'a>(
     let pair = pair_command(alloc);
     let run = run_command(alloc, about)?;
     let fresh = fresh_command(alloc)?;
+    let ask = ask_command(alloc)?;
     Command::new(alloc, "bepd")
         .bin_name("bepd")?
         .version("0.1.0")
@@ -429,5 +548,6 @@ fn program<'a>(
         .subcommand(best)?
         .subcommand(pair)?
         .subcommand(run)?
-        .subcommand(fresh)
+        .subcommand(fresh)?
+        .subcommand(ask)
 }

@@ -18,8 +18,8 @@ use crate::received::own_device;
 use bepd_new::{NewFailure, new_config};
 use bepd_pair::pair;
 use bepd_run::{
-    ProgressStyle, RunFailure, RunStyle, StateFiles, Stores, UnixSockets, check_config, run_config,
-    tell_failure,
+    ProgressStyle, RunFailure, RunStyle, StateFiles, Stores, UnixSockets, ask_run, check_config,
+    run_config, tell_failure,
 };
 use folder_db::IndexedFolder;
 use std::fs::{File, Files};
@@ -54,7 +54,8 @@ pub(crate) struct Started {
 /// Does what the words of the command line ask for, of which the first is the program's name.
 ///
 /// `best FOLDER` reads the input and lists on the output; `pair` reads commands from the input and writes what they come to on the
-/// output; `run` reads commands, if there is an input, and writes answers likewise, and tells what happens on `errors`, unless it is to be quiet. The help
+/// output; `run` reads commands, if there is an input and it is to read it, and writes answers likewise, and tells what happens on `errors`, unless it is to be quiet;
+/// `ask` has a run do a command, and writes its answer to the output. The help
 /// and the version go to the output, and why words are refused to `errors`, as does the line of each ending with a status above 0.
 pub(crate) fn run<T, S, R, W, E>(
     rt: &T,
@@ -77,7 +78,7 @@ where
         + Wait,
     S: Stores + Sync,
     S::Store: Send,
-    R: BufRead + Send,
+    R: BufRead + AsRawFd + Send,
     W: Write + AsRawFd + Send,
     E: Write + AsRawFd + Send,
     // What the words ask for is done, and nothing else.
@@ -117,23 +118,27 @@ where
             let played = pair(rt, alloc, &mut input.inner, &mut output.inner);
             end(ending_of(played), errors)
         }
-        Request::Run(path) => {
+        Request::Run(words) => {
             let how = RunStyle {
                 progress: Some(started.progress),
-                reads_input: started.has_input,
+                reads_input: started.has_input && !words.has_no_input,
             };
             let (input, output) = (&mut input.inner, &mut output.inner);
-            let ran = run_config(rt, stores, path, how, input, output, errors);
+            let ran = run_config(rt, stores, words.path, how, input, output, errors);
             end_run(rt, ran, errors)
         }
-        Request::QuietRun(path) => {
+        Request::QuietRun(words) => {
             let how = RunStyle {
                 progress: None,
-                reads_input: started.has_input,
+                reads_input: started.has_input && !words.has_no_input,
             };
             let (input, output) = (&mut input.inner, &mut output.inner);
-            let ran = run_config(rt, stores, path, how, input, output, errors);
+            let ran = run_config(rt, stores, words.path, how, input, output, errors);
             end_run(rt, ran, errors)
+        }
+        Request::Ask(words) => {
+            let asked = ask_run(rt, alloc, &words, &mut output.inner);
+            end_run(rt, asked, errors)
         }
         Request::Check(path) => {
             let checked = check_config(rt, alloc, path, &mut output.inner);

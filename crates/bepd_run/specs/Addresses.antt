@@ -24,10 +24,19 @@ IsEndpoint text (Unix path) = (text ≡ codes "unix:" ++ path) × (is_socket_pat
 abbrev pub IsNoEndpoint : List ℕ → Type 0
 IsNoEndpoint text = (endpoint : config.Endpoint) → IsEndpointText text endpoint → ⊥
 
-abbrev pub IsFaultOf : NodeFault → Type 0
-IsFaultOf BadAddress = ⊤
-IsFaultOf OutOfMemory = ⊤
-IsFaultOf _ = ⊥
+-- it says so by the path of a Unix socket
+abbrev pub IsOfPath : List ℕ → Type 0
+IsOfPath text = (path : List ℕ) × (text ≡ codes "unix:" ++ path) × (is_socket_path path ≡ true)
+
+-- why it isn't read: it says so of none, or memory ran out for a path
+abbrev pub IsFaultOf : List ℕ → NodeFault → Type 0
+IsFaultOf text BadAddress = IsNoEndpoint text
+IsFaultOf text OutOfMemory = IsOfPath text
+IsFaultOf text _ = ⊥
+
+abbrev pub text_of : PeerAddress → List ℕ
+text_of (told.Dial text) = text
+text_of (told.Listen text) = text
 
 -- a node dials where the configuration has `dial`, and listens where it has `listen`
 abbrev pub IsReadAs : PeerAddress → NodeAddress → Type 0
@@ -35,13 +44,8 @@ IsReadAs (told.Dial text) (Dial endpoint) = IsEndpoint text endpoint
 IsReadAs (told.Listen text) (Listen endpoint) = IsEndpoint text endpoint
 IsReadAs _ _ = ⊥
 
--- its text says of no socket where it is
-abbrev pub IsUnread : PeerAddress → Type 0
-IsUnread (told.Dial text) = IsNoEndpoint text
-IsUnread (told.Listen text) = IsNoEndpoint text
-
 -- the run ends for that, named, or since memory ran out for it or the name
 abbrev pub IsRefused : PeerAddress → RunFailure → Type 0
-IsRefused address (failure.Address about) = IsUnread address
+IsRefused address (failure.Address about) = IsNoEndpoint (text_of address)
 IsRefused address failure.OutOfMemory = ⊤
 IsRefused address _ = ⊥

@@ -1,7 +1,6 @@
 //! The addresses of a configuration, read from text.
-ghost use Rattle.std.specs.Prelude.{◌≡◌, IfErr, IfOk, IsErrOf};
-ghost use Rattle.node_context.specs.declared.fault.NodeFault.TheVariants.{BadAddress, OutOfMemory};
-ghost use Rattle.bepd_run.specs.Addresses.{IsEndpoint, IsFaultOf, IsNoEndpoint, IsReadAs, IsUnread};
+ghost use Rattle.std.specs.Prelude.{IfErr, IfOk};
+ghost use Rattle.bepd_run.specs.Addresses.{IsEndpoint, IsFaultOf, IsReadAs, text_of};
 
 use bep_messages::Text;
 use node_config::{PeerAddress, read_endpoint};
@@ -10,11 +9,11 @@ use node_threads::NodeAddress;
 use std::alloc::Global;
 use std::net::SocketAddr;
 
-/// How a connection with a peer comes about. Fails with `BadAddress` where the text says of no socket where it is, and with `OutOfMemory`. O(n).
+/// How a connection with a peer comes about. Fails with `BadAddress` where the text says of no socket where it is, and with `OutOfMemory` only for
+/// a path. O(n).
 pub(crate) fn address_of(alloc: Global, address: &PeerAddress) -> Result<NodeAddress, NodeFault>
     ensures read { IfOk result (IsReadAs address.now) }
-    ensures fault { IfErr result IsFaultOf }
-    ensures refused { IsErrOf result BadAddress → IsUnread address.now }
+    ensures fault { IfErr result (IsFaultOf (text_of address.now)) }
 {
     match address {
         PeerAddress::Dial(text) => Ok(NodeAddress::Dial(endpoint_of(alloc, text.as_str())?)),
@@ -24,8 +23,7 @@ pub(crate) fn address_of(alloc: Global, address: &PeerAddress) -> Result<NodeAdd
 
 fn endpoint_of(alloc: Global, text: &str) -> Result<Endpoint, NodeFault>
     ensures read { IfOk result (IsEndpoint text.now) }
-    ensures fault { IfErr result IsFaultOf }
-    ensures refused { IsErrOf result BadAddress → IsNoEndpoint text.now }
+    ensures fault { IfErr result (IsFaultOf text.now) }
 {
     match read_endpoint(text) {
         Some(node_config::Endpoint::Ip(address)) => Ok(Endpoint::Ip(SocketAddr::V4(address))),

@@ -1,6 +1,7 @@
 //! How a run begins: its folders are made ready, and it is told what it does.
 use crate::failure::RunFailure;
 use crate::nodes::NextNode;
+use crate::recorded::is_known;
 use crate::starts::Core;
 use bep_messages::Text;
 use file_dir::{Habits, LockRefusal};
@@ -56,8 +57,7 @@ pub(crate) fn make_ready<T: Stores>(
     for folder in folders {
         let settings = &folder.settings;
         let path = settings.path.as_str();
-        let counts = folder.core.counts();
-        let is_new = counts.files == 0 && counts.directories == 0 && counts.deletions == 0;
+        let is_new = !is_known(&folder.core.counts());
         match stores.begin(alloc, path, is_new) {
             Err(LockRefusal::InUse) => {
                 return Err(RunFailure::FolderInUse(Text::from_str(alloc, path)?));

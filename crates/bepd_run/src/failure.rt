@@ -44,13 +44,18 @@ pub enum RunFailure {
     Address(Text),
     /// A file can't be read or written. This says which one, and why.
     File(Text),
+    /// A run that was asked for something gave no answer. This says which one, and why.
+    NoAnswer(Text),
+    /// The answer of a run that was asked for something is an error.
+    NotDone,
     /// The commands can't be read, or an answer not be written.
     ReadOrWrite,
 }
 
 impl RunFailure {
     /// The exit status of a program that ends so: 1 for a configuration or words that are refused, 4 where memory ran out, 6 for a state file that is
-    /// refused or that another run has and for a folder that another run has, 7 for an address, and 5 for all else that can't be read or written.
+    /// refused or that another run has and for a folder that another run has, 7 for an address, 8 where a run gave no answer, 9 where its answer is an error, and 5 for
+    /// all else that can't be read or written.
     pub fn status(&self) -> u8
         ensures { result ≡ run_failure_status self.now }
     {
@@ -75,6 +80,8 @@ impl RunFailure {
             RunFailure::NoFolder(_) => 5,
             RunFailure::Address(_) => 7,
             RunFailure::File(_) => 5,
+            RunFailure::NoAnswer(_) => 8,
+            RunFailure::NotDone => 9,
             RunFailure::ReadOrWrite => 5,
         }
     }
@@ -113,6 +120,8 @@ impl Display for RunFailure {
             RunFailure::NoFolder(about) => { write!(f, "fault 40 StoreFault\n{}", about.as_str()) }
             RunFailure::Address(about) => write!(f, "fault 62 BadAddress\n{}", about.as_str()),
             RunFailure::File(about) => write!(f, "fault read or write\n{}", about.as_str()),
+            RunFailure::NoAnswer(about) => write!(f, "fault no answer\n{}", about.as_str()),
+            RunFailure::NotDone => f.write_str("fault not done: the answer says why"),
             RunFailure::ReadOrWrite => f.write_str("fault read or write"),
         }
     }

@@ -2,6 +2,8 @@
 #![tactic(auto)]
 
 mod addresses;
+mod asked;
+mod asking;
 mod begun;
 mod checking;
 mod failure;
@@ -19,10 +21,13 @@ mod paths;
 mod placing;
 mod plans;
 mod readiness;
+mod ready;
+mod recorded;
 mod run;
 mod starts;
 mod telling;
 
+pub use asking::{AskWords, ask_run};
 pub use checking::check_config;
 pub use failure::RunFailure;
 pub use files::StateFiles;

@@ -4,6 +4,7 @@ ghost use Rattle.bepd_run.specs.Marks.{is_elsewhere};
 
 use crate::failure::RunFailure;
 use crate::files::StateFiles;
+use crate::recorded::has_names;
 use crate::starts::Core;
 use bep_messages::Text;
 use folder_core::FolderCore;
@@ -23,9 +24,8 @@ pub(crate) fn require_marks<F: StateFiles>(
     are_taken: bool,
 ) -> Result<(), RunFailure> {
     for folder in folders {
-        let counts = folder.core.counts();
         let (id, path) = (&folder.settings.id, &folder.settings.path);
-        if counts.files != 0 || counts.directories != 0 {
+        if has_names(&folder.core.counts()) {
             if let Some(found) = told_elsewhere(files, alloc, device, id, path)? {
                 if are_taken || !found.has_mark {
                     return Err(RunFailure::NoFolder(found.about));

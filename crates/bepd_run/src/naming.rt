@@ -8,6 +8,7 @@ ghost use Rattle.bepd_run.specs.declared.failure.RunFailure.TheVariants as failu
 use crate::addresses::address_of;
 use crate::failure::RunFailure;
 use bep_messages::Text;
+use node_asks::AskFault;
 use node_config::{Config, ConfigFault, PeerAddress, PeerConfig, unknown_keys};
 use node_context::NodeFault;
 use node_state::StateFault;
@@ -123,6 +124,23 @@ fn address_failure(alloc: Global, place: usize, peer: &PeerConfig, why: &str) ->
     };
     match format!(in alloc; "peer {number}: {key} {address:?} {why}") {
         Ok(about) => RunFailure::Address(Text::from_string(about)),
+        Err(_) => RunFailure::OutOfMemory,
+    }
+}
+
+/// Why no answer came from the run by the configuration, which is to take commands at the path.
+pub(crate) fn ask_failure(alloc: Global, path: &str, config: &str, fault: AskFault) -> RunFailure {
+    let about = match fault {
+        AskFault::NoRun =>
+            format!(in alloc; "{path}: no run takes commands there: is `bepd run --config {config}` running?"),
+        AskFault::Silent =>
+            format!(in alloc; "{path}: no answer within 10 seconds; what was asked for may still be done"),
+        AskFault::Cut => format!(in alloc; "{path}: the run ended before its answer was whole"),
+        AskFault::Socket(error) => return file_failure(alloc, "socket", path, error),
+        AskFault::OutOfMemory => return RunFailure::OutOfMemory,
+    };
+    match about {
+        Ok(about) => RunFailure::NoAnswer(Text::from_string(about)),
         Err(_) => RunFailure::OutOfMemory,
     }
 }

@@ -4,8 +4,9 @@ use crate::files::StateFiles;
 use crate::last_run::{StatePaths, read_last_run};
 use crate::marks::told_elsewhere;
 use crate::naming::{at_state, listen_failure, peer_address};
+use crate::recorded::{has_names, is_known};
 use bep_messages::Text;
-use folder_core::FolderCore;
+use folder_core::{Counts, FolderCore};
 use node_config::{Config, FolderConfig, unknown_keys};
 use node_context::Endpoint;
 use node_state::State;
@@ -49,37 +50,118 @@ where
         + UnixSockets,
     O: Write,
 {
-    let mut stop = state_stop(rt, alloc, config.state.as_str(), output)?;
-    let mut state = None;
-    if stop.is_none() {
-        let paths = StatePaths::new(alloc, config.state.as_str())?;
-        match read_last_run(rt, alloc, config.device, &paths) {
-            Ok(last) => state = Some(last.state),
-            Err(failure) => stop = Some(at_state(alloc, config.state.as_str(), failure)),
+    let known = known_state(rt, alloc, config, output)?;
+    with_known(rt, alloc, config, known, output)
+}
+
+// What is known of the state before a run begins.
+#[derive(Drop)]
+enum Known {
+    // What it has.
+    State(State),
+    // Why a run would end by it.
+    Stop(RunFailure),
+}
+
+// Looks at the state.
+fn known_state<R: Files<File = File> + StateFiles, O: Write>(
+    rt: &R,
+    alloc: Global,
+    config: &Config,
+    output: &mut O,
+) -> Result<Known, RunFailure> {
+    let path = config.state.as_str();
+    if let Some(stop) = state_stop(rt, alloc, path, output)? {
+        return Ok(Known::Stop(stop));
+    }
+    let paths = StatePaths::new(alloc, path)?;
+    match read_last_run(rt, alloc, config.device, &paths) {
+        Ok(last) => Ok(Known::State(last.state)),
+        Err(failure) => Ok(Known::Stop(at_state(alloc, path, failure))),
+    }
+}
+
+// Looks at the addresses and the folders, with what is known of the state. Returns why a run would end, if it would.
+fn with_known<R, O>(
+    rt: &R,
+    alloc: Global,
+    config: &Config,
+    known: Known,
+    output: &mut O,
+) -> Result<Option<RunFailure>, RunFailure>
+where
+    R: Files<File = File>
+        + Net<Listener = TcpListener, Stream = TcpStream>
+        + StateFiles
+        + UnixSockets,
+    O: Write,
+{
+    match known {
+        Known::State(state) => places_stop(rt, alloc, config, Some(&state), output),
+        Known::Stop(stop) => {
+            let _ = places_stop(rt, alloc, config, None, output)?;
+            Ok(Some(stop))
         }
     }
-    let addresses = addresses_stop(rt, alloc, config, output)?;
-    if stop.is_none() {
-        stop = addresses;
-    }
+}
+
+// Looks at the addresses, and then at the folders, with what is recorded of them, if that is known. Returns why a run would end by the first of them, if it would.
+fn places_stop<R, O>(
+    rt: &R,
+    alloc: Global,
+    config: &Config,
+    state: Option<&State>,
+    output: &mut O,
+) -> Result<Option<RunFailure>, RunFailure>
+where
+    R: Files<File = File>
+        + Net<Listener = TcpListener, Stream = TcpStream>
+        + StateFiles
+        + UnixSockets,
+    O: Write,
+{
+    let mut stop = addresses_stop(rt, alloc, config, output)?;
     for folder in config.folders.as_slice() {
-        let is_new = match &state {
-            Some(state) => Some(!is_recorded(state, &folder.id)),
-            None => None,
-        };
-        let is_ready = tell_folder(rt, alloc, folder, is_new, output)?;
-        if stop.is_none() && is_new == Some(true) && !is_ready {
-            stop = Some(no_folder(alloc, folder)?);
-        }
-        if stop.is_none() && is_in_use(rt, alloc, folder)? {
-            let path = Text::from_str(alloc, folder.path.as_str())?;
-            stop = Some(RunFailure::FolderInUse(path));
-        }
-        if stop.is_none() && has_names(&state, &folder.id) {
-            stop = elsewhere(rt, alloc, config.device, folder)?;
+        let is_over = stop.is_some() || state.is_none();
+        let next = folder_stop(rt, alloc, config.device, folder, state, is_over, output)?;
+        if stop.is_none() {
+            stop = next;
         }
     }
     Ok(stop)
+}
+
+// Looks at a folder, with what is recorded of it, if that is known. Returns why a run would end by it, if it would; where it would end anyway (`is_over`) that isn't looked for.
+fn folder_stop<R: Files<File = File> + StateFiles, O: Write>(
+    rt: &R,
+    alloc: Global,
+    device: DeviceId,
+    folder: &FolderConfig,
+    state: Option<&State>,
+    is_over: bool,
+    output: &mut O,
+) -> Result<Option<RunFailure>, RunFailure> {
+    let counts = match state {
+        Some(state) => counts_of(state, &folder.id),
+        None => None,
+    };
+    let is_recorded = matches!(&counts, Some(counts) if is_known(counts));
+    let is_new = state.is_some().then_some(!is_recorded);
+    let is_ready = tell_folder(rt, alloc, folder, is_new, output)?;
+    if is_over {
+        return Ok(None);
+    }
+    if is_new == Some(true) && !is_ready {
+        return Ok(Some(no_folder(alloc, folder)?));
+    }
+    if is_in_use(rt, alloc, folder)? {
+        let path = Text::from_str(alloc, folder.path.as_str())?;
+        return Ok(Some(RunFailure::FolderInUse(path)));
+    }
+    if matches!(&counts, Some(counts) if has_names(counts)) {
+        return Ok(elsewhere(rt, alloc, device, folder)?);
+    }
+    Ok(None)
 }
 
 // Whether the state can be kept at the path. Returns why a run would end, where it can't.
@@ -205,29 +287,14 @@ fn elsewhere<R: StateFiles>(
     }
 }
 
-// Whether names of the folder with this id are recorded that are there.
-fn has_names(state: &Option<State>, id: &Text) -> bool {
-    let Some(state) = state else {
-        return false;
-    };
+// What is recorded of the folder with this id, if it is stored.
+fn counts_of(state: &State, id: &Text) -> Option<Counts> {
     for stored in state.folders.as_slice() {
         if stored.id.as_str() == id.as_str() {
-            let counts = stored.folder.counts();
-            return counts.files != 0 || counts.directories != 0;
+            return Some(stored.folder.counts());
         }
     }
-    false
-}
-
-// Whether something of the folder with this id was recorded.
-fn is_recorded(state: &State, id: &Text) -> bool {
-    for stored in state.folders.as_slice() {
-        if stored.id.as_str() == id.as_str() {
-            let counts = stored.folder.counts();
-            return counts.files != 0 || counts.directories != 0 || counts.deletions != 0;
-        }
-    }
-    false
+    None
 }
 
 // What a run would find where the folder is, of which nothing may have been recorded, if that is known. Returns whether a run could begin there with such a one.

@@ -1,40 +1,33 @@
 //! A run of `bepd run`, from its configuration to its end.
-ghost use Rattle.std.specs.Prelude.{◌≡◌, Err, IfErr, IfOk, IsErr, None, OnErr};
+ghost use Rattle.std.specs.Prelude.{◌≡◌, Err, IfErr, IfOk, IsErr, None, OnErr, false};
 ghost use Rattle.std.specs.Thread.{IsSend};
 
-use crate::begun::{keep_all, make_ready, tell_begun};
+use crate::asked::{Inlet, Reading, listening, reading, take_all};
+use crate::begun::tell_begun;
 use crate::failure::RunFailure;
 use crate::files::{StateFiles, read_config_file};
-use crate::journal::StateJournal;
-use crate::last_run::{FolderPlans, StatePaths, read_last_run};
+use crate::last_run::StatePaths;
 use crate::lock::lock_state;
-use crate::marks::{require_marks, write_marks};
-use crate::naming::{at_state, config_failure};
-use crate::nodes::{NextNode, Outside, run_nodes};
+use crate::naming::config_failure;
+use crate::nodes::{Outside, run_nodes};
 use crate::outlet::{Channel, Outlet};
 use crate::paths::require_apart;
 use crate::placing::placed_config;
-use crate::plans::settle_all;
 use crate::readiness::{Patience, Turns};
-use crate::starts::renumbered;
-use crossbeam_channel::{Receiver, Sender, bounded};
-use node_commands::{InputLine, read_commands};
+use crate::ready::Ready;
+use node_asks::{AskedLines, Asker, Replies, RunEnd};
 use node_config::{Config, UnknownKey, read_config, unknown_keys};
 use node_context::{Log, ProgressStyle, write_log};
 use node_files::Stores;
-use node_threads::UnixSockets;
+use node_threads::{Listener, UnixSockets};
 use std::alloc::Global;
 use std::fs::{File, Files};
 use std::io::{self, BufRead, Write};
 use std::net::{Net, TcpListener, TcpStream};
 use std::os::fd::AsRawFd;
 use std::sync::Wait;
-use std::thread::{self, Threads, join};
-use std::time::{Clock, Duration};
-
-/// How many seconds a run waits first where something may be missing that peers were told. What the last run recorded in its last seconds must not get the
-/// same version again: a version is the second of its scan, or one or two more where scans of a name met.
-const IN_DOUBT: u64 = 3;
+use std::thread::{Threads, join};
+use std::time::Clock;
 
 /// How a run is begun.
 #[derive(Clone, Copy, Debug, PartialEq, Eq)]
@@ -45,9 +38,10 @@ pub struct RunStyle {
     pub reads_input: bool,
 }
 
-/// Keeps the folders of the configuration at the path alike with its peers, and answers the commands of the input, a line each, until
-/// `quit` or its end: then the connections end, and the state file is written. Where it doesn't read the input it goes on for ever. What happens until then is in the journal beside it, so that a kill undoes
-/// nothing: the next run reads both.
+/// Keeps the folders of the configuration at the path alike with its peers, and answers commands, a line each, until
+/// `quit` or the end of the input: then the connections end, and the state file is written. Commands come from the input, if it reads that, and from who
+/// [asks](crate::ask_run) at the socket beside the state; where that can't be made, a line says so. What happens until the end is in the journal beside the state, so
+/// that a kill undoes nothing: the next run reads both.
 ///
 /// | Command | Answer |
 /// |---|---|
@@ -101,6 +95,7 @@ pub struct RunStyle {
 /// | `no room F: ..` | the disk is full; it is tried again each minute |
 /// | `scanning F N of N`, `pulling F N of N` | how far a scan or a pull of many names is |
 /// | `the input ended, ..` | there are no more commands, and the run ends |
+/// | `no commands by PATH: ..` | the socket beside the state can't be made |
 pub fn run_config<R, T, I, O, E>(
     rt: &R,
     stores: &T,
@@ -122,17 +117,24 @@ where
         + Wait,
     T: Stores + Sync,
     T::Store: Send,
-    I: BufRead + Send,
+    I: BufRead + AsRawFd + Send,
     O: Write + AsRawFd + Send,
     E: Write + AsRawFd + Send,
     ensures quiet { how.progress ≡ None → errors.new ≡ errors.old }
+    ensures unread { how.reads_input ≡ false → input.new ≡ input.old }
 {
+    let input = if how.reads_input {
+        Some(input)
+    } else {
+        None
+    };
     let alloc = rt.alloc();
     let Configured { config, unknown } = config_at(rt, alloc, path)?;
     let paths = StatePaths::new(alloc, config.state.as_str())?;
     let _lock = lock_state(rt, alloc, config.state.as_str())?;
     let turns = Turns::new(false);
     let answers = Channel::new(rt, alloc, output.as_raw_fd(), Patience::Short)?;
+    let inlet = Inlet::new(alloc)?;
     let ready = Ready::new(rt, alloc, stores, &config, &paths)?;
     let log = match how.progress {
         Some(progress) => Log::new(alloc, progress),
@@ -143,11 +145,11 @@ where
         config: &config,
         stores,
         log: &log,
-        reads_input: how.reads_input,
     };
     let outward = Outward {
         turns: &turns,
         channel: answers,
+        inlet,
     };
     if how.progress.is_none() {
         return end(answer_ready(rt, alloc, &place, ready, input, outward, output));
@@ -174,14 +176,14 @@ struct Place<'a, T> {
     config: &'a Config,
     stores: &'a T,
     log: &'a Log,
-    reads_input: bool,
 }
 
-// Where answers go, but for their writer.
+// Where answers go, but for their writer, and where commands come from, but for the input.
 #[derive(Drop)]
 struct Outward<'a> {
     turns: &'a Turns,
     channel: Channel,
+    inlet: Inlet,
 }
 
 // Runs nodes until the commands end; answers that can't be written are left out. Returns whether all were taken.
@@ -190,7 +192,7 @@ fn answer_ready<'a, R, T, I, O>(
     alloc: Global,
     place: &Place<'a, T>,
     ready: Ready<'a, R>,
-    input: &mut I,
+    input: Option<&mut I>,
     outward: Outward<'_>,
     output: &mut O,
 ) -> Result<io::Result<()>, RunFailure>
@@ -204,12 +206,16 @@ where
         + Wait,
     T: Stores + Sync,
     T::Store: Send,
-    I: BufRead + Send,
+    I: BufRead + AsRawFd + Send,
     O: Write + Send,
 {
-    let Outward { turns, channel } = outward;
-    let mut output = Outlet::new(rt, turns, channel, output);
-    run_ready(rt, alloc, place, ready, input, &mut output)
+    let Outward {
+        turns,
+        channel,
+        inlet,
+    } = outward;
+    let output = Outlet::new(rt, turns, channel, output);
+    run_ready(rt, alloc, place, ready, inlet, input, output)
 }
 
 // Writes which keys of the configuration are none, and then what is told; what can't be written is left out.
@@ -234,8 +240,57 @@ fn run_ready<'a, R, T, I, O>(
     alloc: Global,
     place: &Place<'a, T>,
     ready: Ready<'a, R>,
-    input: &mut I,
-    output: &mut O,
+    inlet: Inlet,
+    input: Option<&mut I>,
+    output: O,
+) -> Result<io::Result<()>, RunFailure>
+where
+    R: Clock
+        + Net<Listener = TcpListener, Stream = TcpStream>
+        + StateFiles
+        + Sync
+        + Threads
+        + UnixSockets
+        + Wait,
+    T: Stores + Sync,
+    T::Store: Send,
+    I: BufRead + AsRawFd + Send,
+    O: Write + Drop + Send,
+{
+    let socket = listening(rt, alloc, place.config.state.as_str(), place.log)?;
+    let run = RunEnd::new(socket.listener());
+    let input = match input {
+        Some(input) => Some(reading(rt, alloc, &run, input)?),
+        None => None,
+    };
+    let commands = Commands {
+        listener: socket.listener(),
+        run: &run,
+        inlet,
+        input,
+    };
+    let ended = run_by(rt, alloc, place, ready, commands, output);
+    socket.remove(rt);
+    ended
+}
+
+// Where commands come from.
+#[derive(Drop)]
+struct Commands<'r, 'e, 'i, R, I> {
+    listener: Option<&'e Listener>,
+    run: &'e RunEnd,
+    inlet: Inlet,
+    input: Option<Reading<'r, 'e, 'i, R, I>>,
+}
+
+// Runs nodes until these commands end. Returns whether all were answered.
+fn run_by<'a, R, T, I, O>(
+    rt: &R,
+    alloc: Global,
+    place: &Place<'a, T>,
+    ready: Ready<'a, R>,
+    commands: Commands<'_, '_, '_, R, I>,
+    output: O,
 ) -> Result<io::Result<()>, RunFailure>
 where
     R: Clock
@@ -248,14 +303,12 @@ where
     T: Stores + Sync,
     T::Store: Send,
     I: BufRead + Send,
-    O: Write + Send,
+    O: Write + Drop + Send,
 {
     let Ready {
         node,
         journal,
         plans,
-        sender,
-        lines,
     } = ready;
     let outside = Outside {
         stores: place.stores,
@@ -263,16 +316,27 @@ where
         journal,
         plans,
     };
-    let config = place.config;
-    if !place.reads_input {
-        let ended = run_nodes(rt, alloc, config, node, outside, lines, output);
-        drop(sender);
-        return ended;
-    }
+    let Commands {
+        listener,
+        run,
+        inlet: Inlet { answerer, asked },
+        input,
+    } = commands;
+    let (asker, config) = (Asker::none(), place.config);
+    let lines = AskedLines::new(asked, &asker);
+    let mut replies = Replies::new(rt, &asker, output);
     let ((), ended) = join(
         rt,
-        || read_commands(rt, alloc, input, sender),
-        || run_nodes(rt, alloc, config, node, outside, lines, output),
+        || take_all(rt, alloc, listener, run, &answerer, input),
+        || {
+            let ended = run_nodes(rt, alloc, config, node, outside, lines, &mut replies);
+            // (who asked for the end is told that it is there)
+            if matches!(&ended, Ok(Ok(()))) {
+                let _ = replies.flush();
+            }
+            run.end(rt);
+            ended
+        },
     );
     ended
 }
@@ -293,72 +357,6 @@ fn config_at<R: Files>(rt: &R, alloc: Global, path: &str) -> Result<Configured, 
     require_apart(rt, alloc, &config)?;
     let unknown = unknown_keys(alloc, text.as_slice())?;
     Ok(Configured { config, unknown })
-}
-
-// What a run has before its threads begin.
-#[derive(Drop)]
-struct Ready<'a, R> {
-    node: NextNode,
-    journal: StateJournal<'a, R>,
-    plans: Vec<FolderPlans>,
-    sender: Sender<InputLine>,
-    lines: Receiver<InputLine>,
-}
-
-impl<'a, R> Ready<'a, R> {
-    fn new<T>(
-        rt: &'a R,
-        alloc: Global,
-        stores: &T,
-        config: &Config,
-        paths: &'a StatePaths<'a>,
-    ) -> Result<Ready<'a, R>, RunFailure>
-    where
-        R: Clock
-            + Net<Listener = TcpListener, Stream = TcpStream>
-            + StateFiles
-            + UnixSockets
-            + Wait,
-        T: Stores,
-    {
-        let last = match read_last_run(rt, alloc, config.device, paths) {
-            Ok(last) => last,
-            Err(failure) => return Err(at_state(alloc, paths.state, failure)),
-        };
-        if last.is_in_doubt {
-            thread::sleep(rt, Duration::from_secs(IN_DOUBT));
-        }
-        let mut node = NextNode::new(rt, alloc, config, &last.state, last.is_in_doubt)?;
-        keep_all(stores, config)?;
-        require_marks(rt, alloc, config.device, node.folders.as_slice(), false)?;
-        make_ready(alloc, stores, node.folders.as_slice())?;
-        require_marks(rt, alloc, config.device, node.folders.as_slice(), true)?;
-        write_marks(rt, alloc, config.device, node.folders.as_slice())?;
-        let mut plans = last.plans;
-        node.folders = settle_all(alloc, stores, node.folders, &mut plans)?;
-        let journal = match &last.journal {
-            Some(found) if !last.is_in_doubt => StateJournal::behind(
-                rt,
-                alloc,
-                config.device,
-                paths,
-                found,
-                last.state_len,
-            )?,
-            _ => {
-                let state = renumbered(alloc, config, node.index_ids.as_slice(), last.state)?;
-                StateJournal::anew(rt, alloc, config.device, paths, &state, plans.as_slice())?
-            }
-        };
-        let (sender, lines) = bounded::<InputLine, Global>(alloc, 1)?;
-        Ok(Ready {
-            node,
-            journal,
-            plans,
-            sender,
-            lines,
-        })
-    }
 }
 
 // The run ended well where all was answered.

@@ -26,6 +26,11 @@ pub(crate) fn push_event(line: &mut Vec<u8>, event: &Event) -> io::Result<()> {
             Ok(push_text(line, config)?)
         }
         Event::InputEnded => Ok(line.extend_from_slice(INPUT_ENDED)?),
+        Event::NoSocket(path, why) => {
+            line.extend_from_slice(b"no commands by ")?;
+            push_text(line, path)?;
+            write!(line, ": {why}: bepd ask can't reach this run")
+        }
         Event::OlderState => Ok(line.extend_from_slice(OLDER_STATE)?),
         Event::NotKept(why) => {
             line.extend_from_slice(b"state not written: it is tried again")?;
@@ -42,7 +47,7 @@ pub(crate) fn push_event(line: &mut Vec<u8>, event: &Event) -> io::Result<()> {
 }
 
 const INPUT_ENDED: &[u8] =
-    b"the input ended, and so does this run; one that is closed (<&-) is as none, and runs on";
+    b"the input ended, and so does this run; with --no-input it needs none, and runs on";
 
 const OLDER_STATE: &[u8] =
     b"older state: a peer was told more than it has: the node begins anew, and tells all again";

@@ -10,6 +10,8 @@ pub(super) const RUN_CHECK: &str = "Say what the configuration asks for, and end
 
 pub(super) const RUN_QUIET: &str = "Tell nothing on standard error of what happens";
 
+pub(super) const RUN_NO_INPUT: &str = "Read no commands from standard input: they come by `bepd ask`";
+
 /// What the help says first, with the numbers of a folder by their table. Fails only if out of memory.
 pub(crate) fn run_about(alloc: Global) -> Result<String, AllocError> {
     let mut text = String::from_str(alloc, CONFIGURATION)?;
@@ -73,8 +75,8 @@ const REST: &str = "\
         The permissions of its new files, three octal digits. Where it is left out,
         the system's.
 
-Input: on standard input a command a line, with one space between words. F is the
-id of a folder.
+Input: on standard input a command a line, with one space between words, or by
+`bepd ask`. F is the id of a folder.
 
     scan F      the folder is scanned
     need F      its names of which a better version is announced
@@ -85,7 +87,8 @@ id of a folder.
     history F   how many changes were made since the start, and how many pulls are
                 under way
     verify F    whether these changes lead to what the folder is now
-    quit        the program ends, as it does at the end of the input
+    quit        the program ends, as it does at the end of the input (with --no-input it
+                goes on until it is asked to quit, or killed, which undoes nothing)
 
 Output: need, skipped, best, local and peers print a line for each, and then `end`; the
 others one line, and quit none:

@@ -1,7 +1,7 @@
 use Rattle.std.proofs.Common.{map, Some, None, false, true, sym, inl, inr, option_map, ◌∙◌}
 use Rattle.std.specs.String.{string_bytes}
 use Rattle.clap.specs.Words.{app_of}
-use Rattle.bepd.specs.CommandLine.{check_at, config_at, dial_at, directory_at, folder_at, is_pair, is_true, listen_at, quiet_at, shared_at, syncthing_at}
+use Rattle.bepd.specs.CommandLine.{ask_command_at, ask_config_at, ask_folder_at, check_at, config_at, dial_at, directory_at, folder_at, is_pair, is_true, listen_at, no_input_at, quiet_at, shared_at, syncthing_at}
 use Rattle.bepd.proofs.Matching.{at_error, error_at, no_faults, read_at}
 use Rattle.bepd.proofs.command.command_of.Goals as goal
 
@@ -29,6 +29,7 @@ returns-in-Some-clause-named c =
         read_at (λ command. is_true (check_at command)) app words c.in_ok-matches.matches false c.in_ok-command.ensures c.in_ok-matches.ensures.ok.2 (sym c.if-is_check.false ∙ c.is_check.ensures),
       ),
       read_at (λ command. is_true (quiet_at command)) app words c.in_ok-matches.matches false c.in_ok-command.ensures c.in_ok-matches.ensures.ok.2 (sym c.if-is_quiet.false ∙ c.is_quiet.ensures),
+      read_at (λ command. is_true (no_input_at command)) app words c.in_ok-matches.matches c.has_no_input.result c.in_ok-command.ensures c.in_ok-matches.ensures.ok.2 c.has_no_input.ensures,
     )
 
 pub returns-then-is_quiet-clause-named : goal.returns-then-is_quiet-clause-named
@@ -41,6 +42,18 @@ returns-then-is_quiet-clause-named c =
         read_at (λ command. is_true (check_at command)) app words c.in_ok-matches.matches false c.in_ok-command.ensures c.in_ok-matches.ensures.ok.2 (sym c.if-is_check.false ∙ c.is_check.ensures),
       ),
       read_at (λ command. is_true (quiet_at command)) app words c.in_ok-matches.matches true c.in_ok-command.ensures c.in_ok-matches.ensures.ok.2 (sym c.if-is_quiet.true ∙ c.is_quiet.ensures),
+      read_at (λ command. is_true (no_input_at command)) app words c.in_ok-matches.matches c.has_no_input.result c.in_ok-command.ensures c.in_ok-matches.ensures.ok.2 c.has_no_input.ensures,
+    )
+
+pub returns-in-Some-asked_in-clause-named : goal.returns-in-Some-asked_in-clause-named
+returns-in-Some-asked_in-clause-named c =
+    let words = map string_bytes c.args.words.now in
+    let app = app_of c.in_ok-command.command in
+    let asked = c.in-Some-asked_in.ensures in (
+      no_faults app words c.in_ok-command.ensures c.in_ok-matches.ensures.kinds,
+      read_at ask_config_at app words c.in_ok-matches.matches (Some c.in-Some-asked_in.ask.config.now) c.in_ok-command.ensures c.in_ok-matches.ensures.ok.2 (sym asked.0),
+      read_at ask_command_at app words c.in_ok-matches.matches (Some c.in-Some-asked_in.ask.command.now) c.in_ok-command.ensures c.in_ok-matches.ensures.ok.2 (sym asked.1),
+      read_at ask_folder_at app words c.in_ok-matches.matches (option_map (λ s. s.now) c.in-Some-asked_in.ask.folder) c.in_ok-command.ensures c.in_ok-matches.ensures.ok.2 (sym asked.2),
     )
 
 pub returns-then-is_check-clause-named : goal.returns-then-is_check-clause-named
@@ -83,6 +96,10 @@ returns-clause-error c =
         read_at is_pair app words m false c.in_ok-command.ensures c.in_ok-matches.ensures.ok.2 (sym c.if-is_pair.false ∙ c.is_pair.ensures),
         read_at config_at app words m None c.in_ok-command.ensures c.in_ok-matches.ensures.ok.2 c.in_default.ensures,
         read_at directory_at app words m None c.in_ok-command.ensures c.in_ok-matches.ensures.ok.2 c.in_default-directory_in.ensures,
+        elim c.in_default-asked_in.ensures [
+          | inl no ↦ inl (read_at ask_config_at app words m None c.in_ok-command.ensures c.in_ok-matches.ensures.ok.2 (sym no))
+          | inr no ↦ inr (read_at ask_command_at app words m None c.in_ok-command.ensures c.in_ok-matches.ensures.ok.2 (sym no))
+        ],
         missing,
       ))
       | inr out ↦ inl out

@@ -102,3 +102,12 @@ returns-in-QuietRun-clause-pair g c = λ program line. absurd (asked_pair c.args
 
 pub returns-in-QuietRun-clause-node : goal.returns-in-QuietRun-clause-node
 returns-in-QuietRun-clause-node g c = λ program path line plain. absurd (asked_run c.args.words.now _ program path line plain c.in-QuietRun.ensures)
+
+pub returns-in-Ask-clause-best : goal.returns-in-Ask-clause-best
+returns-in-Ask-clause-best g c = λ program folder line plain. absurd (asked_best c.args.words.now _ program folder line plain c.in-Ask.ensures)
+
+pub returns-in-Ask-clause-pair : goal.returns-in-Ask-clause-pair
+returns-in-Ask-clause-pair g c = λ program line. absurd (asked_pair c.args.words.now _ program line c.in-Ask.ensures)
+
+pub returns-in-Ask-clause-node : goal.returns-in-Ask-clause-node
+returns-in-Ask-clause-node g c = λ program path line plain. absurd (asked_run c.args.words.now _ program path line plain c.in-Ask.ensures)

@@ -1,0 +1,146 @@
+//! Where the commands of a run come from: its input, and the socket beside its state.
+use crate::failure::RunFailure;
+use crate::files::StateFiles;
+use crossbeam_channel::{Receiver, Sender, bounded};
+use node_asks::{Asked, RunEnd, RunInput, listen, pass_on, socket_path, take_asked};
+use node_commands::{InputLine, read_commands};
+use node_context::{Event, Log};
+use node_threads::{Listener, UnixSockets};
+use std::alloc::{AllocError, Global};
+use std::io::{BufRead, ErrorKind};
+use std::net::{Net, TcpListener, TcpStream};
+use std::os::fd::AsRawFd;
+use std::sync::Wait;
+use std::thread::{Threads, join};
+use std::time::Clock;
+
+/// The way of the commands to who answers them.
+#[derive(Drop)]
+pub(crate) struct Inlet {
+    pub(crate) answerer: Sender<Asked>,
+    pub(crate) asked: Receiver<Asked>,
+}
+
+impl Inlet {
+    /// An empty one. Fails only if out of memory.
+    pub(crate) fn new(alloc: Global) -> Result<Inlet, AllocError> {
+        let (answerer, asked) = bounded::<Asked, Global>(alloc, 1)?;
+        Ok(Inlet { answerer, asked })
+    }
+}
+
+/// The socket beside a state, where it could be made.
+#[derive(Drop)]
+pub(crate) struct Socket {
+    path: String,
+    listener: Option<Listener>,
+}
+
+impl Socket {
+    /// What takes its connections.
+    pub(crate) fn listener(&self) -> Option<&Listener> {
+        self.listener.as_ref()
+    }
+
+    /// Removes it.
+    pub(crate) fn remove<R: StateFiles>(self, files: &R) {
+        if self.listener.is_some() {
+            files.remove(self.path.as_str());
+        }
+    }
+}
+
+/// Makes the socket beside the state at the path, or tells why it can't be made. Fails only if out of memory.
+pub(crate) fn listening<R>(
+    rt: &R,
+    alloc: Global,
+    state: &str,
+    log: &Log,
+) -> Result<Socket, RunFailure>
+where
+    R: Clock + Net<Listener = TcpListener, Stream = TcpStream> + UnixSockets + Wait,
+{
+    let path = socket_path(alloc, state)?;
+    let listener = match listen(rt, alloc, path.as_str()) {
+        Ok(listener) => Some(listener),
+        Err(error) if error.kind() == ErrorKind::OutOfMemory => {
+            return Err(RunFailure::OutOfMemory);
+        }
+        Err(error) => {
+            log.tell(rt, &Event::NoSocket(path.as_str(), error));
+            None
+        }
+    };
+    Ok(Socket { path, listener })
+}
+
+/// What is read of an input, up to the end of the run.
+#[derive(Drop)]
+pub(crate) struct Reading<'r, 'e, 'i, R, I> {
+    input: RunInput<'r, 'e, 'i, R, I>,
+    to: Sender<InputLine>,
+    lines: Receiver<InputLine>,
+}
+
+/// Reads this input. Fails where memory or descriptors run out.
+pub(crate) fn reading<'r, 'e, 'i, R: Net, I: BufRead + AsRawFd>(
+    rt: &'r R,
+    alloc: Global,
+    run: &'e RunEnd,
+    input: &'i mut I,
+) -> Result<Reading<'r, 'e, 'i, R, I>, RunFailure> {
+    let (to, lines) = bounded::<InputLine, Global>(alloc, 1)?;
+    let input = RunInput::new(rt, alloc, run, input)?;
+    Ok(Reading { input, to, lines })
+}
+
+/// Takes commands from the socket and from the input, where there are these, until the run ends.
+pub(crate) fn take_all<R, I>(
+    rt: &R,
+    alloc: Global,
+    listener: Option<&Listener>,
+    run: &RunEnd,
+    answerer: &Sender<Asked>,
+    input: Option<Reading<'_, '_, '_, R, I>>,
+)
+where
+    R: Clock + Sync + Threads + Wait,
+    I: BufRead + Send,
+{
+    let ((), ()) = join(
+        rt,
+        || match listener {
+            Some(listener) => take_asked(rt, alloc, listener, run, answerer),
+            // (a run without commands goes on)
+            None => run.wait(rt),
+        },
+        || {
+            if let Some(reading) = input {
+                read(rt, alloc, reading, answerer);
+            }
+        },
+    );
+}
+
+// Reads the commands of an input.
+fn read<R, I>(
+    rt: &R,
+    alloc: Global,
+    reading: Reading<'_, '_, '_, R, I>,
+    answerer: &Sender<Asked>,
+)
+where
+    R: Sync + Threads + Wait,
+    I: BufRead + Send,
+{
+    let Reading {
+        mut input,
+        to,
+        lines,
+    } = reading;
+    let ((), ()) = join(
+        rt,
+        || read_commands(rt, alloc, &mut input, to),
+        || pass_on(rt, lines, answerer),
+    );
+}

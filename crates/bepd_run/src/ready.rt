@@ -1,0 +1,138 @@
+//! What a run has before its threads begin.
+use crate::begun::{keep_all, make_ready};
+use crate::failure::RunFailure;
+use crate::files::StateFiles;
+use crate::journal::StateJournal;
+use crate::last_run::{FolderPlans, LastRun, StatePaths, read_last_run};
+use crate::marks::{require_marks, write_marks};
+use crate::naming::at_state;
+use crate::nodes::NextNode;
+use crate::plans::settle_all;
+use crate::starts::{Core, renumbered};
+use node_config::Config;
+use node_files::Stores;
+use node_threads::{StartFolder, UnixSockets};
+use std::alloc::Global;
+use std::net::{Net, TcpListener, TcpStream};
+use std::sync::Wait;
+use std::thread;
+use std::time::{Clock, Duration};
+
+/// How many seconds a run waits first where something may be missing that peers were told. What the last run recorded in its last seconds must not get the
+/// same version again: a version is the second of its scan, or one or two more where scans of a name met.
+const IN_DOUBT: u64 = 3;
+
+/// What a run has before its threads begin.
+#[derive(Drop)]
+pub(crate) struct Ready<'a, R> {
+    pub(crate) node: NextNode,
+    pub(crate) journal: StateJournal<'a, R>,
+    pub(crate) plans: Vec<FolderPlans>,
+}
+
+impl<'a, R> Ready<'a, R> {
+    /// By what the last run left. Fails by the state file, the addresses and the folders, in this order.
+    pub(crate) fn new<T>(
+        rt: &'a R,
+        alloc: Global,
+        stores: &T,
+        config: &Config,
+        paths: &'a StatePaths<'a>,
+    ) -> Result<Ready<'a, R>, RunFailure>
+    where
+        R: Clock
+            + Net<Listener = TcpListener, Stream = TcpStream>
+            + StateFiles
+            + UnixSockets
+            + Wait,
+        T: Stores,
+    {
+        let last = last_run(rt, alloc, config, paths)?;
+        let node = begun(rt, alloc, stores, config, &last)?;
+        settled(rt, alloc, stores, config, paths, node, last)
+    }
+}
+
+// What the last run left. Where something of it may be missing that peers were told, it is waited for some seconds.
+fn last_run<R: Clock + StateFiles + Wait>(
+    rt: &R,
+    alloc: Global,
+    config: &Config,
+    paths: &StatePaths,
+) -> Result<LastRun, RunFailure> {
+    let last = match read_last_run(rt, alloc, config.device, paths) {
+        Ok(last) => last,
+        Err(failure) => return Err(at_state(alloc, paths.state, failure)),
+    };
+    if last.is_in_doubt {
+        thread::sleep(rt, Duration::from_secs(IN_DOUBT));
+    }
+    Ok(last)
+}
+
+// The node that begins after it.
+fn begun<R, T>(
+    rt: &R,
+    alloc: Global,
+    stores: &T,
+    config: &Config,
+    last: &LastRun,
+) -> Result<NextNode, RunFailure>
+where
+    R: Clock + Net<Listener = TcpListener, Stream = TcpStream> + StateFiles + UnixSockets,
+    T: Stores,
+{
+    let node = NextNode::new(rt, alloc, config, &last.state, last.is_in_doubt)?;
+    begin_folders(rt, alloc, stores, config, node.folders.as_slice())?;
+    Ok(node)
+}
+
+// Takes its folders.
+fn begin_folders<R: StateFiles, T: Stores>(
+    rt: &R,
+    alloc: Global,
+    stores: &T,
+    config: &Config,
+    folders: &[StartFolder<Core>],
+) -> Result<(), RunFailure> {
+    keep_all(stores, config)?;
+    require_marks(rt, alloc, config.device, folders, false)?;
+    make_ready(alloc, stores, folders)?;
+    require_marks(rt, alloc, config.device, folders, true)?;
+    Ok(write_marks(rt, alloc, config.device, folders)?)
+}
+
+// Settles the plans of the last run, and has the journal go on, or begin anew.
+fn settled<'a, R: StateFiles, T: Stores>(
+    rt: &'a R,
+    alloc: Global,
+    stores: &T,
+    config: &Config,
+    paths: &'a StatePaths<'a>,
+    node: NextNode,
+    last: LastRun,
+) -> Result<Ready<'a, R>, RunFailure> {
+    let LastRun {
+        state,
+        mut plans,
+        journal: found,
+        state_len,
+        is_in_doubt,
+    } = last;
+    let mut node = node;
+    node.folders = settle_all(alloc, stores, node.folders, &mut plans)?;
+    let journal = match &found {
+        Some(found) if !is_in_doubt => {
+            StateJournal::behind(rt, alloc, config.device, paths, found, state_len)?
+        }
+        _ => {
+            let state = renumbered(alloc, config, node.index_ids.as_slice(), state)?;
+            StateJournal::anew(rt, alloc, config.device, paths, &state, plans.as_slice())?
+        }
+    };
+    Ok(Ready {
+        node,
+        journal,
+        plans,
+    })
+}
