@@ -7,7 +7,7 @@ use node_commands::{InputLine, read_commands};
 use node_context::{Event, Log};
 use node_threads::{Listener, UnixSockets};
 use std::alloc::{AllocError, Global};
-use std::io::{BufRead, ErrorKind};
+use std::io::{BufReader, ErrorKind, Read};
 use std::net::{Net, TcpListener, TcpStream};
 use std::os::fd::AsRawFd;
 use std::sync::Wait;
@@ -74,23 +74,26 @@ where
     Ok(Socket { path, listener })
 }
 
+/// How many bytes of an input are read at once: what follows its last command is left to whoever reads it next.
+const AHEAD: usize = 1;
+
 /// What is read of an input, up to the end of the run.
 #[derive(Drop)]
 pub(crate) struct Reading<'r, 'e, 'i, R, I> {
-    input: RunInput<'r, 'e, 'i, R, I>,
+    input: BufReader<RunInput<'r, 'e, 'i, R, I>>,
     to: Sender<InputLine>,
     lines: Receiver<InputLine>,
 }
 
 /// Reads this input. Fails where memory or descriptors run out.
-pub(crate) fn reading<'r, 'e, 'i, R: Net, I: BufRead + AsRawFd>(
+pub(crate) fn reading<'r, 'e, 'i, R: Net, I: Read + AsRawFd>(
     rt: &'r R,
     alloc: Global,
     run: &'e RunEnd,
     input: &'i mut I,
 ) -> Result<Reading<'r, 'e, 'i, R, I>, RunFailure> {
     let (to, lines) = bounded::<InputLine, Global>(alloc, 1)?;
-    let input = RunInput::new(rt, alloc, run, input)?;
+    let input = BufReader::with_capacity(alloc, AHEAD, RunInput::new(rt, alloc, run, input)?)?;
     Ok(Reading { input, to, lines })
 }
 
@@ -105,7 +108,7 @@ pub(crate) fn take_all<R, I>(
 )
 where
     R: Clock + Sync + Threads + Wait,
-    I: BufRead + Send,
+    I: Read + Send,
 {
     let ((), ()) = join(
         rt,
@@ -131,7 +134,7 @@ fn read<R, I>(
 )
 where
     R: Sync + Threads + Wait,
-    I: BufRead + Send,
+    I: Read + Send,
 {
     let Reading {
         mut input,

@@ -22,7 +22,7 @@ use node_files::Stores;
 use node_threads::{Listener, UnixSockets};
 use std::alloc::Global;
 use std::fs::{File, Files};
-use std::io::{self, BufRead, Write};
+use std::io::{self, Read, Write};
 use std::net::{Net, TcpListener, TcpStream};
 use std::os::fd::AsRawFd;
 use std::sync::Wait;
@@ -117,7 +117,7 @@ where
         + Wait,
     T: Stores + Sync,
     T::Store: Send,
-    I: BufRead + AsRawFd + Send,
+    I: Read + AsRawFd + Send,
     O: Write + AsRawFd + Send,
     E: Write + AsRawFd + Send,
     ensures quiet { how.progress ≡ None → errors.new ≡ errors.old }
@@ -206,7 +206,7 @@ where
         + Wait,
     T: Stores + Sync,
     T::Store: Send,
-    I: BufRead + AsRawFd + Send,
+    I: Read + AsRawFd + Send,
     O: Write + Send,
 {
     let Outward {
@@ -254,7 +254,7 @@ where
         + Wait,
     T: Stores + Sync,
     T::Store: Send,
-    I: BufRead + AsRawFd + Send,
+    I: Read + AsRawFd + Send,
     O: Write + Drop + Send,
 {
     let socket = listening(rt, alloc, place.config.state.as_str(), place.log)?;
@@ -302,7 +302,7 @@ where
         + Wait,
     T: Stores + Sync,
     T::Store: Send,
-    I: BufRead + Send,
+    I: Read + Send,
     O: Write + Drop + Send,
 {
     let Ready {

@@ -5,7 +5,7 @@ use Rattle.std.specs.Str.Iter.{HasSubslice}
 
 -- the line by which a command is asked for
 abbrev pub question : List ℕ → Option (Bor (List ℕ)) → List ℕ
-question word (Some folder) = word ++ codes " " ++ folder.now ++ codes "\n"
+question word (Some folder) = word ++ (codes " " ++ (folder.now ++ codes "\n"))
 question word None = word ++ codes "\n"
 
 -- lines with their line feeds, or none

@@ -3,7 +3,7 @@ use crate::run_end::RunEnd;
 use mio::unix::SourceFd;
 use mio::{Events, Interest, Poll, Token};
 use std::alloc::Global;
-use std::io::{self, BufRead, ErrorKind, Read};
+use std::io::{self, Read};
 use std::net::Net;
 use std::os::fd::{AsRawFd, RawFd};
 use std::sync::Wait;
@@ -21,12 +21,10 @@ pub struct RunInput<'r, 'e, 'i, R, I> {
     events: Events<Global>,
     fd: RawFd,
     input: &'i mut I,
-    // How many bytes of its buffer were not consumed.
-    left: usize,
 }
 
-impl<'r, 'e, 'i, R: Net, I: BufRead + AsRawFd> RunInput<'r, 'e, 'i, R, I> {
-    /// This input, of which nothing is in its buffer. Fails where memory or descriptors run out.
+impl<'r, 'e, 'i, R: Net, I: Read + AsRawFd> RunInput<'r, 'e, 'i, R, I> {
+    /// This input, of which nothing was read ahead. Fails where memory or descriptors run out.
     pub fn new(
         rt: &'r R,
         alloc: Global,
@@ -40,12 +38,11 @@ impl<'r, 'e, 'i, R: Net, I: BufRead + AsRawFd> RunInput<'r, 'e, 'i, R, I> {
             events: Events::with_capacity(alloc, 1)?,
             fd: input.as_raw_fd(),
             input,
-            left: 0,
         })
     }
 }
 
-impl<R: Wait, I: BufRead> RunInput<'_, '_, '_, R, I> {
+impl<R: Wait, I> RunInput<'_, '_, '_, R, I> {
     // Waits until something can be read, or the run ends. Returns whether it goes on.
     fn wait(&mut self) -> bool {
         for _ in self.rt.forever() {
@@ -80,29 +77,11 @@ impl<R: Wait, I: BufRead> RunInput<'_, '_, '_, R, I> {
     }
 }
 
-impl<R: Wait, I: BufRead> Read for RunInput<'_, '_, '_, R, I> {
+impl<R: Wait, I: Read> Read for RunInput<'_, '_, '_, R, I> {
     fn read(&mut self, buffer: &mut [u8]) -> io::Result<usize> {
-        if self.left == 0 && !self.wait() {
+        if !self.wait() {
             return Ok(0);
         }
-        let count = self.input.read(buffer)?;
-        self.left = self.left.saturating_sub(count);
-        Ok(count)
-    }
-}
-
-impl<R: Wait, I: BufRead> BufRead for RunInput<'_, '_, '_, R, I> {
-    fn fill_buf(&mut self) -> io::Result<&[u8]> {
-        if self.left == 0 && !self.wait() {
-            return Ok(&[]);
-        }
-        let buffer = self.input.fill_buf()?;
-        self.left = buffer.len();
-        Ok(buffer)
-    }
-
-    fn consume(&mut self, amount: usize) {
-        self.left = self.left.saturating_sub(amount);
-        self.input.consume(amount);
+        self.input.read(buffer)
     }
 }
