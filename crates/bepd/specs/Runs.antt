@@ -1,9 +1,8 @@
 -- What the program does for a command line (own rule).
-use Rattle.std.specs.Prelude.{◌≡◌, ℕ, ◌⊎◌, true, false, List, [], ◌++◌, Option, Result, Ok, Err, OnOk, IfSome, codes}
+use Rattle.std.specs.Prelude.{◌≡◌, ℕ, ◌⊎◌, false, List, [], ◌++◌, Option, Result, Ok, Err, OnOk, IfSome, codes}
 use Rattle.std.specs.Io.KnownBytes.{Appends}
 use Rattle.std.specs.String.{string_bytes}
 use Rattle.bep_frames.specs.Stream.{stream}
-use Rattle.bepd.specs.declared.command.RunWords.{RunWords}
 use Rattle.bepd.specs.declared.command.Request.{Request}
 use Rattle.bepd.specs.declared.command.Request.TheVariants.{Ask, Best, Check, New, Pair, QuietRun, Run, Text, Refused, OutOfMemory}
 use Rattle.bepd.specs.declared.ending.Ending.{Ending}
@@ -70,10 +69,6 @@ TellsRun outcome old new = (ran : Result (Unit {0}) RunFailure) × (told : Optio
 abbrev pub RunsNode : Outcome → Streams → Streams → Type 0
 RunsNode outcome old new = (ran : Result (Unit {0}) RunFailure) × EndsRun ran outcome old.errors new.errors
 
--- a node that is to read no commands leaves the input as it was
-abbrev pub ReadsAsAsked : RunWords → Streams → Streams → Type 0
-ReadsAsAsked run old new = run.has_no_input ≡ true → new.input ≡ old.input
-
 -- the text goes to standard output, or a write of it failed
 abbrev pub Shows : List ℕ → Outcome → Output → Output → Option (List ℕ) → Option (List ℕ) → Type 0
 Shows text outcome old_output new_output old_errors new_errors =
@@ -84,8 +79,8 @@ Shows text outcome old_output new_output old_errors new_errors =
 abbrev pub Does : Request → Outcome → Streams → Streams → Type 0
 Does (Best folder) outcome old new = Lists folder.now outcome old new
 Does Pair outcome old new = Plays outcome old new
-Does (Run run) outcome old new = ReadsAsAsked run old new × TellsRun outcome old new
-Does (QuietRun run) outcome old new = ReadsAsAsked run old new × RunsNode outcome old new
+Does (Run run) outcome old new = TellsRun outcome old new
+Does (QuietRun run) outcome old new = RunsNode outcome old new
 Does (Check path) outcome old new = (new.input ≡ old.input) × RunsNode outcome old new
 Does (Ask words) outcome old new = (new.input ≡ old.input) × RunsNode outcome old new
 Does (New words) outcome old new = (new.input ≡ old.input) × RunsNode outcome old new

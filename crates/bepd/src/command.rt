@@ -11,9 +11,7 @@ mod new_help;
 mod pair_help;
 mod run_help;
 
-use ask_help::{
-    ASK_ABOUT, ASK_COMMAND, ASK_CONFIG, ASK_FOLDER, ASK_LONG_ABOUT, ASK_STATUSES,
-};
+use ask_help::{ASK_ABOUT, ASK_COMMAND, ASK_CONFIG, ASK_FOLDER, ASK_LONG_ABOUT, ASK_STATUSES};
 use bepd_new::NewWords;
 use bepd_run::AskWords;
 use best_help::{BEST_ABOUT, BEST_FOLDER, BEST_LONG_ABOUT, BEST_STATUSES};

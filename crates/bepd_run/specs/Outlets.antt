@@ -1,5 +1,5 @@
 -- What becomes of bytes that are to be written where it may not be waited for long (own rule).
-use Rattle.std.specs.Prelude.{◌≡◌, ◌⊎◌, ℕ, ◌<◌, ◌≤◌, true, false, List, ◌++◌, length, take, Option}
+use Rattle.std.specs.Prelude.{◌≡◌, ◌⊎◌, ℕ, true, false, List, ◌++◌, length, take, Option}
 use Rattle.std.specs.Io.KnownBytes.{Appends, Keeps}
 use Rattle.bepd_run.specs.Losses.{lost, told, to_tell, written}
 use Rattle.bepd_run.specs.declared.losses.Losses.{Losses}

@@ -43,7 +43,7 @@ impl Socket {
     }
 
     /// Removes it.
-    pub(crate) fn remove<R: StateFiles>(self, files: &R) {
+    pub(crate) fn remove<R: StateFiles>(&self, files: &R) {
         if self.listener.is_some() {
             files.remove(self.path.as_str());
         }
@@ -77,34 +77,41 @@ where
 /// How many bytes of an input are read at once: what follows its last command is left to whoever reads it next.
 const AHEAD: usize = 1;
 
-/// What is read of an input, up to the end of the run.
+/// An input, up to the end of the run, and whether it is read.
 #[derive(Drop)]
 pub(crate) struct Reading<'r, 'e, 'i, R, I> {
     input: BufReader<RunInput<'r, 'e, 'i, R, I>>,
+    is_read: bool,
     to: Sender<InputLine>,
     lines: Receiver<InputLine>,
 }
 
-/// Reads this input. Fails where memory or descriptors run out.
-pub(crate) fn reading<'r, 'e, 'i, R: Net, I: Read + AsRawFd>(
+/// This input, which is read or not. Fails where memory or descriptors run out.
+pub(crate) fn read_of<'r, 'e, 'i, R: Net + Wait, I: Read + AsRawFd>(
     rt: &'r R,
     alloc: Global,
     run: &'e RunEnd,
     input: &'i mut I,
+    is_read: bool,
 ) -> Result<Reading<'r, 'e, 'i, R, I>, RunFailure> {
     let (to, lines) = bounded::<InputLine, Global>(alloc, 1)?;
     let input = BufReader::with_capacity(alloc, AHEAD, RunInput::new(rt, alloc, run, input)?)?;
-    Ok(Reading { input, to, lines })
+    Ok(Reading {
+        input,
+        is_read,
+        to,
+        lines,
+    })
 }
 
 /// Takes commands from the socket and from the input, where there are these, until the run ends.
 pub(crate) fn take_all<R, I>(
     rt: &R,
     alloc: Global,
-    listener: Option<&Listener>,
+    socket: &Socket,
     run: &RunEnd,
     answerer: &Sender<Asked>,
-    input: Option<Reading<'_, '_, '_, R, I>>,
+    input: Reading<'_, '_, '_, R, I>,
 )
 where
     R: Clock + Sync + Threads + Wait,
@@ -112,35 +119,30 @@ where
 {
     let ((), ()) = join(
         rt,
-        || match listener {
+        || match &socket.listener {
             Some(listener) => take_asked(rt, alloc, listener, run, answerer),
             // (a run without commands goes on)
             None => run.wait(rt),
         },
-        || {
-            if let Some(reading) = input {
-                read(rt, alloc, reading, answerer);
-            }
-        },
+        || read(rt, alloc, input, answerer),
     );
 }
 
-// Reads the commands of an input.
-fn read<R, I>(
-    rt: &R,
-    alloc: Global,
-    reading: Reading<'_, '_, '_, R, I>,
-    answerer: &Sender<Asked>,
-)
+// Reads the commands of an input that is read.
+fn read<R, I>(rt: &R, alloc: Global, reading: Reading<'_, '_, '_, R, I>, answerer: &Sender<Asked>)
 where
     R: Sync + Threads + Wait,
     I: Read + Send,
 {
     let Reading {
         mut input,
+        is_read,
         to,
         lines,
     } = reading;
+    if !is_read {
+        return;
+    }
     let ((), ()) = join(
         rt,
         || read_commands(rt, alloc, &mut input, to),

@@ -36,16 +36,36 @@ where
     R: Files + Net<Listener = TcpListener, Stream = TcpStream>,
     O: Write,
 {
-    let state = state_path(rt, alloc, words.config)?;
-    let path = socket_path(alloc, state.as_str())?;
+    let path = socket_at(rt, alloc, words.config)?;
+    let read = read_answer(rt, alloc, words, path.as_str())?;
+    match Answer::of(read.as_str()) {
+        Some(answer) => write_answer(&answer, output),
+        None => Err(ask_failure(alloc, path.as_str(), words.config, AskFault::Cut)),
+    }
+}
+
+// The socket of the run by the configuration at a path.
+fn socket_at<R: Files>(rt: &R, alloc: Global, config: &str) -> Result<String, RunFailure> {
+    let state = state_path(rt, alloc, config)?;
+    Ok(socket_path(alloc, state.as_str())?)
+}
+
+// What the run at the socket sends back.
+fn read_answer<R: Net<Listener = TcpListener, Stream = TcpStream>>(
+    rt: &R,
+    alloc: Global,
+    words: &AskWords,
+    path: &str,
+) -> Result<String, RunFailure> {
     let question = question(alloc, words.command, words.folder)?;
-    let read = match ask(rt, alloc, path.as_str(), question.as_str()) {
-        Ok(read) => read,
-        Err(fault) => return Err(ask_failure(alloc, path.as_str(), words.config, fault)),
-    };
-    let Some(answer) = Answer::of(read.as_str()) else {
-        return Err(ask_failure(alloc, path.as_str(), words.config, AskFault::Cut));
-    };
+    match ask(rt, alloc, path, question.as_str()) {
+        Ok(read) => Ok(read),
+        Err(fault) => Err(ask_failure(alloc, path, words.config, fault)),
+    }
+}
+
+// Writes an answer.
+fn write_answer<O: Write>(answer: &Answer, output: &mut O) -> Result<(), RunFailure> {
     output.write_all(answer.text.as_bytes())?;
     output.flush()?;
     if answer.is_error() {

@@ -33,23 +33,66 @@ where
     O: Write,
 {
     let text = read_config_file(rt, alloc, path)?;
-    let told = match read_config(alloc, text.as_slice()) {
-        Ok(config) => config,
-        Err(fault) => return Err(config_failure(alloc, text.as_slice(), fault)),
-    };
-    let config = placed_config(alloc, path, read_config(alloc, text.as_slice())?)?;
-    require_apart(rt, alloc, &config)?;
-    for (place, peer) in config.peers.as_slice().iter().enumerate() {
-        let _ = peer_address(alloc, place, peer)?;
-    }
-    tell(alloc, &told, output)?;
-    tell_unknown_keys(alloc, text.as_slice(), output)?;
-    let stop = tell_outlook(rt, alloc, &config, output)?;
+    let stop = check_text(rt, alloc, path, text.as_slice(), output)?;
     output.flush()?;
     match stop {
         Some(failure) => Err(failure),
         None => Ok(()),
     }
+}
+
+// Checks a configuration with this text, at a path. Returns why a run would end at its start, if it would.
+fn check_text<R, O>(
+    rt: &R,
+    alloc: Global,
+    path: &str,
+    text: &[u8],
+    output: &mut O,
+) -> Result<Option<RunFailure>, RunFailure>
+where
+    R: Files<File = File>
+        + Net<Listener = TcpListener, Stream = TcpStream>
+        + StateFiles
+        + UnixSockets,
+    O: Write,
+{
+    let told = match read_config(alloc, text) {
+        Ok(config) => config,
+        Err(fault) => return Err(config_failure(alloc, text, fault)),
+    };
+    let config = placed_config(alloc, path, read_config(alloc, text)?)?;
+    check_read(rt, alloc, text, &told, &config, output)
+}
+
+// The same of what was read: as the text has it, and as a run takes it.
+fn check_read<R, O>(
+    rt: &R,
+    alloc: Global,
+    text: &[u8],
+    told: &Config,
+    config: &Config,
+    output: &mut O,
+) -> Result<Option<RunFailure>, RunFailure>
+where
+    R: Files<File = File>
+        + Net<Listener = TcpListener, Stream = TcpStream>
+        + StateFiles
+        + UnixSockets,
+    O: Write,
+{
+    require_apart(rt, alloc, config)?;
+    require_addresses(alloc, config)?;
+    tell(alloc, told, output)?;
+    tell_unknown_keys(alloc, text, output)?;
+    tell_outlook(rt, alloc, config, output)
+}
+
+// Fails where the address of a peer can't be read.
+fn require_addresses(alloc: Global, config: &Config) -> Result<(), RunFailure> {
+    for (place, peer) in config.peers.as_slice().iter().enumerate() {
+        let _ = peer_address(alloc, place, peer)?;
+    }
+    Ok(())
 }
 
 fn tell<O: Write>(alloc: Global, config: &Config, output: &mut O) -> Result<(), RunFailure> {

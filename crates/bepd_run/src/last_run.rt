@@ -3,7 +3,7 @@ use crate::failure::RunFailure;
 use crate::files::StateFiles;
 use crate::naming::file_failure;
 use bep_messages::{Copied, Items, Text};
-use node_journal::{JournalEnd, JournalFault, JournalHeader, frames_behind, read_journal};
+use node_journal::{Journal, JournalEnd, JournalFault, JournalHeader, frames_behind, read_journal};
 use node_recover::{PullPlan, RecoverFault, RecoveredFolder, recover};
 use node_state::{Problem, State, StateFault, StoredFolder, read_state};
 use sha2::{Digest, Sha256};
@@ -74,17 +74,53 @@ pub(crate) fn read_last_run<R: StateFiles>(
     paths: &StatePaths,
 ) -> Result<LastRun, RunFailure> {
     let bytes = read_at(files, alloc, paths.state)?;
-    let has_state = bytes.is_some();
-    let bytes = bytes.unwrap_or(Vec::new(alloc));
-    let digest = Sha256::digest(bytes.as_slice());
-    let state = if has_state {
-        read_state(alloc, device, bytes.as_slice())?
-    } else {
-        State {
-            folders: Items::new(alloc),
+    let (state, of) = match &bytes {
+        Some(bytes) => {
+            let bytes = bytes.as_slice();
+            (
+                read_state(alloc, device, bytes)?,
+                StateBytes::new(bytes, true),
+            )
         }
+        None => (no_state(alloc), StateBytes::new(&[], false)),
     };
-    let state_len = bytes.len() as u64;
+    with_journal(files, alloc, device, paths, state, &of)
+}
+
+// The state of which nothing is written.
+fn no_state(alloc: Global) -> State {
+    State {
+        folders: Items::new(alloc),
+    }
+}
+
+// What is known of the bytes of a state.
+#[derive(Clone, Copy, Debug)]
+struct StateBytes {
+    is_there: bool,
+    len: u64,
+    digest: [u8; 32],
+}
+
+impl StateBytes {
+    fn new(bytes: &[u8], is_there: bool) -> StateBytes {
+        StateBytes {
+            is_there,
+            len: bytes.len() as u64,
+            digest: Sha256::digest(bytes),
+        }
+    }
+}
+
+// The state with the journal behind it, if there is one, under one of its two names.
+fn with_journal<R: StateFiles>(
+    files: &R,
+    alloc: Global,
+    device: DeviceId,
+    paths: &StatePaths,
+    state: State,
+    of: &StateBytes,
+) -> Result<LastRun, RunFailure> {
     let mut has_journal = false;
     for is_new in [false, true] {
         let path = if is_new {
@@ -92,39 +128,103 @@ pub(crate) fn read_last_run<R: StateFiles>(
         } else {
             paths.journal.as_str()
         };
-        let Some(bytes) = read_at(files, alloc, path)? else {
-            continue;
-        };
-        has_journal = true;
-        let journal = match read_journal(alloc, device, bytes.as_slice()) {
-            Ok(journal) => journal,
-            Err(JournalFault::OutOfMemory) => return Err(RunFailure::OutOfMemory),
-            Err(_) => continue,
-        };
-        let Some(frames) = frames_behind(&journal, &digest) else {
-            continue;
-        };
-        let recovered = recover(alloc, device, &state, frames)?;
-        let (state, plans) = divided(alloc, recovered)?;
-        return Ok(LastRun {
-            state,
-            plans,
-            journal: Some(FoundJournal {
-                header: journal.header,
-                len: journal.kept.len as u64,
-                is_new,
-            }),
-            state_len,
-            is_in_doubt: journal.kept.end == JournalEnd::Broken,
-        });
+        match journal_at(files, alloc, device, path, &state, of)? {
+            Looked::Nothing => {}
+            Looked::Unfit => has_journal = true,
+            Looked::Found(found) => return Ok(continued(found, is_new, of)),
+        }
     }
     Ok(LastRun {
         state,
         plans: Vec::new(alloc),
         journal: None,
-        state_len,
-        is_in_doubt: has_state || has_journal,
+        state_len: of.len,
+        is_in_doubt: of.is_there || has_journal,
     })
+}
+
+// What is at the path of a journal.
+#[derive(Drop)]
+enum Looked {
+    Nothing,
+    // A file that is no journal of this device, or one of another state.
+    Unfit,
+    Found(Behind),
+}
+
+// What a journal behind a state comes to with it.
+#[derive(Drop)]
+struct Behind {
+    state: State,
+    plans: Vec<FolderPlans>,
+    header: JournalHeader,
+    // How many of its bytes count.
+    len: u64,
+    // Whether something in it is no frame.
+    is_broken: bool,
+}
+
+// Looks for a journal behind the state at a path.
+fn journal_at<R: StateFiles>(
+    files: &R,
+    alloc: Global,
+    device: DeviceId,
+    path: &str,
+    state: &State,
+    of: &StateBytes,
+) -> Result<Looked, RunFailure> {
+    let Some(bytes) = read_at(files, alloc, path)? else {
+        return Ok(Looked::Nothing);
+    };
+    match read_journal(alloc, device, bytes.as_slice()) {
+        Ok(journal) => joined(alloc, device, state, &journal, of),
+        Err(JournalFault::OutOfMemory) => Err(RunFailure::OutOfMemory),
+        Err(_) => Ok(Looked::Unfit),
+    }
+}
+
+// What a journal comes to with the state, if it is behind that.
+fn joined(
+    alloc: Global,
+    device: DeviceId,
+    state: &State,
+    journal: &Journal,
+    of: &StateBytes,
+) -> Result<Looked, RunFailure> {
+    let Some(frames) = frames_behind(journal, &of.digest) else {
+        return Ok(Looked::Unfit);
+    };
+    let recovered = recover(alloc, device, state, frames)?;
+    let (state, plans) = divided(alloc, recovered)?;
+    Ok(Looked::Found(Behind {
+        state,
+        plans,
+        header: journal.header,
+        len: journal.kept.len as u64,
+        is_broken: journal.kept.end == JournalEnd::Broken,
+    }))
+}
+
+// The run goes on with that.
+fn continued(found: Behind, is_new: bool, of: &StateBytes) -> LastRun {
+    let Behind {
+        state,
+        plans,
+        header,
+        len,
+        is_broken,
+    } = found;
+    LastRun {
+        state,
+        plans,
+        journal: Some(FoundJournal {
+            header,
+            len,
+            is_new,
+        }),
+        state_len: of.len,
+        is_in_doubt: is_broken,
+    }
 }
 
 // The bytes of the file at a path, if there is one.

@@ -131,10 +131,12 @@ fn address_failure(alloc: Global, place: usize, peer: &PeerConfig, why: &str) ->
 /// Why no answer came from the run by the configuration, which is to take commands at the path.
 pub(crate) fn ask_failure(alloc: Global, path: &str, config: &str, fault: AskFault) -> RunFailure {
     let about = match fault {
-        AskFault::NoRun =>
-            format!(in alloc; "{path}: no run takes commands there: is `bepd run --config {config}` running?"),
-        AskFault::Silent =>
-            format!(in alloc; "{path}: no answer within 10 seconds; what was asked for may still be done"),
+        AskFault::NoRun => format!(in alloc;
+            "{path}: no run takes commands there: is `bepd run --config {config}` running?"
+        ),
+        AskFault::Silent => format!(in alloc;
+            "{path}: no answer within 10 seconds; what was asked for may still be done"
+        ),
         AskFault::Cut => format!(in alloc; "{path}: the run ended before its answer was whole"),
         AskFault::Socket(error) => return file_failure(alloc, "socket", path, error),
         AskFault::OutOfMemory => return RunFailure::OutOfMemory,

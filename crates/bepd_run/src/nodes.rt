@@ -93,6 +93,8 @@ pub(crate) struct Outside<'a, T, R> {
     pub(crate) journal: StateJournal<'a, R>,
     /// The plans of folders that are away.
     pub(crate) plans: Vec<FolderPlans>,
+    /// Whether a peer of an earlier node was told more than was on the disk.
+    pub(crate) was_behind: bool,
 }
 
 // Where one of them reads and writes.
@@ -128,53 +130,116 @@ where
     L: CommandLines + Drop,
     O: Write,
 {
-    let Outside {
-        stores,
-        log,
-        mut journal,
-        mut plans,
-    } = outside;
-    let (mut node, mut lines) = (node, lines);
-    let mut was_behind = false;
+    let (mut node, mut lines, mut outside) = (node, lines, outside);
     for _ in rt.forever() {
         let place = NodePlace {
-            stores,
-            log,
-            journal: &mut journal,
+            stores: outside.stores,
+            log: outside.log,
+            journal: &mut outside.journal,
         };
-        let NodeLeft {
-            state,
-            saved,
-            is_behind,
-            answered,
-            lines: rest,
-        } = run_once(rt, alloc, config, node, place, lines, output)?;
-        let state = if is_behind {
-            let state = with_new_number(rt, alloc, config, state)?;
-            journal.replace(&state, plans.as_slice())?;
-            state
-        } else {
-            state
-        };
-        was_behind |= is_behind;
-        let answered = match answered {
-            Ok(CommandsEnd::Stopped) => {
-                node = NextNode::new(rt, alloc, config, &state, false)?;
-                // (a peer that says so once more is a bad one, and harms itself alone)
-                node.believes_all = was_behind;
-                begin_again(alloc, stores, node.folders.as_slice());
-                let folders = settle_all(alloc, stores, node.folders, &mut plans)?;
-                node.folders = saved_up_to(folders, saved.as_slice());
+        let left = run_once(rt, alloc, config, node, place, lines, output)?;
+        match follow(rt, alloc, config, left, &mut outside)? {
+            After::Ended(answered) => return Ok(answered),
+            After::Next(next, rest) => {
+                node = next;
                 lines = rest;
-                continue;
             }
-            Ok(CommandsEnd::Read) => Ok(()),
-            Err(error) => Err(error),
-        };
-        journal.replace(&state, plans.as_slice())?;
-        return Ok(answered);
+        }
     }
     unreachable!()
+}
+
+// What follows a node.
+#[derive(Drop)]
+enum After<L> {
+    // The end, with whether all commands were answered: the state is written.
+    Ended(io::Result<()>),
+    // Another node, which answers these lines.
+    Next(NextNode, L),
+}
+
+// Takes what a node leaves.
+fn follow<R, T, L>(
+    rt: &R,
+    alloc: Global,
+    config: &Config,
+    left: NodeLeft<L>,
+    outside: &mut Outside<T, R>,
+) -> Result<After<L>, RunFailure>
+where
+    R: Clock + Net<Listener = TcpListener, Stream = TcpStream> + StateFiles + UnixSockets,
+    T: Stores,
+    L: Drop,
+{
+    let NodeLeft {
+        state,
+        saved,
+        is_behind,
+        answered,
+        lines,
+    } = left;
+    outside.was_behind |= is_behind;
+    let state = if is_behind {
+        told_anew(rt, alloc, config, state, outside)?
+    } else {
+        state
+    };
+    match answered {
+        Ok(CommandsEnd::Stopped) => {
+            let node = next_node(rt, alloc, config, &state, saved.as_slice(), outside)?;
+            Ok(After::Next(node, lines))
+        }
+        Ok(CommandsEnd::Read) => ended(&state, Ok(()), outside),
+        Err(error) => ended(&state, Err(error), outside),
+    }
+}
+
+// The commands ended so, and the state is written.
+fn ended<R: StateFiles, T, L>(
+    state: &State,
+    answered: io::Result<()>,
+    outside: &mut Outside<T, R>,
+) -> Result<After<L>, RunFailure>
+where
+    L: Drop,
+{
+    outside.journal.replace(state, outside.plans.as_slice())?;
+    Ok(After::Ended(answered))
+}
+
+// The state, in which all indexes have a new number, so that everything is told again. It is written.
+fn told_anew<R: Clock + StateFiles, T>(
+    rt: &R,
+    alloc: Global,
+    config: &Config,
+    state: State,
+    outside: &mut Outside<T, R>,
+) -> Result<State, RunFailure> {
+    let state = with_new_number(rt, alloc, config, state)?;
+    outside.journal.replace(&state, outside.plans.as_slice())?;
+    Ok(state)
+}
+
+// The node that begins with the state after one that stopped, and whose records are in the journal up to these sequences.
+fn next_node<R, T>(
+    rt: &R,
+    alloc: Global,
+    config: &Config,
+    state: &State,
+    saved: &[u64],
+    outside: &mut Outside<T, R>,
+) -> Result<NextNode, RunFailure>
+where
+    R: Clock + Net<Listener = TcpListener, Stream = TcpStream> + UnixSockets,
+    T: Stores,
+{
+    let mut node = NextNode::new(rt, alloc, config, state, false)?;
+    // (a peer that says so once more is a bad one, and harms itself alone)
+    node.believes_all = outside.was_behind;
+    begin_again(alloc, outside.stores, node.folders.as_slice());
+    let folders = settle_all(alloc, outside.stores, node.folders, &mut outside.plans)?;
+    node.folders = saved_up_to(folders, saved);
+    Ok(node)
 }
 
 // The state, in which the index of each folder has a new number.

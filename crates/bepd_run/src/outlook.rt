@@ -7,13 +7,13 @@ use crate::naming::{at_state, listen_failure, peer_address};
 use crate::recorded::{has_names, is_known};
 use bep_messages::Text;
 use folder_core::{Counts, FolderCore};
-use node_config::{Config, FolderConfig, unknown_keys};
+use node_config::{Config, FolderConfig, PeerAddress, PeerConfig, unknown_keys};
 use node_context::Endpoint;
 use node_state::State;
 use node_threads::{ListenFault, Listener, NodeAddress, UnixSockets};
 use std::alloc::{AllocError, Global};
 use std::fs::{self, File, Files, OpenFile, OpenOptions, TryLockError};
-use std::io::{ErrorKind, Write};
+use std::io::{self, ErrorKind, Write};
 use std::net::{Net, TcpListener, TcpStream};
 use sync_record::DeviceId;
 
@@ -221,27 +221,74 @@ where
     R: Files<File = File> + Net<Listener = TcpListener, Stream = TcpStream> + UnixSockets,
     O: Write,
 {
-    let mut stop = None;
-    let mut listeners = Vec::new(alloc);
+    let (mut listeners, mut stop) = (Vec::new(alloc), None);
+    let looked = look_at_all(rt, alloc, config, &mut listeners, &mut stop, output);
+    match looked {
+        Ok(()) => Ok(stop),
+        Err(failure) => Err(failure),
+    }
+}
+
+// Listens on each of them, and notes why a run would end by the last that fails.
+fn look_at_all<R, O>(
+    rt: &R,
+    alloc: Global,
+    config: &Config,
+    listeners: &mut Vec<Listener>,
+    stop: &mut Option<RunFailure>,
+    output: &mut O,
+) -> Result<(), RunFailure>
+where
+    R: Files<File = File> + Net<Listener = TcpListener, Stream = TcpStream> + UnixSockets,
+    O: Write,
+{
     for (place, peer) in config.peers.as_slice().iter().enumerate() {
-        let NodeAddress::Listen(endpoint) = peer_address(alloc, place, peer)? else {
-            continue;
-        };
-        match Listener::new(rt, &endpoint) {
-            Ok(listener) => {
-                remove_socket(rt, &endpoint);
-                listeners.push(listener)?;
-            }
-            Err(error) => {
-                let number = place + 1;
-                let kind = error.kind();
-                writeln!(output, "peer {number}: listen {endpoint}: {kind}")?;
-                let fault = ListenFault::Address { peer: place, error };
-                stop = Some(listen_failure(alloc, config, fault));
-            }
+        if let Some(error) = listen_fault(rt, alloc, place, peer, listeners)? {
+            tell_address(place, peer, &error, output)?;
+            let fault = ListenFault::Address { peer: place, error };
+            *stop = Some(listen_failure(alloc, config, fault));
         }
     }
-    Ok(stop)
+    Ok(())
+}
+
+// Listens on the address of a peer, if it has one of this device. Returns why that can't be, if it can't.
+fn listen_fault<R>(
+    rt: &R,
+    alloc: Global,
+    place: usize,
+    peer: &PeerConfig,
+    listeners: &mut Vec<Listener>,
+) -> Result<Option<io::Error>, RunFailure>
+where
+    R: Files<File = File> + Net<Listener = TcpListener, Stream = TcpStream> + UnixSockets,
+{
+    let NodeAddress::Listen(endpoint) = peer_address(alloc, place, peer)? else {
+        return Ok(None);
+    };
+    match Listener::new(rt, &endpoint) {
+        Ok(listener) => {
+            remove_socket(rt, &endpoint);
+            listeners.push(listener)?;
+            Ok(None)
+        }
+        Err(error) => Ok(Some(error)),
+    }
+}
+
+// Tells why an address can't be listened on.
+fn tell_address<O: Write>(
+    place: usize,
+    peer: &PeerConfig,
+    error: &io::Error,
+    output: &mut O,
+) -> io::Result<()> {
+    let (number, kind) = (place.saturating_add(1), error.kind());
+    match &peer.address {
+        PeerAddress::Dial(address) | PeerAddress::Listen(address) => {
+            writeln!(output, "peer {number}: listen {}: {kind}", address.as_str())
+        }
+    }
 }
 
 // Removes the file of a Unix socket that was made there.

@@ -30,17 +30,30 @@ fn canonical<R: Files>(rt: &R, alloc: Global, path: &str) -> Result<Text, RunFai
         }
     }
     for count in (0..=parts.len()).rev() {
-        let (above, below) = parts.as_slice().split_at(count);
-        let above = extended(String::from_str(alloc, root)?, above)?;
-        match rt.canonicalize(alloc, above.as_str()) {
-            Ok(found) => return Ok(Text::from_string(extended(found.into_string(), below)?)),
-            Err(error) if error.kind() == ErrorKind::OutOfMemory => {
-                return Err(RunFailure::OutOfMemory);
-            }
-            Err(_) => {}
+        if let Some(found) = canonical_front(rt, alloc, root, parts.as_slice(), count)? {
+            return Ok(found);
         }
     }
     Ok(Text::from_string(String::from_str(alloc, path)?))
+}
+
+// The canonical path of what so many of the parts lead to, and then the rest; none if nothing is there.
+fn canonical_front<R: Files>(
+    rt: &R,
+    alloc: Global,
+    root: &str,
+    parts: &[&str],
+    count: usize,
+) -> Result<Option<Text>, RunFailure> {
+    let (Some(above), Some(below)) = (parts.get(..count), parts.get(count..)) else {
+        return Ok(None);
+    };
+    let above = extended(String::from_str(alloc, root)?, above)?;
+    match rt.canonicalize(alloc, above.as_str()) {
+        Ok(found) => Ok(Some(Text::from_string(extended(found.into_string(), below)?))),
+        Err(error) if error.kind() == ErrorKind::OutOfMemory => Err(RunFailure::OutOfMemory),
+        Err(_) => Ok(None),
+    }
 }
 
 // The path of what these parts lead to from a directory.

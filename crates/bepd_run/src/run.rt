@@ -1,8 +1,8 @@
 //! A run of `bepd run`, from its configuration to its end.
-ghost use Rattle.std.specs.Prelude.{◌≡◌, Err, IfErr, IfOk, IsErr, None, OnErr, false};
+ghost use Rattle.std.specs.Prelude.{◌≡◌, Err, IfErr, IfOk, IsErr, None, OnErr};
 ghost use Rattle.std.specs.Thread.{IsSend};
 
-use crate::asked::{Inlet, Reading, listening, reading, take_all};
+use crate::asked::{Inlet, Reading, Socket, listening, read_of, take_all};
 use crate::begun::tell_begun;
 use crate::failure::RunFailure;
 use crate::files::{StateFiles, read_config_file};
@@ -19,7 +19,7 @@ use node_asks::{AskedLines, Asker, Replies, RunEnd};
 use node_config::{Config, UnknownKey, read_config, unknown_keys};
 use node_context::{Log, ProgressStyle, write_log};
 use node_files::Stores;
-use node_threads::{Listener, UnixSockets};
+use node_threads::UnixSockets;
 use std::alloc::Global;
 use std::fs::{File, Files};
 use std::io::{self, Read, Write};
@@ -121,13 +121,7 @@ where
     O: Write + AsRawFd + Send,
     E: Write + AsRawFd + Send,
     ensures quiet { how.progress ≡ None → errors.new ≡ errors.old }
-    ensures unread { how.reads_input ≡ false → input.new ≡ input.old }
 {
-    let input = if how.reads_input {
-        Some(input)
-    } else {
-        None
-    };
     let alloc = rt.alloc();
     let Configured { config, unknown } = config_at(rt, alloc, path)?;
     let paths = StatePaths::new(alloc, config.state.as_str())?;
@@ -145,6 +139,7 @@ where
         config: &config,
         stores,
         log: &log,
+        reads_input: how.reads_input,
     };
     let outward = Outward {
         turns: &turns,
@@ -176,6 +171,7 @@ struct Place<'a, T> {
     config: &'a Config,
     stores: &'a T,
     log: &'a Log,
+    reads_input: bool,
 }
 
 // Where answers go, but for their writer, and where commands come from, but for the input.
@@ -192,7 +188,7 @@ fn answer_ready<'a, R, T, I, O>(
     alloc: Global,
     place: &Place<'a, T>,
     ready: Ready<'a, R>,
-    input: Option<&mut I>,
+    input: &mut I,
     outward: Outward<'_>,
     output: &mut O,
 ) -> Result<io::Result<()>, RunFailure>
@@ -215,7 +211,24 @@ where
         inlet,
     } = outward;
     let output = Outlet::new(rt, turns, channel, output);
-    run_ready(rt, alloc, place, ready, inlet, input, output)
+    let socket = listening(rt, alloc, place.config.state.as_str(), place.log)?;
+    let run = RunEnd::new(socket.listener());
+    let doors = Doors {
+        socket: &socket,
+        run: &run,
+        inlet,
+    };
+    let ended = run_ready(rt, alloc, place, ready, doors, input, output);
+    socket.remove(rt);
+    ended
+}
+
+// Where commands come from, but for the input.
+#[derive(Drop)]
+struct Doors<'d> {
+    socket: &'d Socket,
+    run: &'d RunEnd,
+    inlet: Inlet,
 }
 
 // Writes which keys of the configuration are none, and then what is told; what can't be written is left out.
@@ -240,8 +253,8 @@ fn run_ready<'a, R, T, I, O>(
     alloc: Global,
     place: &Place<'a, T>,
     ready: Ready<'a, R>,
-    inlet: Inlet,
-    input: Option<&mut I>,
+    doors: Doors<'_>,
+    input: &mut I,
     output: O,
 ) -> Result<io::Result<()>, RunFailure>
 where
@@ -257,30 +270,8 @@ where
     I: Read + AsRawFd + Send,
     O: Write + Drop + Send,
 {
-    let socket = listening(rt, alloc, place.config.state.as_str(), place.log)?;
-    let run = RunEnd::new(socket.listener());
-    let input = match input {
-        Some(input) => Some(reading(rt, alloc, &run, input)?),
-        None => None,
-    };
-    let commands = Commands {
-        listener: socket.listener(),
-        run: &run,
-        inlet,
-        input,
-    };
-    let ended = run_by(rt, alloc, place, ready, commands, output);
-    socket.remove(rt);
-    ended
-}
-
-// Where commands come from.
-#[derive(Drop)]
-struct Commands<'r, 'e, 'i, R, I> {
-    listener: Option<&'e Listener>,
-    run: &'e RunEnd,
-    inlet: Inlet,
-    input: Option<Reading<'r, 'e, 'i, R, I>>,
+    let reading = read_of(rt, alloc, doors.run, input, place.reads_input)?;
+    run_by(rt, alloc, place, ready, doors, reading, output)
 }
 
 // Runs nodes until these commands end. Returns whether all were answered.
@@ -289,7 +280,8 @@ fn run_by<'a, R, T, I, O>(
     alloc: Global,
     place: &Place<'a, T>,
     ready: Ready<'a, R>,
-    commands: Commands<'_, '_, '_, R, I>,
+    doors: Doors<'_>,
+    input: Reading<'_, '_, '_, R, I>,
     output: O,
 ) -> Result<io::Result<()>, RunFailure>
 where
@@ -315,20 +307,22 @@ where
         log: place.log,
         journal,
         plans,
+        was_behind: false,
     };
-    let Commands {
-        listener,
+    let Doors {
+        socket,
         run,
         inlet: Inlet { answerer, asked },
-        input,
-    } = commands;
+    } = doors;
     let (asker, config) = (Asker::none(), place.config);
     let lines = AskedLines::new(asked, &asker);
     let mut replies = Replies::new(rt, &asker, output);
     let ((), ended) = join(
         rt,
-        || take_all(rt, alloc, listener, run, &answerer, input),
-        || {
+        || take_all(rt, alloc, socket, run, &answerer, input),
+        || -> Result<io::Result<()>, RunFailure>
+            requires { IsSend T.Store.row }
+        {
             let ended = run_nodes(rt, alloc, config, node, outside, lines, &mut replies);
             // (who asked for the end is told that it is there)
             if matches!(&ended, Ok(Ok(()))) {

@@ -63,7 +63,9 @@ pub fn ask<R: Net<Listener = TcpListener, Stream = TcpStream>>(
     };
     let patience = Some(Duration::from_secs(PATIENCE));
     stream.set_read_timeout(patience).map_err(AskFault::Socket)?;
-    stream.set_write_timeout(patience).map_err(AskFault::Socket)?;
+    stream
+        .set_write_timeout(patience)
+        .map_err(AskFault::Socket)?;
     stream.write_all(question.as_bytes()).map_err(not_read)?;
     let mut answer = String::new(alloc);
     stream.read_to_string(&mut answer).map_err(not_read)?;

@@ -1,140 +1,97 @@
 //! The text of what happened to connections of a peer.
-use crate::endpoint::Endpoint;
 use crate::event::{Heard, PeerEvent, ShareGap};
 use bep_messages::Text;
 use peer_reader::ReaderStop;
 use std::io::{self, Write};
-use std::net::{IpAddr, SocketAddr};
+use std::net::IpAddr;
 use sync_record::DeviceId;
 
 /// The number of the fault of a message that is compressed.
 const COMPRESSED: u8 = 12;
 
-/// Appends what happened to connections of the peer. (Each arm is one call: what a function costs the prover grows with the square of its steps.)
+/// Appends what happened to connections of the peer.
 pub(crate) fn push_peer_event(
     line: &mut Vec<u8>,
     peer: DeviceId,
     event: &PeerEvent,
 ) -> io::Result<()> {
     match event {
-        PeerEvent::Listening(endpoint) => push_listening(line, peer, endpoint),
-        PeerEvent::Connected(heard) => push_connected(line, peer, heard),
-        PeerEvent::Unshared(folder, gap) => push_unshared(line, peer, folder, *gap),
-        PeerEvent::UnsharedMore(count) => push_unshared_more(line, peer, *count),
-        PeerEvent::Stranger(address) => push_stranger(line, peer, *address),
-        PeerEvent::OwnIdentity => push_told(line, "not taken for ", peer, OWN_IDENTITY),
-        PeerEvent::NobodyDialled(endpoint, seconds) => push_waiting(line, peer, endpoint, *seconds),
-        PeerEvent::InTurn(from) => push_turn(line, peer, *from),
-        PeerEvent::Unreached(endpoint, why, seconds) => {
-            push_unreached(line, peer, endpoint, *why, *seconds)
+        PeerEvent::Listening(endpoint) => {
+            write!(line, "listening on {endpoint} for ")?;
+            push_device(line, peer)
         }
-        PeerEvent::Gone(why) => push_gone(line, peer, why),
-        PeerEvent::Anew(why) => push_anew(line, peer, why),
-        PeerEvent::Silent => push_told(line, "gone ", peer, SILENT),
+        PeerEvent::Connected(heard) => {
+            push_with(line, "connected ", peer)?;
+            push_heard(line, heard)
+        }
+        PeerEvent::Unshared(folder, gap) => {
+            line.extend_from_slice(b"not shared ")?;
+            push_front(line, folder)?;
+            push_with(line, ": ", peer)?;
+            Ok(line.extend_from_slice(gap_text(*gap).as_bytes())?)
+        }
+        PeerEvent::UnsharedMore(count) => {
+            write!(line, "not shared: {count} more folders of ")?;
+            push_device(line, peer)
+        }
+        PeerEvent::Stranger(address) => {
+            write!(
+                line,
+                "stranger {address}: no ClusterConfig came from there, so it was not taken for "
+            )?;
+            push_device(line, peer)
+        }
+        PeerEvent::OwnIdentity => {
+            push_with(line, "not taken for ", peer)?;
+            Ok(line.extend_from_slice(OWN_IDENTITY)?)
+        }
+        PeerEvent::NobodyDialled(endpoint, seconds) => {
+            push_with(line, "waiting for ", peer)?;
+            write!(
+                line,
+                ": it has not connected in {seconds} seconds: it must dial {endpoint}, or be dialled from here"
+            )
+        }
+        PeerEvent::InTurn(from) => {
+            push_with(line, "two devices as ", peer)?;
+            push_turn(line, *from)
+        }
+        PeerEvent::Unreached(endpoint, why, seconds) => {
+            push_with(line, "not reached ", peer)?;
+            write!(
+                line,
+                ": {endpoint}: {why}; tried again each {seconds} seconds"
+            )
+        }
+        PeerEvent::Gone(why) => {
+            push_with(line, "gone ", peer)?;
+            push_why(line, why)
+        }
+        PeerEvent::Anew(why) => {
+            push_with(line, "gone ", peer)?;
+            write!(line, ": {why}: the connection begins anew")
+        }
+        PeerEvent::Silent => {
+            push_with(line, "gone ", peer)?;
+            Ok(line.extend_from_slice(b": no ClusterConfig came within 10 seconds")?)
+        }
     }
 }
 
 const OWN_IDENTITY: &[u8] =
     b": who is there has the identity of this device: each device needs one of its own (bepd new makes one)";
 
-const SILENT: &[u8] = b": no ClusterConfig came within 10 seconds";
-
 fn push_with(line: &mut Vec<u8>, words: &str, peer: DeviceId) -> io::Result<()> {
     line.extend_from_slice(words.as_bytes())?;
     push_device(line, peer)
 }
 
-fn push_told(line: &mut Vec<u8>, words: &str, peer: DeviceId, what: &[u8]) -> io::Result<()> {
-    push_with(line, words, peer)?;
-    Ok(line.extend_from_slice(what)?)
-}
-
-fn push_listening(line: &mut Vec<u8>, peer: DeviceId, endpoint: &Endpoint) -> io::Result<()> {
-    write!(line, "listening on {endpoint} for ")?;
-    push_device(line, peer)
-}
-
-fn push_connected(line: &mut Vec<u8>, peer: DeviceId, heard: &Heard) -> io::Result<()> {
-    push_with(line, "connected ", peer)?;
-    push_heard(line, heard)
-}
-
-fn push_unshared(
-    line: &mut Vec<u8>,
-    peer: DeviceId,
-    folder: &str,
-    gap: ShareGap,
-) -> io::Result<()> {
-    line.extend_from_slice(b"not shared ")?;
-    push_front(line, folder)?;
-    push_told(line, ": ", peer, gap_text(gap).as_bytes())
-}
-
-fn push_unshared_more(line: &mut Vec<u8>, peer: DeviceId, count: u64) -> io::Result<()> {
-    write!(line, "not shared: {count} more folders of ")?;
-    push_device(line, peer)
-}
-
-fn push_stranger(line: &mut Vec<u8>, peer: DeviceId, address: SocketAddr) -> io::Result<()> {
-    write!(
-        line,
-        "stranger {address}: no ClusterConfig came from there, so it was not taken for "
-    )?;
-    push_device(line, peer)
-}
-
-fn push_waiting(
-    line: &mut Vec<u8>,
-    peer: DeviceId,
-    endpoint: &Endpoint,
-    seconds: u64,
-) -> io::Result<()> {
-    push_with(line, "waiting for ", peer)?;
-    write!(
-        line,
-        ": it has not connected in {seconds} seconds: it must dial {endpoint}, or be dialled from here"
-    )
-}
-
-fn push_turn(
-    line: &mut Vec<u8>,
-    peer: DeviceId,
-    from: Option<(IpAddr, IpAddr)>,
-) -> io::Result<()> {
-    push_with(line, "two devices as ", peer)?;
-    push_two(line, from)?;
-    Ok(line.extend_from_slice(b": each device needs an identity of its own, or edits are lost")?)
-}
-
-fn push_two(line: &mut Vec<u8>, from: Option<(IpAddr, IpAddr)>) -> io::Result<()> {
+fn push_turn(line: &mut Vec<u8>, from: Option<(IpAddr, IpAddr)>) -> io::Result<()> {
     match from {
-        Some((one, other)) => write!(line, ": {one} and {other} connect in turn"),
-        None => Ok(line.extend_from_slice(b": they connect in turn")?),
+        Some((one, other)) => write!(line, ": {one} and {other} connect in turn")?,
+        None => line.extend_from_slice(b": they connect in turn")?,
     }
-}
-
-fn push_unreached(
-    line: &mut Vec<u8>,
-    peer: DeviceId,
-    endpoint: &Endpoint,
-    why: io::Error,
-    seconds: u64,
-) -> io::Result<()> {
-    push_with(line, "not reached ", peer)?;
-    write!(
-        line,
-        ": {endpoint}: {why}; tried again each {seconds} seconds"
-    )
-}
-
-fn push_gone(line: &mut Vec<u8>, peer: DeviceId, why: &ReaderStop) -> io::Result<()> {
-    push_with(line, "gone ", peer)?;
-    push_why(line, why)
-}
-
-fn push_anew(line: &mut Vec<u8>, peer: DeviceId, why: &str) -> io::Result<()> {
-    push_with(line, "gone ", peer)?;
-    write!(line, ": {why}: the connection begins anew")
+    Ok(line.extend_from_slice(b": each device needs an identity of its own, or edits are lost")?)
 }
 
 fn push_heard(line: &mut Vec<u8>, heard: &Heard) -> io::Result<()> {

@@ -10,7 +10,8 @@ pub(super) const RUN_CHECK: &str = "Say what the configuration asks for, and end
 
 pub(super) const RUN_QUIET: &str = "Tell nothing on standard error of what happens";
 
-pub(super) const RUN_NO_INPUT: &str = "Read no commands from standard input: they come by `bepd ask`";
+pub(super) const RUN_NO_INPUT: &str =
+    "Read no commands from standard input: they come by `bepd ask`";
 
 /// What the help says first, with the numbers of a folder by their table. Fails only if out of memory.
 pub(crate) fn run_about(alloc: Global) -> Result<String, AllocError> {

@@ -1,4 +1,4 @@
-use Rattle.std.proofs.Common.{arith, rules, ◌≤◌, ◌+◌, length, take}
+use Rattle.std.proofs.Common.{rules}
 use Rattle.bepd_run.proofs.Fronts.{appends_more}
 use Rattle.bepd_run.proofs.telling.write_whole.Goals as goal
 
