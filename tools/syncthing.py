@@ -90,7 +90,7 @@ def until(found, what, seconds=None, pause=0.1):
 
 
 def certificate(folder, name="syncthing"):
-    """Makes a device's certificate and its key in a folder, as docs/SYNCTHING.md has it. Syncthing takes no other name."""
+    """Makes a device's certificate and its key in a folder, as docs/USING.md has it. Syncthing takes no other name."""
     subprocess.run(["openssl", "req", "-x509", "-newkey", "ec", "-pkeyopt", "ec_paramgen_curve:P-384", "-nodes", "-days", "7300", "-subj", f"/CN={name}",
                     "-keyout", f"{folder}/key.pem", "-out", f"{folder}/cert.pem"], check=True, capture_output=True)
 
@@ -447,7 +447,7 @@ class Theirs(Side):
 
 
 class Line:
-    """stunnel at a node of `bepd`, as `bepd new --syncthing` sets it up and as docs/SYNCTHING.md has it: TLS with the peer's certificate pinned, and a Unix socket between the
+    """stunnel at a node of `bepd`, as `bepd new --syncthing` sets it up and as docs/USING.md has it: TLS with the peer's certificate pinned, and a Unix socket between the
     two. It can be cut."""
 
     def __init__(self, ours, theirs, dials=True):
