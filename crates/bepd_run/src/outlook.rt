@@ -7,7 +7,7 @@ use crate::naming::{at_state, listen_failure, peer_address};
 use crate::recorded::{has_names, is_known};
 use bep_messages::Text;
 use folder_core::{Counts, FolderCore};
-use node_config::{Config, FolderConfig, PeerAddress, PeerConfig, unknown_keys};
+use node_config::{Config, FolderConfig, PeerConfig, unknown_keys};
 use node_context::Endpoint;
 use node_state::State;
 use node_threads::{ListenFault, Listener, NodeAddress, UnixSockets};
@@ -243,8 +243,7 @@ where
     O: Write,
 {
     for (place, peer) in config.peers.as_slice().iter().enumerate() {
-        if let Some(error) = listen_fault(rt, alloc, place, peer, listeners)? {
-            tell_address(place, peer, &error, output)?;
+        if let Some(error) = listen_fault(rt, alloc, place, peer, listeners, output)? {
             let fault = ListenFault::Address { peer: place, error };
             *stop = Some(listen_failure(alloc, config, fault));
         }
@@ -252,16 +251,18 @@ where
     Ok(())
 }
 
-// Listens on the address of a peer, if it has one of this device. Returns why that can't be, if it can't.
-fn listen_fault<R>(
+// Listens on the address of a peer, if it has one of this device. Tells and returns why that can't be, if it can't.
+fn listen_fault<R, O>(
     rt: &R,
     alloc: Global,
     place: usize,
     peer: &PeerConfig,
     listeners: &mut Vec<Listener>,
+    output: &mut O,
 ) -> Result<Option<io::Error>, RunFailure>
 where
     R: Files<File = File> + Net<Listener = TcpListener, Stream = TcpStream> + UnixSockets,
+    O: Write,
 {
     let NodeAddress::Listen(endpoint) = peer_address(alloc, place, peer)? else {
         return Ok(None);
@@ -272,21 +273,10 @@ where
             listeners.push(listener)?;
             Ok(None)
         }
-        Err(error) => Ok(Some(error)),
-    }
-}
-
-// Tells why an address can't be listened on.
-fn tell_address<O: Write>(
-    place: usize,
-    peer: &PeerConfig,
-    error: &io::Error,
-    output: &mut O,
-) -> io::Result<()> {
-    let (number, kind) = (place.saturating_add(1), error.kind());
-    match &peer.address {
-        PeerAddress::Dial(address) | PeerAddress::Listen(address) => {
-            writeln!(output, "peer {number}: listen {}: {kind}", address.as_str())
+        Err(error) => {
+            let (number, kind) = (place.saturating_add(1), error.kind());
+            writeln!(output, "peer {number}: listen {endpoint}: {kind}")?;
+            Ok(Some(error))
         }
     }
 }
