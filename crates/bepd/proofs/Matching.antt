@@ -292,7 +292,7 @@ run_asked_at : (words : List Text) (path : Text) (asked : Request) → IsTold wo
 run_asked_at words path (request.Best f) given h = run_not_best (subcommand_of bepd_app words) f.now path h.1 given.0.1
 run_asked_at words path request.Pair given h = run_not_pair (subcommand_of bepd_app words) path given.0.1 h.1
 run_asked_at words path (request.Run run) given h = is_some_of (config_at (subcommand_of bepd_app words)) run.path.now path h.0.1 given.0.1
-run_asked_at words path (request.QuietRun run) given h = true≢false (sym h.1.0 ∙ given.1)
+run_asked_at words path (request.QuietRun run) given h = true≢false (sym h.1 ∙ given.1)
 run_asked_at words path (request.Ask ask) given h = ask_not_run (subcommand_of bepd_app words) path ask.config.now given.0.1 h.1.0
 run_asked_at words path (request.Check p) given h = true≢false (sym h.2 ∙ given.0.2)
 run_asked_at words path (request.New new) given h = new_not_run (subcommand_of bepd_app words) path new.directory.now given.0.1 h.1

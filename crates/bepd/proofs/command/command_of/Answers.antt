@@ -51,9 +51,11 @@ returns-in-Some-asked_in-clause-named c =
     let app = app_of c.in_ok-command.command in
     let asked = c.in-Some-asked_in.ensures in (
       no_faults app words c.in_ok-command.ensures c.in_ok-matches.ensures.kinds,
-      read_at ask_config_at app words c.in_ok-matches.matches (Some c.in-Some-asked_in.ask.config.now) c.in_ok-command.ensures c.in_ok-matches.ensures.ok.2 (sym asked.0),
-      read_at ask_command_at app words c.in_ok-matches.matches (Some c.in-Some-asked_in.ask.command.now) c.in_ok-command.ensures c.in_ok-matches.ensures.ok.2 (sym asked.1),
-      read_at ask_folder_at app words c.in_ok-matches.matches (option_map (λ s. s.now) c.in-Some-asked_in.ask.folder) c.in_ok-command.ensures c.in_ok-matches.ensures.ok.2 (sym asked.2),
+      (
+        read_at ask_config_at app words c.in_ok-matches.matches (Some c.in-Some-asked_in.ask.config.now) c.in_ok-command.ensures c.in_ok-matches.ensures.ok.2 (sym asked.0),
+        read_at ask_command_at app words c.in_ok-matches.matches (Some c.in-Some-asked_in.ask.command.now) c.in_ok-command.ensures c.in_ok-matches.ensures.ok.2 (sym asked.1),
+        read_at ask_folder_at app words c.in_ok-matches.matches (option_map (λ s. s.now) c.in-Some-asked_in.ask.folder) c.in_ok-command.ensures c.in_ok-matches.ensures.ok.2 (sym asked.2),
+      ),
     )
 
 pub returns-then-is_check-clause-named : goal.returns-then-is_check-clause-named
@@ -97,8 +99,8 @@ returns-clause-error c =
         read_at config_at app words m None c.in_ok-command.ensures c.in_ok-matches.ensures.ok.2 c.in_default.ensures,
         read_at directory_at app words m None c.in_ok-command.ensures c.in_ok-matches.ensures.ok.2 c.in_default-directory_in.ensures,
         elim c.in_default-asked_in.ensures [
-          | inl no ↦ inl (read_at ask_config_at app words m None c.in_ok-command.ensures c.in_ok-matches.ensures.ok.2 (sym no))
-          | inr no ↦ inr (read_at ask_command_at app words m None c.in_ok-command.ensures c.in_ok-matches.ensures.ok.2 (sym no))
+          | inl lacks ↦ inl (read_at ask_config_at app words m None c.in_ok-command.ensures c.in_ok-matches.ensures.ok.2 (sym lacks))
+          | inr lacks ↦ inr (read_at ask_command_at app words m None c.in_ok-command.ensures c.in_ok-matches.ensures.ok.2 (sym lacks))
         ],
         missing,
       ))

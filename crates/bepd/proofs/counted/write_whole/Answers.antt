@@ -1,4 +1,4 @@
-use Rattle.std.proofs.Common.{arith, rules, ◌≤◌, ◌+◌, length, drop}
+use Rattle.std.proofs.Common.{rules}
 use Rattle.bepd.proofs.Counting.{appends_more, writes_kept, writes_more}
 use Rattle.bepd.proofs.counted.write_whole.Goals as goal
 

@@ -1,10 +1,8 @@
-use Rattle.std.proofs.Common.{◌≡◌, ◌≤◌, ◌<◌, ◌∙◌, ◌++◌, [], length, take, refl, arith, rules}
-use Rattle.bepd.specs.declared.ending.Ending.TheVariants.{Failed}
+use Rattle.std.proofs.Common.{◌≡◌, ◌∙◌, ◌++◌, [], length, take, refl, arith, rules}
 use Rattle.bepd.specs.declared.ending.Failure.TheVariants.{OutOfMemory}
-use Rattle.bepd.specs.Counts.{Reads, input_of}
-use Rattle.bepd.specs.Endings.{TellsFailedRead}
+use Rattle.bepd.specs.Counts.{input_of}
 use Rattle.bepd.proofs.Counting.{reads_nothing, reads_more}
-use Rattle.bepd.proofs.Reading.{receives_nothing, leaves_start, own_folder, read_piece, read_all, read_fault, read_too_many}
+use Rattle.bepd.proofs.Reading.{receives_nothing, leaves_start, own_folder, read_piece, read_fault, read_too_many}
 use Rattle.bepd.proofs.Reports.{at_failure}
 use Rattle.bepd.proofs.input.read_stream.Goals as goal
 

@@ -1,4 +1,4 @@
-use Rattle.std.proofs.Common.{◌≡◌, ◌++◌, ◌-◌, ◌∙◌, Some, [], ap, sym, subst, length, refl, rules}
+use Rattle.std.proofs.Common.{◌≡◌, ◌++◌, ◌-◌, ◌∙◌, Some, [], ap, sym, subst, length, refl}
 use Rattle.std.specs.Io.KnownBytes.{Appends}
 use Rattle.std.specs.Prelude.{flat_map, slice_get}
 use Rattle.folder_core.specs.Reads.{bests_page}
