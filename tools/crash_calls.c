@@ -237,7 +237,7 @@ static int at_path(const char *kind, int at, const char *path, int is_made, long
     if (!place_of(at, path, whole)) return raw(which, at, (long)path, flags, 0, 0, 0);
     enter();
     ino_t ino = number_of(whole, &facts);
-    int counts = is_made == !ino;
+    int counts = is_made == !ino && (!ino || S_ISREG(facts.st_mode) || S_ISDIR(facts.st_mode));
     if (counts) number_it(kind, whole);
     int answer = raw(which, at, (long)path, flags, 0, 0, 0);
     if (counts && answer) {

@@ -83,6 +83,10 @@ def sectors(offset, data):
         offset, data = offset + size, data[size:]
 
 
+def is_socket(path):
+    return stat.S_ISSOCK(os.lstat(path).st_mode)
+
+
 class Disk:
     def __init__(self, top):
         """What is on the disk now, all of which has reached it."""
@@ -97,7 +101,9 @@ class Disk:
         if stat.S_ISDIR(facts.st_mode):
             node = Entry(True, facts.st_mode & 0o7777, facts.st_mtime_ns)
             for name in os.listdir(path):
-                node.kept[name] = node.now[name] = self.read(f"{path}/{name}")
+                # (the socket of a killed run has no bytes, and the next run puts its own in its place)
+                if not is_socket(f"{path}/{name}"):
+                    node.kept[name] = node.now[name] = self.read(f"{path}/{name}")
         else:
             with open(path, "rb") as it:
                 node = Entry(False, facts.st_mode & 0o7777, facts.st_mtime_ns, it.read())
@@ -284,6 +290,8 @@ def found_at(top):
         for it in names:
             found[os.path.relpath(f"{at}/{it}", top)] = None
         for it in files:
+            if is_socket(f"{at}/{it}"):
+                continue
             with open(f"{at}/{it}", "rb") as file:
                 found[os.path.relpath(f"{at}/{it}", top)] = file.read()
     return found
