@@ -5,7 +5,6 @@ import mmap
 import os
 import queue
 import re
-import shutil
 import socket
 import stat
 import subprocess
@@ -15,6 +14,7 @@ import time
 
 from bep import Messages, field, file_of, first, info, response, told_files, update
 from nodes import PATIENCE, PROGRAM, Differs, Played, becomes, built, event_of, greeting, work
+from program import copied
 
 NOBODY = 65534
 # A moment that lies far ahead, so that what has it is preferred.
@@ -62,7 +62,7 @@ class Disk(Played):
             return
         # (what is above all that a run makes may be passed through, and the program stand where others can't come)
         os.chmod(work, 0o711)
-        shutil.copy(PROGRAM, f"{self.path}/bepd")
+        copied(PROGRAM, f"{self.path}/bepd")
         for at, _, files in os.walk(self.path):
             for it in at, *(f"{at}/{it}" for it in files):
                 os.chown(it, NOBODY, NOBODY, follow_symlinks=False)

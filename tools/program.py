@@ -14,3 +14,10 @@ def bepd():
     if found.returncode:
         sys.exit(f"{sys.argv[0]}: neither crates/bepd/out/bepd nor release/bepd is of this text: ./bepd builds it, or tools/test does")
     return found.stdout.strip()
+
+
+def copied(program, to):
+    """Copies a program to a path, for a user who may not enter its folder. Another process does: a file that this one has open for writing would stay so in a program that another
+    thread begins just then, and can't be begun for as long."""
+    subprocess.run(["cp", program, to], check=True)
+    return to
