@@ -16,7 +16,7 @@ use Rattle.node_context.specs.declared.fault.NodeFault.{NodeFault}
 use Rattle.node_context.specs.declared.fault.NodeFault.TheVariants as node
 use Rattle.node_context.specs.Faults.{node_fault_name, node_fault_number}
 use Rattle.bepd_run.specs.declared.failure.RunFailure.{RunFailure}
-use Rattle.bepd_run.specs.declared.failure.RunFailure.TheVariants.{Address, Config, ConfigWith, Exists, File, FolderInUse, Node, NoAnswer, NoFolder, NotDone, OutOfMemory, ReadOrWrite, Refused, State, StateAt, StateInUse}
+use Rattle.bepd_run.specs.declared.failure.RunFailure.TheVariants.{Address, Config, ConfigWith, Exists, File, FolderInUse, Node, NoAnswer, NoFolder, NotDone, NotDoneWith, OutOfMemory, ReadOrWrite, Refused, State, StateAt, StateInUse}
 
 abbrev pub config_status : ConfigFault → ℕ
 config_status (config.NotToml line) = 1
@@ -51,6 +51,7 @@ run_failure_status (Address about) = 7
 run_failure_status (File about) = 5
 run_failure_status (NoAnswer about) = 8
 run_failure_status NotDone = 9
+run_failure_status (NotDoneWith about) = 9
 run_failure_status ReadOrWrite = 5
 
 -- an error of a file, of the commands or of the answers
@@ -84,4 +85,5 @@ run_failure_text (Address about) = codes "fault 62 BadAddress\n" ++ about
 run_failure_text (File about) = codes "fault read or write\n" ++ about
 run_failure_text (NoAnswer about) = codes "fault no answer\n" ++ about
 run_failure_text NotDone = codes "fault not done: the answer says why"
+run_failure_text (NotDoneWith about) = codes "fault not done: the answer says why\n" ++ about
 run_failure_text ReadOrWrite = codes "fault read or write"

@@ -2,44 +2,87 @@
 use crate::failure::RunFailure;
 use crate::files::StateFiles;
 use crossbeam_channel::{Receiver, Sender, bounded};
-use node_asks::{Asked, RunEnd, RunInput, listen, pass_on, socket_path, take_asked};
+use node_asks::{
+    Answerers, Asked, RunEnd, RunInput, is_short, listen, pass_on, socket_path, take_asked,
+};
 use node_commands::{InputLine, read_commands};
 use node_context::{Event, Log};
 use node_threads::{Listener, UnixSockets};
 use std::alloc::{AllocError, Global};
-use std::io::{BufReader, ErrorKind, Read};
+use std::io::{self, BufReader, ErrorKind, Read};
 use std::net::{Net, TcpListener, TcpStream};
 use std::os::fd::AsRawFd;
 use std::sync::Wait;
 use std::thread::{Threads, join};
 use std::time::Clock;
 
-/// The way of the commands to who answers them.
+/// How many commands from elsewhere wait for who answers them.
+const MAX_WAITING: usize = 64;
+
+/// The ways of the commands to those who answer them: of those of the input, of those that ask for a scan from elsewhere, and of all others from there. None holds up
+/// another one.
 #[derive(Drop)]
-pub(crate) struct Inlet {
-    pub(crate) answerer: Sender<Asked>,
-    pub(crate) asked: Receiver<Asked>,
+pub(crate) struct Inlets {
+    pub(crate) ways: Ways,
+    pub(crate) input: Receiver<Asked>,
+    pub(crate) scans: Receiver<Asked>,
+    pub(crate) others: Receiver<Asked>,
 }
 
-impl Inlet {
-    /// An empty one. Fails only if out of memory.
-    pub(crate) fn new(alloc: Global) -> Result<Inlet, AllocError> {
-        let (answerer, asked) = bounded::<Asked, Global>(alloc, 1)?;
-        Ok(Inlet { answerer, asked })
+impl Inlets {
+    /// Empty ones. Fails only if out of memory.
+    pub(crate) fn new(alloc: Global) -> Result<Inlets, AllocError> {
+        let (to_input, input) = bounded::<Asked, Global>(alloc, 1)?;
+        let (to_scans, scans) = bounded::<Asked, Global>(alloc, MAX_WAITING)?;
+        let (to_others, others) = bounded::<Asked, Global>(alloc, MAX_WAITING)?;
+        let ways = Ways {
+            all: [to_input, to_scans, to_others],
+        };
+        Ok(Inlets {
+            ways,
+            input,
+            scans,
+            others,
+        })
     }
 }
 
-/// The socket beside a state, where it could be made.
+/// To whom commands go.
+#[derive(Drop)]
+pub(crate) struct Ways {
+    // Who answers the input, who scans, and who answers all other commands from elsewhere.
+    pub(crate) all: [Sender<Asked>; 3],
+}
+
+impl Ways {
+    fn input(&self) -> &Sender<Asked> {
+        &self.all[0]
+    }
+
+    fn elsewhere(&self) -> Answerers<'_> {
+        Answerers {
+            scans: &self.all[1],
+            others: &self.all[2],
+        }
+    }
+}
+
+/// The socket beside a state, where it could be made, and whether the run ends, which shuts it down.
 #[derive(Drop)]
 pub(crate) struct Socket {
     path: String,
     listener: Option<Listener>,
+    pub(crate) run: RunEnd,
 }
 
 impl Socket {
-    /// What takes its connections.
-    pub(crate) fn listener(&self) -> Option<&Listener> {
-        self.listener.as_ref()
+    // None could be made at the path.
+    fn none(path: String) -> Socket {
+        Socket {
+            path,
+            listener: None,
+            run: RunEnd::new(None),
+        }
     }
 
     /// Removes it.
@@ -61,17 +104,36 @@ where
     R: Clock + Net<Listener = TcpListener, Stream = TcpStream> + UnixSockets + Wait,
 {
     let path = socket_path(alloc, state)?;
-    let listener = match listen(rt, alloc, path.as_str()) {
-        Ok(listener) => Some(listener),
-        Err(error) if error.kind() == ErrorKind::OutOfMemory => {
-            return Err(RunFailure::OutOfMemory);
-        }
+    if !is_short(path.as_str()) {
+        log.tell(rt, &Event::NoSocket(path.as_str(), LONG_PATH));
+        return Ok(Socket::none(path));
+    }
+    match open(rt, alloc, path.as_str()) {
+        Ok((listener, handle)) => Ok(Socket {
+            path,
+            listener: Some(listener),
+            run: RunEnd::new(Some(handle)),
+        }),
+        Err(error) if error.kind() == ErrorKind::OutOfMemory => Err(RunFailure::OutOfMemory),
         Err(error) => {
-            log.tell(rt, &Event::NoSocket(path.as_str(), error));
-            None
+            let why = format!(in alloc; "{error}")?;
+            log.tell(rt, &Event::NoSocket(path.as_str(), why.as_str()));
+            Ok(Socket::none(path))
         }
-    };
-    Ok(Socket { path, listener })
+    }
+}
+
+/// Why no socket can be made at a path.
+pub(crate) const LONG_PATH: &str = "a socket's path has 107 bytes at most";
+
+// Listens at the path. Returns the socket's handle too.
+fn open<R>(rt: &R, alloc: Global, path: &str) -> io::Result<(Listener, TcpStream)>
+where
+    R: Net<Listener = TcpListener, Stream = TcpStream> + UnixSockets,
+{
+    let listener = listen(rt, alloc, path)?;
+    let handle = listener.handle()?;
+    Ok((listener, handle))
 }
 
 /// How many bytes of an input are read at once: what follows its last command is left to whoever reads it next.
@@ -109,8 +171,7 @@ pub(crate) fn take_all<R, I>(
     rt: &R,
     alloc: Global,
     socket: &Socket,
-    run: &RunEnd,
-    answerer: &Sender<Asked>,
+    ways: &Ways,
     input: Reading<'_, '_, '_, R, I>,
 )
 where
@@ -120,11 +181,11 @@ where
     let ((), ()) = join(
         rt,
         || match &socket.listener {
-            Some(listener) => take_asked(rt, alloc, listener, run, answerer),
+            Some(listener) => take_asked(rt, alloc, listener, &socket.run, ways.elsewhere()),
             // (a run without commands goes on)
-            None => run.wait(rt),
+            None => socket.run.wait(rt),
         },
-        || read(rt, alloc, input, answerer),
+        || read(rt, alloc, input, ways.input()),
     );
 }
 

@@ -1,14 +1,15 @@
 //! How a command is asked of a run.
 use crate::failure::RunFailure;
 use crate::files::read_config_file;
-use crate::naming::{ask_failure, config_failure};
+use crate::lock::is_locked;
+use crate::naming::{ask_failure, config_failure, no_socket, output_failure};
 use crate::placing::placed_config;
 use bep_messages::Text;
 use node_asks::{Answer, AskFault, ask, question, socket_path};
-use node_config::read_config;
-use std::alloc::Global;
-use std::fs::Files;
-use std::io::Write;
+use node_config::{Config, read_config};
+use std::alloc::{AllocError, Global};
+use std::fs::{File, Files};
+use std::io::{self, Write};
 use std::net::{Net, TcpListener, TcpStream};
 
 /// A command for a run.
@@ -24,8 +25,8 @@ pub struct AskWords<'a> {
 
 /// Has the run by the configuration do a command, and writes its answer once that is whole.
 ///
-/// Fails by the configuration; with `NoAnswer` where no run is there, where nothing comes for 10 seconds, and where the run ends before its answer is whole; and with
-/// `NotDone` where the answer is an error.
+/// Fails where the command has more than one line; by the configuration; with `NoAnswer` where no run is there, where nothing comes for 10 seconds, and where the
+/// run ends before its answer is whole; and with `NotDone`, or `NotDoneWith` what would help, where the answer is an error.
 pub fn ask_run<R, O>(
     rt: &R,
     alloc: Global,
@@ -33,52 +34,118 @@ pub fn ask_run<R, O>(
     output: &mut O,
 ) -> Result<(), RunFailure>
 where
-    R: Files + Net<Listener = TcpListener, Stream = TcpStream>,
+    R: Files<File = File> + Net<Listener = TcpListener, Stream = TcpStream>,
     O: Write,
 {
-    let path = socket_at(rt, alloc, words.config)?;
-    let read = read_answer(rt, alloc, words, path.as_str())?;
-    match Answer::of(read.as_str()) {
-        Some(answer) => write_answer(&answer, output),
-        None => Err(ask_failure(alloc, path.as_str(), words.config, AskFault::Cut)),
+    require_a_line(alloc, words)?;
+    let config = config_at(rt, alloc, words.config)?;
+    ask_by(rt, alloc, words, &config, output)
+}
+
+// Fails where the words are more than one line.
+fn require_a_line(alloc: Global, words: &AskWords) -> Result<(), RunFailure> {
+    let folder = words.folder.unwrap_or("");
+    if words.command.contains('\n') || folder.contains('\n') {
+        let about = Text::from_str(alloc, "a command is one line")?;
+        return Err(RunFailure::Refused(about));
     }
+    Ok(())
 }
 
-// The socket of the run by the configuration at a path.
-fn socket_at<R: Files>(rt: &R, alloc: Global, config: &str) -> Result<String, RunFailure> {
-    let state = state_path(rt, alloc, config)?;
-    Ok(socket_path(alloc, state.as_str())?)
-}
-
-// What the run at the socket sends back.
-fn read_answer<R: Net<Listener = TcpListener, Stream = TcpStream>>(
+// Has the run by this configuration do a command.
+fn ask_by<R, O>(
     rt: &R,
     alloc: Global,
     words: &AskWords,
+    config: &Config,
+    output: &mut O,
+) -> Result<(), RunFailure>
+where
+    R: Files<File = File> + Net<Listener = TcpListener, Stream = TcpStream>,
+    O: Write,
+{
+    let path = socket_path(alloc, config.state.as_str())?;
+    let read = read_answer(rt, alloc, words, config, path.as_str())?;
+    let Some(answer) = Answer::of(read.as_str()) else {
+        return Err(ask_failure(alloc, path.as_str(), words.config, AskFault::Cut));
+    };
+    write_answer(alloc, &answer, output)?;
+    if answer.is_error() {
+        return Err(not_done(alloc, &answer, config));
+    }
+    Ok(())
+}
+
+// What the run at the socket sends back.
+fn read_answer<R: Files<File = File> + Net<Listener = TcpListener, Stream = TcpStream>>(
+    rt: &R,
+    alloc: Global,
+    words: &AskWords,
+    config: &Config,
     path: &str,
 ) -> Result<String, RunFailure> {
     let question = question(alloc, words.command, words.folder)?;
     match ask(rt, alloc, path, question.as_str()) {
         Ok(read) => Ok(read),
+        Err(AskFault::NoRun) if is_locked(rt, alloc, config.state.as_str())? => {
+            Err(no_socket(alloc, path))
+        }
         Err(fault) => Err(ask_failure(alloc, path, words.config, fault)),
     }
 }
 
 // Writes an answer.
-fn write_answer<O: Write>(answer: &Answer, output: &mut O) -> Result<(), RunFailure> {
-    output.write_all(answer.text.as_bytes())?;
-    output.flush()?;
-    if answer.is_error() {
-        return Err(RunFailure::NotDone);
+fn write_answer<O: Write>(
+    alloc: Global,
+    answer: &Answer,
+    output: &mut O,
+) -> Result<(), RunFailure> {
+    match put(answer, output) {
+        Ok(()) => Ok(()),
+        Err(error) => Err(output_failure(alloc, error)),
     }
-    Ok(())
 }
 
-// The state of the configuration at a path.
-fn state_path<R: Files>(rt: &R, alloc: Global, config: &str) -> Result<Text, RunFailure> {
+fn put<O: Write>(answer: &Answer, output: &mut O) -> io::Result<()> {
+    output.write_all(answer.text.as_bytes())?;
+    output.flush()
+}
+
+// The answer is an error. What would help is said of a command and of a folder that aren't known.
+fn not_done(alloc: Global, answer: &Answer, config: &Config) -> RunFailure {
+    let about = match answer.text {
+        "error unknown command\n" => about_folders(alloc, COMMANDS, config),
+        "error unknown folder\n" => about_folders(alloc, FOLDERS, config),
+        _ => return RunFailure::NotDone,
+    };
+    match about {
+        Ok(about) => RunFailure::NotDoneWith(Text::from_string(about)),
+        Err(_) => RunFailure::OutOfMemory,
+    }
+}
+
+// What would help who asked for what is no command.
+const COMMANDS: &str =
+    "`bepd help run` lists the commands; peers and quit stand alone, each other one before a folder:";
+
+// What would help who asked for a folder that isn't there.
+const FOLDERS: &str = "the folders of the configuration:";
+
+// These words, and then the ids of the configuration's folders.
+fn about_folders(alloc: Global, words: &str, config: &Config) -> Result<String, AllocError> {
+    let mut about = String::from_str(alloc, words)?;
+    for folder in config.folders.as_slice() {
+        about.push(' ')?;
+        about.push_str(folder.id.as_str())?;
+    }
+    Ok(about)
+}
+
+// The configuration at a path.
+fn config_at<R: Files>(rt: &R, alloc: Global, config: &str) -> Result<Config, RunFailure> {
     let text = read_config_file(rt, alloc, config)?;
     match read_config(alloc, text.as_slice()) {
-        Ok(read) => Ok(placed_config(alloc, config, read)?.state),
+        Ok(read) => Ok(placed_config(alloc, config, read)?),
         Err(fault) => Err(config_failure(alloc, text.as_slice(), fault)),
     }
 }

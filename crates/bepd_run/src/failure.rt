@@ -48,6 +48,8 @@ pub enum RunFailure {
     NoAnswer(Text),
     /// The answer of a run that was asked for something is an error.
     NotDone,
+    /// The same. This says what would help.
+    NotDoneWith(Text),
     /// The commands can't be read, or an answer not be written.
     ReadOrWrite,
 }
@@ -82,6 +84,7 @@ impl RunFailure {
             RunFailure::File(_) => 5,
             RunFailure::NoAnswer(_) => 8,
             RunFailure::NotDone => 9,
+            RunFailure::NotDoneWith(_) => 9,
             RunFailure::ReadOrWrite => 5,
         }
     }
@@ -122,6 +125,9 @@ impl Display for RunFailure {
             RunFailure::File(about) => write!(f, "fault read or write\n{}", about.as_str()),
             RunFailure::NoAnswer(about) => write!(f, "fault no answer\n{}", about.as_str()),
             RunFailure::NotDone => f.write_str("fault not done: the answer says why"),
+            RunFailure::NotDoneWith(about) => {
+                write!(f, "fault not done: the answer says why\n{}", about.as_str())
+            }
             RunFailure::ReadOrWrite => f.write_str("fault read or write"),
         }
     }

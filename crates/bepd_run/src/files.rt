@@ -4,6 +4,7 @@ use crate::naming::file_failure;
 use std::alloc::Global;
 use std::fs::{self, File, Files, OpenFile, OpenOptions};
 use std::io::{self, ErrorKind, Read, Seek, SeekFrom, Write};
+use std::os::unix::fs::MetadataExt;
 
 /// The most bytes of a configuration.
 const MAX_CONFIG_BYTES: u64 = 16_777_216;
@@ -49,6 +50,9 @@ pub trait StateFiles {
 
     /// Whether a directory is at the path, links followed.
     fn is_directory(&self, path: &str) -> bool;
+
+    /// Whether the open file, which was at the path, was removed.
+    fn is_removed(&self, file: &File, path: &str) -> bool;
 }
 
 impl<R: Files<File = File>> StateFiles for R {
@@ -93,6 +97,20 @@ impl<R: Files<File = File>> StateFiles for R {
         match fs::metadata(self, path) {
             Ok(found) => found.is_dir(),
             Err(_) => false,
+        }
+    }
+
+    fn is_removed(&self, file: &File, path: &str) -> bool {
+        let Ok(open) = file.metadata() else {
+            return false;
+        };
+        if open.nlink() != 0 {
+            return false;
+        }
+        // (some file systems count no names)
+        match fs::symlink_metadata(self, path) {
+            Ok(found) => found.ino() != open.ino() || found.dev() != open.dev(),
+            Err(_) => true,
         }
     }
 }

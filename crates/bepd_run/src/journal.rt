@@ -193,11 +193,15 @@ impl<'a, R: StateFiles> StateJournal<'a, R> {
     fn write_waiting(&mut self) -> Result<(), SaveFault> {
         let closing = closing_frame(self.alloc);
         self.append(&closing)?;
+        let path = self.paths.journal.as_str();
         let Some(file) = &mut self.file else {
             return Err(SaveFault::Refused);
         };
+        if self.files.is_removed(file, path) {
+            self.trouble = removed(self.alloc, path);
+            return Err(SaveFault::Refused);
+        }
         if let Err(error) = write_behind(file, self.len, self.waiting.as_slice()) {
-            let path = self.paths.journal.as_str();
             self.trouble = about_of(file_failure(self.alloc, "state", path, error));
             self.file = None;
             return Err(SaveFault::Refused);
@@ -247,6 +251,18 @@ impl<R: StateFiles> DiskJournal for StateJournal<'_, R> {
         }
     }
 }
+
+// The journal at the path was removed. (Nothing is told of it if out of memory.)
+fn removed(alloc: Global, path: &str) -> Option<Text> {
+    match format!(in alloc; "state {path}: {REMOVED}") {
+        Ok(about) => Some(Text::from_string(about)),
+        Err(_) => None,
+    }
+}
+
+// What to do about a journal that was removed.
+const REMOVED: &str =
+    "it was removed: see that its directory is there, and end the run: the whole state is written then";
 
 // Which file a failure is of, and why, where it says that.
 fn about_of(failure: RunFailure) -> Option<Text> {

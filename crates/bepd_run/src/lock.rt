@@ -2,7 +2,7 @@
 use crate::failure::RunFailure;
 use crate::naming::file_failure;
 use bep_messages::Text;
-use std::alloc::Global;
+use std::alloc::{AllocError, Global};
 use std::fs::{File, Files, OpenFile, OpenOptions, TryLockError};
 
 /// Takes the state with this path, for as long as the file that is returned is open: `<state>.lock`, under a lock of the system. Fails with `StateInUse` where
@@ -34,4 +34,17 @@ fn in_use(alloc: Global, state: &str) -> RunFailure {
         Ok(path) => RunFailure::StateInUse(path),
         Err(_) => RunFailure::OutOfMemory,
     }
+}
+
+/// Whether another run has the state, or a folder: what stands before `.lock`.
+pub(crate) fn is_locked<R: Files<File = File>>(
+    rt: &R,
+    alloc: Global,
+    state: &str,
+) -> Result<bool, AllocError> {
+    let path = format!(in alloc; "{state}.lock")?;
+    let Ok(file) = File::open(rt, path.as_str()) else {
+        return Ok(false);
+    };
+    Ok(matches!(file.try_lock(), Err(TryLockError::WouldBlock)))
 }

@@ -134,6 +134,9 @@ pub(crate) fn ask_failure(alloc: Global, path: &str, config: &str, fault: AskFau
         AskFault::NoRun => format!(in alloc;
             "{path}: no run takes commands there: is `bepd run --config {config}` running?"
         ),
+        AskFault::LongPath => format!(in alloc;
+            "{path}: a socket's path has 107 bytes at most: choose a shorter `state` in {config}, and start the run again"
+        ),
         AskFault::Silent => format!(in alloc;
             "{path}: no answer within 10 seconds; what was asked for may still be done"
         ),
@@ -145,4 +148,19 @@ pub(crate) fn ask_failure(alloc: Global, path: &str, config: &str, fault: AskFau
         Ok(about) => RunFailure::NoAnswer(Text::from_string(about)),
         Err(_) => RunFailure::OutOfMemory,
     }
+}
+
+/// No answer came from the run that has the state, since there is no socket at the path.
+pub(crate) fn no_socket(alloc: Global, path: &str) -> RunFailure {
+    match format!(in alloc;
+        "{path}: a run has this state, and takes no commands there: it has just begun, or its socket was removed, or could not be made"
+    ) {
+        Ok(about) => RunFailure::NoAnswer(Text::from_string(about)),
+        Err(_) => RunFailure::OutOfMemory,
+    }
+}
+
+/// What was asked for can't be written, for this reason of the system.
+pub(crate) fn output_failure(alloc: Global, error: io::Error) -> RunFailure {
+    file_failure(alloc, "standard", "output", error)
 }

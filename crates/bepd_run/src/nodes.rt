@@ -9,7 +9,9 @@ use crate::journal::StateJournal;
 use crate::last_run::FolderPlans;
 use crate::naming::listen_failure;
 use crate::plans::settle_all;
-use crate::starts::{Core, all_shares, folders_of, index_ids_of, peers_of, renumbered};
+use crate::starts::{
+    Core, all_shares, begin_again, folders_of, index_ids_of, peers_of, renumbered, saved_up_to,
+};
 use file_store::OpenGate;
 use node_commands::{CommandLines, CommandsEnd};
 use node_config::Config;
@@ -18,8 +20,8 @@ use node_files::Stores;
 use node_resume::{Share, index_id_at, resume_all, state_left};
 use node_state::State;
 use node_threads::{
-    Listeners, NodeEnd, NodeOutside, NodePeer, NodeStart, StartFolder, UnixSockets, listen_all,
-    run_node,
+    Console, Listeners, NodeEnd, NodeOutside, NodePeer, NodeStart, StartFolder, UnixSockets,
+    listen_all, run_node,
 };
 use std::alloc::{AllocError, Global};
 use std::io::{self, Write};
@@ -107,15 +109,14 @@ struct NodePlace<'a, 'j, T, R> {
 
 /// Runs nodes, one after another, until the commands were read to `quit` or to their end, or can't be read or answered any more. (A node ends before that
 /// where a history is full, or a folder is back in which the last run may have left something, or the state is an older one than a peer was told of.) Then the
-/// state is written. Returns whether all commands were answered. What reads the commands then ends too, since nobody takes them.
+/// state is written. Returns whether all commands were answered.
 pub(crate) fn run_nodes<R, T, L, O>(
     rt: &R,
     alloc: Global,
     config: &Config,
     node: NextNode,
     outside: Outside<T, R>,
-    lines: L,
-    output: &mut O,
+    consoles: &mut [Console<L, O>],
 ) -> Result<io::Result<()>, RunFailure>
 where
     R: Clock
@@ -127,23 +128,20 @@ where
         + Wait,
     T: Stores + Sync,
     T::Store: Send,
-    L: CommandLines + Drop,
-    O: Write,
+    L: CommandLines + Drop + Send,
+    O: Write + Drop + Send,
 {
-    let (mut node, mut lines, mut outside) = (node, lines, outside);
+    let (mut node, mut outside) = (node, outside);
     for _ in rt.forever() {
         let place = NodePlace {
             stores: outside.stores,
             log: outside.log,
             journal: &mut outside.journal,
         };
-        let left = run_once(rt, alloc, config, node, place, lines, output)?;
+        let left = run_once(rt, alloc, config, node, place, consoles)?;
         match follow(rt, alloc, config, left, &mut outside)? {
             After::Ended(answered) => return Ok(answered),
-            After::Next(next, rest) => {
-                node = next;
-                lines = rest;
-            }
+            After::Next(next) => node = next,
         }
     }
     unreachable!()
@@ -151,32 +149,30 @@ where
 
 // What follows a node.
 #[derive(Drop)]
-enum After<L> {
+enum After {
     // The end, with whether all commands were answered: the state is written.
     Ended(io::Result<()>),
-    // Another node, which answers these lines.
-    Next(NextNode, L),
+    // Another node.
+    Next(NextNode),
 }
 
 // Takes what a node leaves.
-fn follow<R, T, L>(
+fn follow<R, T>(
     rt: &R,
     alloc: Global,
     config: &Config,
-    left: NodeLeft<L>,
+    left: NodeLeft,
     outside: &mut Outside<T, R>,
-) -> Result<After<L>, RunFailure>
+) -> Result<After, RunFailure>
 where
     R: Clock + Net<Listener = TcpListener, Stream = TcpStream> + StateFiles + UnixSockets,
     T: Stores,
-    L: Drop,
 {
     let NodeLeft {
         state,
         saved,
         is_behind,
         answered,
-        lines,
     } = left;
     outside.was_behind |= is_behind;
     let state = if is_behind {
@@ -187,7 +183,7 @@ where
     match answered {
         Ok(CommandsEnd::Stopped) => {
             let node = next_node(rt, alloc, config, &state, saved.as_slice(), outside)?;
-            Ok(After::Next(node, lines))
+            Ok(After::Next(node))
         }
         Ok(CommandsEnd::Read) => ended(&state, Ok(()), outside),
         Err(error) => ended(&state, Err(error), outside),
@@ -195,14 +191,11 @@ where
 }
 
 // The commands ended so, and the state is written.
-fn ended<R: StateFiles, T, L>(
+fn ended<R: StateFiles, T>(
     state: &State,
     answered: io::Result<()>,
     outside: &mut Outside<T, R>,
-) -> Result<After<L>, RunFailure>
-where
-    L: Drop,
-{
+) -> Result<After, RunFailure> {
     outside.journal.replace(state, outside.plans.as_slice())?;
     Ok(After::Ended(answered))
 }
@@ -255,29 +248,9 @@ fn with_new_number<R: Clock>(
     renumbered(alloc, config, numbers.as_slice(), state)
 }
 
-// What a killed run left of its temporary files is removed also of folders that were away when this run began.
-fn begin_again<T: Stores>(alloc: Global, stores: &T, folders: &[StartFolder<Core>]) {
-    for folder in folders {
-        // (one that is away still is begun once it is back)
-        let _ = stores.begin(alloc, folder.settings.path.as_str(), false);
-    }
-}
-
-// The folders, whose records are on the disk up to these sequences.
-fn saved_up_to(folders: Vec<StartFolder<Core>>, saved: &[u64]) -> Vec<StartFolder<Core>> {
-    let mut folders = folders;
-    for (place, folder) in folders.iter_mut().enumerate() {
-        folder.kept = match saved.get(place) {
-            Some(saved) => folder.kept.min(*saved),
-            None => 0,
-        };
-    }
-    folders
-}
-
 // What a node leaves.
 #[derive(Drop)]
-pub(crate) struct NodeLeft<L> {
+pub(crate) struct NodeLeft {
     state: State,
     // The sequences up to which its records are in the journal.
     saved: Vec<u64>,
@@ -285,8 +258,6 @@ pub(crate) struct NodeLeft<L> {
     is_behind: bool,
     // How the commands ended.
     answered: io::Result<CommandsEnd>,
-    // The lines that are left.
-    lines: L,
 }
 
 // Runs a node.
@@ -296,9 +267,8 @@ fn run_once<R, T, L, O>(
     config: &Config,
     node: NextNode,
     place: NodePlace<T, R>,
-    lines: L,
-    output: &mut O,
-) -> Result<NodeLeft<L>, RunFailure>
+    consoles: &mut [Console<L, O>],
+) -> Result<NodeLeft, RunFailure>
 where
     R: Clock
         + Net<Listener = TcpListener, Stream = TcpStream>
@@ -309,8 +279,8 @@ where
         + Wait,
     T: Stores + Sync,
     T::Store: Send,
-    L: CommandLines + Drop,
-    O: Write,
+    L: CommandLines + Drop + Send,
+    O: Write + Drop + Send,
     ensures left { IfOk result (λ left. IsLeft config.now node left.state) }
 {
     let NextNode {
@@ -349,8 +319,7 @@ where
         saved,
         is_behind,
         answered,
-        lines,
-    } = run_node(rt, alloc, start, outside, lines, output)?;
+    } = run_node(rt, alloc, start, outside, consoles)?;
     let state = state_left(
         alloc,
         config,
@@ -364,6 +333,5 @@ where
         saved,
         is_behind,
         answered,
-        lines,
     })
 }

@@ -1,24 +1,22 @@
 //! What a run would meet at its start.
+use crate::asked::LONG_PATH;
 use crate::failure::RunFailure;
 use crate::files::StateFiles;
 use crate::last_run::{StatePaths, read_last_run};
-use crate::marks::told_elsewhere;
+use crate::lock::is_locked;
 use crate::naming::{at_state, listen_failure, peer_address};
-use crate::recorded::{has_names, is_known};
+use crate::outlook_folder::folder_stop;
+use crate::probing::{can_be_written, is_directory, is_taken};
 use bep_messages::Text;
-use folder_core::{Counts, FolderCore};
-use node_config::{Config, FolderConfig, PeerConfig, unknown_keys};
+use node_asks::{is_short, socket_path};
+use node_config::{Config, PeerConfig, unknown_keys};
 use node_context::Endpoint;
 use node_state::State;
 use node_threads::{ListenFault, Listener, NodeAddress, UnixSockets};
 use std::alloc::{AllocError, Global};
-use std::fs::{self, File, Files, OpenFile, OpenOptions, TryLockError};
-use std::io::{self, ErrorKind, Write};
+use std::fs::{self, File, Files};
+use std::io::{self, Write};
 use std::net::{Net, TcpListener, TcpStream};
-use sync_record::DeviceId;
-
-/// The name of a file that is made to see whether a directory may be written. It is a temporary one, which no scan records.
-const PROBE: &str = ".syncthing.check.tmp";
 
 /// Writes a line for each key of a configuration's text that is none. Fails where the text is no TOML document, if out of memory, and where a write fails.
 pub(crate) fn tell_unknown_keys<W: Write>(
@@ -131,39 +129,6 @@ where
     Ok(stop)
 }
 
-// Looks at a folder, with what is recorded of it, if that is known. Returns why a run would end by it, if it would; where it would end anyway (`is_over`) that isn't looked for.
-fn folder_stop<R: Files<File = File> + StateFiles, O: Write>(
-    rt: &R,
-    alloc: Global,
-    device: DeviceId,
-    folder: &FolderConfig,
-    state: Option<&State>,
-    is_over: bool,
-    output: &mut O,
-) -> Result<Option<RunFailure>, RunFailure> {
-    let counts = match state {
-        Some(state) => counts_of(state, &folder.id),
-        None => None,
-    };
-    let is_recorded = matches!(&counts, Some(counts) if is_known(counts));
-    let is_new = state.is_some().then_some(!is_recorded);
-    let is_ready = tell_folder(rt, alloc, folder, is_new, output)?;
-    if is_over {
-        return Ok(None);
-    }
-    if is_new == Some(true) && !is_ready {
-        return Ok(Some(no_folder(alloc, folder)?));
-    }
-    if is_in_use(rt, alloc, folder)? {
-        let path = Text::from_str(alloc, folder.path.as_str())?;
-        return Ok(Some(RunFailure::FolderInUse(path)));
-    }
-    if matches!(&counts, Some(counts) if has_names(counts)) {
-        return Ok(elsewhere(rt, alloc, device, folder)?);
-    }
-    Ok(None)
-}
-
 // Whether the state can be kept at the path. Returns why a run would end, where it can't.
 fn state_stop<R: Files<File = File>, O: Write>(
     rt: &R,
@@ -188,26 +153,34 @@ fn state_stop<R: Files<File = File>, O: Write>(
         writeln!(output, "state: {state}: another run has it")?;
         return Ok(Some(RunFailure::StateInUse(Text::from_str(alloc, state)?)));
     }
+    tell_socket(rt, alloc, state, output)?;
     Ok(None)
+}
+
+// Tells where the socket beside the state can't be made.
+fn tell_socket<R: Files, O: Write>(
+    rt: &R,
+    alloc: Global,
+    state: &str,
+    output: &mut O,
+) -> Result<(), RunFailure> {
+    let path = socket_path(alloc, state)?;
+    let why = if !is_short(path.as_str()) {
+        LONG_PATH
+    } else if is_taken(rt, path.as_str()) {
+        "something else than a socket is there"
+    } else {
+        return Ok(());
+    };
+    let path = path.as_str();
+    writeln!(output, "state: {path}: {why}: bepd ask can't reach a run")?;
+    Ok(())
 }
 
 // The state can't be kept, for this reason.
 fn no_state(alloc: Global, state: &str, why: &str) -> Result<RunFailure, AllocError> {
     let about = format!(in alloc; "state {state}: {why}")?;
     Ok(RunFailure::File(Text::from_string(about)))
-}
-
-// Whether another run has the state, or a folder: what stands before `.lock`.
-fn is_locked<R: Files<File = File>>(
-    rt: &R,
-    alloc: Global,
-    state: &str,
-) -> Result<bool, AllocError> {
-    let path = format!(in alloc; "{state}.lock")?;
-    let Ok(file) = File::open(rt, path.as_str()) else {
-        return Ok(false);
-    };
-    Ok(matches!(file.try_lock(), Err(TryLockError::WouldBlock)))
 }
 
 // Listens on each address on which a run would. Returns why it would end, where that fails.
@@ -285,124 +258,5 @@ where
 fn remove_socket<R: Files>(rt: &R, endpoint: &Endpoint) {
     if let Endpoint::Unix(path) = endpoint {
         let _ = fs::remove_file(rt, path.as_str());
-    }
-}
-
-// A new folder can't begin there.
-fn no_folder(alloc: Global, folder: &FolderConfig) -> Result<RunFailure, AllocError> {
-    let (id, path) = (folder.id.as_str(), folder.path.as_str());
-    let about = format!(in alloc;
-        "folder {id}: {path}: no directory is there, or it can't be written"
-    )?;
-    Ok(RunFailure::NoFolder(Text::from_string(about)))
-}
-
-// Whether another run has the folder.
-fn is_in_use<R: Files<File = File>>(
-    rt: &R,
-    alloc: Global,
-    folder: &FolderConfig,
-) -> Result<bool, AllocError> {
-    let path = folder.path.as_str();
-    is_locked(
-        rt,
-        alloc,
-        format!(in alloc; "{path}/.stfolder/bepd")?.as_str(),
-    )
-}
-
-// Why a run would end where the folder, of which names are recorded, is elsewhere, if it is.
-fn elsewhere<R: StateFiles>(
-    rt: &R,
-    alloc: Global,
-    device: DeviceId,
-    folder: &FolderConfig,
-) -> Result<Option<RunFailure>, AllocError> {
-    match told_elsewhere(rt, alloc, device, &folder.id, &folder.path)? {
-        Some(found) => Ok(Some(RunFailure::NoFolder(found.about))),
-        None => Ok(None),
-    }
-}
-
-// What is recorded of the folder with this id, if it is stored.
-fn counts_of(state: &State, id: &Text) -> Option<Counts> {
-    for stored in state.folders.as_slice() {
-        if stored.id.as_str() == id.as_str() {
-            return Some(stored.folder.counts());
-        }
-    }
-    None
-}
-
-// What a run would find where the folder is, of which nothing may have been recorded, if that is known. Returns whether a run could begin there with such a one.
-fn tell_folder<R: Files<File = File>, O: Write>(
-    rt: &R,
-    alloc: Global,
-    folder: &FolderConfig,
-    is_new: Option<bool>,
-    output: &mut O,
-) -> Result<bool, RunFailure> {
-    let (id, path) = (folder.id.as_str(), folder.path.as_str());
-    if !is_directory(rt, path) {
-        let why = no_directory(rt, path);
-        writeln!(output, "folder {id}: {path}: {why}")?;
-        return Ok(false);
-    }
-    let can_be_written = can_be_written(rt, alloc, path)?;
-    if !can_be_written {
-        writeln!(output, "folder {id}: {path}: can't be written")?;
-    }
-    let marker = format!(in alloc; "{path}/.stfolder")?;
-    if fs::metadata(rt, marker.as_str()).is_ok() {
-        if is_in_use(rt, alloc, folder)? {
-            writeln!(output, "folder {id}: {path}: another run has it")?;
-        }
-        return Ok(true);
-    }
-    match is_new {
-        Some(true) => {
-            writeln!(
-                output,
-                "folder {id}: no marker yet, it is made at the start"
-            )?;
-        }
-        Some(false) => {
-            writeln!(
-                output,
-                "folder {id}: no marker, it is away until .stfolder is there"
-            )?;
-        }
-        None => {}
-    }
-    Ok(can_be_written)
-}
-
-// What is wrong with a path at which no directory is.
-fn no_directory<R: Files>(rt: &R, path: &str) -> &'static str {
-    match fs::symlink_metadata(rt, path) {
-        Ok(_) => "it is no directory, or a link that leads to none",
-        Err(_) => "nothing is there: make the directory, or mount its disk",
-    }
-}
-
-// Whether a directory is at the path, links followed.
-fn is_directory<R: Files>(rt: &R, path: &str) -> bool {
-    match fs::metadata(rt, path) {
-        Ok(found) => found.is_dir(),
-        Err(_) => false,
-    }
-}
-
-// Whether a file can be made in the directory. It is removed then.
-fn can_be_written<R: Files>(rt: &R, alloc: Global, directory: &str) -> Result<bool, AllocError> {
-    let path = format!(in alloc; "{directory}/{PROBE}")?;
-    let mut options = OpenOptions::new();
-    options.write(true).create_new(true);
-    match options.open(rt, path.as_str()) {
-        Ok(_made) => {
-            let _ = fs::remove_file(rt, path.as_str());
-            Ok(true)
-        }
-        Err(error) => Ok(error.kind() == ErrorKind::AlreadyExists),
     }
 }

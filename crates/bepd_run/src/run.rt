@@ -2,20 +2,19 @@
 ghost use Rattle.std.specs.Prelude.{◌≡◌, Err, IfErr, IfOk, IsErr, None, OnErr};
 ghost use Rattle.std.specs.Thread.{IsSend};
 
-use crate::asked::{Inlet, Reading, Socket, listening, read_of, take_all};
+use crate::asked::{Inlets, listening};
 use crate::begun::tell_begun;
+use crate::consoles::{Doors, run_ready};
 use crate::failure::RunFailure;
 use crate::files::{StateFiles, read_config_file};
 use crate::last_run::StatePaths;
 use crate::lock::lock_state;
 use crate::naming::config_failure;
-use crate::nodes::{Outside, run_nodes};
 use crate::outlet::{Channel, Outlet};
 use crate::paths::require_apart;
 use crate::placing::placed_config;
 use crate::readiness::{Patience, Turns};
 use crate::ready::Ready;
-use node_asks::{AskedLines, Asker, Replies, RunEnd};
 use node_config::{Config, UnknownKey, read_config, unknown_keys};
 use node_context::{Log, ProgressStyle, write_log};
 use node_files::Stores;
@@ -96,6 +95,7 @@ pub struct RunStyle {
 /// | `scanning F N of N`, `pulling F N of N` | how far a scan or a pull of many names is |
 /// | `the input ended, ..` | there are no more commands, and the run ends |
 /// | `no commands by PATH: ..` | the socket beside the state can't be made |
+/// | `ended: the state is written` | the run ended |
 pub fn run_config<R, T, I, O, E>(
     rt: &R,
     stores: &T,
@@ -128,7 +128,7 @@ where
     let _lock = lock_state(rt, alloc, config.state.as_str())?;
     let turns = Turns::new(false);
     let answers = Channel::new(rt, alloc, output.as_raw_fd(), Patience::Short)?;
-    let inlet = Inlet::new(alloc)?;
+    let inlets = Inlets::new(alloc)?;
     let ready = Ready::new(rt, alloc, stores, &config, &paths)?;
     let log = match how.progress {
         Some(progress) => Log::new(alloc, progress),
@@ -144,7 +144,7 @@ where
     let outward = Outward {
         turns: &turns,
         channel: answers,
-        inlet,
+        inlets,
     };
     if how.progress.is_none() {
         return end(answer_ready(rt, alloc, &place, ready, input, outward, output));
@@ -165,13 +165,13 @@ where
     end(ended)
 }
 
-// What a run is told, and where it works.
+/// What a run is told, and where it works.
 #[derive(Drop)]
-struct Place<'a, T> {
-    config: &'a Config,
-    stores: &'a T,
-    log: &'a Log,
-    reads_input: bool,
+pub(crate) struct Place<'a, T> {
+    pub(crate) config: &'a Config,
+    pub(crate) stores: &'a T,
+    pub(crate) log: &'a Log,
+    pub(crate) reads_input: bool,
 }
 
 // Where answers go, but for their writer, and where commands come from, but for the input.
@@ -179,7 +179,7 @@ struct Place<'a, T> {
 struct Outward<'a> {
     turns: &'a Turns,
     channel: Channel,
-    inlet: Inlet,
+    inlets: Inlets,
 }
 
 // Runs nodes until the commands end; answers that can't be written are left out. Returns whether all were taken.
@@ -208,27 +208,17 @@ where
     let Outward {
         turns,
         channel,
-        inlet,
+        inlets,
     } = outward;
     let output = Outlet::new(rt, turns, channel, output);
     let socket = listening(rt, alloc, place.config.state.as_str(), place.log)?;
-    let run = RunEnd::new(socket.listener());
     let doors = Doors {
         socket: &socket,
-        run: &run,
-        inlet,
+        inlets,
     };
     let ended = run_ready(rt, alloc, place, ready, doors, input, output);
     socket.remove(rt);
     ended
-}
-
-// Where commands come from, but for the input.
-#[derive(Drop)]
-struct Doors<'d> {
-    socket: &'d Socket,
-    run: &'d RunEnd,
-    inlet: Inlet,
 }
 
 // Writes which keys of the configuration are none, and then what is told; what can't be written is left out.
@@ -245,94 +235,6 @@ fn tell_log<R: Wait, E: Write>(
         let _ = writeln!(errors, "{key}");
     }
     write_log(rt, log, &mut errors);
-}
-
-// Runs nodes until the commands end. Returns whether all were answered.
-fn run_ready<'a, R, T, I, O>(
-    rt: &R,
-    alloc: Global,
-    place: &Place<'a, T>,
-    ready: Ready<'a, R>,
-    doors: Doors<'_>,
-    input: &mut I,
-    output: O,
-) -> Result<io::Result<()>, RunFailure>
-where
-    R: Clock
-        + Net<Listener = TcpListener, Stream = TcpStream>
-        + StateFiles
-        + Sync
-        + Threads
-        + UnixSockets
-        + Wait,
-    T: Stores + Sync,
-    T::Store: Send,
-    I: Read + AsRawFd + Send,
-    O: Write + Drop + Send,
-{
-    let reading = read_of(rt, alloc, doors.run, input, place.reads_input)?;
-    run_by(rt, alloc, place, ready, doors, reading, output)
-}
-
-// Runs nodes until these commands end. Returns whether all were answered.
-fn run_by<'a, R, T, I, O>(
-    rt: &R,
-    alloc: Global,
-    place: &Place<'a, T>,
-    ready: Ready<'a, R>,
-    doors: Doors<'_>,
-    input: Reading<'_, '_, '_, R, I>,
-    output: O,
-) -> Result<io::Result<()>, RunFailure>
-where
-    R: Clock
-        + Net<Listener = TcpListener, Stream = TcpStream>
-        + StateFiles
-        + Sync
-        + Threads
-        + UnixSockets
-        + Wait,
-    T: Stores + Sync,
-    T::Store: Send,
-    I: Read + Send,
-    O: Write + Drop + Send,
-{
-    let Ready {
-        node,
-        journal,
-        plans,
-    } = ready;
-    let outside = Outside {
-        stores: place.stores,
-        log: place.log,
-        journal,
-        plans,
-        was_behind: false,
-    };
-    let Doors {
-        socket,
-        run,
-        inlet: Inlet { answerer, asked },
-    } = doors;
-    let (asker, config) = (Asker::none(), place.config);
-    let lines = AskedLines::new(asked, &asker);
-    let mut replies = Replies::new(rt, &asker, output);
-    let ((), ended) = join(
-        rt,
-        || take_all(rt, alloc, socket, run, &answerer, input),
-        || -> Result<io::Result<()>, RunFailure>
-            requires { IsSend T.Store.row }
-        {
-            let ended = run_nodes(rt, alloc, config, node, outside, lines, &mut replies);
-            // (who asked for the end is told that it is there)
-            if matches!(&ended, Ok(Ok(()))) {
-                let _ = replies.flush();
-            }
-            run.end(rt);
-            ended
-        },
-    );
-    ended
 }
 
 // A configuration, and the keys of its document that are none.

@@ -13,6 +13,7 @@ use folder_look::Looking;
 use node_config::{
     Config, ConfigFault, FolderConfig, FolderNumber, NumberRule, PeerConfig, Place, Problem,
 };
+use node_files::Stores;
 use node_folder::FolderSettings;
 use node_resume::{ResumedFolder, Share, shares_of};
 use node_state::{State, StoredFolder};
@@ -211,4 +212,27 @@ fn place_of(folders: &[FolderConfig], id: &Text) -> Option<usize>
     folders
         .iter()
         .position(|folder| folder.id.as_str() == id.as_str())
+}
+
+/// What a killed run left of its temporary files is removed also of folders that were away when this run began.
+pub(crate) fn begin_again<T: Stores>(alloc: Global, stores: &T, folders: &[StartFolder<Core>]) {
+    for folder in folders {
+        // (one that is away still is begun once it is back)
+        let _ = stores.begin(alloc, folder.settings.path.as_str(), false);
+    }
+}
+
+/// The folders, whose records are on the disk up to these sequences.
+pub(crate) fn saved_up_to(
+    folders: Vec<StartFolder<Core>>,
+    saved: &[u64],
+) -> Vec<StartFolder<Core>> {
+    let mut folders = folders;
+    for (place, folder) in folders.iter_mut().enumerate() {
+        folder.kept = match saved.get(place) {
+            Some(saved) => folder.kept.min(*saved),
+            None => 0,
+        };
+    }
+    folders
 }

@@ -8,6 +8,10 @@ abbrev pub question : List ℕ → Option (Bor (List ℕ)) → List ℕ
 question word (Some folder) = word ++ (codes " " ++ (folder.now ++ codes "\n"))
 question word None = word ++ codes "\n"
 
+-- the line asks for a scan
+abbrev pub IsScan : List ℕ → Type 0
+IsScan line = (folder : List ℕ) × (line ≡ codes "scan " ++ folder)
+
 -- lines with their line feeds, or none
 abbrev pub AreLines : List ℕ → Type 0
 AreLines text = (text ≡ []) ⊎ ((front : List ℕ) × (text ≡ front ++ codes "\n"))

@@ -1,5 +1,5 @@
 //! Asking a run.
-ghost use Rattle.std.specs.Prelude.{◌≡◌, ◌++◌, IfOk, codes};
+ghost use Rattle.std.specs.Prelude.{◌≡◌, ◌≤◌, ◌↔◌, ◌++◌, IfOk, IsTrue, codes, length};
 ghost use Rattle.std.specs.String.{string_bytes};
 ghost use Rattle.node_asks.specs.Answers.{question};
 
@@ -12,11 +12,16 @@ use std::time::Duration;
 /// How many seconds nothing may come of an answer.
 const PATIENCE: u64 = 10;
 
+/// The most bytes of a socket's path (`sun_path` of Linux has one more, which is 0).
+const MAX_PATH_BYTES: usize = 107;
+
 /// Why a run was not asked, or did not answer.
 #[derive(Clone, Copy, Debug)]
 pub enum AskFault {
     /// No run takes commands there.
     NoRun,
+    /// No socket can have the path.
+    LongPath,
     /// The socket can't be used, for this reason of the system.
     Socket(io::Error),
     /// Nothing came of the answer for 10 seconds.
@@ -40,6 +45,13 @@ pub fn socket_path(alloc: Global, state: &str) -> Result<String, AllocError>
     format!(in alloc; "{state}.socket")
 }
 
+/// Whether a socket can have the path: it has 107 bytes at most.
+pub fn is_short(path: &str) -> bool
+    ensures { IsTrue result ↔ (length path.now ≤ 107) }
+{
+    path.len() <= MAX_PATH_BYTES
+}
+
 /// The line, with its line feed, by which a command is asked for: its word, and the id of a folder if it is about one. Returns `Err` only if out of memory.
 pub fn question(alloc: Global, word: &str, folder: Option<&str>) -> Result<String, AllocError>
     ensures { IfOk result (λ line. string_bytes line ≡ question word.now folder.entry) }
@@ -57,6 +69,9 @@ pub fn ask<R: Net<Listener = TcpListener, Stream = TcpStream>>(
     path: &str,
     question: &str,
 ) -> Result<String, AskFault> {
+    if !is_short(path) {
+        return Err(AskFault::LongPath);
+    }
     let mut stream = match UnixStream::connect(rt, path) {
         Ok(stream) => stream,
         Err(error) => return Err(not_connected(error)),

@@ -13,9 +13,9 @@ mod run_input;
 mod taking;
 
 pub use answer::Answer;
-pub use asking::{AskFault, ask, question, socket_path};
+pub use asking::{AskFault, ask, is_short, question, socket_path};
 pub use lines::{Asked, AskedLines, pass_on};
 pub use replies::{Asker, Replies};
 pub use run_end::RunEnd;
 pub use run_input::RunInput;
-pub use taking::{listen, take_asked};
+pub use taking::{Answerers, listen, take_asked};

@@ -1,7 +1,7 @@
-//! The lines of the commands, from the input and from elsewhere, in the order in which they came.
+//! The lines of the commands, for each of those who answer them, in the order in which they came.
 use crate::replies::Asker;
 use crossbeam_channel::{Receiver, RecvTimeoutError, Sender};
-use node_commands::{CommandLines, InputLine};
+use node_commands::{CommandLines, InputLine, is_last};
 use std::net::TcpStream;
 use std::sync::Wait;
 use std::time::{Clock, Duration};
@@ -15,17 +15,23 @@ pub struct Asked {
     pub from: Option<TcpStream>,
 }
 
-/// The lines as they come. Who asked for the one that came last is known to the asker.
+/// The lines that one of those who answer is given, as they come. Who asked for the one that came last is known to the asker.
 #[derive(Drop)]
 pub struct AskedLines<'a> {
     asked: Receiver<Asked>,
     asker: &'a Asker,
+    // The ways to all who answer.
+    all: &'a [Sender<Asked>],
 }
 
 impl<'a> AskedLines<'a> {
-    /// These lines.
-    pub fn new(asked: Receiver<Asked>, asker: &'a Asker) -> AskedLines<'a> {
-        AskedLines { asked, asker }
+    /// These lines. At the last of them all who answer are told that they are over.
+    pub fn new(
+        asked: Receiver<Asked>,
+        asker: &'a Asker,
+        all: &'a [Sender<Asked>],
+    ) -> AskedLines<'a> {
+        AskedLines { asked, asker, all }
     }
 }
 
@@ -38,11 +44,27 @@ impl CommandLines for AskedLines<'_> {
         match self.asked.recv_timeout(rt, time) {
             Ok(Asked { line, from }) => {
                 self.asker.begin(rt, from);
+                if is_last(&line) {
+                    tell_over(rt, self.all);
+                }
                 Some(line)
             }
             Err(RecvTimeoutError::Disconnected) => Some(InputLine::End),
             Err(RecvTimeoutError::Timeout) => None,
         }
+    }
+}
+
+// Tells all who answer that the lines are over, so that nobody waits for more. (One that has lines to answer still sees by itself that the run ends.)
+fn tell_over<R: Wait>(rt: &R, all: &[Sender<Asked>]) {
+    for answerer in all {
+        let _ = answerer.try_send(
+            rt,
+            Asked {
+                line: InputLine::Over,
+                from: None,
+            },
+        );
     }
 }
 

@@ -24,6 +24,18 @@ impl Asker {
     pub(crate) fn begin<R: Wait>(&self, rt: &R, from: Option<TcpStream>) {
         *self.stream.lock(rt) = from;
     }
+
+    /// The answer to who asked is whole, and the connection ends. Returns whether there was one.
+    pub fn finish<R: Wait>(&self, rt: &R) -> bool {
+        let mut asker = self.stream.lock(rt);
+        match asker.take() {
+            Some(mut stream) => {
+                let _ = stream.write_all(END_LINE.as_bytes());
+                true
+            }
+            None => false,
+        }
+    }
 }
 
 /// A writer of answers: they go to who asked, or to the output.
@@ -31,12 +43,12 @@ impl Asker {
 pub struct Replies<'r, 'a, R, O> {
     rt: &'r R,
     asker: &'a Asker,
-    output: O,
+    output: Option<O>,
 }
 
 impl<'r, 'a, R, O> Replies<'r, 'a, R, O> {
-    /// To who asked, and else to this output.
-    pub fn new(rt: &'r R, asker: &'a Asker, output: O) -> Replies<'r, 'a, R, O> {
+    /// To who asked, and else to this output, if there is one.
+    pub fn new(rt: &'r R, asker: &'a Asker, output: Option<O>) -> Replies<'r, 'a, R, O> {
         Replies { rt, asker, output }
     }
 }
@@ -45,21 +57,23 @@ impl<R: Wait, O: Write> Write for Replies<'_, '_, R, O> {
     /// Where who asked takes no more, the rest of the answer is left out.
     fn write(&mut self, bytes: &[u8]) -> io::Result<usize> {
         let mut asker = self.asker.stream.lock(self.rt);
-        match asker.as_mut() {
-            Some(stream) => Ok(put(stream, bytes)),
-            None => self.output.write(bytes),
+        if let Some(stream) = asker.as_mut() {
+            return Ok(put(stream, bytes));
+        }
+        match &mut self.output {
+            Some(output) => output.write(bytes),
+            None => Ok(bytes.len()),
         }
     }
 
     /// The answer is whole.
     fn flush(&mut self) -> io::Result<()> {
-        let mut asker = self.asker.stream.lock(self.rt);
-        match asker.take() {
-            Some(mut stream) => {
-                let _ = stream.write_all(END_LINE.as_bytes());
-                Ok(())
-            }
-            None => self.output.flush(),
+        if self.asker.finish(self.rt) {
+            return Ok(());
+        }
+        match &mut self.output {
+            Some(output) => output.flush(),
+            None => Ok(()),
         }
     }
 }

@@ -1,5 +1,4 @@
 //! Whether a run ends.
-use node_peer::Listener;
 use std::net::{Shutdown, TcpStream};
 use std::sync::{Condvar, Mutex, Wait};
 
@@ -14,12 +13,8 @@ pub struct RunEnd {
 }
 
 impl RunEnd {
-    /// It goes on; at its end no more commands are taken at this socket, if there is one.
-    pub fn new(listener: Option<&Listener>) -> RunEnd {
-        let socket = match listener {
-            Some(listener) => listener.handle().ok(),
-            None => None,
-        };
+    /// It goes on; at its end no more commands are taken at the socket with this handle, if there is one.
+    pub fn new(socket: Option<TcpStream>) -> RunEnd {
         RunEnd {
             is_over: Mutex::new(false),
             ended: Condvar::new(),

@@ -1,13 +1,17 @@
 //! Taking commands from elsewhere.
+ghost use Rattle.std.specs.Prelude.{◌↔◌, IsTrue};
+ghost use Rattle.node_asks.specs.Answers.{IsScan};
+
+use crate::answer::END_LINE;
 use crate::lines::Asked;
 use crate::run_end::RunEnd;
 use bep_messages::Text;
-use crossbeam_channel::Sender;
+use crossbeam_channel::{Sender, TrySendError};
 use node_commands::InputLine;
 use node_context::Endpoint;
 use node_peer::{Listener, UnixSockets};
 use std::alloc::Global;
-use std::io::{self, BufRead, BufReader, Read};
+use std::io::{self, BufRead, BufReader, Read, Write};
 use std::net::{Net, TcpListener, TcpStream};
 use std::sync::Wait;
 use std::thread;
@@ -31,13 +35,23 @@ where
     Listener::new(rt, &endpoint)
 }
 
-/// Takes the command of each connection, one after the other, for whoever answers them, until the run ends.
+/// Who answers commands from elsewhere.
+#[derive(Clone, Copy)]
+pub struct Answerers<'a> {
+    /// Who scans for who asks, which may take long.
+    pub scans: &'a Sender<Asked>,
+    /// Who answers all other commands.
+    pub others: &'a Sender<Asked>,
+}
+
+/// Takes the command of each connection, one after the other, for whoever answers it, until the run ends. It waits for nobody who answers: where too many
+/// commands wait, one more is refused.
 pub fn take_asked<R: Clock + Wait>(
     rt: &R,
     alloc: Global,
     listener: &Listener,
     run: &RunEnd,
-    answerer: &Sender<Asked>,
+    answerers: Answerers,
 ) {
     for _ in rt.forever() {
         let accepted = listener.accept();
@@ -45,29 +59,55 @@ pub fn take_asked<R: Clock + Wait>(
             return;
         }
         match accepted {
-            Ok(stream) => {
-                if !take(rt, alloc, stream, answerer) {
-                    return;
-                }
-            }
+            Ok(stream) => take(rt, alloc, stream, answerers),
             Err(_) => thread::sleep(rt, Duration::from_secs(PAUSE)),
         }
     }
 }
 
-// Takes the command of a connection, if one comes. Returns whether somebody answers.
-fn take<R: Wait>(rt: &R, alloc: Global, stream: TcpStream, answerer: &Sender<Asked>) -> bool {
-    match question_of(alloc, &stream) {
-        Ok(Some(line)) => {
-            let from = Some(stream);
-            answerer.send(rt, Asked { line, from }).is_ok()
-        }
-        _ => true,
+// Takes the command of a connection, if one comes.
+fn take<R: Wait>(rt: &R, alloc: Global, stream: TcpStream, answerers: Answerers) {
+    let Ok(Some(line)) = question_of(alloc, &stream) else {
+        return;
+    };
+    let answerer = if is_scan(line.as_str()) {
+        answerers.scans
+    } else {
+        answerers.others
+    };
+    let asked = Asked {
+        line: InputLine::Line(line),
+        from: Some(stream),
+    };
+    if let Err(
+        TrySendError::Full(
+            Asked {
+                from: Some(mut stream),
+                ..
+            },
+        ),
+    ) = answerer.try_send(rt, asked)
+    {
+        let _ = stream.write_all(BUSY.as_bytes());
+        let _ = stream.write_all(END_LINE.as_bytes());
     }
 }
 
+// Whether the line asks for a scan, which may take long.
+fn is_scan(line: &str) -> bool
+    ensures { IsTrue result ↔ IsScan line.now }
+{
+    match line.strip_prefix("scan ") {
+        Some(_) => true,
+        None => false,
+    }
+}
+
+// What is answered where too many commands wait.
+const BUSY: &str = "error busy: too many commands wait for their answers\n";
+
 // The line that comes over a connection; none where the connection ends, or is silent, before its line feed.
-fn question_of(alloc: Global, stream: &TcpStream) -> io::Result<Option<InputLine>> {
+fn question_of(alloc: Global, stream: &TcpStream) -> io::Result<Option<String>> {
     let patience = Some(Duration::from_secs(PATIENCE));
     stream.set_read_timeout(patience)?;
     stream.set_write_timeout(patience)?;
@@ -78,6 +118,5 @@ fn question_of(alloc: Global, stream: &TcpStream) -> io::Result<Option<InputLine
         return Ok(None);
     };
     // (what is no text is no command)
-    let text = String::from_str(alloc, str::from_utf8(text).unwrap_or(""))?;
-    Ok(Some(InputLine::Line(text)))
+    Ok(Some(String::from_str(alloc, str::from_utf8(text).unwrap_or(""))?))
 }

@@ -4,20 +4,22 @@ use Rattle.std.specs.declared.io.ErrorKind.{ErrorKind}
 use Rattle.node_commands.specs.declared.answer.CommandsEnd.{CommandsEnd}
 use Rattle.node_commands.specs.declared.answer.CommandsEnd.TheVariants.{Read, Stopped}
 use Rattle.node_commands.specs.declared.lines.InputLine.{InputLine}
-use Rattle.node_commands.specs.declared.lines.InputLine.TheVariants.{Line, NoMemory, End, Failed}
+use Rattle.node_commands.specs.declared.lines.InputLine.TheVariants.{Line, NoMemory, End, Over, Failed}
 
--- the last that is read: `quit`, the end of the commands, or that they can't be read any more
+-- the last that is read: `quit`, the end of the commands, or that of those that someone else gives, or that they can't be read any more
 abbrev pub IsLast : InputLine → Type 0
 IsLast (Line text) = string_bytes text ≡ codes "quit"
 IsLast NoMemory = ⊥
 IsLast End = ⊤
+IsLast Over = ⊤
 IsLast (Failed kind) = ⊤
 
--- the commands end well with it: `quit`, or their end
+-- the commands end well with it: `quit`, or their end, or that of those that someone else gives
 abbrev pub IsEnd : InputLine → Type 0
 IsEnd (Line text) = string_bytes text ≡ codes "quit"
 IsEnd NoMemory = ⊥
 IsEnd End = ⊤
+IsEnd Over = ⊤
 IsEnd (Failed kind) = ⊥
 
 -- they fail with it, by this error: they can't be read any more, or what is answered to it can't be written
@@ -25,6 +27,7 @@ abbrev pub FailsAt : InputLine → ErrorKind → Type 0
 FailsAt (Line text) error = string_bytes text ≢ codes "quit"
 FailsAt NoMemory error = ⊤
 FailsAt End error = ⊥
+FailsAt Over error = ⊥
 FailsAt (Failed kind) error = error ≡ kind
 
 -- Lines are given, each with what may come after it.

@@ -5,7 +5,7 @@ use Rattle.node_commands.specs.Commands.{command_text}
 use Rattle.node_commands.specs.Folders.{IsOfNoFolder}
 use Rattle.node_commands.specs.declared.command.Command.{Command}
 use Rattle.node_commands.specs.declared.lines.InputLine.{InputLine}
-use Rattle.node_commands.specs.declared.lines.InputLine.TheVariants.{Line, NoMemory, End, Failed}
+use Rattle.node_commands.specs.declared.lines.InputLine.TheVariants.{Line, NoMemory, End, Over, Failed}
 use Rattle.node_commands.specs.declared.refusal.Refusal.{Refusal}
 use Rattle.node_commands.specs.declared.refusal.Refusal.TheVariants.{OutOfMemory, UnknownCommand, UnknownFolder}
 
@@ -16,4 +16,5 @@ Refuses folders (Line text) answered =
     ⊎ ((c : Command) × (string_bytes text ≡ command_text c) × (IsOfNoFolder folders c → answered ≡ Err UnknownFolder))
 Refuses folders NoMemory answered = answered ≡ Err OutOfMemory
 Refuses folders End answered = ⊤
+Refuses folders Over answered = ⊤
 Refuses folders (Failed kind) answered = ⊤

@@ -19,6 +19,7 @@ use std::io::{self, Write};
 use std::sync::Wait;
 use std::time::Duration;
 use sync_record::DeviceId;
+use sync_scan::ScanStop;
 
 /// The histories of folders.
 pub trait Histories {
@@ -100,6 +101,7 @@ fn end_at(line: &InputLine) -> io::Result<CommandsEnd>
         // (it is no last line)
         InputLine::NoMemory => Ok(CommandsEnd::Read),
         InputLine::End => Ok(CommandsEnd::Read),
+        InputLine::Over => Ok(CommandsEnd::Read),
         InputLine::Failed(kind) => Err(io::Error::from(*kind)),
     }
 }
@@ -126,7 +128,7 @@ where
             None => Err(Refusal::UnknownCommand),
         },
         InputLine::NoMemory => Err(Refusal::OutOfMemory),
-        InputLine::End | InputLine::Failed(_) => Ok(()),
+        InputLine::End | InputLine::Over | InputLine::Failed(_) => Ok(()),
     }
 }
 
@@ -229,7 +231,7 @@ fn scan<R: Host, S: FileStore + Marked, W: FolderCalls, G: Gate, O: Write>(
     }
     let sum = scan_folder(cx, worker, false).sum;
     if let Some(stop) = sum.stopped {
-        return Err(Refusal::Scan(stop));
+        return Err(stopped(cx, stop));
     }
     worker.folder.presence.check(cx.rt);
     writeln!(
@@ -241,6 +243,15 @@ fn scan<R: Host, S: FileStore + Marked, W: FolderCalls, G: Gate, O: Write>(
         sum.other
     )?;
     Ok(())
+}
+
+// Why a scan stopped before its end.
+fn stopped<R: Host, G>(cx: &Context<R, G>, stop: ScanStop) -> Refusal {
+    if cx.is_quitting() {
+        Refusal::Ended
+    } else {
+        Refusal::Scan(stop)
+    }
 }
 
 // What the last scan left out.

@@ -10,4 +10,4 @@ mod refusal;
 
 pub use answer::{Answerer, CommandsEnd, Histories, answer_commands};
 pub use command_lines::CommandLines;
-pub use lines::{InputLine, read_commands};
+pub use lines::{InputLine, is_last, read_commands};

@@ -44,18 +44,21 @@ pub enum InputLine {
     NoMemory,
     /// There are no more.
     End,
+    /// Those that someone else gives were read to their end, and so there are no more.
+    Over,
     /// They can't be read any more.
     Failed(ErrorKind),
 }
 
 /// Whether it is the last that is read: `quit`, the end of the commands, or that they can't be read any more.
-pub(crate) fn is_last(line: &InputLine) -> bool
+pub fn is_last(line: &InputLine) -> bool
     ensures { IsTrue result ↔ IsLast line.now }
 {
     match line {
         InputLine::Line(text) => text.as_str() == "quit",
         InputLine::NoMemory => false,
         InputLine::End => true,
+        InputLine::Over => true,
         InputLine::Failed(_) => true,
     }
 }

@@ -11,6 +11,8 @@ pub(crate) enum Refusal {
     // Its path is no directory, or has no marker.
     FolderMissing,
     Scan(ScanStop),
+    // The run ends, and the scan with it.
+    Ended,
     Node(NodeFault),
     OutOfMemory,
     Write(io::Error),
@@ -41,6 +43,7 @@ pub(crate) fn tell<O: Write>(answered: Result<(), Refusal>, output: &mut O) -> i
         Err(Refusal::UnknownCommand) => writeln!(output, "error unknown command"),
         Err(Refusal::UnknownFolder) => writeln!(output, "error unknown folder"),
         Err(Refusal::FolderMissing) => writeln!(output, "error 46 FolderMissing"),
+        Err(Refusal::Ended) => writeln!(output, "error stopped: the run ends"),
         Err(Refusal::Scan(stop)) => writeln!(output, "error {} {stop}", stop.number()),
         Err(Refusal::Node(fault)) => writeln!(output, "error {} {fault}", fault.number()),
         Err(Refusal::OutOfMemory) => writeln!(output, "error 33 OutOfMemory"),

@@ -1,4 +1,4 @@
-//! The sockets of a node's connections, and whether it stops.
+//! The sockets of a node's connections, and whether it stops, alone or with the run.
 use std::alloc::{AllocError, Global};
 use std::net::{Shutdown, TcpStream};
 use std::sync::{Condvar, Mutex, Wait};
@@ -20,6 +20,8 @@ pub struct Connections {
 #[derive(Drop)]
 struct Slots {
     is_stopping: bool,
+    // Whether the run ends, and so the node stops.
+    is_quitting: bool,
     // By the peer's place.
     streams: Vec<Option<Up>>,
     // How many there were.
@@ -45,6 +47,7 @@ impl Connections {
         Ok(Connections {
             slots: Mutex::new(Slots {
                 is_stopping: false,
+                is_quitting: false,
                 streams,
                 count: 0,
                 listeners: Vec::new(alloc),
@@ -101,6 +104,11 @@ impl Connections {
         self.slots.lock(rt).is_stopping
     }
 
+    /// Whether the run ends.
+    pub fn is_quitting<R: Wait>(&self, rt: &R) -> bool {
+        self.slots.lock(rt).is_quitting
+    }
+
     /// Waits for so many seconds, or until the node stops, and returns whether it does.
     pub fn pause<R: Clock + Wait>(&self, rt: &R, seconds: u64) -> bool {
         self.pause_for(rt, Duration::from_secs(seconds))
@@ -127,6 +135,12 @@ impl Connections {
         }
         drop(slots);
         self.stopped.notify_all();
+    }
+
+    /// The run ends: the node stops, and no other follows it.
+    pub fn quit<R: Wait>(&self, rt: &R) {
+        self.slots.lock(rt).is_quitting = true;
+        self.stop(rt);
     }
 }
 

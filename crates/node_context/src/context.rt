@@ -37,6 +37,16 @@ impl<R: Clock + Wait, G> Context<'_, R, G> {
         self.connections.stop(self.rt);
     }
 
+    /// Whether the run ends.
+    pub fn is_quitting(&self) -> bool {
+        self.connections.is_quitting(self.rt)
+    }
+
+    /// The run ends, and so the node stops.
+    pub fn quit(&self) {
+        self.connections.quit(self.rt);
+    }
+
     /// Waits for so many seconds, or until the node stops, and returns whether it does.
     pub fn pause(&self, seconds: u64) -> bool {
         self.pause_for(Duration::from_secs(seconds))

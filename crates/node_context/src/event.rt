@@ -48,7 +48,9 @@ pub enum Event<'a> {
     /// There are no more commands, and the node ends.
     InputEnded,
     /// No commands are taken from elsewhere at the socket with this path, for this reason.
-    NoSocket(&'a str, io::Error),
+    NoSocket(&'a str, &'a str),
+    /// The run ended, and the state is written.
+    Ended,
     /// The state is an older one than a peer was told of, and the node begins anew.
     OlderState,
     /// The state could not be written while the node runs: which file, and why, where that is known.

@@ -31,6 +31,7 @@ pub(crate) fn push_event(line: &mut Vec<u8>, event: &Event) -> io::Result<()> {
             push_text(line, path)?;
             write!(line, ": {why}: bepd ask can't reach this run")
         }
+        Event::Ended => Ok(line.extend_from_slice(ENDED)?),
         Event::OlderState => Ok(line.extend_from_slice(OLDER_STATE)?),
         Event::NotKept(why) => {
             line.extend_from_slice(b"state not written: it is tried again")?;
@@ -48,6 +49,8 @@ pub(crate) fn push_event(line: &mut Vec<u8>, event: &Event) -> io::Result<()> {
 
 const INPUT_ENDED: &[u8] =
     b"the input ended, and so does this run; with --no-input it needs none, and runs on";
+
+const ENDED: &[u8] = b"ended: the state is written";
 
 const OLDER_STATE: &[u8] =
     b"older state: a peer was told more than it has: the node begins anew, and tells all again";

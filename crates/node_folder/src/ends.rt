@@ -13,6 +13,8 @@ pub enum GivesUp {
     /// Once the node stops: calls that read, or prepare what is to be put in place. So a scan or a pull that is under way ends soon. What puts
     /// files in place, moves or removes them is still done.
     AtStop,
+    /// The same once the run ends, but not where another node follows the one that stops.
+    AtQuit,
     /// Never.
     Never,
 }
@@ -46,16 +48,17 @@ impl<'a, R> WorkerEnds<'a, R> {
 }
 
 impl<R: Wait> Ends for WorkerEnds<'_, R> {
-    ghost use Rattle.std.specs.Prelude.{◌≡◌, ⊤};
-    ghost use Rattle.node_folder.specs.declared.ends.GivesUp.TheVariants.{AtStop};
+    ghost use Rattle.std.specs.Prelude.{◌≢◌, ⊤};
+    ghost use Rattle.node_folder.specs.declared.ends.GivesUp.TheVariants.{Never};
 
-    ghost may_end = { λ it. it.gives_up ≡ AtStop };
+    ghost may_end = { λ it. it.gives_up ≢ Never };
 
     ghost may_hold = { λ _. ⊤ };
 
     fn is_over(&self) -> bool {
         match self.gives_up {
             GivesUp::AtStop => self.connections.is_stopping(self.rt),
+            GivesUp::AtQuit => self.connections.is_quitting(self.rt),
             GivesUp::Never => false,
         }
     }

@@ -10,12 +10,11 @@ use node_pull::PULLERS;
 use std::alloc::Global;
 use std::sync::Wait;
 
-/// Who calls the folders of a node: those who work (in the order of `work_callers`), and one of each folder for who saves and for who answers.
+/// Who calls the folders of a node, but for who answers: those who work (in the order of `work_callers`), and one of each folder for who saves.
 #[derive(Drop)]
 pub(crate) struct Callers<W> {
     pub(crate) workers: Vec<W>,
     pub(crate) savers: Vec<W>,
-    pub(crate) answerers: Vec<W>,
 }
 
 /// Those who work, in this order: of each folder its scanner, those who look at it and its pullers; and then of each peer a reader, a server and an indexer of

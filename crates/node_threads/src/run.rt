@@ -3,11 +3,12 @@ ghost use Rattle.std.specs.Prelude.{IfOk};
 ghost use Rattle.std.specs.Thread.{IsSend, IsSync};
 ghost use Rattle.node_threads.specs.Left.{AreLeft};
 
+use crate::answering::{Answering, Console, answer_by_members, answering_of, end_of};
 use crate::callers::{Callers, SharedHistories, each_caller, work_callers};
 use crate::folders::{Opened, StartFolder, close_all, open_all, rooms_for};
 use crate::peers::{Listeners, NodePeer, end_at_stop};
 use crate::saver::{Saver, saved_first};
-use crate::threads::{Answered, Kept, Left, Work, answer_by_members, work_and_save};
+use crate::threads::{Kept, Work, work_and_save};
 use crate::workers::{Files, FolderFiles, Node};
 use file_store::Gate;
 use folder_core::FolderCore;
@@ -54,7 +55,7 @@ pub struct NodeOutside<'a, G, J, T> {
 
 /// What a node leaves.
 #[derive(Drop)]
-pub struct NodeEnd<C, L> {
+pub struct NodeEnd<C> {
     /// The records of each folder, in their order.
     pub cores: Vec<C>,
     /// For each peer, in their order, the numbers of its index of each folder that is shared with it, of which there are records; none where memory
@@ -66,12 +67,10 @@ pub struct NodeEnd<C, L> {
     pub is_behind: bool,
     /// How the commands ended; an error where one can't be read, or an answer can't be written.
     pub answered: io::Result<CommandsEnd>,
-    /// The lines that are left.
-    pub lines: L,
 }
 
-/// Keeps folders alike with peers, and answers the commands of the lines, until `quit` or their end, or until the history of a folder is full or a peer was told
-/// more than is on the disk: then the connections end, and the node's threads with them.
+/// Keeps folders alike with peers, and answers the commands of the consoles, each on a thread of its own, until those of one are read to `quit` or to their
+/// end, or until the history of a folder is full or a peer was told more than is on the disk: then the connections end, and the node's threads with them.
 ///
 /// Each folder is scanned once, and then as often as it asks for, and looked at for what changed; after the first scan what is needed of it is pulled, twice a second. Each peer has a
 /// connection, whose workers are those of [`run_link`](peer_link::run_link): one that this device makes is made again 10 seconds after it ended, and of one
@@ -85,9 +84,8 @@ pub fn run_node<R, T, C, G, J, L, O>(
     alloc: Global,
     start: NodeStart<C>,
     outside: NodeOutside<G, J, T>,
-    lines: L,
-    output: &mut O,
-) -> Result<NodeEnd<C, L>, NodeFault>
+    consoles: &mut [Console<L, O>],
+) -> Result<NodeEnd<C>, NodeFault>
 where
     R: Clock + Net<Listener = TcpListener, Stream = TcpStream> + Threads + Wait + Sync,
     T: Stores + Sync,
@@ -95,8 +93,8 @@ where
     C: FolderCore + Drop + Send + Sync,
     G: Gate + Sync,
     J: DiskJournal + Send,
-    L: CommandLines + Drop,
-    O: Write,
+    L: CommandLines + Drop + Send,
+    O: Write + Drop + Send,
     ensures left { IfOk result (λ end. AreLeft C.state start.folders.items end.cores.items) }
 {
     let NodeStart {
@@ -111,30 +109,18 @@ where
     // (made now, so that what is recorded from here on isn't lost for want of them)
     let cores = Vec::with_capacity(alloc, opened.shared.len())?;
     let rooms = rooms_for(alloc, opened.shared.len())?;
-    let left = run_opened(
-        rt,
-        alloc,
-        &opened,
-        reaches.as_slice(),
-        outside,
-        lines,
-        output,
-    )?;
+    let left = run_opened(rt, alloc, &opened, reaches.as_slice(), outside, consoles)?;
     let saved = saved_of(rt, alloc, &opened).unwrap_or(Vec::new(alloc));
     let is_behind = opened.keeper.is_behind(rt);
     let Opened { shared, .. } = opened;
     let cores = close_all(rt, alloc, cores, rooms, shared)?;
-    let Left {
-        kept,
-        answered: Answered { end, lines },
-    } = left;
+    let Left { kept, answered } = left;
     Ok(NodeEnd {
         cores,
         kept,
         saved,
         is_behind,
-        answered: end,
-        lines,
+        answered,
     })
 }
 
@@ -152,6 +138,13 @@ fn saved_of<R: Wait, C: FolderCore + Drop>(
     Ok(saved)
 }
 
+// What the threads leave.
+#[derive(Drop)]
+struct Left {
+    kept: Kept,
+    answered: io::Result<CommandsEnd>,
+}
+
 // Runs the threads of a node over its folders.
 fn run_opened<'x, R, T, C, G, J, L, O>(
     rt: &'x R,
@@ -159,9 +152,8 @@ fn run_opened<'x, R, T, C, G, J, L, O>(
     opened: &'x Opened<C>,
     reaches: &'x [Reach],
     outside: NodeOutside<'x, G, J, T>,
-    lines: L,
-    output: &mut O,
-) -> Result<Left<L>, NodeFault>
+    consoles: &mut [Console<L, O>],
+) -> Result<Left, NodeFault>
 where
     R: Clock + Net<Listener = TcpListener, Stream = TcpStream> + Threads + Wait + Sync,
     T: Stores + Sync,
@@ -169,8 +161,8 @@ where
     C: FolderCore + Drop + Send + Sync,
     G: Gate + Sync,
     J: DiskJournal + Send,
-    L: CommandLines + Drop,
-    O: Write,
+    L: CommandLines + Drop + Send,
+    O: Write + Drop + Send,
 {
     let cx = Context {
         rt,
@@ -200,7 +192,7 @@ where
         node,
     };
     let shared = opened.shared.as_slice();
-    run_members(&cx, &work, reaches, shared, outside.journal, lines, output)
+    run_members(&cx, &work, reaches, shared, outside.journal, consoles)
 }
 
 // Does all that a node does, by members of the shared folders.
@@ -210,9 +202,8 @@ fn run_members<'x, R, G, F, C, J, L, O>(
     reaches: &'x [Reach],
     shared: &'x [SharedFolder<C>],
     journal: &mut J,
-    lines: L,
-    output: &mut O,
-) -> Result<Left<L>, NodeFault>
+    consoles: &mut [Console<L, O>],
+) -> Result<Left, NodeFault>
 where
     R: Host,
     G: Gate + Sync,
@@ -220,16 +211,16 @@ where
     F::Store: Send,
     C: FolderCore + Drop + Send + Sync,
     J: DiskJournal + Send,
-    L: CommandLines + Drop,
-    O: Write,
+    L: CommandLines + Drop + Send,
+    O: Write + Drop + Send,
 {
     let (rt, alloc) = (cx.rt, cx.alloc);
     let (keeper, folders) = (work.node.keeper, work.node.folders);
     let mut callers = Callers {
         workers: work_callers(rt, alloc, shared, work.node.peers)?,
         savers: each_caller(rt, alloc, shared)?,
-        answerers: each_caller(rt, alloc, shared)?,
     };
+    let mut answering = answering_of(rt, alloc, shared, consoles)?;
     let saver = Saver {
         folders: saved_first(rt, alloc, keeper, folders)?,
         journal,
@@ -239,7 +230,12 @@ where
         folders: shared,
     };
     let tools = Tools { histories, saver };
-    run_threads(cx, work, reaches, tools, &mut callers, lines, output)
+    let all = answering.as_mut_slice();
+    let kept = run_threads(cx, work, reaches, tools, &mut callers, all)?;
+    Ok(Left {
+        kept,
+        answered: end_of(answering.as_slice()),
+    })
 }
 
 // What verifies the histories of a node's folders, and what saves them.
@@ -256,9 +252,8 @@ fn run_threads<'x, R, G, F, C, J, L, O>(
     reaches: &'x [Reach],
     tools: Tools<'x, '_, C, R, J>,
     callers: &mut Callers<Member<'x, C, R>>,
-    lines: L,
-    output: &mut O,
-) -> Result<Left<L>, NodeFault>
+    answering: &mut [Answering<'_, L, O, Member<'x, C, R>>],
+) -> Result<Kept, NodeFault>
 where
     R: Host,
     G: Gate + Sync,
@@ -266,20 +261,16 @@ where
     F::Store: Send,
     C: FolderCore + Drop + Send + Sync,
     J: DiskJournal + Send,
-    L: CommandLines + Drop,
-    O: Write,
+    L: CommandLines + Drop + Send,
+    O: Write + Drop + Send,
 {
     let Tools {
         histories,
         mut saver,
     } = tools;
-    let Callers {
-        workers,
-        savers,
-        answerers,
-    } = callers;
+    let Callers { workers, savers } = callers;
     let (files, node) = (work.files, work.node);
-    let (kept, answered) = join(
+    let (kept, ()) = join(
         cx.rt,
         || -> Result<Kept, NodeFault>
             requires { IsSync R.row × IsSync G.row × IsSync F.row × IsSend J.row × IsSync C.row × IsSend C.row × IsSend F.Store.row }
@@ -293,22 +284,7 @@ where
                 savers.as_mut_slice(),
             )
         },
-        || {
-            let answered = answer_by_members(
-                cx,
-                files,
-                &histories,
-                node,
-                answerers.as_mut_slice(),
-                lines,
-                output,
-            );
-            cx.stop();
-            answered
-        },
+        || answer_by_members(cx, files, &histories, node, answering),
     );
-    Ok(Left {
-        kept: kept?,
-        answered,
-    })
+    kept
 }

@@ -1,18 +1,14 @@
-//! The threads of a node: those that answer, save, scan and pull, and one for each peer.
+//! The threads of a node that work: those that save, scan and pull, and one for each peer.
 ghost use Rattle.std.specs.Prelude.{◌≡◌, map, IfOk};
-ghost use Rattle.node_commands.specs.Read.{AreReadTo};
 ghost use Rattle.node_threads.specs.Workers.{kept_numbers};
 
 use crate::callers::Lender;
 use crate::saver::{Saver, run_saver};
-use crate::workers::{
-    FolderFiles, Node, WorkedFolder, Workers, answered_of, devices_of, workers_of,
-};
+use crate::workers::{FolderFiles, Node, WorkedFolder, Workers, workers_of};
 use file_store::{FileStore, Gate};
 use folder_calls::FolderCalls;
 use folder_core::FolderCore;
 use folder_shared::Member;
-use node_commands::{Answerer, CommandLines, CommandsEnd, Histories, answer_commands};
 use node_context::{Context, Host, NodeFault};
 use node_files::Marked;
 use node_folder::{ScannedFolder, run_scanner, scan_due};
@@ -25,7 +21,6 @@ use peer_conn::KeptCalls;
 use peer_link::LinkFolders;
 use peer_reader::PeerFolder;
 use std::alloc::{AllocError, Global};
-use std::io::{self, ErrorKind, Write};
 use std::thread::{for_each_mut, join, map_vec};
 
 /// For each peer, the numbers of its indexes that are kept.
@@ -36,20 +31,6 @@ pub(crate) type Kept = Vec<Vec<u64>>;
 pub(crate) struct Work<'f, 'x, F> {
     pub(crate) files: &'f F,
     pub(crate) node: Node<'x>,
-}
-
-/// What the threads leave.
-#[derive(Drop)]
-pub(crate) struct Left<L> {
-    pub(crate) kept: Kept,
-    pub(crate) answered: Answered<L>,
-}
-
-/// How the commands ended, and the lines that are left.
-#[derive(Drop)]
-pub(crate) struct Answered<L> {
-    pub(crate) end: io::Result<CommandsEnd>,
-    pub(crate) lines: L,
 }
 
 /// Works, and has what happens written to the journal, until nothing happens any more. Where it can't work, the node stops.
@@ -115,66 +96,6 @@ where
     C: FolderCore + Drop,
 {
     run_saver(cx, keeper, saver, callers)
-}
-
-/// Answers the commands by these callers, one of each folder.
-pub(crate) fn answer_by_members<'x, R, G, F, V, C, L, O>(
-    cx: &Context<'x, R, G>,
-    files: &F,
-    histories: &V,
-    node: Node<'x>,
-    callers: &mut [Member<'x, C, R>],
-    lines: L,
-    output: &mut O,
-) -> Answered<L>
-where
-    R: Host,
-    G: Gate,
-    F: FolderFiles,
-    V: Histories,
-    C: FolderCore + Drop,
-    L: CommandLines + Drop,
-    O: Write,
-    ensures { IfOk result.end (λ end. AreReadTo L.gives lines end result.lines) }
-{
-    let mut lines = lines;
-    let end = answer_by(cx, files, histories, node, callers, &mut lines, output);
-    Answered { end, lines }
-}
-
-// The same by callers, whoever they are.
-fn answer_by<'x, R, G, F, V, W, L, O>(
-    cx: &Context<'x, R, G>,
-    files: &F,
-    histories: &V,
-    node: Node<'x>,
-    callers: &mut [W],
-    lines: &mut L,
-    output: &mut O,
-) -> io::Result<CommandsEnd>
-where
-    R: Host,
-    G: Gate,
-    F: FolderFiles,
-    V: Histories,
-    W: FolderCalls,
-    L: CommandLines,
-    O: Write,
-    ensures { IfOk result (λ end. AreReadTo L.gives lines.old end lines.new) }
-{
-    let mut callers = Lender::new(cx.rt, cx.alloc, node.keeper, callers).map_err(no_answerer)?;
-    let folders = answered_of(cx.alloc, files, node, &mut callers).map_err(no_answerer)?;
-    let devices = devices_of(cx.alloc, node.peers)?;
-    let mut answerer = Answerer {
-        folders,
-        histories,
-        peers: devices.as_slice(),
-    };
-    answer_commands(cx, &mut answerer, lines, output)
-}
-
-fn no_answerer(_fault: NodeFault) -> io::Error {
-    io::Error::from(ErrorKind::OutOfMemory)
 }
 
 // Works by these callers.

@@ -163,7 +163,7 @@ pub(crate) fn answered_of<'x, 'b, F: FolderFiles, W: FolderCalls, R: Wait>(
 ) -> Result<Vec<FolderWorker<'x, F::Store, WorkerCalls<'x, 'b, W, R>>>, NodeFault> {
     let mut workers = Vec::with_capacity(alloc, node.folders.len())?;
     for (place, folder) in node.folders.iter().enumerate() {
-        workers.push(worker_of(files, folder, place, GivesUp::Never, callers)?)?;
+        workers.push(worker_of(files, folder, place, GivesUp::AtQuit, callers)?)?;
     }
     Ok(workers)
 }

@@ -1,0 +1,178 @@
+//! The threads of a node that answer commands: one for each console.
+ghost use Rattle.std.specs.Prelude.{IfOk};
+ghost use Rattle.node_commands.specs.Read.{AreReadTo};
+
+use crate::callers::{Lender, each_caller};
+use crate::workers::{FolderFiles, Node, answered_of, devices_of};
+use file_store::Gate;
+use folder_calls::FolderCalls;
+use folder_core::FolderCore;
+use folder_shared::{Member, SharedFolder};
+use node_commands::{Answerer, CommandLines, CommandsEnd, Histories, answer_commands};
+use node_context::{Context, Host, NodeFault};
+use std::alloc::Global;
+use std::io::{self, ErrorKind, Write};
+use std::sync::Wait;
+use std::thread::for_each_mut;
+
+/// Where lines of commands come from, and where what is answered to them goes.
+#[derive(Drop)]
+pub struct Console<L, O> {
+    /// The lines.
+    pub lines: L,
+    /// The answers.
+    pub output: O,
+}
+
+/// A console, who answers it by a caller of each folder, and how its commands ended.
+#[derive(Drop)]
+pub(crate) struct Answering<'c, L, O, W> {
+    console: &'c mut Console<L, O>,
+    callers: Vec<W>,
+    end: io::Result<CommandsEnd>,
+}
+
+/// Who answers each of the consoles.
+pub(crate) fn answering_of<'a, 'c, C: FolderCore + Drop, R: Wait, L, O>(
+    rt: &'a R,
+    alloc: Global,
+    folders: &'a [SharedFolder<C>],
+    consoles: &'c mut [Console<L, O>],
+) -> Result<Vec<Answering<'c, L, O, Member<'a, C, R>>>, NodeFault> {
+    let mut all = Vec::with_capacity(alloc, consoles.len())?;
+    let each = consoles.iter_mut();
+    for console in each {
+        let callers = each_caller(rt, alloc, folders)?;
+        let end = Ok(CommandsEnd::Stopped);
+        let one = Answering {
+            console,
+            callers,
+            end,
+        };
+        if all.push(one).is_err() {
+            return Err(NodeFault::OutOfMemory);
+        }
+    }
+    Ok(all)
+}
+
+/// Answers the consoles by members of the shared folders, each on a thread of its own, until the node stops. The run ends once the commands of one of them do.
+pub(crate) fn answer_by_members<'x, R, G, F, V, C, L, O>(
+    cx: &Context<'x, R, G>,
+    files: &F,
+    histories: &V,
+    node: Node<'x>,
+    all: &mut [Answering<'_, L, O, Member<'x, C, R>>],
+)
+where
+    R: Host,
+    G: Gate + Sync,
+    F: FolderFiles + Sync,
+    F::Store: Send,
+    V: Histories + Sync,
+    C: FolderCore + Drop + Send + Sync,
+    L: CommandLines + Send,
+    O: Write + Send,
+{
+    answer_all(cx, files, histories, node, all)
+}
+
+// The same by callers, whoever they are.
+fn answer_all<'x, R, G, F, V, W, L, O>(
+    cx: &Context<'x, R, G>,
+    files: &F,
+    histories: &V,
+    node: Node<'x>,
+    all: &mut [Answering<'_, L, O, W>],
+)
+where
+    R: Host,
+    G: Gate + Sync,
+    F: FolderFiles + Sync,
+    F::Store: Send,
+    V: Histories + Sync,
+    W: FolderCalls + Send,
+    L: CommandLines + Send,
+    O: Write + Send,
+{
+    let threads = all.len().max(1);
+    for_each_mut(
+        cx.rt,
+        all,
+        threads,
+        &|_, one| answer(cx, files, histories, node, one),
+    );
+}
+
+/// How the commands ended: by the first error, if there is one; else read, if those of a console were read to their end.
+pub(crate) fn end_of<L, O, W>(all: &[Answering<'_, L, O, W>]) -> io::Result<CommandsEnd> {
+    let mut end = CommandsEnd::Stopped;
+    for one in all {
+        match &one.end {
+            Ok(CommandsEnd::Read) => end = CommandsEnd::Read,
+            Ok(CommandsEnd::Stopped) => {}
+            Err(error) => return Err(*error),
+        }
+    }
+    Ok(end)
+}
+
+// Answers a console.
+fn answer<'x, R, G, F, V, W, L, O>(
+    cx: &Context<'x, R, G>,
+    files: &F,
+    histories: &V,
+    node: Node<'x>,
+    one: &mut Answering<'_, L, O, W>,
+)
+where
+    R: Host,
+    G: Gate,
+    F: FolderFiles,
+    V: Histories,
+    W: FolderCalls,
+    L: CommandLines,
+    O: Write,
+    ensures { IfOk one.new.end (λ end. AreReadTo L.gives one.old.console.now.lines end one.new.console.now.lines) }
+{
+    let callers = one.callers.as_mut_slice();
+    let end = answer_by(cx, files, histories, node, callers, one.console);
+    if !matches!(&end, Ok(CommandsEnd::Stopped)) {
+        cx.quit();
+    }
+    one.end = end;
+}
+
+// Answers a console by these callers, one of each folder.
+fn answer_by<'x, R, G, F, V, W, L, O>(
+    cx: &Context<'x, R, G>,
+    files: &F,
+    histories: &V,
+    node: Node<'x>,
+    callers: &mut [W],
+    console: &mut Console<L, O>,
+) -> io::Result<CommandsEnd>
+where
+    R: Host,
+    G: Gate,
+    F: FolderFiles,
+    V: Histories,
+    W: FolderCalls,
+    L: CommandLines,
+    O: Write,
+    ensures { IfOk result (λ end. AreReadTo L.gives console.old.lines end console.new.lines) }
+{
+    let mut callers = Lender::new(cx.rt, cx.alloc, node.keeper, callers).map_err(no_answerer)?;
+    let folders = answered_of(cx.alloc, files, node, &mut callers).map_err(no_answerer)?;
+    let devices = devices_of(cx.alloc, node.peers)?;
+    let mut answerer = Answerer {
+        folders,
+        histories,
+        peers: devices.as_slice(),
+    };
+    answer_commands(cx, &mut answerer, &mut console.lines, &mut console.output)
+}
+
+fn no_answerer(_fault: NodeFault) -> io::Error {
+    io::Error::from(ErrorKind::OutOfMemory)
+}
