@@ -197,26 +197,50 @@ where
     O: Write + Drop + Send,
 {
     let (socket, desk) = doors;
-    let Begun { node, outside } = begun;
-    let (config, log) = (place.config, place.log);
-    let mut consoles = consoles;
     let ((), ended) = join(
         rt,
         || take_all(rt, alloc, socket, &desk.ways, input),
         || -> Result<io::Result<()>, RunFailure>
             requires { IsSend T.Store.row }
         {
-            let ended = run_nodes(rt, alloc, config, node, outside, &mut consoles);
-            if ended.is_ok() {
-                log.tell(rt, &Event::Ended);
-            }
-            // (who asked for the end is told that it is there)
-            if matches!(&ended, Ok(Ok(()))) {
-                desk.asker.finish(rt);
-            }
+            let ended = answer_all(rt, alloc, place, begun, desk, consoles);
             socket.run.end(rt);
             ended
         },
     );
+    ended
+}
+
+// Runs nodes until the commands of these consoles end. Nobody waits to give them lines then, since they are gone. Returns whether all were answered.
+fn answer_all<'a, R, T, O>(
+    rt: &R,
+    alloc: Global,
+    place: &Place<'a, T>,
+    begun: Begun<'a, T, R>,
+    desk: &Desk,
+    consoles: [RunConsole<'_, '_, R, O>; 3],
+) -> Result<io::Result<()>, RunFailure>
+where
+    R: Clock
+        + Net<Listener = TcpListener, Stream = TcpStream>
+        + StateFiles
+        + Sync
+        + Threads
+        + UnixSockets
+        + Wait,
+    T: Stores + Sync,
+    T::Store: Send,
+    O: Write + Drop + Send,
+{
+    let Begun { node, outside } = begun;
+    let mut consoles = consoles;
+    let ended = run_nodes(rt, alloc, place.config, node, outside, &mut consoles);
+    if ended.is_ok() {
+        place.log.tell(rt, &Event::Ended);
+    }
+    // (who asked for the end is told that it is there)
+    if matches!(&ended, Ok(Ok(()))) {
+        desk.asker.finish(rt);
+    }
     ended
 }
