@@ -1,5 +1,6 @@
 -- Which lines are refused before anything is done (own rule).
-use Rattle.std.specs.Prelude.{◌≡◌, ◌≢◌, ◌⊎◌, List, Result, Err, string_bytes, ⊤}
+use Rattle.std.specs.Prelude.{◌≡◌, ◌≢◌, ◌⊎◌, None, List, Result, Err, string_bytes, ⊤}
+use Rattle.sync_scan.specs.declared.sum.ScanSum.{ScanSum}
 use Rattle.node_folder.specs.declared.folder.FolderWorker.{FolderWorker}
 use Rattle.node_commands.specs.Commands.{command_text}
 use Rattle.node_commands.specs.Folders.{IsOfNoFolder}
@@ -18,3 +19,7 @@ Refuses folders NoMemory answered = answered ≡ Err OutOfMemory
 Refuses folders End answered = ⊤
 Refuses folders Over answered = ⊤
 Refuses folders (Failed kind) answered = ⊤
+
+-- a scan stopped before its end, or left names out
+abbrev pub IsCut : ScanSum → Type 0
+IsCut sum = (sum.stopped ≢ None) ⊎ (sum.other ≢ 0)

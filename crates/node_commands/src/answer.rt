@@ -1,9 +1,9 @@
 //! What is answered to commands.
-ghost use Rattle.std.specs.Prelude.{◌≡◌, IfErr, IfOk, MatchResult, position};
+ghost use Rattle.std.specs.Prelude.{◌≡◌, ◌↔◌, IfErr, IfOk, IsTrue, MatchResult, position};
 ghost use Rattle.std.specs.IoError.{error_kind};
 ghost use Rattle.node_commands.specs.Folders.{IsFolderOf, IsOfNoFolder, has_id, place_of};
 ghost use Rattle.node_commands.specs.Read.{AreReadTo, AreReadUntil, FailsAt, IsEnd, IsLast};
-ghost use Rattle.node_commands.specs.Refused.{Refuses};
+ghost use Rattle.node_commands.specs.Refused.{IsCut, Refuses};
 
 use crate::command::Command;
 use crate::command_lines::CommandLines;
@@ -19,7 +19,7 @@ use std::io::{self, Write};
 use std::sync::Wait;
 use std::time::Duration;
 use sync_record::DeviceId;
-use sync_scan::ScanStop;
+use sync_scan::ScanSum;
 
 /// The histories of folders.
 pub trait Histories {
@@ -230,8 +230,11 @@ fn scan<R: Host, S: FileStore + Marked, W: FolderCalls, G: Gate, O: Write>(
         return Err(Refusal::FolderMissing);
     }
     let sum = scan_folder(cx, worker, false).sum;
+    if is_cut(&sum) && cx.is_quitting() {
+        return Err(Refusal::Ended);
+    }
     if let Some(stop) = sum.stopped {
-        return Err(stopped(cx, stop));
+        return Err(Refusal::Scan(stop));
     }
     worker.folder.presence.check(cx.rt);
     writeln!(
@@ -245,13 +248,11 @@ fn scan<R: Host, S: FileStore + Marked, W: FolderCalls, G: Gate, O: Write>(
     Ok(())
 }
 
-// Why a scan stopped before its end.
-fn stopped<R: Host, G>(cx: &Context<R, G>, stop: ScanStop) -> Refusal {
-    if cx.is_quitting() {
-        Refusal::Ended
-    } else {
-        Refusal::Scan(stop)
-    }
+// Whether a scan stopped before its end, or left a name out. (Once the run ends, each name that is read is left out.)
+fn is_cut(sum: &ScanSum) -> bool
+    ensures { IsTrue result ↔ IsCut sum.now }
+{
+    sum.stopped.is_some() || sum.other > 0
 }
 
 // What the last scan left out.
