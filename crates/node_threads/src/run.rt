@@ -3,8 +3,8 @@ ghost use Rattle.std.specs.Prelude.{IfOk};
 ghost use Rattle.std.specs.Thread.{IsSend, IsSync};
 ghost use Rattle.node_threads.specs.Left.{AreLeft};
 
-use crate::answering::{Answering, Console, answer_by_members, answering_of, end_of};
-use crate::callers::{Callers, SharedHistories, each_caller, work_callers};
+use crate::answering::{Answering, Console, answer_all, answering_of, end_of};
+use crate::callers::{Callers, each_caller, work_callers};
 use crate::folders::{Opened, StartFolder, close_all, open_all, rooms_for};
 use crate::peers::{Listeners, NodePeer, end_at_stop};
 use crate::saver::{Saver, saved_first};
@@ -93,8 +93,8 @@ where
     C: FolderCore + Drop + Send + Sync,
     G: Gate + Sync,
     J: DiskJournal + Send,
-    L: CommandLines + Drop + Send,
-    O: Write + Drop + Send,
+    L: CommandLines + Send,
+    O: Write + Send,
     ensures left { IfOk result (λ end. AreLeft C.state start.folders.items end.cores.items) }
 {
     let NodeStart {
@@ -161,8 +161,8 @@ where
     C: FolderCore + Drop + Send + Sync,
     G: Gate + Sync,
     J: DiskJournal + Send,
-    L: CommandLines + Drop + Send,
-    O: Write + Drop + Send,
+    L: CommandLines + Send,
+    O: Write + Send,
 {
     let cx = Context {
         rt,
@@ -211,8 +211,8 @@ where
     F::Store: Send,
     C: FolderCore + Drop + Send + Sync,
     J: DiskJournal + Send,
-    L: CommandLines + Drop + Send,
-    O: Write + Drop + Send,
+    L: CommandLines + Send,
+    O: Write + Send,
 {
     let (rt, alloc) = (cx.rt, cx.alloc);
     let (keeper, folders) = (work.node.keeper, work.node.folders);
@@ -220,29 +220,17 @@ where
         workers: work_callers(rt, alloc, shared, work.node.peers)?,
         savers: each_caller(rt, alloc, shared)?,
     };
-    let mut answering = answering_of(rt, alloc, shared, consoles)?;
-    let saver = Saver {
+    let mut answering = answering_of(alloc, consoles)?;
+    let mut saver = Saver {
         folders: saved_first(rt, alloc, keeper, folders)?,
         journal,
     };
-    let histories = SharedHistories {
-        rt,
-        folders: shared,
-    };
-    let tools = Tools { histories, saver };
     let all = answering.as_mut_slice();
-    let kept = run_threads(cx, work, reaches, tools, &mut callers, all)?;
+    let kept = run_threads(cx, work, reaches, shared, &mut saver, &mut callers, all)?;
     Ok(Left {
         kept,
         answered: end_of(answering.as_slice()),
     })
-}
-
-// What verifies the histories of a node's folders, and what saves them.
-#[derive(Drop)]
-struct Tools<'a, 'j, C: FolderCore + Drop, R, J> {
-    histories: SharedHistories<'a, C, R>,
-    saver: Saver<'j, J>,
 }
 
 // Works, saves the records and answers the commands, each on threads of its own. The node stops once the commands end.
@@ -250,9 +238,10 @@ fn run_threads<'x, R, G, F, C, J, L, O>(
     cx: &Context<'x, R, G>,
     work: &Work<'_, 'x, F>,
     reaches: &'x [Reach],
-    tools: Tools<'x, '_, C, R, J>,
+    shared: &'x [SharedFolder<C>],
+    saver: &mut Saver<'_, J>,
     callers: &mut Callers<Member<'x, C, R>>,
-    answering: &mut [Answering<'_, L, O, Member<'x, C, R>>],
+    answering: &mut [Answering<'_, L, O>],
 ) -> Result<Kept, NodeFault>
 where
     R: Host,
@@ -261,13 +250,9 @@ where
     F::Store: Send,
     C: FolderCore + Drop + Send + Sync,
     J: DiskJournal + Send,
-    L: CommandLines + Drop + Send,
-    O: Write + Drop + Send,
+    L: CommandLines + Send,
+    O: Write + Send,
 {
-    let Tools {
-        histories,
-        mut saver,
-    } = tools;
     let Callers { workers, savers } = callers;
     let (files, node) = (work.files, work.node);
     let (kept, ()) = join(
@@ -280,11 +265,13 @@ where
                 work,
                 reaches,
                 workers.as_mut_slice(),
-                &mut saver,
+                saver,
                 savers.as_mut_slice(),
             )
         },
-        || answer_by_members(cx, files, &histories, node, answering),
+        || -> ()
+            requires { IsSync R.row × IsSync G.row × IsSync F.row × IsSync C.row × IsSend C.row × IsSend F.Store.row × IsSend L.row × IsSend O.row }
+        { answer_all(cx, files, shared, node, answering) },
     );
     kept
 }
