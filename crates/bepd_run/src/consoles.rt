@@ -9,6 +9,8 @@ use crate::ready::Ready;
 use crate::run::Place;
 use crossbeam_channel::Receiver;
 use node_asks::{Asked, AskedLines, Asker, Replies};
+use node_commands::CommandLines;
+use node_config::Config;
 use node_context::Event;
 use node_files::Stores;
 use node_threads::{Console, UnixSockets};
@@ -197,13 +199,15 @@ where
     O: Write + Drop + Send,
 {
     let (socket, desk) = doors;
+    let Begun { node, outside } = begun;
+    let config = place.config;
     let ((), ended) = join(
         rt,
         || take_all(rt, alloc, socket, &desk.ways, input),
         || -> Result<io::Result<()>, RunFailure>
             requires { IsSend T.Store.row }
         {
-            let ended = answer_all(rt, alloc, place, begun, desk, consoles);
+            let ended = answer_all(rt, alloc, config, node, outside, desk, consoles);
             socket.run.end(rt);
             ended
         },
@@ -212,13 +216,14 @@ where
 }
 
 // Runs nodes until the commands of these consoles end. Nobody waits to give them lines then, since they are gone. Returns whether all were answered.
-fn answer_all<'a, R, T, O>(
+fn answer_all<R, T, L, O>(
     rt: &R,
     alloc: Global,
-    place: &Place<'a, T>,
-    begun: Begun<'a, T, R>,
+    config: &Config,
+    node: NextNode,
+    outside: Outside<'_, T, R>,
     desk: &Desk,
-    consoles: [RunConsole<'_, '_, R, O>; 3],
+    consoles: [Console<L, O>; 3],
 ) -> Result<io::Result<()>, RunFailure>
 where
     R: Clock
@@ -230,13 +235,14 @@ where
         + Wait,
     T: Stores + Sync,
     T::Store: Send,
+    L: CommandLines + Drop + Send,
     O: Write + Drop + Send,
 {
-    let Begun { node, outside } = begun;
+    let log = outside.log;
     let mut consoles = consoles;
-    let ended = run_nodes(rt, alloc, place.config, node, outside, &mut consoles);
+    let ended = run_nodes(rt, alloc, config, node, outside, &mut consoles);
     if ended.is_ok() {
-        place.log.tell(rt, &Event::Ended);
+        log.tell(rt, &Event::Ended);
     }
     // (who asked for the end is told that it is there)
     if matches!(&ended, Ok(Ok(()))) {
