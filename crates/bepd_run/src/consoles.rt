@@ -14,7 +14,7 @@ use node_config::Config;
 use node_context::Event;
 use node_files::Stores;
 use node_threads::{Console, UnixSockets};
-use std::alloc::Global;
+use std::alloc::{AllocError, Global};
 use std::io::{self, Read, Write};
 use std::net::{Net, TcpListener, TcpStream};
 use std::os::fd::AsRawFd;
@@ -109,7 +109,7 @@ where
         scans,
         others,
     };
-    let consoles = consoles_of(rt, &desk, given, output);
+    let consoles = consoles_of(rt, alloc, &desk, given, output)?;
     run_with(
         rt,
         alloc,
@@ -144,28 +144,29 @@ struct Given {
 // A console of a run.
 type RunConsole<'r, 'd, R, O> = Console<AskedLines<'d>, Replies<'r, 'd, R, O>>;
 
-// The consoles of a run.
-fn consoles_of<'r, 'd, R, O>(
+// The consoles of a run. Fails only if out of memory.
+fn consoles_of<'r, 'd, R, O: Drop>(
     rt: &'r R,
+    alloc: Global,
     desk: &'d Desk,
     given: Given,
     output: O,
-) -> [RunConsole<'r, 'd, R, O>; 3] {
+) -> Result<Vec<RunConsole<'r, 'd, R, O>>, AllocError> {
     let all = &desk.ways.all;
-    [
-        Console {
-            lines: AskedLines::new(given.typed, &desk.nobody, all),
-            output: Replies::new(rt, &desk.nobody, Some(output)),
-        },
-        Console {
-            lines: AskedLines::new(given.scans, &desk.scanner, all),
-            output: Replies::new(rt, &desk.scanner, None),
-        },
-        Console {
-            lines: AskedLines::new(given.others, &desk.asker, all),
-            output: Replies::new(rt, &desk.asker, None),
-        },
-    ]
+    let mut consoles = Vec::with_capacity(alloc, 3)?;
+    consoles.push(Console {
+        lines: AskedLines::new(given.typed, &desk.nobody, all),
+        output: Replies::new(rt, &desk.nobody, Some(output)),
+    })?;
+    consoles.push(Console {
+        lines: AskedLines::new(given.scans, &desk.scanner, all),
+        output: Replies::new(rt, &desk.scanner, None),
+    })?;
+    consoles.push(Console {
+        lines: AskedLines::new(given.others, &desk.asker, all),
+        output: Replies::new(rt, &desk.asker, None),
+    })?;
+    Ok(consoles)
 }
 
 // What runs.
@@ -176,14 +177,14 @@ struct Begun<'a, T, R> {
 }
 
 // Takes commands, and runs nodes until they end. Returns whether all were answered.
-fn run_with<'a, R, T, I, O>(
+fn run_with<'a, R, T, I, L, O>(
     rt: &R,
     alloc: Global,
     place: &Place<'a, T>,
     begun: Begun<'a, T, R>,
     doors: (&Socket, &Desk),
     input: Reading<'_, '_, '_, R, I>,
-    consoles: [RunConsole<'_, '_, R, O>; 3],
+    consoles: Vec<Console<L, O>>,
 ) -> Result<io::Result<()>, RunFailure>
 where
     R: Clock
@@ -196,6 +197,7 @@ where
     T: Stores + Sync,
     T::Store: Send,
     I: Read + Send,
+    L: CommandLines + Drop + Send,
     O: Write + Drop + Send,
 {
     let (socket, desk) = doors;
@@ -223,7 +225,7 @@ fn answer_all<R, T, L, O>(
     node: NextNode,
     outside: Outside<'_, T, R>,
     desk: &Desk,
-    consoles: [Console<L, O>; 3],
+    consoles: Vec<Console<L, O>>,
 ) -> Result<io::Result<()>, RunFailure>
 where
     R: Clock
@@ -240,7 +242,7 @@ where
 {
     let log = outside.log;
     let mut consoles = consoles;
-    let ended = run_nodes(rt, alloc, config, node, outside, &mut consoles);
+    let ended = run_nodes(rt, alloc, config, node, outside, consoles.as_mut_slice());
     if ended.is_ok() {
         log.tell(rt, &Event::Ended);
     }
