@@ -169,7 +169,7 @@ class Node:
             lines.append(line.rstrip("\n"))
             if lines[-1] == "end":
                 return lines[:-1]
-            if command.split(" ")[0] not in ("need", "skipped", "best", "local", "peers") or lines[-1].startswith("error"):
+            if command.split(" ")[0] not in ("need", "skipped", "best", "local", "conflicts", "folders", "peers") or lines[-1].startswith("error"):
                 return lines
 
     def until(self, command, wanted, seconds=PATIENCE):

@@ -126,7 +126,7 @@ fn not_done(alloc: Global, answer: &Answer, config: &Config) -> RunFailure {
 
 // What would help who asked for what is no command.
 const COMMANDS: &str =
-    "`bepd help run` lists the commands; peers and quit stand alone, each other one before a folder:";
+    "`bepd help run` lists the commands; folders, peers and quit stand alone, each other one before a folder:";
 
 // What would help who asked for a folder that isn't there.
 const FOLDERS: &str = "the folders of the configuration:";

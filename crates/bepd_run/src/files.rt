@@ -117,13 +117,17 @@ impl<R: Files<File = File>> StateFiles for R {
 
 // What the directory of the path names is on the disk.
 fn sync_directory_of<R: Files>(rt: &R, path: &str) -> io::Result<()> {
-    let directory = match path.rsplit_once('/') {
+    File::open(rt, directory_of(path))?.sync_all()?;
+    Ok(())
+}
+
+/// The path of the directory in which a path is.
+pub(crate) fn directory_of(path: &str) -> &str {
+    match path.rsplit_once('/') {
         Some(("", _)) => "/",
         Some((directory, _)) => directory,
         None => ".",
-    };
-    File::open(rt, directory)?.sync_all()?;
-    Ok(())
+    }
 }
 
 /// Writes these bytes behind so many of the file. They are on the disk.

@@ -5,7 +5,7 @@ ghost use Rattle.node_saver.specs.Frames.{closing_frame};
 ghost use Rattle.bepd_run.specs.Begun.{Begins, IsPlansFrame};
 
 use crate::failure::RunFailure;
-use crate::files::{StateFiles, write_behind};
+use crate::files::{StateFiles, directory_of, write_behind};
 use crate::last_run::{FolderPlans, FoundJournal, LastRun, StatePaths, read_last_run};
 use crate::naming::file_failure;
 use crate::plans::{open_in, written_plans};
@@ -21,6 +21,9 @@ use sync_record::DeviceId;
 
 /// How many bytes a journal has at least before it is folded into the state.
 const FOLD_BYTES: u64 = 1_048_576;
+
+/// How often it isn't asked for the whole state after that could not be written, where what counted is gone.
+const RESTS: u32 = 4;
 
 /// The journal of a node, in the file `<state>.journal`. It is folded into the state once it has more bytes than that, so that for each byte appended at most
 /// three are written.
@@ -40,6 +43,10 @@ pub(crate) struct StateJournal<'a, R> {
     fold_at: u64,
     // Which file could not be written last, and why.
     trouble: Option<Text>,
+    // Whether what counted is gone from the disk.
+    is_lost: bool,
+    // How often the whole state isn't asked for, though it is lost.
+    rests: u32,
 }
 
 impl<'a, R: StateFiles> StateJournal<'a, R> {
@@ -67,6 +74,8 @@ impl<'a, R: StateFiles> StateJournal<'a, R> {
             waiting: Vec::new(alloc),
             fold_at: state_len.max(FOLD_BYTES),
             trouble: None,
+            is_lost: false,
+            rests: 0,
         })
     }
 
@@ -93,6 +102,8 @@ impl<'a, R: StateFiles> StateJournal<'a, R> {
             waiting: Vec::new(alloc),
             fold_at: FOLD_BYTES,
             trouble: None,
+            is_lost: false,
+            rests: 0,
         };
         journal.replace(state, plans)?;
         Ok(journal)
@@ -134,6 +145,7 @@ impl<'a, R: StateFiles> StateJournal<'a, R> {
             return Err(file_failure(self.alloc, "state", self.paths.state, error));
         }
         self.header = header;
+        self.is_lost = false;
         self.file = Some(file);
         self.len = begun.len() as u64;
         self.fold_at = FOLD_BYTES.max(bytes.len() as u64);
@@ -142,6 +154,29 @@ impl<'a, R: StateFiles> StateJournal<'a, R> {
             .files
             .put_in_place(new_journal, self.paths.journal.as_str());
         Ok(())
+    }
+
+    /// Puts the whole state in place where what counted is gone. Returns whether it was gone, and counts now; where it can't be written, it is tried again later.
+    pub(crate) fn bring_back(&mut self, state: &State, plans: &[FolderPlans]) -> bool {
+        if !self.is_lost {
+            return false;
+        }
+        match self.replace(state, plans) {
+            Ok(()) => true,
+            Err(_) => {
+                self.rests = RESTS;
+                false
+            }
+        }
+    }
+
+    // Notes whether what counted is gone: the file was removed.
+    fn look_for_file(&mut self) {
+        if let Some(file) = &self.file {
+            if self.files.is_removed(file, self.paths.journal.as_str()) {
+                self.is_lost = true;
+            }
+        }
     }
 
     // Writes the state and the journal on the disk anew, as one state. Fails where they don't belong together any more.
@@ -153,6 +188,7 @@ impl<'a, R: StateFiles> StateJournal<'a, R> {
             ..
         } = read_last_run(self.files, self.alloc, self.device, self.paths)?;
         if journal.is_none() {
+            self.is_lost = true;
             return Err(RunFailure::ReadOrWrite);
         }
         let plans = open_in(self.alloc, &state, plans)?;
@@ -168,7 +204,11 @@ impl<'a, R: StateFiles> StateJournal<'a, R> {
             return Ok(());
         }
         if let Err(failure) = self.fold_all() {
-            self.trouble = about_of(failure);
+            self.trouble = if self.is_lost {
+                removed(self.alloc, self.paths.journal.as_str(), NO_PLACE)
+            } else {
+                about_of(failure)
+            };
             return Err(SaveFault::Refused);
         }
         self.waiting.clear();
@@ -198,7 +238,8 @@ impl<'a, R: StateFiles> StateJournal<'a, R> {
             return Err(SaveFault::Refused);
         };
         if self.files.is_removed(file, path) {
-            self.trouble = removed(self.alloc, path);
+            self.is_lost = true;
+            self.trouble = removed(self.alloc, path, NO_PLACE);
             return Err(SaveFault::Refused);
         }
         if let Err(error) = write_behind(file, self.len, self.waiting.as_slice()) {
@@ -244,6 +285,19 @@ impl<R: StateFiles> DiskJournal for StateJournal<'_, R> {
         }
     }
 
+    fn is_gone(&mut self) -> bool {
+        self.look_for_file();
+        if !self.is_lost || !self.files.is_directory(directory_of(self.paths.state)) {
+            return false;
+        }
+        if self.rests > 0 {
+            self.rests -= 1;
+            return false;
+        }
+        self.trouble = removed(self.alloc, self.paths.journal.as_str(), A_PLACE);
+        true
+    }
+
     fn trouble(&self) -> Option<&str> {
         match &self.trouble {
             Some(about) => Some(about.as_str()),
@@ -252,17 +306,20 @@ impl<R: StateFiles> DiskJournal for StateJournal<'_, R> {
     }
 }
 
-// The journal at the path was removed. (Nothing is told of it if out of memory.)
-fn removed(alloc: Global, path: &str) -> Option<Text> {
-    match format!(in alloc; "state {path}: {REMOVED}") {
+// The journal at the path was removed, and what follows. (Nothing is told of it if out of memory.)
+fn removed(alloc: Global, path: &str, what: &str) -> Option<Text> {
+    match format!(in alloc; "state {path}: it was removed: {what}") {
         Ok(about) => Some(Text::from_string(about)),
         Err(_) => None,
     }
 }
 
-// What to do about a journal that was removed.
-const REMOVED: &str =
-    "it was removed: see that its directory is there, and end the run: the whole state is written then";
+// What to do where the directory of a state was removed.
+const NO_PLACE: &str =
+    "see that its directory is there: the whole state is written then, soon or at the end";
+
+// What is done where it is there.
+const A_PLACE: &str = "the node begins anew, and writes the whole state";
 
 // Which file a failure is of, and why, where it says that.
 fn about_of(failure: RunFailure) -> Option<Text> {

@@ -1,42 +1,45 @@
-//! What the marker of a folder says of whose it is: so a path that leads elsewhere is noticed before what is missing there counts as deleted.
+//! What the marker of a folder says of whose it is: so a path that leads elsewhere is noticed before what is missing there counts as deleted, and a mistyped id
+//! before what was recorded under the right one is dropped.
 ghost use Rattle.std.specs.Prelude.{◌≡◌};
 ghost use Rattle.bepd_run.specs.Marks.{is_elsewhere};
 
 use crate::failure::RunFailure;
 use crate::files::StateFiles;
-use crate::recorded::has_names;
+use crate::recorded::{Recorded, is_stored, recorded_of};
 use crate::starts::Core;
 use bep_messages::Text;
 use folder_core::FolderCore;
+use node_state::State;
 use node_threads::StartFolder;
 use std::alloc::{AllocError, Global};
 use std::io::ErrorKind;
+use std::str;
 use sync_record::DeviceId;
 
-/// Fails where names are recorded of a folder, and a directory is at its path whose marker no run of this device made for that folder. One that isn't there, or has no
-/// marker, is away, and one whose marker is no directory says nothing. Before the folders are taken only those fail that no run had: that another run has one goes
-/// before whose it is, and taking one makes the file.
+/// Fails where a directory is at a folder's path whose marker a run made for another folder, or as another device, and where names are recorded of the folder and no run
+/// made the marker. What another device had of the same folder is taken where nothing is stored of it. One that isn't there, or has no marker, is away or new, and one whose marker is no directory says nothing. Before the folders are taken only
+/// those fail that no run had: that another run has one goes before whose it is, and taking one makes the file.
 pub(crate) fn require_marks<F: StateFiles>(
     files: &F,
     alloc: Global,
     device: DeviceId,
+    state: &State,
     folders: &[StartFolder<Core>],
     are_taken: bool,
 ) -> Result<(), RunFailure> {
     for folder in folders {
         let (id, path) = (&folder.settings.id, &folder.settings.path);
-        if has_names(&folder.core.counts()) {
-            if let Some(found) = told_elsewhere(files, alloc, device, id, path)? {
-                if are_taken || !found.has_mark {
-                    return Err(RunFailure::NoFolder(found.about));
-                }
+        let recorded = recorded_of(is_stored(state, id), &folder.core.counts());
+        if let Some(found) = told_elsewhere(files, alloc, device, id, path, recorded)? {
+            if are_taken || !found.has_mark {
+                return Err(RunFailure::NoFolder(found.about));
             }
         }
     }
     Ok(())
 }
 
-/// That a folder of which names are recorded is elsewhere.
+/// That what is at a folder's path isn't the folder.
 #[derive(Drop)]
 pub(crate) struct Elsewhere {
     /// Which one, and what to do.
@@ -45,13 +48,14 @@ pub(crate) struct Elsewhere {
     pub(crate) has_mark: bool,
 }
 
-/// Says that a folder of which names are recorded is elsewhere, if it is.
+/// Says that what is at the path of a folder isn't that folder, if it isn't.
 pub(crate) fn told_elsewhere<F: StateFiles>(
     files: &F,
     alloc: Global,
     device: DeviceId,
     id: &Text,
     path: &Text,
+    recorded: Recorded,
 ) -> Result<Option<Elsewhere>, AllocError> {
     let (id, path) = (id.as_str(), path.as_str());
     if !files.is_directory(format!(in alloc; "{path}/.stfolder")?.as_str()) {
@@ -59,25 +63,117 @@ pub(crate) fn told_elsewhere<F: StateFiles>(
     }
     let at = mark_path(alloc, path)?;
     let own = mark_text(alloc, device, id)?;
-    let found = match files.read_file(alloc, at.as_str()) {
-        Ok(found) => found,
-        Err(error) if error.kind() == ErrorKind::OutOfMemory => return Err(AllocError),
-        Err(_) => return Ok(None),
+    let Found::Read(found) = mark_at(files, alloc, at.as_str())? else {
+        return Ok(None);
     };
     let found = match &found {
         Some(bytes) => Some(bytes.as_slice()),
         None => None,
     };
-    if !is_elsewhere(found, own.as_bytes()) {
+    let folder = folder_text(alloc, id)?;
+    if !is_elsewhere(recorded, found, own.as_bytes(), folder.as_bytes()) {
         return Ok(None);
     }
-    let about = format!(in alloc;
-        "folder {id}: {path}: the names that are recorded of the folder were in another directory, or on another disk: mend the path, or mount the disk. If they belong here, make the file {at} empty: what is missing here is deleted on all devices then"
-    )?;
+    let about = match found {
+        Some(text) if recorded != Recorded::Names => kept_as(alloc, id, path, at.as_str(), text)?,
+        _ => format!(in alloc;
+            "folder {id}: {path}: the names that are recorded of the folder were in another directory, or on another disk: mend the path, or mount the disk. If they belong here, make the file {at} empty: what is missing here is deleted on all devices then"
+        )?,
+    };
     Ok(Some(Elsewhere {
         about: Text::from_string(about),
         has_mark: found.is_some(),
     }))
+}
+
+// What the file of a marker has.
+#[derive(Drop)]
+enum Found {
+    // Nothing, where there is none.
+    Read(Option<Vec<u8>>),
+    // It can't be read.
+    Unread,
+}
+
+// Reads the file of a marker.
+fn mark_at<F: StateFiles>(files: &F, alloc: Global, at: &str) -> Result<Found, AllocError> {
+    match files.read_file(alloc, at) {
+        Ok(found) => Ok(Found::Read(found)),
+        Err(error) if error.kind() == ErrorKind::OutOfMemory => Err(AllocError),
+        Err(_) => Ok(Found::Unread),
+    }
+}
+
+// Says of a folder of which no name is recorded that its marker was made for another one, by this text.
+fn kept_as(
+    alloc: Global,
+    id: &str,
+    path: &str,
+    at: &str,
+    text: &[u8],
+) -> Result<String, AllocError> {
+    let whose = whose(alloc, text)?;
+    format!(in alloc;
+        "folder {id}: {path}: a run had this directory as {whose}: mend the id, `device` or the path in the configuration. If {id} is to begin anew there, make the file {at} empty: what was deleted here can come back then"
+    )
+}
+
+// Whose a marker with this text is, on one line.
+fn whose(alloc: Global, text: &[u8]) -> Result<String, AllocError> {
+    let mut whose = String::new(alloc);
+    let Ok(text) = str::from_utf8(text) else {
+        whose.push_str("something else")?;
+        return Ok(whose);
+    };
+    for line in text.lines() {
+        if !whose.is_empty() {
+            whose.push_str(", ")?;
+        }
+        whose.push_str(line)?;
+    }
+    Ok(whose)
+}
+
+/// Says that the state has nothing of a folder that a run of this device had, if it is so.
+pub(crate) fn told_forgotten<F: StateFiles>(
+    files: &F,
+    alloc: Global,
+    device: DeviceId,
+    state: &State,
+    id: &Text,
+    path: &Text,
+) -> Result<Option<Text>, AllocError> {
+    if is_stored(state, id) {
+        return Ok(None);
+    }
+    let (id, path) = (id.as_str(), path.as_str());
+    let own = mark_text(alloc, device, id)?;
+    match mark_at(files, alloc, mark_path(alloc, path)?.as_str())? {
+        Found::Read(Some(text)) if text.as_slice() == own.as_bytes() => {}
+        _ => return Ok(None),
+    }
+    let about = format!(in alloc;
+        "folder {id}: nothing is recorded of it, though a run of this device had it: if its state was another file, end this run and mend `state` in the configuration, or what was deleted here can come back"
+    )?;
+    Ok(Some(Text::from_string(about)))
+}
+
+/// Says so of each folder of which it is so.
+pub(crate) fn all_forgotten<F: StateFiles>(
+    files: &F,
+    alloc: Global,
+    device: DeviceId,
+    state: &State,
+    folders: &[StartFolder<Core>],
+) -> Result<Vec<Text>, AllocError> {
+    let mut all = Vec::new(alloc);
+    for folder in folders {
+        let (id, path) = (&folder.settings.id, &folder.settings.path);
+        if let Some(about) = told_forgotten(files, alloc, device, state, id, path)? {
+            all.push(about)?;
+        }
+    }
+    Ok(all)
 }
 
 /// Writes into the marker of each folder that this run has whose it is. Where that can't be written, nothing is noticed later.
@@ -109,15 +205,25 @@ fn mark_path(alloc: Global, path: &str) -> Result<String, AllocError> {
 // What it has.
 fn mark_text(alloc: Global, device: DeviceId, id: &str) -> Result<String, AllocError> {
     let device = hex::encode(alloc, device.bytes())?;
-    format!(in alloc; "device {device}\nfolder {id}\n")
+    let folder = folder_text(alloc, id)?;
+    format!(in alloc; "device {device}{folder}")
 }
 
-// Whether a marker with this text, if it has one, was made for another folder or by nobody. An empty one was made by a run of before.
-fn is_elsewhere(found: Option<&[u8]>, own: &[u8]) -> bool
-    ensures { result ≡ is_elsewhere found.entry own.now }
+// How it ends, whichever device it is of.
+fn folder_text(alloc: Global, id: &str) -> Result<String, AllocError> {
+    format!(in alloc; "\nfolder {id}\n")
+}
+
+// Whether a marker with this text, if it has one, is another one's than the folder's, of which its own text and the end of that are these. An empty one was made by a
+// run of before.
+fn is_elsewhere(recorded: Recorded, found: Option<&[u8]>, own: &[u8], folder: &[u8]) -> bool
+    ensures { result ≡ is_elsewhere recorded found.entry own.now folder.now }
 {
     match found {
-        None => true,
-        Some(text) => !text.is_empty() && text != own,
+        None => recorded == Recorded::Names,
+        Some(text) => {
+            let is_taken_over = recorded == Recorded::Nothing && text.ends_with(folder);
+            !text.is_empty() && text != own && !is_taken_over
+        }
     }
 }

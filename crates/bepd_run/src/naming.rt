@@ -153,7 +153,7 @@ pub(crate) fn ask_failure(alloc: Global, path: &str, config: &str, fault: AskFau
 /// No answer came from the run that has the state, since there is no socket at the path.
 pub(crate) fn no_socket(alloc: Global, path: &str) -> RunFailure {
     match format!(in alloc;
-        "{path}: a run has this state, and takes no commands there: it has just begun, or its socket was removed or could not be made: end it (a kill undoes nothing), and start it again"
+        "{path}: a run has this state, and takes no commands there: it has just begun, or its socket was removed or could not be made: end it (a kill undoes nothing that it has written), and start it again"
     ) {
         Ok(about) => RunFailure::NoAnswer(Text::from_string(about)),
         Err(_) => RunFailure::OutOfMemory,

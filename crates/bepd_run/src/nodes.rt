@@ -15,7 +15,7 @@ use crate::starts::{
 use file_store::OpenGate;
 use node_commands::{CommandLines, CommandsEnd};
 use node_config::Config;
-use node_context::{Log, NodeFault};
+use node_context::{Event, Log, NodeFault};
 use node_files::Stores;
 use node_resume::{Share, index_id_at, resume_all, state_left};
 use node_state::State;
@@ -108,8 +108,8 @@ struct NodePlace<'a, 'j, T, R> {
 }
 
 /// Runs nodes, one after another, until the commands were read to `quit` or to their end, or can't be read or answered any more. (A node ends before that
-/// where a history is full, or a folder is back in which the last run may have left something, or the state is an older one than a peer was told of.) Then the
-/// state is written. Returns whether all commands were answered.
+/// where a history is full, or a folder is back in which the last run may have left something, or the state is an older one than a peer was told of, or was removed.)
+/// Then the state is written. Returns whether all commands were answered.
 pub(crate) fn run_nodes<R, T, L, O>(
     rt: &R,
     alloc: Global,
@@ -165,7 +165,7 @@ fn follow<R, T>(
     outside: &mut Outside<T, R>,
 ) -> Result<After, RunFailure>
 where
-    R: Clock + Net<Listener = TcpListener, Stream = TcpStream> + StateFiles + UnixSockets,
+    R: Clock + Net<Listener = TcpListener, Stream = TcpStream> + StateFiles + UnixSockets + Wait,
     T: Stores,
 {
     let NodeLeft {
@@ -182,6 +182,9 @@ where
     };
     match answered {
         Ok(CommandsEnd::Stopped) => {
+            if outside.journal.bring_back(&state, outside.plans.as_slice()) {
+                outside.log.tell(rt, &Event::KeptAgain);
+            }
             let node = next_node(rt, alloc, config, &state, saved.as_slice(), outside)?;
             Ok(After::Next(node))
         }

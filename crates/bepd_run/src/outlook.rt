@@ -1,7 +1,7 @@
 //! What a run would meet at its start.
 use crate::asked::LONG_PATH;
 use crate::failure::RunFailure;
-use crate::files::StateFiles;
+use crate::files::{StateFiles, directory_of};
 use crate::last_run::{StatePaths, read_last_run};
 use crate::lock::is_locked;
 use crate::naming::{at_state, listen_failure, peer_address};
@@ -136,11 +136,7 @@ fn state_stop<R: Files<File = File>, O: Write>(
     state: &str,
     output: &mut O,
 ) -> Result<Option<RunFailure>, RunFailure> {
-    let directory = match state.rsplit_once('/') {
-        Some(("", _)) => "/",
-        Some((directory, _)) => directory,
-        None => ".",
-    };
+    let directory = directory_of(state);
     if !is_directory(rt, directory) {
         writeln!(output, "state: {directory}: no directory is there")?;
         return Ok(Some(no_state(alloc, state, "no directory is there")?));

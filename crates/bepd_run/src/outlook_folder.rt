@@ -2,9 +2,9 @@
 use crate::failure::RunFailure;
 use crate::files::StateFiles;
 use crate::lock::is_locked;
-use crate::marks::told_elsewhere;
+use crate::marks::{told_elsewhere, told_forgotten};
 use crate::probing::{can_be_written, is_directory};
-use crate::recorded::{has_names, is_known};
+use crate::recorded::{Recorded, is_known, recorded_of};
 use bep_messages::Text;
 use folder_core::{Counts, FolderCore};
 use node_config::FolderConfig;
@@ -41,8 +41,19 @@ pub(crate) fn folder_stop<R: Files<File = File> + StateFiles, O: Write>(
         let path = Text::from_str(alloc, folder.path.as_str())?;
         return Ok(Some(RunFailure::FolderInUse(path)));
     }
-    if matches!(&counts, Some(counts) if has_names(counts)) {
-        return Ok(elsewhere(rt, alloc, device, folder)?);
+    let Some(state) = state else {
+        return Ok(None);
+    };
+    let recorded = match &counts {
+        Some(counts) => recorded_of(true, counts),
+        None => Recorded::Nothing,
+    };
+    if let Some(stop) = elsewhere(rt, alloc, device, folder, recorded)? {
+        return Ok(Some(stop));
+    }
+    if let Some(about) = told_forgotten(rt, alloc, device, state, &folder.id, &folder.path)? {
+        let about = about.as_str();
+        writeln!(output, "{about}")?;
     }
     Ok(None)
 }
@@ -70,14 +81,15 @@ fn is_in_use<R: Files<File = File>>(
     )
 }
 
-// Why a run would end where the folder, of which names are recorded, is elsewhere, if it is.
+// Why a run would end where what is at the folder's path is another one, if it is.
 fn elsewhere<R: StateFiles>(
     rt: &R,
     alloc: Global,
     device: DeviceId,
     folder: &FolderConfig,
+    recorded: Recorded,
 ) -> Result<Option<RunFailure>, AllocError> {
-    match told_elsewhere(rt, alloc, device, &folder.id, &folder.path)? {
+    match told_elsewhere(rt, alloc, device, &folder.id, &folder.path, recorded)? {
         Some(found) => Ok(Some(RunFailure::NoFolder(found.about))),
         None => Ok(None),
     }

@@ -4,15 +4,17 @@ use crate::failure::RunFailure;
 use crate::files::StateFiles;
 use crate::journal::StateJournal;
 use crate::last_run::{FolderPlans, LastRun, StatePaths, read_last_run};
-use crate::marks::{require_marks, write_marks};
+use crate::marks::{all_forgotten, require_marks, write_marks};
 use crate::naming::at_state;
 use crate::nodes::NextNode;
 use crate::plans::settle_all;
-use crate::starts::{Core, renumbered};
+use crate::starts::renumbered;
+use bep_messages::Text;
 use node_config::Config;
 use node_files::Stores;
-use node_threads::{StartFolder, UnixSockets};
-use std::alloc::Global;
+use node_state::State;
+use node_threads::UnixSockets;
+use std::alloc::{AllocError, Global};
 use std::net::{Net, TcpListener, TcpStream};
 use std::sync::Wait;
 use std::thread;
@@ -31,13 +33,14 @@ pub(crate) struct Ready<'a, R> {
 }
 
 impl<'a, R> Ready<'a, R> {
-    /// By what the last run left. Fails by the state file, the addresses and the folders, in this order.
+    /// By what the last run left. Notes what is to be told of the folders. Fails by the state file, the addresses and the folders, in this order.
     pub(crate) fn new<T>(
         rt: &'a R,
         alloc: Global,
         stores: &T,
         config: &Config,
         paths: &'a StatePaths<'a>,
+        notes: &mut Vec<Text>,
     ) -> Result<Ready<'a, R>, RunFailure>
     where
         R: Clock
@@ -49,6 +52,7 @@ impl<'a, R> Ready<'a, R> {
     {
         let last = last_run(rt, alloc, config, paths)?;
         let node = begun(rt, alloc, stores, config, &last)?;
+        *notes = noted(rt, alloc, config, &last.state, &node)?;
         settled(rt, alloc, stores, config, paths, node, last)
     }
 }
@@ -83,23 +87,26 @@ where
     T: Stores,
 {
     let node = NextNode::new(rt, alloc, config, &last.state, last.is_in_doubt)?;
-    begin_folders(rt, alloc, stores, config, node.folders.as_slice())?;
+    let folders = node.folders.as_slice();
+    keep_all(stores, config)?;
+    require_marks(rt, alloc, config.device, &last.state, folders, false)?;
+    make_ready(alloc, stores, folders)?;
+    require_marks(rt, alloc, config.device, &last.state, folders, true)?;
     Ok(node)
 }
 
-// Takes its folders.
-fn begin_folders<R: StateFiles, T: Stores>(
+// What is to be told of its folders, which are marked then.
+fn noted<R: StateFiles>(
     rt: &R,
     alloc: Global,
-    stores: &T,
     config: &Config,
-    folders: &[StartFolder<Core>],
-) -> Result<(), RunFailure> {
-    keep_all(stores, config)?;
-    require_marks(rt, alloc, config.device, folders, false)?;
-    make_ready(alloc, stores, folders)?;
-    require_marks(rt, alloc, config.device, folders, true)?;
-    Ok(write_marks(rt, alloc, config.device, folders)?)
+    state: &State,
+    node: &NextNode,
+) -> Result<Vec<Text>, AllocError> {
+    let folders = node.folders.as_slice();
+    let notes = all_forgotten(rt, alloc, config.device, state, folders)?;
+    write_marks(rt, alloc, config.device, folders)?;
+    Ok(notes)
 }
 
 // Settles the plans of the last run, and has the journal go on, or begin anew.

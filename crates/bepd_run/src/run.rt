@@ -15,6 +15,7 @@ use crate::paths::require_apart;
 use crate::placing::placed_config;
 use crate::readiness::{Patience, Turns};
 use crate::ready::Ready;
+use bep_messages::Text;
 use node_config::{Config, UnknownKey, read_config, unknown_keys};
 use node_context::{Log, ProgressStyle, write_log};
 use node_files::Stores;
@@ -49,6 +50,8 @@ pub struct RunStyle {
 /// | `skipped F` | `skipped NAME: WHY` for each name that the last whole scan left out, then `end` |
 /// | `best F` | `best KIND SIZE VERSION NAME` for each name that is needed or has a local record, then `end` |
 /// | `local F` | `local KIND SIZE VERSION NAME` for each local record, then `end` |
+/// | `conflicts F` | `conflict NAME` for each conflict copy that is there, then `end` |
+/// | `folders` | `folder STATE files N directories N need N F` for each folder, then `end`; STATE is `here`, `away`, `held` or `in-use` |
 /// | `peers` | `peer ID up` or `peer ID down` for each peer, then `end` |
 /// | `history F` | `history F changes N open N` |
 /// | `verify F` | `verify F yes` or `verify F no` |
@@ -69,6 +72,7 @@ pub struct RunStyle {
 /// |---|---|
 /// | `bepd vV runs by FILE`, `listening on ADDRESS for ID`, `folder F: N names recorded, in PATH` | it begins |
 /// | `folder 1: rescann is no key, ignored; rescan?` | (without the time) the configuration has a key that is none |
+/// | `folder F: nothing is recorded of it, ..` | (without the time) the state has nothing of a folder that a run of this device had |
 /// | `connected ID: NAME, PROGRAM VERSION, from ADDRESS (not verified)` | a connection with the peer is up: this is what it says of itself |
 /// | `not shared F: ID ..` | the folder isn't kept alike with the peer that is connected, and what to do |
 /// | `not reached ID: ADDRESS: WHY; ..` | no connection with the peer can be made; told again where it is for another reason |
@@ -129,7 +133,8 @@ where
     let turns = Turns::new(false);
     let answers = Channel::new(rt, alloc, output.as_raw_fd(), Patience::Short)?;
     let inlets = Inlets::new(alloc)?;
-    let ready = Ready::new(rt, alloc, stores, &config, &paths)?;
+    let mut notes = Vec::new(alloc);
+    let ready = Ready::new(rt, alloc, stores, &config, &paths, &mut notes)?;
     let log = match how.progress {
         Some(progress) => Log::new(alloc, progress),
         None => Log::quiet(alloc),
@@ -160,7 +165,15 @@ where
             log.end(rt);
             ended
         },
-        || tell_log(rt, &log, unknown.as_slice(), &turns, told, errors),
+        || tell_log(
+            rt,
+            &log,
+            unknown.as_slice(),
+            notes.as_slice(),
+            &turns,
+            told,
+            errors,
+        ),
     );
     end(ended)
 }
@@ -221,11 +234,12 @@ where
     ended
 }
 
-// Writes which keys of the configuration are none, and then what is told; what can't be written is left out.
+// Writes which keys of the configuration are none, the notes, and then what is told; what can't be written is left out.
 fn tell_log<R: Wait, E: Write>(
     rt: &R,
     log: &Log,
     unknown: &[UnknownKey],
+    notes: &[Text],
     turns: &Turns,
     channel: Channel,
     errors: &mut E,
@@ -233,6 +247,10 @@ fn tell_log<R: Wait, E: Write>(
     let mut errors = Outlet::new(rt, turns, channel, errors);
     for key in unknown {
         let _ = writeln!(errors, "{key}");
+    }
+    for note in notes {
+        let note = note.as_str();
+        let _ = writeln!(errors, "{note}");
     }
     write_log(rt, log, &mut errors);
 }

@@ -9,6 +9,7 @@ use crate::found::Found;
 use crate::mode::{create_directory, give_directory};
 use file_store::StoreRefusal;
 use std::fs;
+use std::io::ErrorKind;
 use std::os::fd::AsRawFd;
 use std::rt::Files;
 use sync_names::is_temporary;
@@ -57,7 +58,34 @@ where
         Found::Directory(_) => open_made(disk, at, path.as_str()),
         Found::File(_) | Found::Link | Found::Special => Err(StoreRefusal::BadParent),
         Found::Nothing if is_temporary(component) => Err(StoreRefusal::StoreFault),
-        Found::Nothing => make_and_open(disk, at, path.as_str(), mode, lacks_room),
+        Found::Nothing => make_or_open(disk, at, path.as_str(), mode, lacks_room),
+    }
+}
+
+/// Makes a directory in an open one, and opens it, as [`make_and_open`]. Where another store made it meanwhile, as several do that share a folder, that one
+/// is opened once it is on the disk.
+fn make_or_open<R: Files>(
+    disk: &Disk<R>,
+    at: &Dir<R::File>,
+    path: &str,
+    mode: Option<u32>,
+    lacks_room: &mut bool,
+) -> Result<Dir<R::File>, StoreRefusal>
+where
+    R::File: AsRawFd,
+    ensures { IfErr result IsPlain }
+{
+    disk.forget_error();
+    let refusal = match make_and_open(disk, at, path, mode, lacks_room) {
+        Ok(made) => return Ok(made),
+        Err(refusal) => refusal,
+    };
+    match disk.last_error() {
+        Some(error) if error.kind() == ErrorKind::AlreadyExists => {
+            at.sync()?;
+            open_made(disk, at, path)
+        }
+        _ => Err(refusal),
     }
 }
 

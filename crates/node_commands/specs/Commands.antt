@@ -1,7 +1,7 @@
 -- The commands of a node, as lines without their line feed (own rule).
 use Rattle.std.specs.Prelude.{ℕ, List, ◌++◌, codes}
 use Rattle.node_commands.specs.declared.command.Command.{Command}
-use Rattle.node_commands.specs.declared.command.Command.TheVariants.{Best, History, Local, Need, Peers, Quit, Scan, Skipped, Verify}
+use Rattle.node_commands.specs.declared.command.Command.TheVariants.{Best, Conflicts, Folders, History, Local, Need, Peers, Quit, Scan, Skipped, Verify}
 
 -- the line that asks for it; the rest of the line after the space is the folder's id
 abbrev pub command_text : Command → List ℕ
@@ -10,6 +10,8 @@ command_text (Need id) = codes "need " ++ id.now
 command_text (Skipped id) = codes "skipped " ++ id.now
 command_text (Best id) = codes "best " ++ id.now
 command_text (Local id) = codes "local " ++ id.now
+command_text (Conflicts id) = codes "conflicts " ++ id.now
+command_text Folders = codes "folders"
 command_text Peers = codes "peers"
 command_text (History id) = codes "history " ++ id.now
 command_text (Verify id) = codes "verify " ++ id.now

@@ -174,6 +174,15 @@ where
                 output,
             )
         }
+        Command::Conflicts(id) => {
+            list(
+                cx.alloc,
+                &mut folder_in(folders, id)?.calls,
+                Listed::Conflicts,
+                output,
+            )
+        }
+        Command::Folders => list_folders(cx, folders, output),
         Command::Peers => list_peers(cx, peers, output),
         Command::History(id) => tell_history(folder_in(folders, id)?, output),
         Command::Verify(id) => {
@@ -263,6 +272,35 @@ fn list_skipped<R: Host, S, W, G, O: Write>(
 ) -> Result<(), Refusal> {
     let lines = worker.folder.skips.lines(cx.rt)?;
     output.write_all(lines.as_slice())?;
+    output.write_all(b"end\n")?;
+    Ok(())
+}
+
+// Where each folder is, and how much is recorded of it.
+fn list_folders<R: Host, S: FileStore + Marked, W: FolderCalls, G, O: Write>(
+    cx: &Context<R, G>,
+    folders: &mut [FolderWorker<S, W>],
+    output: &mut O,
+) -> Result<(), Refusal> {
+    for worker in folders.iter_mut() {
+        let state = match worker.store.look() {
+            Whereabouts::There if worker.folder.presence.is_held(cx.rt) => "held",
+            Whereabouts::There => "here",
+            Whereabouts::InUse => "in-use",
+            Whereabouts::Away | Whereabouts::Unsettled => "away",
+            Whereabouts::Held => "held",
+            Whereabouts::Unknown => return Err(Refusal::OutOfMemory),
+        };
+        let counts = worker.calls.counts().value;
+        writeln!(
+            output,
+            "folder {state} files {} directories {} need {} {}",
+            counts.files,
+            counts.directories,
+            counts.needed,
+            worker.folder.id()
+        )?;
+    }
     output.write_all(b"end\n")?;
     Ok(())
 }

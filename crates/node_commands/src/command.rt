@@ -16,6 +16,10 @@ pub(crate) enum Command<'a> {
     Best(&'a str),
     /// Its local records.
     Local(&'a str),
+    /// Its conflict copies.
+    Conflicts(&'a str),
+    /// Which folders there are.
+    Folders,
     /// Which peers are up.
     Peers,
     /// How long its history is.
@@ -34,6 +38,9 @@ impl<'a> Command<'a> {
         if line == "peers" {
             return Some(Command::Peers);
         }
+        if line == "folders" {
+            return Some(Command::Folders);
+        }
         if line == "quit" {
             return Some(Command::Quit);
         }
@@ -51,6 +58,9 @@ impl<'a> Command<'a> {
         }
         if let Some(id) = line.strip_prefix("local ") {
             return Some(Command::Local(id));
+        }
+        if let Some(id) = line.strip_prefix("conflicts ") {
+            return Some(Command::Conflicts(id));
         }
         if let Some(id) = line.strip_prefix("history ") {
             return Some(Command::History(id));

@@ -1,9 +1,14 @@
 //! The names and records of a folder, a page at a time.
+ghost use Rattle.std.specs.Prelude.{IfOk, IsTrue};
+ghost use Rattle.sync_names.specs.Copies.{IsConflictCopy};
+ghost use Rattle.sync_record.specs.Records.{Name};
+
 use crate::refusal::Refusal;
 use folder_calls::FolderCalls;
 use record_lines::{push_name, push_record};
 use std::alloc::{AllocError, Global};
 use std::io::Write;
+use sync_names::{NameFault, SafeName, is_conflict_copy};
 use sync_record::Record;
 
 /// How many names are read at once.
@@ -16,6 +21,8 @@ pub(crate) enum Listed {
     Bests,
     /// The local records.
     Locals,
+    /// The conflict copies that are there.
+    Conflicts,
 }
 
 /// Writes the needed names, and `end`.
@@ -43,7 +50,7 @@ pub(crate) fn list_needed<W: FolderCalls, O: Write>(
     Ok(())
 }
 
-/// Writes bests or local records, and `end`. (Each local record is of a name that has a best.)
+/// Writes bests, local records or conflict copies, and `end`. (Each local record is of a name that has a best.)
 pub(crate) fn list<W: FolderCalls, O: Write>(
     alloc: Global,
     calls: &mut W,
@@ -61,7 +68,8 @@ pub(crate) fn list<W: FolderCalls, O: Write>(
             let local = calls.local(best.record.name())?.value;
             match (listed, &local) {
                 (Listed::Locals, Some(local)) => push_line(&mut lines, "local ", local)?,
-                (Listed::Locals, None) => {}
+                (Listed::Conflicts, Some(local)) => push_conflict(alloc, &mut lines, local)?,
+                (Listed::Locals | Listed::Conflicts, None) => {}
                 // (a deleted best without a local record isn't needed)
                 (Listed::Bests, local) => {
                     if local.is_some() || !best.record.is_deleted() {
@@ -83,3 +91,36 @@ fn push_line(lines: &mut Vec<u8>, word: &str, record: &Record) -> Result<(), All
     lines.push(b'\n')?;
     Ok(())
 }
+
+// Appends the line of a record, if it is that of a conflict copy that is there.
+fn push_conflict(alloc: Global, lines: &mut Vec<u8>, record: &Record) -> Result<(), AllocError> {
+    if !record.is_deleted() && is_copy(alloc, record.name())? {
+        lines.extend_from_slice(b"conflict ")?;
+        push_name(lines, record.name())?;
+        lines.push(b'\n')?;
+    }
+    Ok(())
+}
+
+// Whether the name is that of a conflict copy of some name.
+fn is_copy(alloc: Global, name: &SafeName) -> Result<bool, AllocError>
+    ensures { IfOk result (λ is. IsTrue is → (original : Name) × IsConflictCopy original name.now) }
+{
+    let Some((front, marked)) = name.as_str().rsplit_once(MARK) else {
+        return Ok(false);
+    };
+    let Some(end) = marked.get(MARK_REST..) else {
+        return Ok(false);
+    };
+    match SafeName::parse(alloc, format!(in alloc; "{front}{end}")?.as_str()) {
+        Ok(original) => Ok(is_conflict_copy(name, &original)),
+        Err(NameFault::OutOfMemory) => Err(AllocError),
+        Err(_) => Ok(false),
+    }
+}
+
+// What stands in the name of a conflict copy, before the moment and the device.
+const MARK: &str = ".sync-conflict-";
+
+// How many bytes these have.
+const MARK_REST: usize = 23;

@@ -48,6 +48,11 @@ impl Presence {
         self.told.lock(rt).is_checked
     }
 
+    /// Whether it was told that it waits, since none of its names is there.
+    pub fn is_held<R: Wait>(&self, rt: &R) -> bool {
+        self.told.lock(rt).is_held
+    }
+
     /// Its names are there, or need not be.
     pub fn check<R: Wait>(&self, rt: &R) {
         let mut told = self.told.lock(rt);

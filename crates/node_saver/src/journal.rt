@@ -25,6 +25,10 @@ pub trait DiskJournal: FrameJournal {
     /// Whatever is on the disk is written anew in less room, if it has become long. What counts stays the same.
     fn fold(&mut self);
 
+    /// Whether what counted is gone from the disk, though there is a place for it again: only the whole state, written anew, brings it back. It answers so once in a
+    /// while, until that is done.
+    fn is_gone(&mut self) -> bool;
+
     /// Which file could not be written last, and why, if one could not and memory was there to say so.
     fn trouble(&self) -> Option<&str>;
 }

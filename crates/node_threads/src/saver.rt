@@ -81,7 +81,8 @@ pub(crate) fn saved_first<R: Wait>(
 }
 
 /// Writes what happened in the folders to the journal, soon after somebody asks for it, and else within a second, until nobody asks any more: then once
-/// more. Where the journal can't be written that is told, and tried again. Where the state is an older one than a peer was told of, the node stops.
+/// more. Where the journal can't be written that is told, and tried again. Where the state is an older one than a peer was told of, or is gone and may be written
+/// anew, the node stops.
 pub(crate) fn run_saver<R, G, W, J>(
     cx: &Context<R, G>,
     keeper: &Keeper,
@@ -121,6 +122,10 @@ where
         }
         if keeper.is_behind(cx.rt) && !cx.is_stopping() {
             cx.tell(&Event::OlderState);
+            cx.stop();
+        }
+        if saver.journal.is_gone() && !cx.is_stopping() {
+            cx.tell(&Event::NotKept(saver.journal.trouble()));
             cx.stop();
         }
         saver.journal.fold();

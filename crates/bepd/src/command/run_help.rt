@@ -84,6 +84,9 @@ Input: on standard input a command a line, with one space between words, or by
     skipped F   the names that its last scan left out, and why
     best F      the best version of each name, where it is needed or recorded here
     local F     the records of this device
+    conflicts F its conflict copies that are there
+    folders     each folder: whether it is here, how much is recorded of it, and how
+                many names it needs
     peers       which peers are connected
     history F   how many changes were made since the start, and how many pulls are
                 under way
@@ -91,14 +94,16 @@ Input: on standard input a command a line, with one space between words, or by
     quit        the program ends, as it does at the end of the input (with --no-input it
                 goes on until it is asked to quit, or killed, which undoes nothing)
 
-Output: need, skipped, best, local and peers print a line for each, and then `end`; the
-others one line, and quit none:
+Output: need, skipped, best, local, conflicts, folders and peers print a line for each,
+and then `end`; the others one line, and quit none:
 
     scan F recorded R unchanged U other O
     need NAME
     skipped NAME: WHY
     best KIND SIZE VERSION NAME
     local KIND SIZE VERSION NAME
+    conflict NAME
+    folder here files N directories N need N F, or in place of here: away, held, in-use
     peer ID up, or peer ID down
     history F changes N open P
     verify F yes, or verify F no

@@ -1,0 +1,2 @@
+pub mod Lemmas
+mod Pushes
