@@ -5,6 +5,7 @@ ghost use Rattle.bepd_run.specs.Marks.{is_elsewhere};
 
 use crate::failure::RunFailure;
 use crate::files::StateFiles;
+use crate::last_run::LastRun;
 use crate::recorded::{Recorded, is_stored, recorded_of};
 use crate::starts::Core;
 use bep_messages::Text;
@@ -17,19 +18,19 @@ use std::str;
 use sync_record::DeviceId;
 
 /// Fails where a directory is at a folder's path whose marker a run made for another folder, or as another device, and where names are recorded of the folder and no run
-/// made the marker. What another device had of the same folder is taken where nothing is stored of it. One that isn't there, or has no marker, is away or new, and one whose marker is no directory says nothing. Before the folders are taken only
+/// made the marker. What another device had of the same folder is taken where nothing is, or may be, stored of it. One that isn't there, or has no marker, is away or new, and one whose marker is no directory says nothing. Before the folders are taken only
 /// those fail that no run had: that another run has one goes before whose it is, and taking one makes the file.
 pub(crate) fn require_marks<F: StateFiles>(
     files: &F,
     alloc: Global,
     device: DeviceId,
-    state: &State,
+    last: &LastRun,
     folders: &[StartFolder<Core>],
     are_taken: bool,
 ) -> Result<(), RunFailure> {
     for folder in folders {
         let (id, path) = (&folder.settings.id, &folder.settings.path);
-        let recorded = recorded_of(is_stored(state, id), &folder.core.counts());
+        let recorded = recorded_of(may_be_stored(last, id), &folder.core.counts());
         if let Some(found) = told_elsewhere(files, alloc, device, id, path, recorded)? {
             if are_taken || !found.has_mark {
                 return Err(RunFailure::NoFolder(found.about));
@@ -37,6 +38,11 @@ pub(crate) fn require_marks<F: StateFiles>(
         }
     }
     Ok(())
+}
+
+/// Whether something is stored of the folder with this id, or may be: in a journal that counts for nothing, as one of another device.
+pub(crate) fn may_be_stored(last: &LastRun, id: &Text) -> bool {
+    last.is_in_doubt || is_stored(&last.state, id)
 }
 
 /// That what is at a folder's path isn't the folder.

@@ -2,7 +2,7 @@
 use crate::asked::LONG_PATH;
 use crate::failure::RunFailure;
 use crate::files::{StateFiles, directory_of};
-use crate::last_run::{StatePaths, read_last_run};
+use crate::last_run::{LastRun, StatePaths, read_last_run};
 use crate::lock::is_locked;
 use crate::naming::{at_state, listen_failure, peer_address};
 use crate::outlook_folder::folder_stop;
@@ -11,7 +11,6 @@ use bep_messages::Text;
 use node_asks::{is_short, socket_path};
 use node_config::{Config, PeerConfig, unknown_keys};
 use node_context::Endpoint;
-use node_state::State;
 use node_threads::{ListenFault, Listener, NodeAddress, UnixSockets};
 use std::alloc::{AllocError, Global};
 use std::fs::{self, File, Files};
@@ -55,8 +54,8 @@ where
 // What is known of the state before a run begins.
 #[derive(Drop)]
 enum Known {
-    // What it has.
-    State(State),
+    // What it has, with its journal.
+    Last(LastRun),
     // Why a run would end by it.
     Stop(RunFailure),
 }
@@ -74,7 +73,7 @@ fn known_state<R: Files<File = File> + StateFiles, O: Write>(
     }
     let paths = StatePaths::new(alloc, path)?;
     match read_last_run(rt, alloc, config.device, &paths) {
-        Ok(last) => Ok(Known::State(last.state)),
+        Ok(last) => Ok(Known::Last(last)),
         Err(failure) => Ok(Known::Stop(at_state(alloc, path, failure))),
     }
 }
@@ -95,7 +94,7 @@ where
     O: Write,
 {
     match known {
-        Known::State(state) => places_stop(rt, alloc, config, Some(&state), output),
+        Known::Last(last) => places_stop(rt, alloc, config, Some(&last), output),
         Known::Stop(stop) => {
             let _ = places_stop(rt, alloc, config, None, output)?;
             Ok(Some(stop))
@@ -108,7 +107,7 @@ fn places_stop<R, O>(
     rt: &R,
     alloc: Global,
     config: &Config,
-    state: Option<&State>,
+    last: Option<&LastRun>,
     output: &mut O,
 ) -> Result<Option<RunFailure>, RunFailure>
 where
@@ -120,8 +119,8 @@ where
 {
     let mut stop = addresses_stop(rt, alloc, config, output)?;
     for folder in config.folders.as_slice() {
-        let is_over = stop.is_some() || state.is_none();
-        let next = folder_stop(rt, alloc, config.device, folder, state, is_over, output)?;
+        let is_over = stop.is_some() || last.is_none();
+        let next = folder_stop(rt, alloc, config.device, folder, last, is_over, output)?;
         if stop.is_none() {
             stop = next;
         }

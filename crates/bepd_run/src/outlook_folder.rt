@@ -1,6 +1,7 @@
 //! What a run would meet at its start where a folder is.
 use crate::failure::RunFailure;
 use crate::files::StateFiles;
+use crate::last_run::LastRun;
 use crate::lock::is_locked;
 use crate::marks::{told_elsewhere, told_forgotten};
 use crate::probing::{can_be_written, is_directory};
@@ -20,16 +21,16 @@ pub(crate) fn folder_stop<R: Files<File = File> + StateFiles, O: Write>(
     alloc: Global,
     device: DeviceId,
     folder: &FolderConfig,
-    state: Option<&State>,
+    last: Option<&LastRun>,
     is_over: bool,
     output: &mut O,
 ) -> Result<Option<RunFailure>, RunFailure> {
-    let counts = match state {
-        Some(state) => counts_of(state, &folder.id),
+    let counts = match last {
+        Some(last) => counts_of(&last.state, &folder.id),
         None => None,
     };
     let is_recorded = matches!(&counts, Some(counts) if is_known(counts));
-    let is_new = state.is_some().then_some(!is_recorded);
+    let is_new = last.is_some().then_some(!is_recorded);
     let is_ready = tell_folder(rt, alloc, folder, is_new, output)?;
     if is_over {
         return Ok(None);
@@ -41,17 +42,18 @@ pub(crate) fn folder_stop<R: Files<File = File> + StateFiles, O: Write>(
         let path = Text::from_str(alloc, folder.path.as_str())?;
         return Ok(Some(RunFailure::FolderInUse(path)));
     }
-    let Some(state) = state else {
+    let Some(last) = last else {
         return Ok(None);
     };
     let recorded = match &counts {
         Some(counts) => recorded_of(true, counts),
+        None if last.is_in_doubt => Recorded::NoNames,
         None => Recorded::Nothing,
     };
     if let Some(stop) = elsewhere(rt, alloc, device, folder, recorded)? {
         return Ok(Some(stop));
     }
-    if let Some(about) = told_forgotten(rt, alloc, device, state, &folder.id, &folder.path)? {
+    if let Some(about) = told_forgotten(rt, alloc, device, &last.state, &folder.id, &folder.path)? {
         let about = about.as_str();
         writeln!(output, "{about}")?;
     }

@@ -89,9 +89,9 @@ where
     let node = NextNode::new(rt, alloc, config, &last.state, last.is_in_doubt)?;
     let folders = node.folders.as_slice();
     keep_all(stores, config)?;
-    require_marks(rt, alloc, config.device, &last.state, folders, false)?;
+    require_marks(rt, alloc, config.device, last, folders, false)?;
     make_ready(alloc, stores, folders)?;
-    require_marks(rt, alloc, config.device, &last.state, folders, true)?;
+    require_marks(rt, alloc, config.device, last, folders, true)?;
     Ok(node)
 }
 
