@@ -1,5 +1,5 @@
 -- What the matches of a parse say of the words.
-use Rattle.std.proofs.Common.{◌≡◌, ◌∙◌, Bool, true, false, List, [], ◌∷◌, Option, Some, None, Result, Ok, Err, IfErr, inl, inr, refl, sym, ap, subst, map, codes}
+use Rattle.std.proofs.Common.{◌≡◌, ◌∙◌, ◌⊎◌, Bool, true, false, List, [], ◌∷◌, Option, Some, None, Result, Ok, Err, IfErr, inl, inr, refl, sym, ap, subst, map, codes}
 use Rattle.std.specs.Prelude.{option_map, option_and_then, slice_get, bytes_eq, find, is_some}
 use Rattle.std.specs.Borrow.{Bor}
 use Rattle.std.proofs.lemmas.Bool.{true≢false}
@@ -14,13 +14,14 @@ use Rattle.clap.specs.declared.error.kind.ErrorKind.TheVariants.{DisplayHelp, Di
 use Rattle.std.specs.declared.alloc.Global.{Global}
 use Rattle.std.specs.declared.io.Error.{Error as IoError}
 use Rattle.std.specs.Prelude.{String, Vec}
+use Rattle.bepd_run.specs.declared.asking.AskWords.{AskWords}
 use Rattle.bepd.specs.declared.command.Request.{Request}
 use Rattle.bepd.specs.declared.command.Request.TheVariants as request
 use Rattle.clap.specs.declared.parser.matches.ArgMatches.{ArgMatches}
 use Rattle.std.specs.Result.{IsErrAnd}
 use Rattle.clap.specs.declared.parser.matches.Found.{Found}
 use Rattle.clap.proofs.OnLiterals.{clap_on_literals}
-use Rattle.bepd.specs.CommandLine.{IsAsked, IsCommandLine, IsErrorAt, IsGiven, IsPairGiven, IsQuiet, IsRequested, IsRunGiven, ask_config_at, begins_with_hyphen, bepd_app, config_at, directory_at, faults, folder_at, is_pair, value_at}
+use Rattle.bepd.specs.CommandLine.{IsAsked, IsAskedBy, IsCommandLine, IsErrorAt, IsGiven, IsPairGiven, IsQuiet, IsRequested, IsRunGiven, IsStatusBy, begins_with_hyphen, bepd_app, config_at, directory_at, faults, folder_at, is_pair, value_at}
 
 pub bepd_is_simple : is_simple_and_free bepd_app ≡ true
 unfolding clap_on_literals
@@ -191,17 +192,23 @@ new_not_run : (c : Option (Text × List Row)) (path directory : Text) → config
 new_not_run c path directory f d =
     one_name (codes "new") (codes "run") (option_map (λ p. p.0) c) refl (entered (codes "new") (codes "DIRECTORY") c directory d) (entered (codes "run") (codes "config") c path f)
 
-ask_not_best : (c : Option (Text × List Row)) (folder path : Text) → folder_at c ≡ Some folder → ask_config_at c ≡ Some path → ⊥
-ask_not_best c folder path f p =
-    one_name (codes "ask") (codes "best") (option_map (λ p. p.0) c) refl (entered (codes "ask") (codes "config") c path p) (entered (codes "best") (codes "FOLDER") c folder f)
+-- a command is asked of a run: it is `ask`, or `status`
+abbrev IsAskOf : Option (Text × List Row) → AskWords → Type 0
+IsAskOf c ask = IsAskedBy c ask ⊎ IsStatusBy c ask
 
-ask_not_pair : (c : Option (Text × List Row)) (path : Text) → ask_config_at c ≡ Some path → is_pair c ≡ true → ⊥
-ask_not_pair c path f p =
-    one_name (codes "pair") (codes "ask") (option_map (λ p. p.0) c) refl (pair_named c p) (entered (codes "ask") (codes "config") c path f)
+-- and no other one
+not_ask : (c : Option (Text × List Row)) (ask : AskWords) (other : Text) → bytes_eq (codes "ask") other ≡ false → bytes_eq (codes "status") other ≡ false → option_map (λ p. p.0) c ≡ Some other → IsAskOf c ask → ⊥
+not_ask c ask other ne ne' named (inl h) = one_name (codes "ask") other (option_map (λ p. p.0) c) ne (entered (codes "ask") (codes "config") c ask.config.now h.0) named
+not_ask c ask other ne ne' named (inr h) = one_name (codes "status") other (option_map (λ p. p.0) c) ne' (entered (codes "status") (codes "config") c ask.config.now h.0) named
 
-ask_not_run : (c : Option (Text × List Row)) (run_path path : Text) → config_at c ≡ Some run_path → ask_config_at c ≡ Some path → ⊥
-ask_not_run c run_path path f p =
-    one_name (codes "ask") (codes "run") (option_map (λ p. p.0) c) refl (entered (codes "ask") (codes "config") c path p) (entered (codes "run") (codes "config") c run_path f)
+ask_not_best : (c : Option (Text × List Row)) (folder : Text) (ask : AskWords) → folder_at c ≡ Some folder → IsAskOf c ask → ⊥
+ask_not_best c folder ask f h = not_ask c ask (codes "best") refl refl (entered (codes "best") (codes "FOLDER") c folder f) h
+
+ask_not_pair : (c : Option (Text × List Row)) (ask : AskWords) → IsAskOf c ask → is_pair c ≡ true → ⊥
+ask_not_pair c ask h p = not_ask c ask (codes "pair") refl refl (pair_named c p) h
+
+ask_not_run : (c : Option (Text × List Row)) (path : Text) (ask : AskWords) → config_at c ≡ Some path → IsAskOf c ask → ⊥
+ask_not_run c path ask f h = not_ask c ask (codes "run") refl refl (entered (codes "run") (codes "config") c path f) h
 
 run_not_pair : (c : Option (Text × List Row)) (path : Text) → config_at c ≡ Some path → is_pair c ≡ true → ⊥
 run_not_pair c path f p =
@@ -212,7 +219,7 @@ asked_at words folder (request.Best f) given h = is_some_of (folder_at (subcomma
 asked_at words folder request.Pair given h = pair_not_best (subcommand_of bepd_app words) folder given.1 h.1
 asked_at words folder (request.Run run) given h = run_not_best (subcommand_of bepd_app words) folder run.path.now given.1 h.0.1
 asked_at words folder (request.QuietRun run) given h = run_not_best (subcommand_of bepd_app words) folder run.path.now given.1 h.0.1
-asked_at words folder (request.Ask ask) given h = ask_not_best (subcommand_of bepd_app words) folder ask.config.now given.1 h.1.0
+asked_at words folder (request.Ask ask) given h = ask_not_best (subcommand_of bepd_app words) folder ask given.1 h.1
 asked_at words folder (request.Check path) given h = run_not_best (subcommand_of bepd_app words) folder path.now given.1 h.1
 asked_at words folder (request.New new) given h = new_not_best (subcommand_of bepd_app words) folder new.directory.now given.1 h.1
 asked_at words folder (request.Text t) given h = no_mistake words folder h.0 given h.1 (λ out. elim h.2 [
@@ -251,7 +258,7 @@ pair_asked_at words (request.Best f) given h = pair_not_best (subcommand_of bepd
 pair_asked_at words request.Pair given h = tt
 pair_asked_at words (request.Run run) given h = run_not_pair (subcommand_of bepd_app words) run.path.now h.0.1 given.1
 pair_asked_at words (request.QuietRun run) given h = run_not_pair (subcommand_of bepd_app words) run.path.now h.0.1 given.1
-pair_asked_at words (request.Ask ask) given h = ask_not_pair (subcommand_of bepd_app words) ask.config.now h.1.0 given.1
+pair_asked_at words (request.Ask ask) given h = ask_not_pair (subcommand_of bepd_app words) ask h.1 given.1
 pair_asked_at words (request.Check path) given h = run_not_pair (subcommand_of bepd_app words) path.now h.1 given.1
 pair_asked_at words (request.New new) given h = new_not_pair (subcommand_of bepd_app words) new.directory.now h.1 given.1
 pair_asked_at words (request.Text t) given h = no_pair_mistake words h.0 given h.1 (λ out. elim h.2 [
@@ -293,7 +300,7 @@ run_asked_at words path (request.Best f) given h = run_not_best (subcommand_of b
 run_asked_at words path request.Pair given h = run_not_pair (subcommand_of bepd_app words) path given.0.1 h.1
 run_asked_at words path (request.Run run) given h = is_some_of (config_at (subcommand_of bepd_app words)) run.path.now path h.0.1 given.0.1
 run_asked_at words path (request.QuietRun run) given h = true≢false (sym h.1 ∙ given.1)
-run_asked_at words path (request.Ask ask) given h = ask_not_run (subcommand_of bepd_app words) path ask.config.now given.0.1 h.1.0
+run_asked_at words path (request.Ask ask) given h = ask_not_run (subcommand_of bepd_app words) path ask given.0.1 h.1
 run_asked_at words path (request.Check p) given h = true≢false (sym h.2 ∙ given.0.2)
 run_asked_at words path (request.New new) given h = new_not_run (subcommand_of bepd_app words) path new.directory.now given.0.1 h.1
 run_asked_at words path (request.Text t) given h = no_run_mistake words path h.0 given h.1 (λ out. elim h.2 [

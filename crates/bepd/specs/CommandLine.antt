@@ -1,4 +1,4 @@
--- The command lines of `bepd` (own rule): `best FOLDER`, `pair`, `run --config FILE`, `ask --config FILE COMMAND`, `new DIRECTORY` with what is for Syncthing, and calls for help and the version. How words become commands and
+-- The command lines of `bepd` (own rule): `best FOLDER`, `pair`, `run --config FILE`, `ask --config FILE COMMAND`, `status --config FILE`, `new DIRECTORY` with what is for Syncthing, and calls for help and the version. How words become commands and
 -- values is the rule of `clap`.
 use Rattle.std.specs.Prelude.{◌≡◌, ◌≢◌, ◌⊎◌, ⊤, Bool, true, false, ◌==◌, List, [], ◌∷◌, Option, Some, None, Result, Ok, Err, String, Vec, option_and_then, option_map, codes, map, if◌then◌else◌, bytes_eq}
 use Rattle.std.specs.declared.alloc.Global.{Global}
@@ -50,6 +50,15 @@ about_rule = new_rule (codes "FOLDER")
 abbrev pub ask_app : App
 ask_app = with_rule (with_rule (with_rule (new_app (codes "ask")) config_rule) command_rule) about_rule
 
+abbrev pub json_rule : Rule
+json_rule = record (new_rule (codes "json")) { long = Some (codes "json"); action = Some SetTrue }
+
+abbrev pub watch_rule : Rule
+watch_rule = record (new_rule (codes "watch")) { long = Some (codes "watch"); action = Some SetTrue }
+
+abbrev pub status_app : App
+status_app = with_rule (with_rule (with_rule (new_app (codes "status")) config_rule) json_rule) watch_rule
+
 abbrev pub directory_rule : Rule
 directory_rule = record (new_rule (codes "DIRECTORY")) { required = true }
 
@@ -69,7 +78,7 @@ abbrev pub fresh_app : App
 fresh_app = with_rule (with_rule (with_rule (with_rule (with_rule (new_app (codes "new")) directory_rule) syncthing_rule) dial_rule) listen_rule) shared_rule
 
 abbrev pub bepd_app : App
-bepd_app = with_subcommand (with_subcommand (with_subcommand (with_subcommand (with_subcommand (on_top (λ s. record s { has_version = true }) (new_app (codes "bepd"))) best_app.top) pair_app.top) run_app.top) fresh_app.top) ask_app.top
+bepd_app = with_subcommand (with_subcommand (with_subcommand (with_subcommand (with_subcommand (with_subcommand (on_top (λ s. record s { has_version = true }) (new_app (codes "bepd"))) best_app.top) pair_app.top) run_app.top) fresh_app.top) ask_app.top) status_app.top
 
 -- the value of an argument, where the command has this name
 abbrev pub value_at : Text → Text → Option (Text × List Row) → Option Text
@@ -106,6 +115,18 @@ ask_command_at command = value_at (codes "ask") (codes "COMMAND") command
 -- the value of FOLDER, where the command is `ask`
 abbrev pub ask_folder_at : Option (Text × List Row) → Option Text
 ask_folder_at command = value_at (codes "ask") (codes "FOLDER") command
+
+-- the value of `--config`, where the command is `status`
+abbrev pub status_config_at : Option (Text × List Row) → Option Text
+status_config_at command = value_at (codes "status") (codes "config") command
+
+-- the value of `--json`, where the command is `status`
+abbrev pub json_at : Option (Text × List Row) → Option Text
+json_at command = value_at (codes "status") (codes "json") command
+
+-- the value of `--watch`, where the command is `status`
+abbrev pub watch_at : Option (Text × List Row) → Option Text
+watch_at command = value_at (codes "status") (codes "watch") command
 
 -- the value of DIRECTORY, where the command is `new`
 abbrev pub directory_at : Option (Text × List Row) → Option Text
@@ -165,18 +186,28 @@ HasNoInput words none = is_true (no_input_at (subcommand_of bepd_app words)) ≡
 abbrev pub IsNodeGiven : List Text → RunWords → Bool → Type 0
 IsNodeGiven words run quiet = IsRunGiven words run.path.now false × IsQuiet words quiet × HasNoInput words run.has_no_input
 
--- the command `ask` has these values
+-- the command `ask` has these values, and is asked once
 abbrev pub IsAskedBy : Option (Text × List Row) → AskWords → Type 0
 IsAskedBy command ask = (ask_config_at command ≡ Some ask.config.now) × (ask_command_at command ≡ Some ask.command.now)
-    × (ask_folder_at command ≡ option_map (λ s. s.now) ask.folder)
+    × (ask_folder_at command ≡ option_map (λ s. s.now) ask.folder) × (ask.is_watched ≡ false)
 
 -- it is another one, or lacks one of those that it must have
 abbrev pub IsNotAsked : Option (Text × List Row) → Type 0
 IsNotAsked command = (ask_config_at command ≡ None) ⊎ (ask_command_at command ≡ None)
 
--- the words ask for a command of a run: the configuration of that, the word of the command, and the folder that it is about
+-- the command `status` asks for `status` of the run by this configuration, as one JSON document exactly if `--json` is given, and again each second exactly if
+-- `--watch` is
+abbrev pub IsStatusBy : Option (Text × List Row) → AskWords → Type 0
+IsStatusBy command ask = (status_config_at command ≡ Some ask.config.now) × (ask.command.now ≡ codes "status")
+    × (option_map (λ s. s.now) ask.folder ≡ (if is_true (json_at command) then Some (codes "json") else None)) × (is_true (watch_at command) ≡ ask.is_watched)
+
+-- it is another one
+abbrev pub IsNoStatus : Option (Text × List Row) → Type 0
+IsNoStatus command = status_config_at command ≡ None
+
+-- the words ask for a command of a run: the configuration of that, the word of the command, and the folder that it is about; or for how all is there
 abbrev pub IsAskGiven : List Text → AskWords → Type 0
-IsAskGiven words ask = (faults words ≡ []) × IsAskedBy (subcommand_of bepd_app words) ask
+IsAskGiven words ask = (faults words ≡ []) × (IsAskedBy (subcommand_of bepd_app words) ask ⊎ IsStatusBy (subcommand_of bepd_app words) ask)
 
 -- the words call for a first configuration: its directory, whether its peer has Syncthing, where that is or is to connect, and a folder
 abbrev pub IsNewGiven : List Text → NewWords → Type 0
@@ -205,7 +236,7 @@ IsErrorAt words kind = (kind ≡ OutOfMemory)
     ⊎ (IsAmong kind (faults words)
     ⊎ ((folder_at (subcommand_of bepd_app words) ≡ None) × (is_pair (subcommand_of bepd_app words) ≡ false)
     × (config_at (subcommand_of bepd_app words) ≡ None) × (directory_at (subcommand_of bepd_app words) ≡ None)
-    × IsNotAsked (subcommand_of bepd_app words) × (kind ≡ MissingSubcommand)))
+    × IsNotAsked (subcommand_of bepd_app words) × IsNoStatus (subcommand_of bepd_app words) × (kind ≡ MissingSubcommand)))
 
 -- the answer to such words
 abbrev pub IsAnswered : ErrorKind → Request → Type 0

@@ -1,7 +1,7 @@
 //! The command line.
 ghost use Rattle.std.specs.Prelude.{◌≡◌, ◌⊎◌, false, Some, IfErr, IfOk, MatchOption, map, option_map};
 ghost use Rattle.std.specs.String.{string_bytes};
-ghost use Rattle.bepd.specs.CommandLine.{IsAnswered, IsAskedBy, IsNamed, IsNotAsked, IsRequested, IsErrorAt, about_rule, ask_app, ask_command_at, ask_config_at, ask_folder_at, bepd_app, best_app, check_at, check_rule, command_rule, config_at, config_rule, dial_at, dial_rule, directory_at, folder_at, fresh_app, is_pair, is_true, listen_at, listen_rule, no_input_at, no_input_rule, pair_app, quiet_at, quiet_rule, run_app, shared_at, shared_rule, syncthing_at, syncthing_rule};
+ghost use Rattle.bepd.specs.CommandLine.{IsAnswered, IsAskedBy, IsNamed, IsNoStatus, IsNotAsked, IsRequested, IsErrorAt, IsStatusBy, about_rule, ask_app, ask_command_at, ask_config_at, ask_folder_at, bepd_app, best_app, check_at, check_rule, command_rule, config_at, config_rule, dial_at, dial_rule, directory_at, folder_at, fresh_app, is_pair, is_true, json_at, json_rule, listen_at, listen_rule, no_input_at, no_input_rule, pair_app, quiet_at, quiet_rule, run_app, shared_at, shared_rule, status_app, status_config_at, syncthing_at, syncthing_rule, watch_at, watch_rule};
 ghost use Rattle.clap.specs.declared.builder.command.Command.{out-Command};
 ghost use Rattle.clap.specs.Words.{app_of, kind_of, rule_of, subcommand_rows_of};
 
@@ -10,6 +10,7 @@ mod best_help;
 mod new_help;
 mod pair_help;
 mod run_help;
+mod status_help;
 
 use ask_help::{ASK_ABOUT, ASK_COMMAND, ASK_CONFIG, ASK_FOLDER, ASK_LONG_ABOUT, ASK_STATUSES};
 use bepd_new::NewWords;
@@ -24,6 +25,9 @@ use new_help::{
 use pair_help::{PAIR_ABOUT, PAIR_LONG_ABOUT, PAIR_STATUSES};
 pub(crate) use run_help::run_about;
 use run_help::{RUN_ABOUT, RUN_CHECK, RUN_CONFIG, RUN_NO_INPUT, RUN_QUIET, RUN_STATUSES};
+use status_help::{
+    STATUS_ABOUT, STATUS_CONFIG, STATUS_JSON, STATUS_LONG_ABOUT, STATUS_STATUSES, STATUS_WATCH,
+};
 use std::alloc::{AllocError, Global};
 use std::io;
 
@@ -38,6 +42,7 @@ the help of a command has the others.
 
 Examples: bepd run --config laptop.toml
           bepd ask --config laptop.toml scan docs
+          bepd status --config laptop.toml --watch
           bepd best docs < docs.frames
           bepd pair < commands";
 
@@ -109,7 +114,8 @@ fn request_at<'a>(alloc: Global, error: &Error) -> Request<'a>
 }
 
 /// The command in the words: `PROGRAM best FOLDER`, `PROGRAM pair`, `PROGRAM run --config FILE`, with `--check`, with `--quiet` and
-/// `--no-input` or without, `PROGRAM ask --config FILE COMMAND`, or `PROGRAM new DIRECTORY`.
+/// `--no-input` or without, `PROGRAM ask --config FILE COMMAND`, `PROGRAM status --config FILE`, with `--json` and `--watch` or without,
+/// or `PROGRAM new DIRECTORY`.
 fn command_of<'a>(
     alloc: Global,
     words: &'a [String],
@@ -138,6 +144,9 @@ fn command_of<'a>(
     }
     if let Some(ask) = asked_in(&matches) {
         return Ok(Request::Ask(ask));
+    }
+    if let Some(status) = status_in(&matches) {
+        return Ok(Request::Ask(status));
     }
     if let Some(directory) = directory_in(&matches) {
         return Ok(Request::New(NewWords {
@@ -241,6 +250,7 @@ fn asked_in<'a>(matches: &ArgMatches<'a>) -> Option<AskWords<'a>>
         config,
         command,
         folder: ask_folder_in(matches),
+        is_watched: false,
     })
 }
 
@@ -263,6 +273,54 @@ fn ask_folder_in<'a>(matches: &ArgMatches<'a>) -> Option<&'a str>
     ensures { option_map (λ s. s.now) result ≡ ask_folder_at (subcommand_rows_of matches.now) }
 {
     matches.subcommand_matches("ask")?.get_str("FOLDER")
+}
+
+/// What is asked of a node, where the command is `status`.
+fn status_in<'a>(matches: &ArgMatches<'a>) -> Option<AskWords<'a>>
+    ensures { MatchOption result (IsNoStatus (subcommand_rows_of matches.now)) (λ words. IsStatusBy (subcommand_rows_of matches.now) words) }
+{
+    let config = status_config_in(matches)?;
+    Some(AskWords {
+        config,
+        command: "status",
+        folder: is_json(matches).then_some("json"),
+        is_watched: is_watched(matches),
+    })
+}
+
+/// The value of `--config`, where the command is `status`.
+fn status_config_in<'a>(matches: &ArgMatches<'a>) -> Option<&'a str>
+    ensures { option_map (λ s. s.now) result ≡ status_config_at (subcommand_rows_of matches.now) }
+{
+    matches.subcommand_matches("status")?.get_str("config")
+}
+
+/// Whether the command is `status` with `--json`.
+fn is_json(matches: &ArgMatches<'_>) -> bool
+    ensures { result ≡ is_true (json_at (subcommand_rows_of matches.now)) }
+{
+    is_true(json_in(matches))
+}
+
+/// The value of `--json`, where the command is `status`.
+fn json_in<'a>(matches: &ArgMatches<'a>) -> Option<&'a str>
+    ensures { option_map (λ s. s.now) result ≡ json_at (subcommand_rows_of matches.now) }
+{
+    matches.subcommand_matches("status")?.get_str("json")
+}
+
+/// Whether the command is `status` with `--watch`.
+fn is_watched(matches: &ArgMatches<'_>) -> bool
+    ensures { result ≡ is_true (watch_at (subcommand_rows_of matches.now)) }
+{
+    is_true(watch_in(matches))
+}
+
+/// The value of `--watch`, where the command is `status`.
+fn watch_in<'a>(matches: &ArgMatches<'a>) -> Option<&'a str>
+    ensures { option_map (λ s. s.now) result ≡ watch_at (subcommand_rows_of matches.now) }
+{
+    matches.subcommand_matches("status")?.get_str("watch")
 }
 
 /// The value of DIRECTORY, where the command is `new`.
@@ -458,6 +516,45 @@ fn ask_command<'a>(alloc: Global) -> Result<Command<'a>, AllocError>
         .arg(about)
 }
 
+/// `--json`.
+fn json_arg<'a>(alloc: Global) -> Arg<'a>
+    ensures rule { rule_of result ≡ json_rule }
+    ensures local { result.global ≡ false }
+{
+    Arg::new(alloc, "json")
+        .long("json")
+        .action(ArgAction::SetTrue)
+        .help(STATUS_JSON)
+}
+
+/// `--watch`.
+fn watch_arg<'a>(alloc: Global) -> Arg<'a>
+    ensures rule { rule_of result ≡ watch_rule }
+    ensures local { result.global ≡ false }
+{
+    Arg::new(alloc, "watch")
+        .long("watch")
+        .action(ArgAction::SetTrue)
+        .help(STATUS_WATCH)
+}
+
+/// The command `status`, and what it takes.
+fn status_command<'a>(alloc: Global) -> Result<Command<'a>, AllocError>
+    ensures { IfOk result (λ command.
+        (app_of command ≡ status_app) × ((out-Command command).has_globals ≡ false)) }
+{
+    let config = config_arg(alloc, STATUS_CONFIG);
+    let json = json_arg(alloc);
+    let watch = watch_arg(alloc);
+    Command::new(alloc, "status")
+        .about(STATUS_ABOUT)
+        .long_about(STATUS_LONG_ABOUT)
+        .after_help(STATUS_STATUSES)
+        .arg(config)?
+        .arg(json)?
+        .arg(watch)
+}
+
 /// `--syncthing`.
 fn syncthing_arg<'a>(alloc: Global) -> Arg<'a>
     ensures rule { rule_of result ≡ syncthing_rule }
@@ -537,6 +634,7 @@ fn program<'a>(
     let run = run_command(alloc, about)?;
     let fresh = fresh_command(alloc)?;
     let ask = ask_command(alloc)?;
+    let status = status_command(alloc)?;
     Command::new(alloc, "bepd")
         .bin_name("bepd")?
         .version("0.1.0")
@@ -547,5 +645,6 @@ fn program<'a>(
         .subcommand(pair)?
         .subcommand(run)?
         .subcommand(fresh)?
-        .subcommand(ask)
+        .subcommand(ask)?
+        .subcommand(status)
 }

@@ -33,7 +33,7 @@ AreSettled plans s t is_unsettled =
 
 -- a folder, after these plans
 abbrev pub IsSettledBy : List PullPlan → StartFolder IndexedFolder → StartFolder IndexedFolder → Type 0
-IsSettledBy plans old new = (new.settings ≡ old.settings) × (new.kept ≡ old.kept) × AreSettled plans old.core.folder new.core.folder new.is_unsettled
+IsSettledBy plans old new = (new.settings ≡ old.settings) × (new.kept ≡ old.kept) × (new.is_doubted ≡ old.is_doubted) × AreSettled plans old.core.folder new.core.folder new.is_unsettled
 
 -- after some
 abbrev pub IsSettledFolder : StartFolder IndexedFolder → StartFolder IndexedFolder → Type 0

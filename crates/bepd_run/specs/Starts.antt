@@ -17,7 +17,7 @@ use Rattle.folder_look.specs.Rhythms.{looking_of}
 use Rattle.bepd_run.specs.Addresses.{IsReadAs}
 use Rattle.bepd_run.specs.declared.nodes.NextNode.{NextNode}
 
--- a folder is kept as its configuration says, with the index number and the records that were resumed, which are all on the disk
+-- a folder is kept as its configuration says, with the index number and the records that were resumed, which are all on the disk; nobody looked at its files yet
 abbrev pub IsFolder : FolderConfig → Resumed → StartFolder IndexedFolder → Type 0
 IsFolder folder resumed start =
     (start.settings ≡ record {
@@ -30,7 +30,7 @@ IsFolder folder resumed start =
       looking = looking_of folder.look;
       trash_days = folder.trash_days;
     })
-    × (start.core.folder ≡ resumed.folder) × (start.kept ≡ resumed.folder.last) × (start.is_unsettled ≡ false)
+    × (start.core.folder ≡ resumed.folder) × (start.kept ≡ resumed.folder.last) × (start.is_unsettled ≡ false) × (start.is_doubted ≡ false)
 
 -- one of the configuration's stands at the place of each of these, which belong together
 abbrev pub AreEach : {A B C : Type 0} → (A → B → C → Type 0) → List A → List B → List C → Type 0

@@ -86,9 +86,35 @@ impl Socket {
     }
 
     /// Removes it.
-    pub(crate) fn remove<R: StateFiles>(&self, files: &R) {
-        if self.listener.is_some() {
-            files.remove(self.path.as_str());
+    pub(crate) fn remove<R: StateFiles + Wait>(&self, rt: &R) {
+        if self.run.has_socket(rt) {
+            rt.remove(self.path.as_str());
+        }
+    }
+
+    // Makes it again, or tells why it can't be made.
+    fn again<R>(&self, rt: &R, alloc: Global, log: &Log) -> Option<Listener>
+    where
+        R: Clock + Net<Listener = TcpListener, Stream = TcpStream> + UnixSockets + Wait,
+    {
+        let path = self.path.as_str();
+        let made = if is_short(path) {
+            open(rt, alloc, path)
+        } else {
+            Err(io::Error::from(ErrorKind::InvalidInput))
+        };
+        match made {
+            Ok((listener, handle)) => {
+                self.run.take_at(rt, Some(handle));
+                Some(listener)
+            }
+            Err(error) => {
+                self.run.take_at(rt, None);
+                if let Ok(why) = format!(in alloc; "{error}") {
+                    log.tell(rt, &Event::NoSocket(path, why.as_str()));
+                }
+                None
+            }
         }
     }
 }
@@ -171,22 +197,54 @@ pub(crate) fn take_all<R, I>(
     rt: &R,
     alloc: Global,
     socket: &Socket,
+    log: &Log,
     ways: &Ways,
     input: Reading<'_, '_, '_, R, I>,
 )
 where
-    R: Clock + Sync + Threads + Wait,
+    R: Clock
+        + Net<Listener = TcpListener, Stream = TcpStream>
+        + Sync
+        + Threads
+        + UnixSockets
+        + Wait,
     I: Read + Send,
 {
     let ((), ()) = join(
         rt,
-        || match &socket.listener {
-            Some(listener) => take_asked(rt, alloc, listener, &socket.run, ways.elsewhere()),
-            // (a run without commands goes on)
-            None => socket.run.wait(rt),
-        },
+        || take_elsewhere(rt, alloc, socket, log, ways),
         || read(rt, alloc, input, ways.input()),
     );
+}
+
+// Takes commands from the socket, which is made again where it is gone, until the run ends.
+fn take_elsewhere<R>(rt: &R, alloc: Global, socket: &Socket, log: &Log, ways: &Ways)
+where
+    R: Clock + Net<Listener = TcpListener, Stream = TcpStream> + UnixSockets + Wait,
+{
+    take_at(rt, alloc, socket.listener.as_ref(), &socket.run, ways);
+    for _ in rt.forever() {
+        if socket.run.is_over(rt) {
+            return;
+        }
+        let again = socket.again(rt, alloc, log);
+        take_at(rt, alloc, again.as_ref(), &socket.run, ways);
+    }
+}
+
+// Takes commands from a listener, if there is one, until the run ends or another one is to be made.
+fn take_at<R: Clock + Wait>(
+    rt: &R,
+    alloc: Global,
+    listener: Option<&Listener>,
+    run: &RunEnd,
+    ways: &Ways,
+) {
+    match listener {
+        Some(listener) => take_asked(rt, alloc, listener, run, ways.elsewhere()),
+        // (a run without commands goes on)
+        None => run.wait(rt),
+    }
 }
 
 // Reads the commands of an input that is read.

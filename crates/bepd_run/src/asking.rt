@@ -11,6 +11,9 @@ use std::alloc::{AllocError, Global};
 use std::fs::{File, Files};
 use std::io::{self, Write};
 use std::net::{Net, TcpListener, TcpStream};
+use std::sync::Wait;
+use std::thread;
+use std::time::{Clock, Duration};
 
 /// A command for a run.
 #[derive(Clone, Copy, Debug)]
@@ -21,9 +24,11 @@ pub struct AskWords<'a> {
     pub command: &'a str,
     /// The folder that it is about.
     pub folder: Option<&'a str>,
+    /// Whether it is asked again each second, until it fails.
+    pub is_watched: bool,
 }
 
-/// Has the run by the configuration do a command, and writes its answer once that is whole.
+/// Has the run by the configuration do a command, and writes its answer once that is whole; if it is watched, again each second, in place of the answer before.
 ///
 /// Fails where the command has more than one line; by the configuration; with `NoAnswer` where no run is there, where nothing comes for 10 seconds, and where the
 /// run ends before its answer is whole; and with `NotDone`, or `NotDoneWith` what would help, where the answer is an error.
@@ -34,13 +39,29 @@ pub fn ask_run<R, O>(
     output: &mut O,
 ) -> Result<(), RunFailure>
 where
-    R: Files<File = File> + Net<Listener = TcpListener, Stream = TcpStream>,
+    R: Clock + Files<File = File> + Net<Listener = TcpListener, Stream = TcpStream> + Wait,
     O: Write,
 {
     require_a_line(alloc, words)?;
     let config = config_at(rt, alloc, words.config)?;
-    ask_by(rt, alloc, words, &config, output)
+    if !words.is_watched {
+        return ask_by(rt, alloc, words, &config, b"", output);
+    }
+    // (a document follows the one before)
+    let before: &[u8] = if words.folder.is_none() {
+        CLEAR_SCREEN
+    } else {
+        b""
+    };
+    for _ in rt.forever() {
+        ask_by(rt, alloc, words, &config, before, output)?;
+        thread::sleep(rt, Duration::from_secs(1));
+    }
+    unreachable!()
 }
+
+/// Goes to the beginning of a terminal's screen, and clears it (ECMA-48, 8.3.21 and 8.3.39).
+const CLEAR_SCREEN: &[u8] = b"\x1b[H\x1b[2J";
 
 // Fails where the words are more than one line.
 fn require_a_line(alloc: Global, words: &AskWords) -> Result<(), RunFailure> {
@@ -52,12 +73,13 @@ fn require_a_line(alloc: Global, words: &AskWords) -> Result<(), RunFailure> {
     Ok(())
 }
 
-// Has the run by this configuration do a command.
+// Has the run by this configuration do a command. These bytes are written before the answer.
 fn ask_by<R, O>(
     rt: &R,
     alloc: Global,
     words: &AskWords,
     config: &Config,
+    before: &[u8],
     output: &mut O,
 ) -> Result<(), RunFailure>
 where
@@ -69,11 +91,19 @@ where
     let Some(answer) = Answer::of(read.as_str()) else {
         return Err(ask_failure(alloc, path.as_str(), words.config, AskFault::Cut));
     };
-    write_answer(alloc, &answer, output)?;
-    if answer.is_error() {
+    write_answer(alloc, before, &answer, output)?;
+    if is_error(words, &answer) {
         return Err(not_done(alloc, &answer, config));
     }
     Ok(())
+}
+
+// Whether an answer says that the command was not done. (That to `status` has names at the beginnings of lines.)
+fn is_error(words: &AskWords, answer: &Answer) -> bool {
+    if words.command == "status" {
+        return answer.text.starts_with("error ");
+    }
+    answer.is_error()
 }
 
 // What the run at the socket sends back.
@@ -97,16 +127,18 @@ fn read_answer<R: Files<File = File> + Net<Listener = TcpListener, Stream = TcpS
 // Writes an answer.
 fn write_answer<O: Write>(
     alloc: Global,
+    before: &[u8],
     answer: &Answer,
     output: &mut O,
 ) -> Result<(), RunFailure> {
-    match put(answer, output) {
+    match put(before, answer, output) {
         Ok(()) => Ok(()),
         Err(error) => Err(output_failure(alloc, error)),
     }
 }
 
-fn put<O: Write>(answer: &Answer, output: &mut O) -> io::Result<()> {
+fn put<O: Write>(before: &[u8], answer: &Answer, output: &mut O) -> io::Result<()> {
+    output.write_all(before)?;
     output.write_all(answer.text.as_bytes())?;
     output.flush()
 }
@@ -116,6 +148,7 @@ fn not_done(alloc: Global, answer: &Answer, config: &Config) -> RunFailure {
     let about = match answer.text {
         "error unknown command\n" => about_folders(alloc, COMMANDS, config),
         "error unknown folder\n" => about_folders(alloc, FOLDERS, config),
+        "error 46 FolderMissing\n" => String::from_str(alloc, MISSING),
         _ => return RunFailure::NotDone,
     };
     match about {
@@ -126,10 +159,14 @@ fn not_done(alloc: Global, answer: &Answer, config: &Config) -> RunFailure {
 
 // What would help who asked for what is no command.
 const COMMANDS: &str =
-    "`bepd help run` lists the commands; folders, peers and quit stand alone, each other one before a folder:";
+    "`bepd help run` lists the commands; folders, peers, status and quit stand alone, each other one before a folder:";
 
 // What would help who asked for a folder that isn't there.
 const FOLDERS: &str = "the folders of the configuration:";
+
+// What would help who asked for a scan of a folder that isn't there.
+const MISSING: &str =
+    "the folder isn't there, has no .stfolder, or another run has it: `bepd ask folders` and the run's log say which";
 
 // These words, and then the ids of the configuration's folders.
 fn about_folders(alloc: Global, words: &str, config: &Config) -> Result<String, AllocError> {

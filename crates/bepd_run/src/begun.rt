@@ -1,4 +1,6 @@
 //! How a run begins: its folders are made ready, and it is told what it does.
+ghost use Rattle.std.specs.Prelude.{◌≡◌, ◌==◌, is_some, length};
+
 use crate::failure::RunFailure;
 use crate::nodes::NextNode;
 use crate::recorded::is_known;
@@ -33,6 +35,19 @@ pub(crate) fn tell_begun<R: Clock + Wait>(rt: &R, log: &Log, config: &str, node:
         log.tell(rt, &Event::Scan(id.as_str(), event));
     }
 }
+
+/// Says that a configuration has no peer, if it is so: another key for its peers is ignored, as each unknown one.
+pub(crate) fn told_alone(config: &Config) -> Option<&'static str>
+    ensures { is_some result ≡ (length config.now.peers == 0) }
+{
+    if config.peers.as_slice().is_empty() {
+        Some(ALONE)
+    } else {
+        None
+    }
+}
+
+const ALONE: &str = "no [[peer]] is in the configuration: its folders are kept alike with nobody";
 
 /// Says how the files of each folder are kept. Fails only if out of memory.
 pub(crate) fn keep_all<T: Stores>(stores: &T, config: &Config) -> Result<(), AllocError> {

@@ -202,14 +202,14 @@ where
 {
     let (socket, desk) = doors;
     let Begun { node, outside } = begun;
-    let config = place.config;
+    let (config, log) = (place.config, place.log);
     let ((), ended) = join(
         rt,
-        || take_all(rt, alloc, socket, &desk.ways, input),
+        || take_all(rt, alloc, socket, log, &desk.ways, input),
         || -> Result<io::Result<()>, RunFailure>
             requires { IsSend T.Store.row }
         {
-            let ended = answer_all(rt, alloc, config, node, outside, desk, consoles);
+            let ended = answer_all(rt, alloc, config, node, outside, doors, consoles);
             socket.run.end(rt);
             ended
         },
@@ -224,7 +224,7 @@ fn answer_all<R, T, L, O>(
     config: &Config,
     node: NextNode,
     outside: Outside<'_, T, R>,
-    desk: &Desk,
+    doors: (&Socket, &Desk),
     consoles: Vec<Console<L, O>>,
 ) -> Result<io::Result<()>, RunFailure>
 where
@@ -240,9 +240,11 @@ where
     L: CommandLines + Drop + Send,
     O: Write + Drop + Send,
 {
+    let (socket, desk) = doors;
     let log = outside.log;
     let mut consoles = consoles;
-    let ended = run_nodes(rt, alloc, config, node, outside, consoles.as_mut_slice());
+    let all = consoles.as_mut_slice();
+    let ended = run_nodes(rt, alloc, config, node, outside, &socket.run, all);
     if ended.is_ok() {
         log.tell(rt, &Event::Ended);
     }

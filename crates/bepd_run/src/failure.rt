@@ -109,7 +109,7 @@ impl Display for RunFailure {
             }
             RunFailure::StateInUse(path) => write!(
                 f,
-                "fault 63 StateInUse\n{}: another run has it; end that one, or give this one another state",
+                "fault 63 StateInUse\n{}: another run has it; end that one, or have it do what is wanted by bepd ask",
                 path.as_str()
             ),
             RunFailure::FolderInUse(path) => write!(

@@ -2,7 +2,7 @@
 use crate::failure::RunFailure;
 use crate::naming::file_failure;
 use std::alloc::Global;
-use std::fs::{self, File, Files, OpenFile, OpenOptions};
+use std::fs::{self, File, Files, OpenFile, OpenOptions, TryLockError};
 use std::io::{self, ErrorKind, Read, Seek, SeekFrom, Write};
 use std::os::unix::fs::MetadataExt;
 
@@ -51,8 +51,14 @@ pub trait StateFiles {
     /// Whether a directory is at the path, links followed.
     fn is_directory(&self, path: &str) -> bool;
 
+    /// Whether something is at the path, a link not followed.
+    fn is_there(&self, path: &str) -> bool;
+
     /// Whether the open file, which was at the path, was removed.
     fn is_removed(&self, file: &File, path: &str) -> bool;
+
+    /// Opens the file at the path, which is made where there is none, under a lock of the system, for as long as it is open.
+    fn lock_file(&self, path: &str) -> Result<File, TryLockError>;
 }
 
 impl<R: Files<File = File>> StateFiles for R {
@@ -100,6 +106,10 @@ impl<R: Files<File = File>> StateFiles for R {
         }
     }
 
+    fn is_there(&self, path: &str) -> bool {
+        fs::symlink_metadata(self, path).is_ok()
+    }
+
     fn is_removed(&self, file: &File, path: &str) -> bool {
         let Ok(open) = file.metadata() else {
             return false;
@@ -112,6 +122,17 @@ impl<R: Files<File = File>> StateFiles for R {
             Ok(found) => found.ino() != open.ino() || found.dev() != open.dev(),
             Err(_) => true,
         }
+    }
+
+    fn lock_file(&self, path: &str) -> Result<File, TryLockError> {
+        let mut options = OpenOptions::new();
+        options.read(true).write(true).create(true);
+        let file = match options.open(self, path) {
+            Ok(file) => file,
+            Err(error) => return Err(TryLockError::Error(error)),
+        };
+        file.try_lock()?;
+        Ok(file)
     }
 }
 

@@ -47,6 +47,8 @@ pub(crate) struct StateJournal<'a, R> {
     is_lost: bool,
     // How often the whole state isn't asked for, though it is lost.
     rests: u32,
+    // The lock of the state, where the run's own is gone from the disk.
+    lock: Option<File>,
 }
 
 impl<'a, R: StateFiles> StateJournal<'a, R> {
@@ -76,6 +78,7 @@ impl<'a, R: StateFiles> StateJournal<'a, R> {
             trouble: None,
             is_lost: false,
             rests: 0,
+            lock: None,
         })
     }
 
@@ -104,6 +107,7 @@ impl<'a, R: StateFiles> StateJournal<'a, R> {
             trouble: None,
             is_lost: false,
             rests: 0,
+            lock: None,
         };
         journal.replace(state, plans)?;
         Ok(journal)
@@ -162,7 +166,13 @@ impl<'a, R: StateFiles> StateJournal<'a, R> {
             return false;
         }
         match self.replace(state, plans) {
-            Ok(()) => true,
+            Ok(()) => {
+                // (where its file is still there, the run has it)
+                if let Ok(lock) = self.files.lock_file(self.paths.lock.as_str()) {
+                    self.lock = Some(lock);
+                }
+                true
+            }
             Err(_) => {
                 self.rests = RESTS;
                 false

@@ -19,6 +19,8 @@ pub(crate) struct StatePaths<'a> {
     pub(crate) journal: String,
     // The journal that is to be put in place.
     pub(crate) new_journal: String,
+    // The file of which a run has the lock.
+    pub(crate) lock: String,
 }
 
 impl<'a> StatePaths<'a> {
@@ -29,6 +31,7 @@ impl<'a> StatePaths<'a> {
             new_state: format!(in alloc; "{state}.new")?,
             journal: format!(in alloc; "{state}.journal")?,
             new_journal: format!(in alloc; "{state}.journal.new")?,
+            lock: format!(in alloc; "{state}.lock")?,
         })
     }
 }

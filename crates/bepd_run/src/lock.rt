@@ -1,30 +1,23 @@
 //! The lock file of a state: no two runs have it.
 use crate::failure::RunFailure;
+use crate::files::StateFiles;
+use crate::last_run::StatePaths;
 use crate::naming::file_failure;
 use bep_messages::Text;
 use std::alloc::{AllocError, Global};
-use std::fs::{File, Files, OpenFile, OpenOptions, TryLockError};
+use std::fs::{File, Files, TryLockError};
 
-/// Takes the state with this path, for as long as the file that is returned is open: `<state>.lock`, under a lock of the system. Fails with `StateInUse` where
-/// another run has it.
-pub(crate) fn lock_state<R: Files<File = File>>(
-    rt: &R,
+/// Takes a state, for as long as the file that is returned is open: `<state>.lock`, under a lock of the system. Fails with `StateInUse` where another run has it.
+pub(crate) fn lock_state<F: StateFiles>(
+    files: &F,
     alloc: Global,
-    state: &str,
+    paths: &StatePaths,
 ) -> Result<File, RunFailure> {
-    let path = format!(in alloc; "{state}.lock")?;
-    let mut options = OpenOptions::new();
-    options.read(true).write(true).create(true);
-    let file = match options.open(rt, path.as_str()) {
-        Ok(file) => file,
-        Err(error) => return Err(file_failure(alloc, "state", path.as_str(), error)),
-    };
-    match file.try_lock() {
-        Ok(()) => Ok(file),
-        Err(TryLockError::WouldBlock) => Err(in_use(alloc, state)),
-        Err(TryLockError::Error(error)) => {
-            Err(file_failure(alloc, "state", path.as_str(), error))
-        }
+    let path = paths.lock.as_str();
+    match files.lock_file(path) {
+        Ok(file) => Ok(file),
+        Err(TryLockError::WouldBlock) => Err(in_use(alloc, paths.state)),
+        Err(TryLockError::Error(error)) => Err(file_failure(alloc, "state", path, error)),
     }
 }
 

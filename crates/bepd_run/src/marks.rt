@@ -80,9 +80,10 @@ pub(crate) fn told_elsewhere<F: StateFiles>(
     if !is_elsewhere(recorded, found, own.as_bytes(), folder.as_bytes()) {
         return Ok(None);
     }
-    let about = match found {
-        Some(text) if recorded != Recorded::Names => kept_as(alloc, id, path, at.as_str(), text)?,
-        _ => format!(in alloc;
+    let about = match (found, recorded) {
+        (Some(text), Recorded::Names) => since_kept_as(alloc, id, path, at.as_str(), text)?,
+        (Some(text), _) => kept_as(alloc, id, path, at.as_str(), text)?,
+        (None, _) => format!(in alloc;
             "folder {id}: {path}: the names that are recorded of the folder were in another directory, or on another disk: mend the path, or mount the disk. If they belong here, make the file {at} empty: what is missing here is deleted on all devices then"
         )?,
     };
@@ -124,6 +125,20 @@ fn kept_as(
     )
 }
 
+// Says of a folder of which names are recorded that a run has made its marker for another one since, by this text.
+fn since_kept_as(
+    alloc: Global,
+    id: &str,
+    path: &str,
+    at: &str,
+    text: &[u8],
+) -> Result<String, AllocError> {
+    let whose = whose(alloc, text)?;
+    format!(in alloc;
+        "folder {id}: {path}: a run had this directory as {whose} last: mend the id, `device` or the path in the configuration, or mount the disk. If that run was a mistake, and the names that are recorded of {id} belong here, make the file {at} empty: what is missing here is deleted on all devices then"
+    )
+}
+
 // Whose a marker with this text is, on one line.
 fn whose(alloc: Global, text: &[u8]) -> Result<String, AllocError> {
     let mut whose = String::new(alloc);
@@ -140,7 +155,7 @@ fn whose(alloc: Global, text: &[u8]) -> Result<String, AllocError> {
     Ok(whose)
 }
 
-/// Says that the state has nothing of a folder that a run of this device had, if it is so.
+/// Says that the state has nothing of a folder that a run had, as this device or another one, if it is so.
 pub(crate) fn told_forgotten<F: StateFiles>(
     files: &F,
     alloc: Global,
@@ -153,14 +168,23 @@ pub(crate) fn told_forgotten<F: StateFiles>(
         return Ok(None);
     }
     let (id, path) = (id.as_str(), path.as_str());
-    let own = mark_text(alloc, device, id)?;
-    match mark_at(files, alloc, mark_path(alloc, path)?.as_str())? {
-        Found::Read(Some(text)) if text.as_slice() == own.as_bytes() => {}
-        _ => return Ok(None),
-    }
-    let about = format!(in alloc;
-        "folder {id}: nothing is recorded of it, though a run of this device had it: if its state was another file, end this run and mend `state` in the configuration, or what was deleted here can come back"
-    )?;
+    let (own, folder) = (mark_text(alloc, device, id)?, folder_text(alloc, id)?);
+    let Found::Read(Some(text)) = mark_at(files, alloc, mark_path(alloc, path)?.as_str())? else {
+        return Ok(None);
+    };
+    let text = text.as_slice();
+    let about = if text == own.as_bytes() {
+        format!(in alloc;
+            "folder {id}: nothing is recorded of it, though a run of this device had it: if its state was another file, end this run and mend `state` in the configuration, or what was deleted here and on other devices can come back"
+        )?
+    } else if text.ends_with(folder.as_bytes()) {
+        let whose = whose(alloc, text)?;
+        format!(in alloc;
+            "folder {id}: nothing is recorded of it, and a run had it as {whose}: if that was this device, end this run and mend `device` and `state` in the configuration, or what was deleted here and on other devices can come back"
+        )?
+    } else {
+        return Ok(None);
+    };
     Ok(Some(Text::from_string(about)))
 }
 
@@ -182,14 +206,72 @@ pub(crate) fn all_forgotten<F: StateFiles>(
     Ok(all)
 }
 
-/// Writes into the marker of each folder that this run has whose it is. Where that can't be written, nothing is noticed later.
+/// Notes of each folder whether it is doubted: its marker's file is empty, as one that a run made where a folder came back as another directory, and of the names that are
+/// recorded of it none is there. O(n) for n such names.
+pub(crate) fn doubt<F: StateFiles>(
+    files: &F,
+    alloc: Global,
+    folders: &mut [StartFolder<Core>],
+) -> Result<(), AllocError> {
+    for folder in folders.iter_mut() {
+        folder.is_doubted = is_unclaimed(files, alloc, folder)?
+            && has_lost_names(files, alloc, folder)?;
+    }
+    Ok(())
+}
+
+// Whether the folder has a marker's file, and that is empty.
+fn is_unclaimed<F: StateFiles>(
+    files: &F,
+    alloc: Global,
+    folder: &StartFolder<Core>,
+) -> Result<bool, AllocError> {
+    let at = mark_path(alloc, folder.settings.path.as_str())?;
+    match mark_at(files, alloc, at.as_str())? {
+        Found::Read(Some(text)) => Ok(text.is_empty()),
+        Found::Read(None) | Found::Unread => Ok(false),
+    }
+}
+
+// How many records are read at once.
+const PAGE_RECORDS: usize = 64;
+
+// Whether names are recorded of the folder, and none of them is there.
+fn has_lost_names<F: StateFiles>(
+    files: &F,
+    alloc: Global,
+    folder: &StartFolder<Core>,
+) -> Result<bool, AllocError> {
+    let path = folder.settings.path.as_str();
+    let (mut after, mut is_lost) = (0u64, false);
+    for _ in 0..u64::MAX {
+        let page = folder.core.local_since(after, PAGE_RECORDS)?;
+        let Some(last) = page.as_slice().last() else {
+            break;
+        };
+        after = last.sequence();
+        for record in page.as_slice() {
+            if record.is_deleted() {
+                continue;
+            }
+            let name = record.name().as_str();
+            if files.is_there(format!(in alloc; "{path}/{name}")?.as_str()) {
+                return Ok(false);
+            }
+            is_lost = true;
+        }
+    }
+    Ok(is_lost)
+}
+
+/// Writes into the marker of each folder that this run has whose it is, but for those that are doubted. Where that can't be written, nothing is noticed later.
 pub(crate) fn write_marks<F: StateFiles>(
     files: &F,
     alloc: Global,
     device: DeviceId,
     folders: &[StartFolder<Core>],
 ) -> Result<(), AllocError> {
-    for folder in folders {
+    for folder in folders.iter().filter(|folder| !folder.is_doubted) {
         let settings = &folder.settings;
         let at = mark_path(alloc, settings.path.as_str())?;
         let own = mark_text(alloc, device, settings.id.as_str())?;

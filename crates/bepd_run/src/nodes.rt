@@ -7,12 +7,14 @@ use crate::failure::RunFailure;
 use crate::files::StateFiles;
 use crate::journal::StateJournal;
 use crate::last_run::FolderPlans;
+use crate::marks::doubt;
 use crate::naming::listen_failure;
 use crate::plans::settle_all;
 use crate::starts::{
     Core, all_shares, begin_again, folders_of, index_ids_of, peers_of, renumbered, saved_up_to,
 };
 use file_store::OpenGate;
+use node_asks::RunEnd;
 use node_commands::{CommandLines, CommandsEnd};
 use node_config::Config;
 use node_context::{Event, Log, NodeFault};
@@ -116,6 +118,7 @@ pub(crate) fn run_nodes<R, T, L, O>(
     config: &Config,
     node: NextNode,
     outside: Outside<T, R>,
+    run: &RunEnd,
     consoles: &mut [Console<L, O>],
 ) -> Result<io::Result<()>, RunFailure>
 where
@@ -139,7 +142,7 @@ where
             journal: &mut outside.journal,
         };
         let left = run_once(rt, alloc, config, node, place, consoles)?;
-        match follow(rt, alloc, config, left, &mut outside)? {
+        match follow(rt, alloc, config, left, &mut outside, run)? {
             After::Ended(answered) => return Ok(answered),
             After::Next(next) => node = next,
         }
@@ -163,6 +166,7 @@ fn follow<R, T>(
     config: &Config,
     left: NodeLeft,
     outside: &mut Outside<T, R>,
+    run: &RunEnd,
 ) -> Result<After, RunFailure>
 where
     R: Clock + Net<Listener = TcpListener, Stream = TcpStream> + StateFiles + UnixSockets + Wait,
@@ -184,6 +188,7 @@ where
         Ok(CommandsEnd::Stopped) => {
             if outside.journal.bring_back(&state, outside.plans.as_slice()) {
                 outside.log.tell(rt, &Event::KeptAgain);
+                run.renew(rt);
             }
             let node = next_node(rt, alloc, config, &state, saved.as_slice(), outside)?;
             Ok(After::Next(node))
@@ -226,10 +231,11 @@ fn next_node<R, T>(
     outside: &mut Outside<T, R>,
 ) -> Result<NextNode, RunFailure>
 where
-    R: Clock + Net<Listener = TcpListener, Stream = TcpStream> + UnixSockets,
+    R: Clock + Net<Listener = TcpListener, Stream = TcpStream> + StateFiles + UnixSockets,
     T: Stores,
 {
     let mut node = NextNode::new(rt, alloc, config, state, false)?;
+    doubt(rt, alloc, node.folders.as_mut_slice())?;
     // (a peer that says so once more is a bad one, and harms itself alone)
     node.believes_all = outside.was_behind;
     begin_again(alloc, outside.stores, node.folders.as_slice());

@@ -1,5 +1,6 @@
 //! What a run would meet at its start.
 use crate::asked::LONG_PATH;
+use crate::begun::told_alone;
 use crate::failure::RunFailure;
 use crate::files::{StateFiles, directory_of};
 use crate::last_run::{LastRun, StatePaths, read_last_run};
@@ -47,6 +48,9 @@ where
         + UnixSockets,
     O: Write,
 {
+    if let Some(about) = told_alone(config) {
+        writeln!(output, "{about}")?;
+    }
     let known = known_state(rt, alloc, config, output)?;
     with_known(rt, alloc, config, known, output)
 }

@@ -53,6 +53,7 @@ fn settle_folder<T: Stores>(
         settings,
         core,
         kept,
+        is_doubted,
         ..
     } = folder;
     let under = plans_under(plans.as_slice(), &settings.id);
@@ -71,6 +72,7 @@ fn settle_folder<T: Stores>(
         core,
         kept,
         is_unsettled,
+        is_doubted,
     })
 }
 

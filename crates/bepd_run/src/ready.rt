@@ -1,10 +1,10 @@
 //! What a run has before its threads begin.
-use crate::begun::{keep_all, make_ready};
+use crate::begun::{keep_all, make_ready, told_alone};
 use crate::failure::RunFailure;
 use crate::files::StateFiles;
 use crate::journal::StateJournal;
 use crate::last_run::{FolderPlans, LastRun, StatePaths, read_last_run};
-use crate::marks::{all_forgotten, require_marks, write_marks};
+use crate::marks::{all_forgotten, doubt, require_marks, write_marks};
 use crate::naming::at_state;
 use crate::nodes::NextNode;
 use crate::plans::settle_all;
@@ -53,6 +53,9 @@ impl<'a, R> Ready<'a, R> {
         let last = last_run(rt, alloc, config, paths)?;
         let node = begun(rt, alloc, stores, config, &last)?;
         *notes = noted(rt, alloc, config, &last.state, &node)?;
+        if let Some(about) = told_alone(config) {
+            notes.push(Text::from_str(alloc, about)?)?;
+        }
         settled(rt, alloc, stores, config, paths, node, last)
     }
 }
@@ -86,12 +89,13 @@ where
     R: Clock + Net<Listener = TcpListener, Stream = TcpStream> + StateFiles + UnixSockets,
     T: Stores,
 {
-    let node = NextNode::new(rt, alloc, config, &last.state, last.is_in_doubt)?;
+    let mut node = NextNode::new(rt, alloc, config, &last.state, last.is_in_doubt)?;
     let folders = node.folders.as_slice();
     keep_all(stores, config)?;
     require_marks(rt, alloc, config.device, last, folders, false)?;
     make_ready(alloc, stores, folders)?;
     require_marks(rt, alloc, config.device, last, folders, true)?;
+    doubt(rt, alloc, node.folders.as_mut_slice())?;
     Ok(node)
 }
 

@@ -53,6 +53,9 @@ pub struct RunStyle {
 /// | `conflicts F` | `conflict NAME` for each conflict copy that is there, then `end` |
 /// | `folders` | `folder STATE files N directories N need N F` for each folder, then `end`; STATE is `here`, `away`, `held` or `in-use` |
 /// | `peers` | `peer ID up` or `peer ID down` for each peer, then `end` |
+/// | `status` | how all is, for a person |
+/// | `status json` | the same as one JSON document on a line |
+/// | `status page` | the same as a page of HTML |
 /// | `history F` | `history F changes N open N` |
 /// | `verify F` | `verify F yes` or `verify F no` |
 ///
@@ -72,7 +75,8 @@ pub struct RunStyle {
 /// |---|---|
 /// | `bepd vV runs by FILE`, `listening on ADDRESS for ID`, `folder F: N names recorded, in PATH` | it begins |
 /// | `folder 1: rescann is no key, ignored; rescan?` | (without the time) the configuration has a key that is none |
-/// | `folder F: nothing is recorded of it, ..` | (without the time) the state has nothing of a folder that a run of this device had |
+/// | `no [[peer]] is in the configuration: ..` | (without the time) it has no peer |
+/// | `folder F: nothing is recorded of it, ..` | (without the time) the state has nothing of a folder that a run had |
 /// | `connected ID: NAME, PROGRAM VERSION, from ADDRESS (not verified)` | a connection with the peer is up: this is what it says of itself |
 /// | `not shared F: ID ..` | the folder isn't kept alike with the peer that is connected, and what to do |
 /// | `not reached ID: ADDRESS: WHY; ..` | no connection with the peer can be made; told again where it is for another reason |
@@ -96,7 +100,7 @@ pub struct RunStyle {
 /// | `state not written: ..` | the journal can't be written: nothing is put in place, and peers are told nothing; it is tried again within 30 seconds |
 /// | `state written again` | it can be |
 /// | `no room F: ..` | the disk is full; it is tried again each minute |
-/// | `scanning F N of N`, `pulling F N of N` | how far a scan or a pull of many names is |
+/// | `scanning F N of N: N MB read`, `pulling F N of N` | how far a scan of all names, or a pull of many, is |
 /// | `the input ended, ..` | there are no more commands, and the run ends |
 /// | `no commands by PATH: ..` | the socket beside the state can't be made |
 /// | `ended: the state is written` | the run ended |
@@ -129,7 +133,7 @@ where
     let alloc = rt.alloc();
     let Configured { config, unknown } = config_at(rt, alloc, path)?;
     let paths = StatePaths::new(alloc, config.state.as_str())?;
-    let _lock = lock_state(rt, alloc, config.state.as_str())?;
+    let _lock = lock_state(rt, alloc, &paths)?;
     let turns = Turns::new(false);
     let answers = Channel::new(rt, alloc, output.as_raw_fd(), Patience::Short)?;
     let inlets = Inlets::new(alloc)?;

@@ -72,6 +72,7 @@ fn folder_of(
         core,
         kept,
         is_unsettled: false,
+        is_doubted: false,
     })
 }
 

@@ -44,7 +44,7 @@ pub struct Answerers<'a> {
     pub others: &'a Sender<Asked>,
 }
 
-/// Takes the command of each connection, one after the other, for whoever answers it, until the run ends. It waits for nobody who answers: where too many
+/// Takes the command of each connection, one after the other, for whoever answers it, until the run ends or the socket is to be made again. It waits for nobody who answers: where too many
 /// commands wait, one more is refused.
 pub fn take_asked<R: Clock + Wait>(
     rt: &R,
@@ -55,7 +55,7 @@ pub fn take_asked<R: Clock + Wait>(
 ) {
     for _ in rt.forever() {
         let accepted = listener.accept();
-        if run.is_over(rt) {
+        if !run.goes_on(rt) {
             return;
         }
         match accepted {

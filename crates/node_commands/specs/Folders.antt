@@ -3,7 +3,7 @@ use Rattle.std.specs.Prelude.{◌≡◌, ℕ, Bool, List, bytes_eq, position, sl
 use Rattle.std.specs.Option.{ok_or}
 use Rattle.node_folder.specs.declared.folder.FolderWorker.{FolderWorker}
 use Rattle.node_commands.specs.declared.command.Command.{Command}
-use Rattle.node_commands.specs.declared.command.Command.TheVariants.{Best, Conflicts, Folders, History, Local, Need, Peers, Quit, Scan, Skipped, Verify}
+use Rattle.node_commands.specs.declared.command.Command.TheVariants.{Best, Conflicts, Folders, History, Local, Need, Peers, Quit, Scan, Skipped, Status, StatusJson, StatusPage, Verify}
 use Rattle.node_commands.specs.declared.refusal.Refusal.{Refusal}
 use Rattle.node_commands.specs.declared.refusal.Refusal.TheVariants.{UnknownFolder}
 
@@ -29,6 +29,9 @@ folder_id (Local id) = Some id.now
 folder_id (Conflicts id) = Some id.now
 folder_id Folders = None
 folder_id Peers = None
+folder_id Status = None
+folder_id StatusJson = None
+folder_id StatusPage = None
 folder_id (History id) = Some id.now
 folder_id (Verify id) = Some id.now
 folder_id Quit = None

@@ -10,11 +10,14 @@ use crate::command_lines::CommandLines;
 use crate::lines::{InputLine, is_last};
 use crate::listing::{Listed, list, list_needed};
 use crate::refusal::{Refusal, tell};
+use crate::status::{standing_of, status_of};
 use file_store::{FileStore, Gate};
 use folder_calls::FolderCalls;
-use node_context::{Context, Event, Host, NodeFault};
+use node_context::{Context, Event, Host, NodeFault, Standing};
 use node_files::{Marked, Whereabouts};
-use node_folder::{FolderWorker, scan_folder};
+use node_folder::{FolderWorker, release, scan_folder};
+use node_status::{Status, json_of, push_page, push_screen};
+use std::alloc::Global;
 use std::io::{self, Write};
 use std::sync::Wait;
 use std::time::Duration;
@@ -34,6 +37,8 @@ pub struct Answerer<'x, 'h, 'p, V, S, W> {
     pub folders: Vec<FolderWorker<'x, S, W>>,
     /// Their histories.
     pub histories: &'h V,
+    /// The name of this device.
+    pub name: &'p str,
     /// The identities of the peers.
     pub peers: &'p [DeviceId],
 }
@@ -151,6 +156,7 @@ where
     let Answerer {
         folders,
         histories,
+        name,
         peers,
     } = answerer;
     let folders = folders.as_mut_slice();
@@ -184,6 +190,9 @@ where
         }
         Command::Folders => list_folders(cx, folders, output),
         Command::Peers => list_peers(cx, peers, output),
+        Command::Status => tell_status(&status_of(cx, name, folders, peers)?, cx.alloc, output),
+        Command::StatusJson => tell_json(&status_of(cx, name, folders, peers)?, cx.alloc, output),
+        Command::StatusPage => tell_page(&status_of(cx, name, folders, peers)?, cx.alloc, output),
         Command::History(id) => tell_history(folder_in(folders, id)?, output),
         Command::Verify(id) => {
             let place = place_in(folders, id)?;
@@ -245,7 +254,7 @@ fn scan<R: Host, S: FileStore + Marked, W: FolderCalls, G: Gate, O: Write>(
     if let Some(stop) = sum.stopped {
         return Err(Refusal::Scan(stop));
     }
-    worker.folder.presence.check(cx.rt);
+    release(cx, worker.folder);
     writeln!(
         output,
         "scan {} recorded {} unchanged {} other {}",
@@ -283,13 +292,12 @@ fn list_folders<R: Host, S: FileStore + Marked, W: FolderCalls, G, O: Write>(
     output: &mut O,
 ) -> Result<(), Refusal> {
     for worker in folders.iter_mut() {
-        let state = match worker.store.look() {
-            Whereabouts::There if worker.folder.presence.is_held(cx.rt) => "held",
-            Whereabouts::There => "here",
-            Whereabouts::InUse => "in-use",
-            Whereabouts::Away | Whereabouts::Unsettled => "away",
-            Whereabouts::Held => "held",
-            Whereabouts::Unknown => return Err(Refusal::OutOfMemory),
+        let state = match standing_of(cx, worker) {
+            Some(Standing::There) => "here",
+            Some(Standing::InUse) => "in-use",
+            Some(Standing::Away) => "away",
+            Some(Standing::Held) => "held",
+            None => return Err(Refusal::OutOfMemory),
         };
         let counts = worker.calls.counts().value;
         writeln!(
@@ -320,6 +328,29 @@ fn list_peers<R: Host, G, O: Write>(
         writeln!(output, "peer {id} {state}")?;
     }
     output.write_all(b"end\n")?;
+    Ok(())
+}
+
+// Writes how all is, for a person.
+fn tell_status<O: Write>(status: &Status, alloc: Global, output: &mut O) -> Result<(), Refusal> {
+    let mut screen = String::new(alloc);
+    push_screen(&mut screen, status)?;
+    output.write_all(screen.as_bytes())?;
+    Ok(())
+}
+
+// The same as JSON, on one line.
+fn tell_json<O: Write>(status: &Status, alloc: Global, output: &mut O) -> Result<(), Refusal> {
+    let json = json_of(alloc, status)?;
+    writeln!(output, "{json}")?;
+    Ok(())
+}
+
+// The same as a page for a browser.
+fn tell_page<O: Write>(status: &Status, alloc: Global, output: &mut O) -> Result<(), Refusal> {
+    let mut page = String::new(alloc);
+    push_page(&mut page, status)?;
+    output.write_all(page.as_bytes())?;
     Ok(())
 }
 

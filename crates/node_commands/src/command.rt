@@ -22,6 +22,12 @@ pub(crate) enum Command<'a> {
     Folders,
     /// Which peers are up.
     Peers,
+    /// How all is, for a person.
+    Status,
+    /// The same as one JSON document.
+    StatusJson,
+    /// The same as a page for a browser.
+    StatusPage,
     /// How long its history is.
     History(&'a str),
     /// Whether its history leads to what it is.
@@ -40,6 +46,15 @@ impl<'a> Command<'a> {
         }
         if line == "folders" {
             return Some(Command::Folders);
+        }
+        if line == "status" {
+            return Some(Command::Status);
+        }
+        if line == "status json" {
+            return Some(Command::StatusJson);
+        }
+        if line == "status page" {
+            return Some(Command::StatusPage);
         }
         if line == "quit" {
             return Some(Command::Quit);

@@ -7,6 +7,7 @@ mod command_lines;
 mod lines;
 mod listing;
 mod refusal;
+mod status;
 
 pub use answer::{Answerer, CommandsEnd, Histories, answer_commands};
 pub use command_lines::CommandLines;

@@ -27,6 +27,11 @@ impl<R: Clock + Wait, G> Context<'_, R, G> {
         self.log.tell(self.rt, event);
     }
 
+    /// Takes note that this happened, without a line.
+    pub fn note(&self, event: &Event) {
+        self.log.note(self.rt, event);
+    }
+
     /// Whether the node stops.
     pub fn is_stopping(&self) -> bool {
         self.connections.is_stopping(self.rt)

@@ -103,8 +103,10 @@ pub enum ScanEvent<'a> {
     Scanned(ScanSum),
     /// A scan was ended with the node.
     Ended(ScanSum),
-    /// A scan is at this name of so many.
-    At(u64, u64),
+    /// A scan of all names is at this one of so many, and has read so many bytes.
+    At(u64, u64, u64),
+    /// A scan of all names is over; whether it came to its end. No line says so.
+    Over(bool),
     /// A scan left out this name, which was not so before.
     Skipped(&'a str, SkipWhy),
     /// It left out so many more.
@@ -132,6 +134,10 @@ pub enum PullEvent<'a> {
     Kept(&'a SafeName),
     /// So many names were pulled, of so many.
     At(u64, u64),
+    /// A round of pulls begins. No line says so.
+    Begun,
+    /// A round of pulls is over, and so many names are needed. No line says so.
+    Over(u64),
     /// The name could not be pulled, and what the system said, where that is why.
     Failed(&'a SafeName, PullFailure, Option<io::Error>),
     /// The same, for the folder refused it, or memory is out.
@@ -145,12 +151,20 @@ pub enum PullEvent<'a> {
 }
 
 impl Event<'_> {
-    // How far something is, where it only says that.
-    pub(crate) fn far(&self) -> Option<u64> {
+    // Whether a line says it.
+    pub(crate) fn has_line(&self) -> bool {
+        !matches!(
+            self,
+            Event::Scan(_, ScanEvent::Over(_))
+                | Event::Pull(_, PullEvent::Begun | PullEvent::Over(_))
+        )
+    }
+
+    // Where it only says how far something is: whether that begins.
+    pub(crate) fn begins(&self) -> Option<bool> {
         match self {
-            Event::Scan(_, ScanEvent::At(at, _)) | Event::Pull(_, PullEvent::At(at, _)) => {
-                Some(*at)
-            }
+            Event::Scan(_, ScanEvent::At(at, _, bytes)) => Some(*at == 0 && *bytes == 0),
+            Event::Pull(_, PullEvent::At(at, _)) => Some(*at <= 1),
             _ => None,
         }
     }

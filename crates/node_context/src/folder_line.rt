@@ -7,6 +7,9 @@ use sync_names::SafeName;
 use sync_pull::PullFailure;
 use sync_scan::ScanSum;
 
+// How many bytes are told as one MB.
+const MEGABYTE: u64 = 1_000_000;
+
 /// Appends what happened to the files of the folder.
 pub(crate) fn push_scan_event(
     line: &mut Vec<u8>,
@@ -26,7 +29,18 @@ pub(crate) fn push_scan_event(
             push_sum(line, folder, sum)?;
             Ok(line.extend_from_slice(b": stopped")?)
         }
-        ScanEvent::At(at, of) => write!(line, "scanning {folder} {at} of {of}"),
+        ScanEvent::At(at, of, bytes) => {
+            write!(line, "scanning {folder}")?;
+            // (how many names there are is known once the first is scanned)
+            if *of > 0 {
+                write!(line, " {at} of {of}")?;
+            }
+            match *bytes / MEGABYTE {
+                0 => Ok(()),
+                read => write!(line, ": {read} MB read"),
+            }
+        }
+        ScanEvent::Over(_) => Ok(()),
         ScanEvent::Skipped(name, why) => push_skipped(line, folder, name, *why),
         ScanEvent::SkippedMore(count) => write!(
             line,
@@ -70,27 +84,38 @@ pub(crate) fn push_pull_event(
         PullEvent::Pulled(name) => push_named(line, "pulled", folder, name),
         PullEvent::Kept(name) => push_named(line, "conflict copy", folder, name),
         PullEvent::At(at, of) => write!(line, "pulling {folder} {at} of {of}"),
-        PullEvent::Failed(name, why, said) => {
+        PullEvent::Begun | PullEvent::Over(_) => Ok(()),
+        PullEvent::Failed(name, _, _)
+        | PullEvent::Refused(name, _)
+        | PullEvent::Unsupported(name) => {
             push_named(line, "failed", folder, name)?;
-            write!(line, ": {} {why}{}", why.number(), advice(*why))?;
-            match said {
-                Some(error) => write!(line, ": {error}"),
-                None => Ok(()),
-            }
-        }
-        PullEvent::Refused(name, why) => {
-            push_named(line, "failed", folder, name)?;
-            write!(line, ": {} {why}", why.number())
-        }
-        PullEvent::Unsupported(name) => {
-            push_named(line, "failed", folder, name)?;
-            write!(line, ": it is neither a file nor a directory{UNSUPPORTED}")
+            line.extend_from_slice(b": ")?;
+            push_failure(line, event)
         }
         PullEvent::HistoryFull => write!(line, "history full {folder}: the node begins anew"),
         PullEvent::NoRoom => write!(
             line,
             "no room {folder}: the disk is full, or a quota: make room, it is tried again each minute"
         ),
+    }
+}
+
+/// Appends why a name could not be pulled, where that is what happened.
+pub(crate) fn push_failure(line: &mut Vec<u8>, event: &PullEvent) -> io::Result<()> {
+    match event {
+        PullEvent::Failed(_, why, said) => {
+            write!(line, "{} {why}{}", why.number(), advice(*why))?;
+            match said {
+                Some(error) => write!(line, ": {error}"),
+                None => Ok(()),
+            }
+        }
+        PullEvent::Refused(_, why) => write!(line, "{} {why}", why.number()),
+        PullEvent::Unsupported(_) => write!(
+            line,
+            "it is neither a file nor a directory{UNSUPPORTED}"
+        ),
+        _ => Ok(()),
     }
 }
 

@@ -1,9 +1,11 @@
 //! What all threads of a node share: the clock, what is told, the connections that are up, whether a node stops, why it did not run, and how calls are lent.
 #![tactic(auto)]
 
+mod board;
 mod clock;
 mod connections;
 mod context;
+mod doing;
 mod endpoint;
 mod event;
 mod event_line;
@@ -14,9 +16,11 @@ mod lent;
 mod log;
 mod peer_line;
 
+pub use board::{Board, FolderBoard, PeerBoard};
 pub use clock::moment;
 pub use connections::{ConnectionId, Connections};
 pub use context::Context;
+pub use doing::{Doing, Standing};
 pub use endpoint::Endpoint;
 pub use event::{Event, Heard, PeerEvent, PullEvent, ScanEvent, ShareGap, SkipWhy};
 pub use fault::NodeFault;

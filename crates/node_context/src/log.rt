@@ -1,4 +1,5 @@
-//! The log of a node: lines of events that wait until they are written on standard error.
+//! The log of a node: lines of events that wait until they are written on standard error, and what they come to.
+use crate::board::Board;
 use crate::clock::moment;
 use crate::event::Event;
 use crate::event_line::{push_event, push_line};
@@ -40,6 +41,7 @@ pub struct Log {
     waiting: Mutex<Waiting>,
     // Notified when there is something to write, and at the end.
     changes: Condvar,
+    board: Mutex<Board>,
 }
 
 // What waits to be written.
@@ -61,7 +63,7 @@ impl Log {
         Log::of(alloc, Some(progress))
     }
 
-    /// Takes no notice of any.
+    /// Has no lines of any.
     pub fn quiet(alloc: Global) -> Log {
         Log::of(alloc, None)
     }
@@ -78,18 +80,35 @@ impl Log {
                 is_ended: false,
             }),
             changes: Condvar::new(),
+            board: Mutex::new(Board::new(alloc)),
         }
     }
 
-    /// Takes an event. Where memory runs out, or too much waits, it is counted as left out.
+    /// What events came to, for who asks.
+    pub fn board(&self) -> &Mutex<Board> {
+        &self.board
+    }
+
+    /// Takes an event of which no line is written.
+    pub fn note<R: Clock + Wait>(&self, rt: &R, event: &Event) {
+        let now = moment(rt);
+        // (what memory runs out for isn't known to who asks)
+        let _ = self.board.lock(rt).take(now.seconds(), event);
+    }
+
+    /// Takes an event. Where memory runs out, or too much waits, its line is counted as left out.
     pub fn tell<R: Clock + Wait>(&self, rt: &R, event: &Event) {
+        self.note(rt, event);
         let Some(progress) = self.progress else {
             return;
         };
+        if !event.has_line() {
+            return;
+        }
         let now = moment(rt);
         let mut waiting = self.waiting.lock(rt);
-        let is_new = match event.far() {
-            Some(at) => waiting.take_far(progress, now, at, event),
+        let is_new = match event.begins() {
+            Some(begins) => waiting.take_far(progress, now, begins, event),
             None => {
                 waiting.take(now, event);
                 true
@@ -122,10 +141,16 @@ impl Waiting {
     }
 
     // How far something is, if it has taken long enough since it began, or was told. Returns whether it has.
-    fn take_far(&mut self, progress: ProgressStyle, now: Moment, at: u64, event: &Event) -> bool {
+    fn take_far(
+        &mut self,
+        progress: ProgressStyle,
+        now: Moment,
+        begins: bool,
+        event: &Event,
+    ) -> bool {
         let seconds = now.seconds();
-        let is_due = at > 1 && seconds >= self.next;
-        if at <= 1 || is_due {
+        let is_due = !begins && seconds >= self.next;
+        if begins || is_due {
             self.next = seconds.saturating_add(progress.seconds());
         }
         if !is_due {

@@ -65,6 +65,7 @@ pub(crate) fn push_peer_event(
         }
         PeerEvent::Gone(why) => {
             push_with(line, "gone ", peer)?;
+            line.extend_from_slice(b": ")?;
             push_why(line, why)
         }
         PeerEvent::Anew(why) => {
@@ -73,13 +74,17 @@ pub(crate) fn push_peer_event(
         }
         PeerEvent::Silent => {
             push_with(line, "gone ", peer)?;
-            Ok(line.extend_from_slice(b": no ClusterConfig came within 10 seconds")?)
+            line.extend_from_slice(b": ")?;
+            Ok(line.extend_from_slice(SILENT)?)
         }
     }
 }
 
 const OWN_IDENTITY: &[u8] =
     b": who is there has the identity of this device: each device needs one of its own (bepd new makes one)";
+
+/// Why a connection is ended that says too little.
+pub(crate) const SILENT: &[u8] = b"no ClusterConfig came within 10 seconds";
 
 fn push_with(line: &mut Vec<u8>, words: &str, peer: DeviceId) -> io::Result<()> {
     line.extend_from_slice(words.as_bytes())?;
@@ -128,8 +133,8 @@ pub(crate) fn push_device(line: &mut Vec<u8>, device: DeviceId) -> io::Result<()
     Ok(())
 }
 
-fn push_why(line: &mut Vec<u8>, why: &ReaderStop) -> io::Result<()> {
-    line.extend_from_slice(b": ")?;
+/// Appends why a connection ended.
+pub(crate) fn push_why(line: &mut Vec<u8>, why: &ReaderStop) -> io::Result<()> {
     match why {
         ReaderStop::InputEnded => line.extend_from_slice(b"the connection ended")?,
         ReaderStop::Read(_) => line.extend_from_slice(b"a read failed")?,
@@ -153,13 +158,13 @@ fn push_why(line: &mut Vec<u8>, why: &ReaderStop) -> io::Result<()> {
 // The most characters of what a peer says that are told.
 const MAX_CHARS: usize = 200;
 
-// Appends what a peer says, or the front of it, with `?` for each control character.
+// The same of a reason.
 fn push_reason(line: &mut Vec<u8>, reason: &Text) -> io::Result<()> {
     push_front(line, reason.as_str())
 }
 
-// Appends a text that a peer gave, or the front of it, in the same way.
-fn push_front(line: &mut Vec<u8>, text: &str) -> io::Result<()> {
+/// Appends a text that a peer gave, or the front of it, with `?` for each control character.
+pub(crate) fn push_front(line: &mut Vec<u8>, text: &str) -> io::Result<()> {
     for char in text.chars().take(MAX_CHARS) {
         let shown = if char.is_control() { '?' } else { char };
         write!(line, "{shown}")?;

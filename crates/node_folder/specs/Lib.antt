@@ -4,3 +4,5 @@ pub mod Schedules
 pub mod LeftOver
 -- when versions are removed
 pub mod Trash
+-- when a folder waits of whose names none is there
+pub mod Held

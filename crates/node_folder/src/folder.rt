@@ -51,8 +51,13 @@ pub struct NodeFolder {
 }
 
 impl NodeFolder {
-    /// One that was not scanned yet. Does not allocate.
-    pub fn new(alloc: Global, settings: FolderSettings, is_unsettled: bool) -> NodeFolder
+    /// One that was not scanned yet, and waits where none of its names is there: if it `is_doubted` even of one, else of ten or more. Does not allocate.
+    pub fn new(
+        alloc: Global,
+        settings: FolderSettings,
+        is_unsettled: bool,
+        is_doubted: bool,
+    ) -> NodeFolder
         ensures { result.settings ≡ settings }
     {
         NodeFolder {
@@ -60,7 +65,7 @@ impl NodeFolder {
             times: ScanTimes::new(),
             skips: Skips::new(alloc),
             notes: Notes::new(alloc),
-            presence: Presence::new(),
+            presence: Presence::new(is_doubted),
             is_unsettled,
         }
     }

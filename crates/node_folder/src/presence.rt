@@ -1,6 +1,7 @@
 //! Whether a folder is there, and what is recorded of it with it.
-ghost use Rattle.std.specs.Prelude.{◌↔◌, ◌≢◌, IsTrue};
+ghost use Rattle.std.specs.Prelude.{◌≡◌, ◌↔◌, ◌≢◌, IsTrue};
 ghost use Rattle.node_files.specs.declared.marked.Whereabouts.TheVariants.{Unknown};
+ghost use Rattle.node_folder.specs.Held.{is_lost};
 
 use crate::folder::{FolderWorker, NodeFolder};
 use file_store::{FileStore, Stat};
@@ -11,7 +12,7 @@ use std::alloc::AllocError;
 use std::sync::{Mutex, Wait};
 use std::time::Clock;
 
-/// How many names must be recorded of a folder for it to wait where none of them is there.
+/// How many names must be recorded of a folder for it to wait where none of them is there. Where it is doubted one is enough.
 const MIN_NAMES: u64 = 10;
 
 /// How many records are read at once.
@@ -27,16 +28,19 @@ pub struct Presence {
 #[derive(Drop)]
 struct Told {
     at: Whereabouts,
+    // Whether it waits even where one name is recorded: it was away before, or nobody says whose its marker is.
+    is_doubted: bool,
     is_checked: bool,
     is_held: bool,
 }
 
 impl Presence {
     /// It is taken to be there, and nobody looked for its names yet. Does not allocate.
-    pub fn new() -> Presence {
+    pub fn new(is_doubted: bool) -> Presence {
         Presence {
             told: Mutex::new(Told {
                 at: Whereabouts::There,
+                is_doubted,
                 is_checked: false,
                 is_held: false,
             }),
@@ -53,11 +57,18 @@ impl Presence {
         self.told.lock(rt).is_held
     }
 
-    /// Its names are there, or need not be.
-    pub fn check<R: Wait>(&self, rt: &R) {
+    // Its names are there, or need not be. Returns whether it waited.
+    fn check<R: Wait>(&self, rt: &R) -> bool {
         let mut told = self.told.lock(rt);
+        let was_held = told.is_held;
         told.is_checked = true;
         told.is_held = false;
+        was_held
+    }
+
+    // Whether it waits even where one name is recorded.
+    fn is_doubted<R: Wait>(&self, rt: &R) -> bool {
+        self.told.lock(rt).is_doubted
     }
 
     // Takes where it is now. Returns whether that is news.
@@ -67,6 +78,7 @@ impl Presence {
             return false;
         }
         told.at = at;
+        told.is_doubted = true;
         told.is_checked = false;
         told.is_held = false;
         true
@@ -88,8 +100,15 @@ fn is_news(told: Whereabouts, at: Whereabouts) -> bool
     at != told && at != Whereabouts::Unknown
 }
 
-/// Where the folder is now, which is told where it is news. One that has come, and of whose names that are recorded none is there, though there are ten or more
-/// of them, is held: that is told too. O(n) for n such names, and else O(1).
+/// The names of the folder are there, or need not be. Where it waited, that it is back is told.
+pub fn release<R: Clock + Wait, G>(cx: &Context<R, G>, folder: &NodeFolder) {
+    if folder.presence.check(cx.rt) {
+        cx.tell(&Event::Scan(folder.id(), ScanEvent::Back));
+    }
+}
+
+/// Where the folder is now, which is told where it is news. One of whose names that are recorded none is there is held, where there are ten or more of them at the
+/// start, or any where it came back or nobody says whose its marker is: that is told too, and so is its end. O(n) for n such names, and else O(1).
 pub fn look_at_folder<R, S, W, G>(
     cx: &Context<R, G>,
     worker: &mut FolderWorker<S, W>,
@@ -111,9 +130,10 @@ where
     if found != Whereabouts::There || folder.presence.is_checked(cx.rt) {
         return found;
     }
+    let is_doubted = folder.presence.is_doubted(cx.rt);
     match names_lost(worker) {
-        Ok(0) => {
-            folder.presence.check(cx.rt);
+        Ok(count) if !is_lost(count, is_doubted) => {
+            release(cx, folder);
             Whereabouts::There
         }
         Ok(count) => {
@@ -137,7 +157,18 @@ fn tell_whereabouts<R: Clock + Wait, G>(cx: &Context<R, G>, folder: &NodeFolder,
     cx.tell(&Event::Scan(folder.id(), event));
 }
 
-// How many files and directories are recorded, where none of them is there; 0 where one is, or may be, or they are fewer than ten.
+// Whether a folder waits of which none of so many names is there.
+fn is_lost(count: u64, is_doubted: bool) -> bool
+    ensures { result ≡ is_lost count is_doubted }
+{
+    if is_doubted {
+        count > 0
+    } else {
+        count >= MIN_NAMES
+    }
+}
+
+// How many files and directories are recorded, where none of them is there; 0 where one is, or may be.
 fn names_lost<S: FileStore, W: FolderCalls>(
     worker: &mut FolderWorker<S, W>,
 ) -> Result<u64, AllocError> {
@@ -159,5 +190,5 @@ fn names_lost<S: FileStore, W: FolderCalls>(
             count = count.saturating_add(1);
         }
     }
-    Ok(if count < MIN_NAMES { 0 } else { count })
+    Ok(count)
 }

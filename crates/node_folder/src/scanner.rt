@@ -106,12 +106,13 @@ where
 {
     match look_at_folder(cx, &mut folder.worker) {
         Whereabouts::There => {}
-        Whereabouts::Held => return ScanOutcome::Partly,
         Whereabouts::Unsettled => {
             cx.stop();
             return ScanOutcome::Away;
         }
-        Whereabouts::Away | Whereabouts::InUse | Whereabouts::Unknown => return ScanOutcome::Away,
+        Whereabouts::Away | Whereabouts::Held | Whereabouts::InUse | Whereabouts::Unknown => {
+            return ScanOutcome::Away;
+        }
     }
     if !folder.worker.folder.notes.is_seen(cx.rt) {
         return ScanOutcome::Unseen;
@@ -140,17 +141,24 @@ where
     let mut seen = Seen {
         rt: cx.rt,
         id: folder.id(),
-        log: if is_told { Some(cx.log) } else { None },
+        log: cx.log,
+        is_told,
         left_out: LeftOut::new(cx),
         notes: &folder.notes,
         connections: cx.connections,
         count: 0,
+        names: 0,
+        listed: 0,
+        bytes: 0,
     };
+    seen.tell();
     let sum = scan_all(cx.rt, cx.alloc, store, calls, cx.gate, moment, &mut seen);
     let scan = FolderScan {
         sum,
         seen: seen.count,
     };
+    let is_whole = scan.outcome() == ScanOutcome::Whole;
+    cx.note(&Event::Scan(folder.id(), ScanEvent::Over(is_whole)));
     if is_told {
         tell_scan(cx, folder.id(), sum);
     }
@@ -170,26 +178,46 @@ fn tell_scan<R: Clock + Wait, G>(cx: &Context<R, G>, id: &str, sum: ScanSum) {
     }
 }
 
-// What a scan that is under way says: how far it is, for the log if there is one, what it leaves out, and which names are to be scanned again soon.
+// What a scan that is under way says: how far it is, in lines if that is to be told, what it leaves out, and which names are to be scanned again soon.
 #[derive(Drop)]
 struct Seen<'a, R> {
     rt: &'a R,
     id: &'a str,
-    log: Option<&'a Log>,
+    log: &'a Log,
+    is_told: bool,
     left_out: LeftOut<'a, R>,
     notes: &'a Notes,
     connections: &'a Connections,
     // How many names it came to.
     count: u64,
+    // How many of the listing were scanned, of how many, and how many bytes were read.
+    names: u64,
+    listed: u64,
+    bytes: u64,
+}
+
+impl<R: Clock + Wait> Seen<'_, R> {
+    // Says how far it is.
+    fn tell(&self) {
+        let event = Event::Scan(self.id, ScanEvent::At(self.names, self.listed, self.bytes));
+        if self.is_told {
+            self.log.tell(self.rt, &event);
+        } else {
+            self.log.note(self.rt, &event);
+        }
+    }
 }
 
 impl<R: Clock + Wait> Progress for Seen<'_, R> {
-    fn hashed(&mut self, _bytes: u64) {}
+    fn hashed(&mut self, bytes: u64) {
+        self.bytes = self.bytes.saturating_add(bytes);
+        self.tell();
+    }
 
     fn scanned(&mut self, names: u64, listed: u64) {
-        if let Some(log) = self.log {
-            log.tell(self.rt, &Event::Scan(self.id, ScanEvent::At(names, listed)));
-        }
+        self.names = names;
+        self.listed = listed;
+        self.tell();
     }
 
     fn came_to(&mut self, name: &SafeName, scanned: &Result<Scanned, StoreRefusal>) {

@@ -27,7 +27,7 @@ pub enum ScanOutcome {
     Whole,
     /// It stopped before its end, or passed over names in a directory that can't be read.
     Partly,
-    /// The folder isn't there.
+    /// The folder isn't there, or waits.
     Away,
     /// It is there, and nobody looked at it yet.
     Unseen,

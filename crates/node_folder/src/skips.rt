@@ -3,6 +3,7 @@ use file_dir::Skipped;
 use file_store::StoreRefusal;
 use node_context::{Connections, Context, Event, ScanEvent, SkipWhy};
 use node_files::{Marked, Whereabouts};
+use node_status::Noted;
 use record_lines::push_text;
 use std::alloc::{AllocError, Global};
 use std::io::{self, Write};
@@ -49,6 +50,21 @@ impl Skips {
             }
         }
         Ok(lines)
+    }
+
+    /// The first of them, so many at most, and how many more there are. Fails only if out of memory. O(n) for so many names.
+    pub fn noted<R: Wait>(&self, rt: &R, most: usize) -> Result<(Vec<Noted>, u64), AllocError> {
+        let mut noted = Vec::new(self.alloc);
+        let last = self.last.lock(rt);
+        for skip in last.iter().take(most) {
+            let why = skip.why;
+            noted.push(Noted {
+                name: String::from_str(self.alloc, skip.name.as_str())?,
+                when: None,
+                why: format!(in self.alloc; "{why}")?,
+            })?;
+        }
+        Ok((noted, last.len().saturating_sub(most) as u64))
     }
 
     /// Takes what a scan of the folder left out, and tells the names that were not left out before, or for another reason. Where the scan did not

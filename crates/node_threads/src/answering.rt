@@ -179,6 +179,7 @@ where
     let mut answerer = Answerer {
         folders,
         histories,
+        name: node.name,
         peers: devices.as_slice(),
     };
     answer_commands(cx, &mut answerer, &mut console.lines, &mut console.output)

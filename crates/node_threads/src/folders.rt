@@ -23,6 +23,8 @@ pub struct StartFolder<C> {
     pub kept: u64,
     /// Whether pulls of the last run may have put something in place that wasn't looked at yet, since the folder is away.
     pub is_unsettled: bool,
+    /// Whether none of its names is there, and nobody said whose its marker is: then it waits, however few they are.
+    pub is_doubted: bool,
 }
 
 /// What a node shares among its threads.
@@ -53,10 +55,11 @@ pub(crate) fn open_all<R: Wait, C: FolderCore + Drop>(
             settings,
             core,
             is_unsettled,
+            is_doubted,
             ..
         } = folder;
         let history_limit = settings.history_limit;
-        opened.push(NodeFolder::new(alloc, settings, is_unsettled))?;
+        opened.push(NodeFolder::new(alloc, settings, is_unsettled, is_doubted))?;
         shared.push(open_folder(rt, alloc, core, history_limit)?)?;
     }
     Ok(Opened {

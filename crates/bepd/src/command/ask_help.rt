@@ -12,7 +12,7 @@ pub(super) const ASK_LONG_ABOUT: &str = "\
 Have a node that runs do a command, and print its answer.
 
 The commands are those that the node takes on its input: scan FOLDER, need FOLDER,
-skipped FOLDER, best FOLDER, local FOLDER, conflicts FOLDER, folders, peers,
+skipped FOLDER, best FOLDER, local FOLDER, conflicts FOLDER, folders, peers, status,
 history FOLDER, verify FOLDER and quit; `bepd help run` says what each does. They go to
 the node by a socket beside its state, which only the user whom the node runs as may
 use. The answer is printed once it is whole; that to quit comes once the node has

@@ -88,6 +88,8 @@ Input: on standard input a command a line, with one space between words, or by
     folders     each folder: whether it is here, how much is recorded of it, and how
                 many names it needs
     peers       which peers are connected
+    status      how all is, for a person; status json: the same as one JSON document;
+                status page: as a page for a browser
     history F   how many changes were made since the start, and how many pulls are
                 under way
     verify F    whether these changes lead to what the folder is now
@@ -95,7 +97,7 @@ Input: on standard input a command a line, with one space between words, or by
                 goes on until it is asked to quit, or killed, which undoes nothing)
 
 Output: need, skipped, best, local, conflicts, folders and peers print a line for each,
-and then `end`; the others one line, and quit none:
+and then `end`; status some lines, the others one, and quit none:
 
     scan F recorded R unchanged U other O
     need NAME
@@ -123,8 +125,9 @@ time in UTC, and
     failed F NAME: NUMBER WHY          it could not be pulled, and is tried again; told
                                        again where it is for another reason
     no room F: WHY                     the disk is full; it is tried again each minute
-    away F: WHY, back F                the folder lacks its marker; it has it again
-    held F: WHY                        none of its names is there: it waits for scan F
+    away F: WHY, back F                the folder lacks its marker; all is well again
+    held F: WHY                        none of its names is there: it waits for them,
+                                       or for scan F
     history full F: WHY                the node ends, and begins anew
     older state: WHY                   a peer was told more than the state has: the node
                                        ends, begins anew, and tells everything again

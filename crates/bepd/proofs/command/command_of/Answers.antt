@@ -1,7 +1,7 @@
-use Rattle.std.proofs.Common.{map, Some, None, false, true, sym, inl, inr, option_map, ◌∙◌}
+use Rattle.std.proofs.Common.{map, Some, None, false, true, sym, inl, inr, option_map, codes, if◌then◌else◌, ◌∙◌}
 use Rattle.std.specs.String.{string_bytes}
 use Rattle.clap.specs.Words.{app_of}
-use Rattle.bepd.specs.CommandLine.{ask_command_at, ask_config_at, ask_folder_at, check_at, config_at, dial_at, directory_at, folder_at, is_pair, is_true, listen_at, no_input_at, quiet_at, shared_at, syncthing_at}
+use Rattle.bepd.specs.CommandLine.{ask_command_at, ask_config_at, ask_folder_at, check_at, config_at, dial_at, directory_at, folder_at, is_pair, is_true, json_at, listen_at, no_input_at, quiet_at, shared_at, status_config_at, syncthing_at, watch_at}
 use Rattle.bepd.proofs.Matching.{at_error, error_at, no_faults, read_at}
 use Rattle.bepd.proofs.command.command_of.Goals as goal
 
@@ -51,10 +51,25 @@ returns-in-Some-asked_in-clause-named c =
     let app = app_of c.in_ok-command.command in
     let asked = c.in-Some-asked_in.ensures in (
       no_faults app words c.in_ok-command.ensures c.in_ok-matches.ensures.kinds,
-      (
+      inl (
         read_at ask_config_at app words c.in_ok-matches.matches (Some c.in-Some-asked_in.ask.config.now) c.in_ok-command.ensures c.in_ok-matches.ensures.ok.2 (sym asked.0),
         read_at ask_command_at app words c.in_ok-matches.matches (Some c.in-Some-asked_in.ask.command.now) c.in_ok-command.ensures c.in_ok-matches.ensures.ok.2 (sym asked.1),
         read_at ask_folder_at app words c.in_ok-matches.matches (option_map (λ s. s.now) c.in-Some-asked_in.ask.folder) c.in_ok-command.ensures c.in_ok-matches.ensures.ok.2 (sym asked.2),
+        asked.3,
+      ),
+    )
+
+pub returns-in-Some-status_in-clause-named : goal.returns-in-Some-status_in-clause-named
+returns-in-Some-status_in-clause-named c =
+    let words = map string_bytes c.args.words.now in
+    let app = app_of c.in_ok-command.command in
+    let asked = c.in-Some-status_in.ensures in (
+      no_faults app words c.in_ok-command.ensures c.in_ok-matches.ensures.kinds,
+      inr (
+        read_at status_config_at app words c.in_ok-matches.matches (Some c.in-Some-status_in.status.config.now) c.in_ok-command.ensures c.in_ok-matches.ensures.ok.2 (sym asked.0),
+        asked.1,
+        sym (read_at (λ command. if is_true (json_at command) then Some (codes "json") else None) app words c.in_ok-matches.matches (option_map (λ s. s.now) c.in-Some-status_in.status.folder) c.in_ok-command.ensures c.in_ok-matches.ensures.ok.2 asked.2),
+        read_at (λ command. is_true (watch_at command)) app words c.in_ok-matches.matches c.in-Some-status_in.status.is_watched c.in_ok-command.ensures c.in_ok-matches.ensures.ok.2 (sym asked.3),
       ),
     )
 
@@ -102,6 +117,7 @@ returns-clause-error c =
           | inl lacks ↦ inl (read_at ask_config_at app words m None c.in_ok-command.ensures c.in_ok-matches.ensures.ok.2 (sym lacks))
           | inr lacks ↦ inr (read_at ask_command_at app words m None c.in_ok-command.ensures c.in_ok-matches.ensures.ok.2 (sym lacks))
         ],
+        read_at status_config_at app words m None c.in_ok-command.ensures c.in_ok-matches.ensures.ok.2 (sym c.in_default-status_in.ensures),
         missing,
       ))
       | inr out ↦ inl out

@@ -1,0 +1,6 @@
+mod NumberLemmas
+mod PageLemmas
+mod PrintedLemmas
+mod ScreenLemmas
+mod Steps
+mod TimeLemmas

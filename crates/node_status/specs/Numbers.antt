@@ -1,0 +1,31 @@
+-- Numbers as a person reads them. A text is its bytes in UTF-8.
+use Rattle.std.specs.Prelude.{ℕ, zero, suc, ◌+◌, ◌*◌, ◌/◌, ◌%◌, ◌==◌, nat_lt, min, List, [], ◌∷◌, ◌++◌, codes, decimal, if◌then◌else◌}
+use Rattle.node_status.specs.declared.status.Progress.{Progress}
+
+abbrev pub three_digits : ℕ → List ℕ
+three_digits n = (48 + n / 100) ∷ (48 + n / 10 % 10) ∷ (48 + n % 10) ∷ []
+
+-- in decimal, with a comma before each group of three digits from the right, of so many at most
+unfoldable pub grouped : ℕ → ℕ → List ℕ
+grouped zero n = decimal n
+grouped (suc k) n = if nat_lt n 1000 then decimal n else grouped k (n / 1000) ++ codes "," ++ three_digits (n % 1000)
+
+-- as 1,234,567 (a number below 2 ^ 64 has six commas at most)
+abbrev pub number_text : ℕ → List ℕ
+number_text n = grouped 6 n
+
+-- a number of things, as "1 file" or "2 files"
+abbrev pub count_text : ℕ → List ℕ → List ℕ → List ℕ
+count_text n one many = number_text n ++ codes " " ++ (if n == 1 then one else many)
+
+-- whole per cent, 100 at most, and where there is nothing to do
+abbrev pub percent : Progress → ℕ
+percent p = if p.of == 0 then 100 else min 100 (p.at * 100 / p.of)
+
+-- as "120 of 2,000"
+abbrev pub part_text : Progress → List ℕ
+part_text p = number_text p.at ++ codes " of " ++ number_text p.of
+
+-- as "120 of 2,000 (6 %)"
+abbrev pub progress_text : Progress → List ℕ
+progress_text p = part_text p ++ codes " (" ++ number_text (percent p) ++ codes " %)"

@@ -1,0 +1,344 @@
+//! What is shown of a status, as rows: the same for a terminal and for a browser.
+ghost use Rattle.std.specs.Prelude.{◌≡◌, ◌++◌, [], ◌∷◌, IfOk, OnOk, string_bytes, option_map, flat_map};
+ghost use Rattle.node_status.specs.Rows.{folder_row, folder_rows, folder_mark, heading, more_rows, name_of, name_or_short, node_rows, noted_rows, peer_row, peer_rows, state_rows, status_rows, title_row, words_row};
+ghost use Rattle.node_status.specs.Words.{holdings_text, noted_text, past_text, origin_text};
+
+use crate::numbers::push_number;
+use crate::status::{FolderState, FolderStatus, Noted, PeerStatus, Progress, Status};
+use crate::times::push_moment;
+use crate::words::{
+    push_folder, push_holdings, push_noted, push_origin, push_past, push_peer, push_short,
+};
+use std::alloc::{AllocError, Global};
+use std::marker::Model;
+
+/// What a row is, and how good that is.
+#[derive(Clone, Copy)]
+pub enum Mark {
+    /// Whose status it is.
+    Title,
+    /// What the next rows are of.
+    Heading,
+    /// A folder or a peer that is in order.
+    Good,
+    /// One that waits or works.
+    Busy,
+    /// One that can't go on by itself.
+    Bad,
+    /// More of the row above.
+    Note,
+    /// The same, of something that is wrong.
+    Trouble,
+}
+
+/// A row.
+#[derive(Drop)]
+pub struct Row {
+    pub(crate) mark: Mark,
+    pub(crate) name: String,
+    pub(crate) words: String,
+    pub(crate) progress: Option<Progress>,
+}
+
+impl Model for Row {
+    ghost use Rattle.std.specs.Prelude.{string_bytes};
+    ghost use Rattle.node_status.specs.Rows.{ShownRow};
+
+    ghost Value = { ShownRow };
+
+    ghost view = { λ row. record { mark = row.mark; name = string_bytes row.name; words = string_bytes row.words; progress = row.progress } };
+}
+
+/// The rows of a status. O(n).
+pub(crate) fn rows_of(alloc: Global, status: &Status) -> Result<Vec<Row>, AllocError>
+    ensures { IfOk result (λ rows. rows.items ≡ status_rows status.now) }
+{
+    let mut rows = Vec::new(alloc);
+    push_status(&mut rows, status)?;
+    Ok(rows)
+}
+
+fn push_status(rows: &mut Vec<Row>, status: &Status) -> Result<(), AllocError>
+    ensures { OnOk result (rows.new.items ≡ rows.old.items ++ status_rows status.now) }
+{
+    push_node_rows(rows, status)?;
+    push_state_rows(rows, &status.not_written)?;
+    push_heading(rows, "Folders")?;
+    push_folders(rows, status.made, status.folders.as_slice())?;
+    push_heading(rows, "Peers")?;
+    push_peers(rows, status.made, status.peers.as_slice())
+}
+
+// A text with nothing in it.
+fn empty(rows: &Vec<Row>) -> String
+    ensures { string_bytes result ≡ [] }
+{
+    String::new(*rows.allocator())
+}
+
+fn push_row(
+    rows: &mut Vec<Row>,
+    mark: Mark,
+    name: String,
+    words: String,
+    progress: Option<Progress>,
+) -> Result<(), AllocError>
+    ensures { OnOk result (rows.new.items ≡ rows.old.items
+        ++ (record { mark = mark; name = string_bytes name; words = string_bytes words; progress = progress } ∷ [])) }
+{
+    rows.push(Row {
+        mark,
+        name,
+        words,
+        progress,
+    })?;
+    Ok(())
+}
+
+fn push_words(rows: &mut Vec<Row>, mark: Mark, words: String) -> Result<(), AllocError>
+    ensures { OnOk result (rows.new.items ≡ rows.old.items ++ (words_row mark (string_bytes words) ∷ [])) }
+{
+    let name = empty(rows);
+    push_row(rows, mark, name, words, None)
+}
+
+fn push_heading(rows: &mut Vec<Row>, name: &str) -> Result<(), AllocError>
+    ensures { OnOk result (rows.new.items ≡ rows.old.items ++ (heading name.now ∷ [])) }
+{
+    let name = String::from_str(*rows.allocator(), name)?;
+    let words = empty(rows);
+    push_row(rows, Mark::Heading, name, words, None)
+}
+
+// Two texts after each other.
+fn push_joined(rows: &mut Vec<Row>, mark: Mark, words: &str, more: &str) -> Result<(), AllocError>
+    ensures { OnOk result (rows.new.items ≡ rows.old.items ++ (words_row mark (words.now ++ more.now) ∷ [])) }
+{
+    let mut text = String::from_str(*rows.allocator(), words)?;
+    text.push_str(more)?;
+    push_words(rows, mark, text)
+}
+
+fn push_node_rows(rows: &mut Vec<Row>, status: &Status) -> Result<(), AllocError>
+    ensures { OnOk result (rows.new.items ≡ rows.old.items ++ node_rows status.now) }
+{
+    push_title(rows, status)?;
+    push_joined(rows, Mark::Note, "bepd v", status.version.as_str())?;
+    push_joined(rows, Mark::Note, "device ", status.device.as_str())
+}
+
+fn push_title(rows: &mut Vec<Row>, status: &Status) -> Result<(), AllocError>
+    ensures { OnOk result (rows.new.items ≡ rows.old.items ++ (title_row status.now ∷ [])) }
+{
+    let name = name_of(
+        *rows.allocator(),
+        status.name.as_str(),
+        status.device.as_str(),
+    )?;
+    let mut words = empty(rows);
+    push_moment(&mut words, status.made)?;
+    words.push_str(" UTC")?;
+    push_row(rows, Mark::Title, name, words, None)
+}
+
+// A name, or where it is empty the first digits of the device's identity.
+fn name_of(alloc: Global, name: &str, device: &str) -> Result<String, AllocError>
+    ensures { IfOk result (λ text. string_bytes text ≡ name_or_short name.now device.now) }
+{
+    if !name.is_empty() {
+        return String::from_str(alloc, name);
+    }
+    let mut text = String::new(alloc);
+    push_short(&mut text, device)?;
+    Ok(text)
+}
+
+fn push_state_rows(rows: &mut Vec<Row>, not_written: &Option<String>) -> Result<(), AllocError>
+    ensures { OnOk result (rows.new.items ≡ rows.old.items ++ state_rows (option_map string_bytes not_written.now)) }
+{
+    match not_written {
+        Some(why) => {
+            push_joined(
+                rows,
+                Mark::Trouble,
+                "the state can't be written: ",
+                why.as_str(),
+            )?;
+            push_joined(
+                rows,
+                Mark::Trouble,
+                "until it can be, nothing is put in place, ",
+                "and peers are told nothing",
+            )
+        }
+        None => Ok(()),
+    }
+}
+
+fn push_folders(rows: &mut Vec<Row>, made: u64, folders: &[FolderStatus]) -> Result<(), AllocError>
+    ensures { OnOk result (rows.new.items ≡ rows.old.items ++ flat_map (folder_rows made) folders.now) }
+{
+    for folder in folders {
+        push_folder_rows(rows, made, folder)?;
+    }
+    Ok(())
+}
+
+fn push_folder_rows(rows: &mut Vec<Row>, made: u64, folder: &FolderStatus) -> Result<(), AllocError>
+    ensures { OnOk result (rows.new.items ≡ rows.old.items ++ folder_rows made folder.now) }
+{
+    push_folder_row(rows, folder)?;
+    push_holdings_row(rows, folder)?;
+    push_past_row(rows, made, folder)?;
+    push_noted_rows(
+        rows,
+        Mark::Trouble,
+        "failed: ",
+        made,
+        folder.failed.as_slice(),
+    )?;
+    push_more_row(rows, Mark::Trouble, folder.failed_more, " more failed")?;
+    push_noted_rows(
+        rows,
+        Mark::Trouble,
+        "left out: ",
+        made,
+        folder.left_out.as_slice(),
+    )?;
+    push_more_row(rows, Mark::Trouble, folder.left_out_more, " more left out")?;
+    push_noted_rows(
+        rows,
+        Mark::Note,
+        "conflict copy: ",
+        made,
+        folder.conflicts.as_slice(),
+    )
+}
+
+fn push_folder_row(rows: &mut Vec<Row>, folder: &FolderStatus) -> Result<(), AllocError>
+    ensures { OnOk result (rows.new.items ≡ rows.old.items ++ (folder_row folder.now ∷ [])) }
+{
+    let name = String::from_str(*rows.allocator(), folder.id.as_str())?;
+    let mut words = empty(rows);
+    push_folder(&mut words, folder)?;
+    push_row(rows, mark_of(folder.state), name, words, folder.progress)
+}
+
+fn mark_of(state: FolderState) -> Mark
+    ensures { result ≡ folder_mark state }
+{
+    match state {
+        FolderState::UpToDate => Mark::Good,
+        FolderState::Behind => Mark::Busy,
+        FolderState::Scanning => Mark::Busy,
+        FolderState::Pulling => Mark::Busy,
+        FolderState::NoRoom => Mark::Bad,
+        FolderState::Away => Mark::Bad,
+        FolderState::InUse => Mark::Bad,
+        FolderState::Held => Mark::Bad,
+    }
+}
+
+fn push_holdings_row(rows: &mut Vec<Row>, folder: &FolderStatus) -> Result<(), AllocError>
+    ensures { OnOk result (rows.new.items ≡ rows.old.items ++ (words_row Mark.Note (holdings_text folder.now) ∷ [])) }
+{
+    let mut words = empty(rows);
+    push_holdings(&mut words, folder)?;
+    push_words(rows, Mark::Note, words)
+}
+
+fn push_past_row(rows: &mut Vec<Row>, made: u64, folder: &FolderStatus) -> Result<(), AllocError>
+    ensures { OnOk result (rows.new.items ≡ rows.old.items ++ (words_row Mark.Note (past_text made folder.now) ∷ [])) }
+{
+    let mut words = empty(rows);
+    push_past(&mut words, made, folder)?;
+    push_words(rows, Mark::Note, words)
+}
+
+fn push_noted_rows(
+    rows: &mut Vec<Row>,
+    mark: Mark,
+    words: &str,
+    made: u64,
+    all: &[Noted],
+) -> Result<(), AllocError>
+    ensures { OnOk result (rows.new.items ≡ rows.old.items ++ noted_rows mark words.now made all.now) }
+{
+    for noted in all {
+        push_noted_row(rows, mark, words, made, noted)?;
+    }
+    Ok(())
+}
+
+fn push_noted_row(
+    rows: &mut Vec<Row>,
+    mark: Mark,
+    words: &str,
+    made: u64,
+    noted: &Noted,
+) -> Result<(), AllocError>
+    ensures { OnOk result (rows.new.items ≡ rows.old.items ++ (words_row mark (noted_text words.now made noted.now) ∷ [])) }
+{
+    let mut text = empty(rows);
+    push_noted(&mut text, words, made, noted)?;
+    push_words(rows, mark, text)
+}
+
+fn push_more_row(rows: &mut Vec<Row>, mark: Mark, more: u64, words: &str) -> Result<(), AllocError>
+    ensures { OnOk result (rows.new.items ≡ rows.old.items ++ more_rows mark more words.now) }
+{
+    if more == 0 {
+        return Ok(());
+    }
+    let mut text = empty(rows);
+    push_number(&mut text, more)?;
+    text.push_str(words)?;
+    push_words(rows, mark, text)
+}
+
+fn push_peers(rows: &mut Vec<Row>, made: u64, peers: &[PeerStatus]) -> Result<(), AllocError>
+    ensures { OnOk result (rows.new.items ≡ rows.old.items ++ flat_map (peer_rows made) peers.now) }
+{
+    for peer in peers {
+        push_peer_rows(rows, made, peer)?;
+    }
+    Ok(())
+}
+
+fn push_peer_rows(rows: &mut Vec<Row>, made: u64, peer: &PeerStatus) -> Result<(), AllocError>
+    ensures { OnOk result (rows.new.items ≡ rows.old.items ++ peer_rows made peer.now) }
+{
+    push_peer_row(rows, made, peer)?;
+    push_origin_row(rows, peer)
+}
+
+fn push_peer_row(rows: &mut Vec<Row>, made: u64, peer: &PeerStatus) -> Result<(), AllocError>
+    ensures { OnOk result (rows.new.items ≡ rows.old.items ++ (peer_row made peer.now ∷ [])) }
+{
+    let name = name_of(
+        *rows.allocator(),
+        name_or_nothing(&peer.name),
+        peer.device.as_str(),
+    )?;
+    let mut words = empty(rows);
+    push_peer(&mut words, made, peer)?;
+    let mark = if peer.is_up { Mark::Good } else { Mark::Busy };
+    push_row(rows, mark, name, words, None)
+}
+
+fn name_or_nothing(name: &Option<String>) -> &str
+    ensures { result.now ≡ name_of (option_map string_bytes name.now) }
+{
+    match name {
+        Some(name) => name.as_str(),
+        None => "",
+    }
+}
+
+fn push_origin_row(rows: &mut Vec<Row>, peer: &PeerStatus) -> Result<(), AllocError>
+    ensures { OnOk result (rows.new.items ≡ rows.old.items ++ (words_row Mark.Note (origin_text peer.now) ∷ [])) }
+{
+    let mut words = empty(rows);
+    push_origin(&mut words, peer)?;
+    push_words(rows, Mark::Note, words)
+}
