@@ -90,12 +90,16 @@ class Disk(Played):
     # ---- what it has
 
     def version(self, name):
-        """The counters of its record of a name."""
-        for line in self.ask("local f"):
-            _, _, _, version, its = line.split(" ", 4)
-            if its == name:
-                return [(int(it[:16], 16), int(it[17:])) for it in version.split(",")]
-        raise Differs(f"no record of {name}")
+        """The counters of its record of a name. (A file that a pull has just put in place is recorded next.)"""
+        end = time.monotonic() + PATIENCE
+        while True:
+            for line in self.ask("local f"):
+                _, _, _, version, its = line.split(" ", 4)
+                if its == name:
+                    return [(int(it[:16], 16), int(it[17:])) for it in version.split(",")]
+            if time.monotonic() > end:
+                raise Differs(f"no record of {name}")
+            time.sleep(0.02)
 
     def above(self, name):
         """Counters of a version that is newer than its record of a name."""

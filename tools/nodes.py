@@ -267,9 +267,9 @@ def holds_all(node, count):
         time.sleep(0.01)
 
 
-def becomes(found, wanted):
+def becomes(found, wanted, seconds=PATIENCE):
     """Waits until this is found."""
-    end = time.monotonic() + PATIENCE
+    end = time.monotonic() + seconds
     while found() != wanted:
         if time.monotonic() > end:
             raise Differs(f"{found()!r}, not {wanted!r}")
@@ -334,9 +334,13 @@ def event_of(line):
     return found and found[1]
 
 
+# What is told, without a time, of a configuration that has no peer.
+ALONE = "no [[peer]] is in the configuration: its folders are kept alike with nobody"
+
+
 def events(node):
-    """What a node told until it ended, without the times."""
-    found = [event_of(it) for it in node.told]
+    """What a node told until it ended, without the times, and without that it has no peer."""
+    found = [event_of(it) for it in node.told if it != ALONE]
     if None in found:
         raise Differs(f"{node.told}")
     return found
