@@ -51,7 +51,7 @@ class Disk(Played):
             before(self)
         # (once the scan at the start is over, it has left this out)
         os.symlink("nowhere", self.file("~"))
-        self.start(tells=True)
+        self.start(tells="verbose")
         becomes(lambda: "skipped ~: a symbolic link" in self.ask("skipped f"), True)
         os.remove(self.file("~"))
         self.ask("scan f")

@@ -56,6 +56,16 @@ def identity(number):
     return f"{number:02x}" * 32
 
 
+def called(number, name=None):
+    """How a device is told that has given its name: that, and the front of its identity."""
+    return f"{name or f'node {number}'} ({identity(number)[:8]})"
+
+
+def by_identity(event, number=1, name="a"):
+    """The event, with the whole identity of a device that gave this name, as played peers do."""
+    return event.replace(called(number, name), identity(number))
+
+
 def journal_of(number, state):
     """A journal behind a state with these bytes, in which nothing stands yet."""
     return b"bepd journal 1\n" + bytes([number]) * 32 + hashlib.sha256(state).digest()
@@ -96,6 +106,7 @@ class Node:
     def start(self, *words, stdout=subprocess.PIPE, tells=False):
         self.tells = tells
         words = words if tells else ("--quiet", *words)
+        words = ("--verbose", *words) if tells == "verbose" else words
         # (a file, so that a node never waits for its lines to be read)
         with open(f"{self.path}.errors", "wb") as errors:
             self.ran = subprocess.Popen([PROGRAM, "run", "--config", f"{self.path}/config", *words], stdin=subprocess.PIPE, stdout=stdout,

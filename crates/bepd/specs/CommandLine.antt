@@ -38,8 +38,11 @@ quiet_rule = record (new_rule (codes "quiet")) { long = Some (codes "quiet"); ac
 abbrev pub no_input_rule : Rule
 no_input_rule = record (new_rule (codes "no-input")) { long = Some (codes "no-input"); action = Some SetTrue }
 
+abbrev pub verbose_rule : Rule
+verbose_rule = record (new_rule (codes "verbose")) { long = Some (codes "verbose"); action = Some SetTrue }
+
 abbrev pub run_app : App
-run_app = with_rule (with_rule (with_rule (with_rule (new_app (codes "run")) config_rule) check_rule) quiet_rule) no_input_rule
+run_app = with_rule (with_rule (with_rule (with_rule (with_rule (new_app (codes "run")) config_rule) check_rule) quiet_rule) no_input_rule) verbose_rule
 
 abbrev pub command_rule : Rule
 command_rule = record (new_rule (codes "COMMAND")) { required = true }
@@ -103,6 +106,10 @@ quiet_at command = value_at (codes "run") (codes "quiet") command
 -- the value of `--no-input`, where the command is `run`
 abbrev pub no_input_at : Option (Text × List Row) → Option Text
 no_input_at command = value_at (codes "run") (codes "no-input") command
+
+-- the value of `--verbose`, where the command is `run`
+abbrev pub verbose_at : Option (Text × List Row) → Option Text
+verbose_at command = value_at (codes "run") (codes "verbose") command
 
 -- the value of `--config`, where the command is `ask`
 abbrev pub ask_config_at : Option (Text × List Row) → Option Text
@@ -182,9 +189,13 @@ IsQuiet words quiet = is_true (quiet_at (subcommand_of bepd_app words)) ≡ quie
 abbrev pub HasNoInput : List Text → Bool → Type 0
 HasNoInput words none = is_true (no_input_at (subcommand_of bepd_app words)) ≡ none
 
--- the words call for a node by the configuration in this file, which reads commands or not
+-- the node is to tell each name that is pulled or recorded, or not
+abbrev pub IsVerbose : List Text → Bool → Type 0
+IsVerbose words verbose = is_true (verbose_at (subcommand_of bepd_app words)) ≡ verbose
+
+-- the words call for a node by the configuration in this file, which reads commands or not, and tells each name or not
 abbrev pub IsNodeGiven : List Text → RunWords → Bool → Type 0
-IsNodeGiven words run quiet = IsRunGiven words run.path.now false × IsQuiet words quiet × HasNoInput words run.has_no_input
+IsNodeGiven words run quiet = IsRunGiven words run.path.now false × IsQuiet words quiet × HasNoInput words run.has_no_input × IsVerbose words run.is_verbose
 
 -- the command `ask` has these values, and is asked once
 abbrev pub IsAskedBy : Option (Text × List Row) → AskWords → Type 0

@@ -1,7 +1,7 @@
 //! The command line.
 ghost use Rattle.std.specs.Prelude.{◌≡◌, ◌⊎◌, false, Some, IfErr, IfOk, MatchOption, map, option_map};
 ghost use Rattle.std.specs.String.{string_bytes};
-ghost use Rattle.bepd.specs.CommandLine.{IsAnswered, IsAskedBy, IsNamed, IsNoStatus, IsNotAsked, IsRequested, IsErrorAt, IsStatusBy, about_rule, ask_app, ask_command_at, ask_config_at, ask_folder_at, bepd_app, best_app, check_at, check_rule, command_rule, config_at, config_rule, dial_at, dial_rule, directory_at, folder_at, fresh_app, is_pair, is_true, json_at, json_rule, listen_at, listen_rule, no_input_at, no_input_rule, pair_app, quiet_at, quiet_rule, run_app, shared_at, shared_rule, status_app, status_config_at, syncthing_at, syncthing_rule, watch_at, watch_rule};
+ghost use Rattle.bepd.specs.CommandLine.{IsAnswered, IsAskedBy, IsNamed, IsNoStatus, IsNotAsked, IsRequested, IsErrorAt, IsStatusBy, about_rule, ask_app, ask_command_at, ask_config_at, ask_folder_at, bepd_app, best_app, check_at, check_rule, command_rule, config_at, config_rule, dial_at, dial_rule, directory_at, folder_at, fresh_app, is_pair, is_true, json_at, json_rule, listen_at, listen_rule, no_input_at, no_input_rule, pair_app, quiet_at, quiet_rule, run_app, shared_at, shared_rule, status_app, status_config_at, syncthing_at, syncthing_rule, verbose_at, verbose_rule, watch_at, watch_rule};
 ghost use Rattle.clap.specs.declared.builder.command.Command.{out-Command};
 ghost use Rattle.clap.specs.Words.{app_of, kind_of, rule_of, subcommand_rows_of};
 
@@ -24,7 +24,9 @@ use new_help::{
 };
 use pair_help::{PAIR_ABOUT, PAIR_LONG_ABOUT, PAIR_STATUSES};
 pub(crate) use run_help::run_about;
-use run_help::{RUN_ABOUT, RUN_CHECK, RUN_CONFIG, RUN_NO_INPUT, RUN_QUIET, RUN_STATUSES};
+use run_help::{
+    RUN_ABOUT, RUN_CHECK, RUN_CONFIG, RUN_NO_INPUT, RUN_QUIET, RUN_STATUSES, RUN_VERBOSE,
+};
 use status_help::{
     STATUS_ABOUT, STATUS_CONFIG, STATUS_JSON, STATUS_LONG_ABOUT, STATUS_STATUSES, STATUS_WATCH,
 };
@@ -53,6 +55,8 @@ pub(crate) struct RunWords<'a> {
     pub(crate) path: &'a str,
     /// Whether it reads no commands from the input.
     pub(crate) has_no_input: bool,
+    /// Whether it tells a line for each name that is pulled or recorded, however many they are.
+    pub(crate) is_verbose: bool,
 }
 
 /// What a command line asks for.
@@ -113,9 +117,9 @@ fn request_at<'a>(alloc: Global, error: &Error) -> Request<'a>
     }
 }
 
-/// The command in the words: `PROGRAM best FOLDER`, `PROGRAM pair`, `PROGRAM run --config FILE`, with `--check`, with `--quiet` and
-/// `--no-input` or without, `PROGRAM ask --config FILE COMMAND`, `PROGRAM status --config FILE`, with `--json` and `--watch` or without,
-/// or `PROGRAM new DIRECTORY`.
+/// The command in the words: `PROGRAM best FOLDER`, `PROGRAM pair`, `PROGRAM run --config FILE`, with `--check`, with `--quiet`,
+/// `--no-input` and `--verbose` or without, `PROGRAM ask --config FILE COMMAND`, `PROGRAM status --config FILE`, with `--json` and
+/// `--watch` or without, or `PROGRAM new DIRECTORY`.
 fn command_of<'a>(
     alloc: Global,
     words: &'a [String],
@@ -136,6 +140,7 @@ fn command_of<'a>(
         let run = RunWords {
             path,
             has_no_input: has_no_input(&matches),
+            is_verbose: is_verbose(&matches),
         };
         if is_quiet(&matches) {
             return Ok(Request::QuietRun(run));
@@ -238,6 +243,20 @@ fn no_input_in<'a>(matches: &ArgMatches<'a>) -> Option<&'a str>
     ensures { option_map (λ s. s.now) result ≡ no_input_at (subcommand_rows_of matches.now) }
 {
     matches.subcommand_matches("run")?.get_str("no-input")
+}
+
+/// Whether the command is `run` with `--verbose`.
+fn is_verbose(matches: &ArgMatches<'_>) -> bool
+    ensures { result ≡ is_true (verbose_at (subcommand_rows_of matches.now)) }
+{
+    is_true(verbose_in(matches))
+}
+
+/// The value of `--verbose`, where the command is `run`.
+fn verbose_in<'a>(matches: &ArgMatches<'a>) -> Option<&'a str>
+    ensures { option_map (λ s. s.now) result ≡ verbose_at (subcommand_rows_of matches.now) }
+{
+    matches.subcommand_matches("run")?.get_str("verbose")
 }
 
 /// What is asked of a node, where the command is `ask`.
@@ -458,6 +477,17 @@ fn no_input_arg<'a>(alloc: Global) -> Arg<'a>
         .help(RUN_NO_INPUT)
 }
 
+/// `--verbose`.
+fn verbose_arg<'a>(alloc: Global) -> Arg<'a>
+    ensures rule { rule_of result ≡ verbose_rule }
+    ensures local { result.global ≡ false }
+{
+    Arg::new(alloc, "verbose")
+        .long("verbose")
+        .action(ArgAction::SetTrue)
+        .help(RUN_VERBOSE)
+}
+
 /// The command `run`, and what it takes.
 fn run_command<'a>(
     alloc: Global,
@@ -473,6 +503,7 @@ fn run_command<'a>(
     let check = check_arg(alloc);
     let quiet = quiet_arg(alloc);
     let no_input = no_input_arg(alloc);
+    let verbose = verbose_arg(alloc);
     Command::new(alloc, "run")
         .about(RUN_ABOUT)
         .long_about(about.as_str())
@@ -480,7 +511,8 @@ fn run_command<'a>(
         .arg(config)?
         .arg(check)?
         .arg(quiet)?
-        .arg(no_input)
+        .arg(no_input)?
+        .arg(verbose)
 }
 
 /// COMMAND.

@@ -122,6 +122,7 @@ where
             let how = RunStyle {
                 progress: Some(started.progress),
                 reads_input: started.has_input && !words.has_no_input,
+                is_verbose: words.is_verbose,
             };
             let (input, output) = (&mut input.inner, &mut output.inner);
             let ran = run_config(rt, stores, words.path, how, input, output, errors);
@@ -131,6 +132,7 @@ where
             let how = RunStyle {
                 progress: None,
                 reads_input: started.has_input && !words.has_no_input,
+                is_verbose: false,
             };
             let (input, output) = (&mut input.inner, &mut output.inner);
             let ran = run_config(rt, stores, words.path, how, input, output, errors);

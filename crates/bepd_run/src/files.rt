@@ -1,6 +1,7 @@
 //! The files that a node reads and writes.
 use crate::failure::RunFailure;
 use crate::naming::file_failure;
+use node_context::HeldMemory;
 use std::alloc::Global;
 use std::fs::{self, File, Files, OpenFile, OpenOptions, TryLockError};
 use std::io::{self, ErrorKind, Read, Seek, SeekFrom, Write};
@@ -32,7 +33,7 @@ fn read_front<R: Files>(rt: &R, alloc: Global, path: &str, most: u64) -> io::Res
 }
 
 /// What reads and writes a state file and its journal. Each handle that has [`Files`] does; a thread takes it by this trait.
-pub trait StateFiles {
+pub trait StateFiles: HeldMemory {
     /// The bytes of the file at the path; `None` where there is none.
     fn read_file(&self, alloc: Global, path: &str) -> io::Result<Option<Vec<u8>>>;
 
@@ -44,6 +45,9 @@ pub trait StateFiles {
 
     /// Gives the file at `new` the path, in place of any that is there, so that there is always a whole one. On the disk, too.
     fn put_in_place(&self, new: &str, path: &str) -> io::Result<()>;
+
+    /// Makes a file at `new` with these bytes, and gives it the path, in place of any that is there, so that there is always a whole one. It need not be on the disk.
+    fn replace_file(&self, new: &str, path: &str, bytes: &[u8]) -> io::Result<()>;
 
     /// Removes the file at the path, if one is there.
     fn remove(&self, path: &str);
@@ -92,6 +96,11 @@ impl<R: Files<File = File>> StateFiles for R {
     fn put_in_place(&self, new: &str, path: &str) -> io::Result<()> {
         fs::rename(self, new, path)?;
         sync_directory_of(self, path)
+    }
+
+    fn replace_file(&self, new: &str, path: &str, bytes: &[u8]) -> io::Result<()> {
+        File::create(self, new)?.write_all(bytes)?;
+        fs::rename(self, new, path)
     }
 
     fn remove(&self, path: &str) {

@@ -19,6 +19,7 @@ mod nodes;
 mod outlet;
 mod outlook;
 mod outlook_folder;
+mod page;
 mod paths;
 mod placing;
 mod plans;

@@ -1,12 +1,12 @@
-//! Whether a folder of a configuration lies within another one, or the state within a folder.
+//! Whether a folder of a configuration lies within another one, or the state or the page within a folder.
 use crate::failure::RunFailure;
 use bep_messages::Text;
-use node_config::{Config, check_paths};
+use node_config::{Config, check_page, check_paths};
 use std::alloc::{AllocError, Global};
 use std::fs::Files;
 use std::io::ErrorKind;
 
-/// Fails where a folder lies within another one, or the state within a folder, by their canonical paths.
+/// Fails where a folder lies within another one, or the state or the page within a folder, by their canonical paths.
 pub(crate) fn require_apart<R: Files>(
     rt: &R,
     alloc: Global,
@@ -17,7 +17,12 @@ pub(crate) fn require_apart<R: Files>(
         folders.push(canonical(rt, alloc, folder.path.as_str())?)?;
     }
     let state = canonical(rt, alloc, config.state.as_str())?;
-    Ok(check_paths(folders.as_slice(), state.as_str())?)
+    check_paths(folders.as_slice(), state.as_str())?;
+    let Some(page) = &config.status else {
+        return Ok(());
+    };
+    let page = canonical(rt, alloc, page.as_str())?;
+    Ok(check_page(folders.as_slice(), page.as_str())?)
 }
 
 // The canonical path. Of one at which nothing is, as while a disk is away, it is that of the nearest directory above it, and then the rest.

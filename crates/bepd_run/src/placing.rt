@@ -16,10 +16,15 @@ pub(crate) fn placed_config(
         device,
         name,
         state,
+        status,
         folders,
         peers,
     } = config;
     let state = placed(alloc, config_path, state.as_str())?;
+    let status = match status {
+        Some(page) => Some(placed(alloc, config_path, page.as_str())?),
+        None => None,
+    };
     let mut all = Items::new(alloc);
     for folder in folders.into_vec() {
         let mut folder = folder;
@@ -30,6 +35,7 @@ pub(crate) fn placed_config(
         device,
         name,
         state,
+        status,
         folders: all,
         peers,
     })

@@ -11,13 +11,14 @@ use crate::last_run::StatePaths;
 use crate::lock::lock_state;
 use crate::naming::config_failure;
 use crate::outlet::{Channel, Outlet};
+use crate::page::keep_page;
 use crate::paths::require_apart;
 use crate::placing::placed_config;
 use crate::readiness::{Patience, Turns};
 use crate::ready::Ready;
 use bep_messages::Text;
 use node_config::{Config, UnknownKey, read_config, unknown_keys};
-use node_context::{Log, ProgressStyle, write_log};
+use node_context::{Log, LogStyle, ProgressStyle, write_log};
 use node_files::Stores;
 use node_threads::UnixSockets;
 use std::alloc::Global;
@@ -36,6 +37,8 @@ pub struct RunStyle {
     pub progress: Option<ProgressStyle>,
     /// Whether it follows commands.
     pub reads_input: bool,
+    /// Whether a line is told for each name that is pulled or recorded, however many they are.
+    pub is_verbose: bool,
 }
 
 /// Keeps the folders of the configuration at the path alike with its peers, and answers commands, a line each, until
@@ -69,7 +72,7 @@ pub struct RunStyle {
 /// connection; where the commands can't be read, after the state file is written; and where memory runs out or the
 /// state file can't be written, which then is the one of before, with the journal behind it.
 ///
-/// With a style of progress it tells on `errors` what happens, a line each: the time in UTC, and
+/// A device is told as `NAME (FRONT OF ID)` where it has given its name. With a style of progress it tells on `errors` what happens, a line each: the time in UTC, and
 ///
 /// | Line | |
 /// |---|---|
@@ -85,14 +88,17 @@ pub struct RunStyle {
 /// | `not taken for ID: ..` | who is connected has this device's own identity |
 /// | `waiting for ID: ..` | nobody has connected as the peer for a minute |
 /// | `two devices as ID: ..` | connections as the peer come from two devices in turn |
-/// | `received F up to N from ID` | more of the peer's index of the folder F came |
+/// | `index of F up to N from ID` | more of the peer's index of the folder F came; only where names are told |
+/// | `recorded F NAME` | a change of the name was recorded; of many in ten seconds, the first ten |
 /// | `scanned F recorded N unchanged N other N` | a scan that recorded changes, or left names out |
 /// | `scanned F ..: stopped` | a scan ended with the run |
 /// | `skipped F NAME: WHY` | a scan left the name out, and did not before |
 /// | `skipped F: N more; ..` | it left out more than 100 |
 /// | `away F: ..`, `back F` | the folder isn't there, has no marker, or another run has it; it is there again |
 /// | `held F: ..` | the folder is there, and of the names that are recorded of it none is: it waits for the command `scan F` |
-/// | `pulled F NAME` | the best of the name is in place |
+/// | `got F NAME`, `replaced F NAME`, `deleted F NAME` | the best of the name is in place: where nothing was, in place of what was there, or nothing is |
+/// | `same F NAME` | what was there is as its best, and stays |
+/// | `pulled F, besides: got N, ..` | how many names more; of many in ten seconds, ten are told by name |
 /// | `conflict copy F NAME` | what was there before is kept under this name |
 /// | `failed F NAME: WHY` | the name could not be pulled; it is tried again, and told again where it is for another reason |
 /// | `history full F: ..` | the node ends, and begins anew |
@@ -100,9 +106,10 @@ pub struct RunStyle {
 /// | `state not written: ..` | the journal can't be written: nothing is put in place, and peers are told nothing; it is tried again within 30 seconds |
 /// | `state written again` | it can be |
 /// | `no room F: ..` | the disk is full; it is tried again each minute |
-/// | `scanning F N of N: N MB read`, `pulling F N of N` | how far a scan of all names, or a pull of many, is |
+/// | `scanning F N of N: N MB read`, `pulling F N of N: N MB came, N kB a second` | how far a scan of all names, or a pull of many, is |
 /// | `the input ended, ..` | there are no more commands, and the run ends |
 /// | `no commands by PATH: ..` | the socket beside the state can't be made |
+/// | `no page at PATH: ..` | the page of the configuration can't be made; it is tried again |
 /// | `ended: the state is written` | the run ended |
 pub fn run_config<R, T, I, O, E>(
     rt: &R,
@@ -140,7 +147,16 @@ where
     let mut notes = Vec::new(alloc);
     let ready = Ready::new(rt, alloc, stores, &config, &paths, &mut notes)?;
     let log = match how.progress {
-        Some(progress) => Log::new(alloc, progress),
+        Some(progress) => {
+            let is_verbose = how.is_verbose;
+            Log::new(
+                alloc,
+                LogStyle {
+                    progress,
+                    is_verbose,
+                },
+            )
+        }
         None => Log::quiet(alloc),
     };
     tell_begun(rt, &log, path, &ready.node);
@@ -233,8 +249,46 @@ where
         socket: &socket,
         inlets,
     };
-    let ended = run_ready(rt, alloc, place, ready, doors, input, output);
+    let ended = run_with_page(rt, alloc, place, ready, doors, input, output);
     socket.remove(rt);
+    ended
+}
+
+// Runs nodes until the commands end, and keeps the page meanwhile. Returns whether all were answered.
+fn run_with_page<'a, R, T, I, O>(
+    rt: &R,
+    alloc: Global,
+    place: &Place<'a, T>,
+    ready: Ready<'a, R>,
+    doors: Doors<'_>,
+    input: &mut I,
+    output: O,
+) -> Result<io::Result<()>, RunFailure>
+where
+    R: Clock
+        + Net<Listener = TcpListener, Stream = TcpStream>
+        + StateFiles
+        + Sync
+        + Threads
+        + UnixSockets
+        + Wait,
+    T: Stores + Sync,
+    T::Store: Send,
+    I: Read + AsRawFd + Send,
+    O: Write + Drop + Send,
+{
+    let (config, log) = (place.config, place.log);
+    let (ended, ()) = join(
+        rt,
+        || -> Result<io::Result<()>, RunFailure>
+            requires { IsSend I.row × IsSend O.row × IsSend T.Store.row }
+        {
+            let ended = run_ready(rt, alloc, place, ready, doors, input, output);
+            log.end_pauses(rt);
+            ended
+        },
+        || keep_page(rt, alloc, config, log),
+    );
     ended
 }
 

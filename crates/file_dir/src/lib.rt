@@ -29,6 +29,6 @@ mod versions;
 mod walk;
 
 pub use habits::Habits;
-pub use marker::{LockRefusal, MarkerLock};
+pub use marker::{LockRefusal, MarkerId, MarkerLock};
 pub use skipped::{SkipReason, Skipped};
 pub use store::DirStore;

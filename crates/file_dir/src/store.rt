@@ -9,7 +9,7 @@ use crate::look::Look;
 use crate::opened::Opened;
 use crate::skipped::Skipped;
 use crate::temps::Writing;
-use crate::{LockRefusal, MarkerLock, changes, left, marker, old_versions, temps, walk};
+use crate::{LockRefusal, MarkerId, MarkerLock, changes, left, marker, old_versions, temps, walk};
 use file_store::{FileStore, Listing, Stat, StoreRefusal};
 use std::alloc::{AllocError, Global};
 use std::fs::File;
@@ -91,6 +91,16 @@ where
         ensures counted { dir_faults self.new ≡ count_after result (dir_faults self.old) }
     {
         let answer = marker::has_marker(&self.disk, &mut self.dir);
+        settle(&mut self.faults, answer)
+    }
+
+    /// Whether the folder's marker is the one that was locked so. Where another directory was put in the folder's place, it has another one, or none. A
+    /// marker that could not be opened is taken for the one that is there.
+    pub fn is_marked_by(&mut self, id: MarkerId) -> Result<bool, StoreRefusal>
+        ensures refusals { IfErr result IsPlain }
+        ensures counted { dir_faults self.new ≡ count_after result (dir_faults self.old) }
+    {
+        let answer = marker::is_marked_by(&self.disk, &mut self.dir, id);
         settle(&mut self.faults, answer)
     }
 

@@ -15,7 +15,7 @@ use file_store::{FileStore, Gate};
 use folder_calls::FolderCalls;
 use node_context::{Context, Event, Host, NodeFault, Standing};
 use node_files::{Marked, Whereabouts};
-use node_folder::{FolderWorker, release, scan_folder};
+use node_folder::{FolderWorker, look_at_folder, release, scan_folder};
 use node_status::{Status, json_of, push_page, push_screen};
 use std::alloc::Global;
 use std::io::{self, Write};
@@ -244,7 +244,10 @@ fn scan<R: Host, S: FileStore + Marked, W: FolderCalls, G: Gate, O: Write>(
     output: &mut O,
 ) -> Result<(), Refusal> {
     // (that none of its names is there is what who asks for it says)
-    if !matches!(worker.look(cx.rt), Whereabouts::There | Whereabouts::Held) {
+    if !matches!(
+        look_at_folder(cx, worker),
+        Whereabouts::There | Whereabouts::Held
+    ) {
         return Err(Refusal::FolderMissing);
     }
     let sum = scan_folder(cx, worker, false).sum;

@@ -4,7 +4,9 @@ ghost use Rattle.node_commands.specs.Status.{progress_of, state_of};
 
 use folder_calls::FolderCalls;
 use folder_core::Counts;
-use node_context::{Context, Doing, FolderBoard, Host, PeerBoard, Standing, VERSION, moment};
+use node_context::{
+    Context, Doing, FolderBoard, HeldMemory, Host, PeerBoard, Standing, VERSION, moment,
+};
 use node_files::{Marked, Whereabouts};
 use node_folder::FolderWorker;
 use node_status::{FolderState, FolderStatus, Noted, PeerStatus, Progress, Status};
@@ -28,12 +30,14 @@ pub(crate) fn status_of<R: Host, S: Marked, W: FolderCalls, G>(
         name: String::from_str(alloc, name)?,
         device: own_device(alloc, folders)?,
         made: moment(cx.rt).seconds(),
+        memory: cx.rt.memory_held(),
         not_written: None,
         folders: Vec::new(alloc),
         peers: Vec::new(alloc),
     };
     for worker in folders.iter_mut() {
-        status.folders.push(folder_status(cx, worker)?)?;
+        let folder = folder_status(cx, status.made, worker)?;
+        status.folders.push(folder)?;
     }
     let board = cx.log.board().lock(cx.rt);
     status.not_written = copied(alloc, &board.not_written)?;
@@ -76,6 +80,7 @@ pub(crate) fn standing_of<R: Host, S: Marked, W, G>(
 
 fn folder_status<R: Host, S: Marked, W: FolderCalls, G>(
     cx: &Context<R, G>,
+    made: u64,
     worker: &mut FolderWorker<S, W>,
 ) -> Result<FolderStatus, AllocError> {
     let alloc = cx.alloc;
@@ -92,7 +97,10 @@ fn folder_status<R: Host, S: Marked, W: FolderCalls, G>(
         files: 0,
         directories: 0,
         needed: 0,
+        received: 0,
+        rate: 0,
         scanned: None,
+        looked: None,
         history: Progress {
             at: 0,
             of: settings.history_limit,
@@ -109,6 +117,7 @@ fn folder_status<R: Host, S: Marked, W: FolderCalls, G>(
     };
     let counts = worker.calls.counts();
     status.history.at = counts.at;
+    status.rate = doing.rate(made);
     count(&mut status, standing, &doing, &counts.value);
     Ok(status)
 }
@@ -131,9 +140,12 @@ fn list_noted(
 
 // Says what a folder is in by its counts. Where nothing is needed, no name has failed.
 fn count(status: &mut FolderStatus, standing: Standing, doing: &Doing, counts: &Counts) {
-    status.state = state_of(standing, doing, counts.needed);
+    let has_failed = !status.failed.is_empty();
+    status.state = state_of(standing, doing, has_failed, counts.needed);
     status.progress = progress_of(status.state, doing, counts.needed);
+    status.received = doing.came;
     status.scanned = doing.scanned;
+    status.looked = doing.looked;
     status.files = counts.files;
     status.directories = counts.directories;
     status.needed = counts.needed;
@@ -144,16 +156,17 @@ fn count(status: &mut FolderStatus, standing: Standing, doing: &Doing, counts: &
 }
 
 // What a folder is in that is there or not, by what was told of it and how many names are needed.
-fn state_of(standing: Standing, doing: &Doing, needed: u64) -> FolderState
-    ensures { result ≡ state_of standing doing.now needed }
+fn state_of(standing: Standing, doing: &Doing, has_failed: bool, needed: u64) -> FolderState
+    ensures { result ≡ state_of standing doing.now has_failed needed }
 {
     match standing {
         Standing::Away => FolderState::Away,
         Standing::InUse => FolderState::InUse,
         Standing::Held => FolderState::Held,
-        Standing::There if doing.is_pulling && needed > 0 => FolderState::Pulling,
+        Standing::There if doing.round.is_some() && needed > 0 => FolderState::Pulling,
         Standing::There if doing.has_no_room => FolderState::NoRoom,
         Standing::There if doing.scan.is_some() => FolderState::Scanning,
+        Standing::There if needed > 0 && has_failed => FolderState::Failing,
         Standing::There if needed > 0 => FolderState::Behind,
         Standing::There => FolderState::UpToDate,
     }
@@ -171,6 +184,7 @@ fn progress_of(state: FolderState, doing: &Doing, needed: u64) -> Option<Progres
         }),
         FolderState::UpToDate
         | FolderState::Behind
+        | FolderState::Failing
         | FolderState::NoRoom
         | FolderState::Away
         | FolderState::InUse

@@ -18,7 +18,7 @@ use Rattle.node_config.specs.Addresses.{socket_text}
 use Rattle.node_config.specs.FolderNumbers.{IsIn, key_of, no_number, number_in, range_of}
 use Rattle.node_config.specs.Keys.{key_name}
 use Rattle.node_config.specs.Modes.{IsMode, is_octal_from, mode_at, mode_of, mode_of_text, mode_or_none}
-use Rattle.node_config.specs.Paths.{is_of_home, path_at}
+use Rattle.node_config.specs.Paths.{is_of_home, optional_path_at, path_at}
 use Rattle.node_config.specs.Peers.{is_taken, is_short_id_taken, checked_device, place_of, places_after, places_at, listens_at, checked_listen, address_of, address_at, peer_of, peers_after, peers_at}
 use Rattle.node_config.specs.Rules.{IsFolder, AreFolders, ArePeers, IsConsistent, IsListenedAt}
 use Rattle.node_config.specs.Values.{text_of, text_at, array_at, integer_of, number_or_default, number_at, device_at, tables_of, table_of, ◌>>=◌}
@@ -33,7 +33,7 @@ use Rattle.node_config.specs.declared.folders.Numbers.{Numbers}
 use Rattle.node_config.specs.declared.folder_numbers.FolderNumber.{FolderNumber}
 use Rattle.node_config.specs.declared.folder_numbers.FolderNumber.TheVariants.{HistoryLimit, MaxConflicts, Rescan, Look, TrashDays}
 use Rattle.node_config.specs.declared.key.Key.{Key}
-use Rattle.node_config.specs.declared.key.Key.TheVariants.{Name, State, Folder as FolderKey, Peer as PeerKey, Id, Path, Mode, Folders, Dial as DialKey, Listen as ListenKey}
+use Rattle.node_config.specs.declared.key.Key.TheVariants.{Name, State, Status, Folder as FolderKey, Peer as PeerKey, Id, Path, Mode, Folders, Dial as DialKey, Listen as ListenKey}
 use Rattle.node_config.specs.declared.key.Place.{Place}
 use Rattle.node_config.specs.declared.key.Place.TheVariants.{Node, Folder, Peer}
 use Rattle.node_config.specs.declared.key.Problem.TheVariants.{NotStrings, NotMode}
@@ -348,8 +348,9 @@ config_found document config h =
     let (device, d, h1) = both (device_at document Node) _ config h in
     let (name, n, h2) = both (text_at document Node Name) _ config h1 in
     let (state, s, h3) = both (path_at document Node State) _ config h2 in
-    let (folders, f, h4) = both (folders_at document) _ config h3 in
-    let (peers, p, h5) = both (peers_at device folders document) _ config h4 in
-    let made : Config = record { device = device; name = name; state = state; folders = folders; peers = peers } in
-    let same : made ≡ config = cc h5 in
+    let (status, t, h4) = both (optional_path_at document Node Status) _ config h3 in
+    let (folders, f, h5) = both (folders_at document) _ config h4 in
+    let (peers, p, h6) = both (peers_at device folders document) _ config h5 in
+    let made : Config = record { device = device; name = name; state = state; status = status; folders = folders; peers = peers } in
+    let same : made ≡ config = cc h6 in
     subst IsConsistent same (folders_at_found document folders f, peers_at_found device folders document peers p)

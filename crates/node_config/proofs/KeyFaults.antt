@@ -5,7 +5,7 @@ use Rattle.std.specs.Option.{ok_or}
 use Rattle.toml.specs.Data.{Data, Items, no_items, item, Members, get_member, as_array, as_str}
 use Rattle.node_config.specs.Keys.{key_name}
 use Rattle.node_config.specs.Modes.{mode_at, mode_of_text, mode_or_none}
-use Rattle.node_config.specs.Paths.{path_at}
+use Rattle.node_config.specs.Paths.{checked_path, optional_path_at, path_at, path_if_there}
 use Rattle.device_text.specs.declared.fault.DeviceFault.{DeviceFault}
 use Rattle.node_config.specs.Values.{◌>>=◌, text_at, number_or_default, number_at, device_at, or_no_device, tables_of}
 use Rattle.node_config.specs.Folders.{checked_id, files_of, folder_of, folders_after, folders_at, id_at, numbers_of}
@@ -58,6 +58,13 @@ id_fails earlier table place = search (then_fails, text_fails, checked_id_fails)
 
 path_fails : (table : Members) (place : Place) (key : Key) → FailsAtKey (path_at table place key)
 path_fails table place key = search (then_fails, text_fails, cond_fails)
+
+path_if_there_fails : (place : Place) (key : Key) (o : Option Data) → FailsAtKey (path_if_there place key o)
+path_if_there_fails place key None = tt
+path_if_there_fails place key (Some value) = search (or_fails, then_fails, cond_fails)
+
+optional_path_fails : (table : Members) (place : Place) (key : Key) → FailsAtKey (optional_path_at table place key)
+optional_path_fails table place key = path_if_there_fails place key (get_member (key_name key) table)
 
 mode_or_none_fails : (place : Place) (o : Option Data) → FailsAtKey (mode_or_none place o)
 mode_or_none_fails place None = tt
@@ -130,4 +137,4 @@ peers_at_fails me folders document = search (then_fails, tables_fail, peers_fail
 
 -- a document that has no configuration has a key at which it has none
 pub config_fails : (document : Members) → FailsAtKey (config_of document)
-config_fails document = search (then_fails, device_fails, text_fails, path_fails, folders_at_fails, peers_at_fails) depth 12
+config_fails document = search (then_fails, device_fails, text_fails, path_fails, optional_path_fails, folders_at_fails, peers_at_fails) depth 12

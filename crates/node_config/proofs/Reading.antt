@@ -10,11 +10,11 @@ use Rattle.toml.specs.View.{view}
 use Rattle.toml.specs.declared.value.Value.{Value}
 use Rattle.node_config.specs.Documents.{IsDocument, IsFaultOf, config_of}
 use Rattle.node_config.specs.Folders.{folders_at}
-use Rattle.node_config.specs.Paths.{path_at}
+use Rattle.node_config.specs.Paths.{optional_path_at, path_at}
 use Rattle.node_config.specs.Peers.{peers_at}
 use Rattle.node_config.specs.Values.{Reads, device_at, text_at}
 use Rattle.node_config.specs.declared.config.FolderConfig.{FolderConfig}
-use Rattle.node_config.specs.declared.key.Key.TheVariants.{Name, State}
+use Rattle.node_config.specs.declared.key.Key.TheVariants.{Name, State, Status}
 use Rattle.node_config.specs.declared.key.Place.TheVariants.{Node}
 use Rattle.node_config.specs.declared.config.Config.{Config}
 use Rattle.node_config.specs.declared.fault.ConfigFault.{ConfigFault}
@@ -33,10 +33,10 @@ fault_of_document text document is (Err (BadKey place key problem)) h = elim h [
 fault_of_document text document is (Err (NotToml line)) h = elim h [ inl e ↦ cc | inr e ↦ absurd (IfErr-at_err IsOfKey e (config_fails document)) ]
 
 -- a fault of the peers, after all else was read
-pub fault_of_peers : (document : Members) (device name state : List ℕ) (folders lent : List FolderConfig) (fault : ConfigFault) → device_at document Node ≡ Ok device → text_at document Node Name ≡ Ok name → path_at document Node State ≡ Ok state → folders_at document ≡ Ok folders → lent ≡ folders
+pub fault_of_peers : (document : Members) (device name state : List ℕ) (status : Option (List ℕ)) (folders lent : List FolderConfig) (fault : ConfigFault) → device_at document Node ≡ Ok device → text_at document Node Name ≡ Ok name → path_at document Node State ≡ Ok state → optional_path_at document Node Status ≡ Ok status → folders_at document ≡ Ok folders → lent ≡ folders
     → (fault ≡ OutOfMemory) ⊎ (peers_at device lent document ≡ Err fault) → (fault ≡ OutOfMemory) ⊎ (config_of document ≡ Err fault)
-fault_of_peers document device name state folders lent fault d n s f same h =
-    elim h [ inl memory ↦ inl memory | inr e ↦ inr (rw (d, n, s, f, ← same, e) refl) ]
+fault_of_peers document device name state status folders lent fault d n s t f same h =
+    elim h [ inl memory ↦ inl memory | inr e ↦ inr (rw (d, n, s, t, f, ← same, e) refl) ]
 
 -- out of memory is no fault of a device
 pub no_fault_of_device : (document : Members) → device_at document Node ≡ Err OutOfMemory → ⊥

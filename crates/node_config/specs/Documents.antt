@@ -3,13 +3,13 @@ use Rattle.std.specs.Prelude.{◌≡◌, ℕ, suc, ◌≤◌, ◌==◌, List, le
 use Rattle.toml.specs.Data.{Members}
 use Rattle.toml.specs.Parse.{parse_document}
 use Rattle.node_config.specs.Folders.{folders_at}
-use Rattle.node_config.specs.Paths.{path_at}
+use Rattle.node_config.specs.Paths.{optional_path_at, path_at}
 use Rattle.node_config.specs.Peers.{peers_at}
 use Rattle.node_config.specs.Values.{◌>>=◌, device_at, text_at}
 use Rattle.node_config.specs.declared.config.Config.{Config}
 use Rattle.node_config.specs.declared.fault.ConfigFault.{ConfigFault}
 use Rattle.node_config.specs.declared.fault.ConfigFault.TheVariants.{NotToml, BadKey, OutOfMemory}
-use Rattle.node_config.specs.declared.key.Key.TheVariants.{Name, State}
+use Rattle.node_config.specs.declared.key.Key.TheVariants.{Name, State, Status}
 use Rattle.node_config.specs.declared.key.Place.TheVariants.{Node}
 
 -- the configuration of a document, or the first key at which it has none
@@ -18,9 +18,10 @@ config_of document = do
   device ← device_at document Node
   name ← text_at document Node Name
   state ← path_at document Node State
+  status ← optional_path_at document Node Status
   folders ← folders_at document
   peers ← peers_at device folders document
-  Ok (record { device = device; name = name; state = state; folders = folders; peers = peers })
+  Ok (record { device = device; name = name; state = state; status = status; folders = folders; peers = peers })
 
 -- the text is this document in TOML
 abbrev pub IsDocument : List ℕ → Members → Type 0

@@ -3,7 +3,7 @@ use Rattle.std.specs.Prelude.{◌≡◌, ◌⊎◌, ℕ, ◌+◌, Bool, false, �
 use Rattle.std.specs.List.{position, starts_with}
 use Rattle.node_config.specs.declared.fault.ConfigFault.{ConfigFault}
 use Rattle.node_config.specs.declared.fault.ConfigFault.TheVariants.{BadKey}
-use Rattle.node_config.specs.declared.key.Key.TheVariants.{Path, State}
+use Rattle.node_config.specs.declared.key.Key.TheVariants.{Path, State, Status}
 use Rattle.node_config.specs.declared.key.Place.TheVariants.{Folder, Node}
 use Rattle.node_config.specs.declared.key.Problem.TheVariants.{Inside as IsInside}
 use Rattle.node_config.specs.declared.overlap.Overlap.{Overlap}
@@ -68,3 +68,8 @@ fault_of (StateIn folder) = BadKey Node State (IsInside folder)
 abbrev pub checked : Option Overlap → Result (Unit {0}) ConfigFault
 checked None = Ok tt
 checked (Some overlap) = Err (fault_of overlap)
+
+-- a page lies within the folder at a place, if there is one
+abbrev pub page_checked : Option ℕ → Result (Unit {0}) ConfigFault
+page_checked None = Ok tt
+page_checked (Some place) = Err (BadKey Node Status (IsInside (place + 1)))

@@ -1,8 +1,9 @@
 -- The paths of a document.
-use Rattle.std.specs.Prelude.{ℕ, Bool, List, ◌||◌, length, ◌==◌, bytes_eq, nat_eq, codes, if◌then◌else◌, Result, Ok, Err}
+use Rattle.std.specs.Prelude.{ℕ, Bool, List, ◌||◌, length, ◌==◌, bytes_eq, nat_eq, codes, if◌then◌else◌, Option, Some, None, Result, Ok, Err}
 use Rattle.std.specs.List.{starts_with}
-use Rattle.toml.specs.Data.{Members}
-use Rattle.node_config.specs.Values.{◌>>=◌, text_at}
+use Rattle.toml.specs.Data.{Data, Members, get_member}
+use Rattle.node_config.specs.Keys.{key_name}
+use Rattle.node_config.specs.Values.{◌>>=◌, text_at, text_of}
 use Rattle.node_config.specs.declared.fault.ConfigFault.{ConfigFault}
 use Rattle.node_config.specs.declared.fault.ConfigFault.TheVariants.{BadKey}
 use Rattle.node_config.specs.declared.key.Key.{Key}
@@ -22,3 +23,14 @@ checked_path place key path =
 
 abbrev pub path_at : Members → Place → Key → Result (List ℕ) ConfigFault
 path_at table place key = text_at table place key >>= checked_path place key
+
+-- the path of a key that may be absent
+abbrev pub path_if_there : Place → Key → Option Data → Result (Option (List ℕ)) ConfigFault
+path_if_there place key None = Ok None
+path_if_there place key (Some value) = do
+  text ← text_of place key value
+  path ← checked_path place key text
+  Ok (Some path)
+
+abbrev pub optional_path_at : Members → Place → Key → Result (Option (List ℕ)) ConfigFault
+optional_path_at table place key = path_if_there place key (get_member (key_name key) table)

@@ -15,6 +15,8 @@ pub struct Config {
     pub name: Text,
     /// The path of the state file.
     pub state: Text,
+    /// The path of the page that says how all is, if one is kept.
+    pub status: Option<Text>,
     /// The folders, in the order of the document.
     pub folders: Items<FolderConfig>,
     /// The peers, in the order of the document.

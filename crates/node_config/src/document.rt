@@ -9,7 +9,7 @@ use crate::config::Config;
 use crate::fault::ConfigFault;
 use crate::folders::read_folders;
 use crate::key::{Key, Place};
-use crate::path::copied_path_at;
+use crate::path::{copied_path_at, optional_path_at};
 use crate::peers::read_peers;
 use crate::values::{copied_text_at, device_at};
 use std::alloc::Global;
@@ -25,7 +25,7 @@ use toml::de::Error;
 /// - [`ConfigFault::BadKey`] if a key is absent, has a value of another type or is out of its range; if a folder's id is empty or that of
 ///   another folder; if a peer's `folders` has a string that is no folder's id; if two devices, this one and the peers, have the same
 ///   identity or the same first 8 bytes of it; if a peer has both `dial` and `listen`, or neither; if two peers have the same address in
-///   `listen`, where `localhost` is 127.0.0.1. Of several such keys it is the first, in this order: `device`, `name`, `state`, then each folder and each peer in the
+///   `listen`, where `localhost` is 127.0.0.1. Of several such keys it is the first, in this order: `device`, `name`, `state`, `status`, then each folder and each peer in the
 ///   order of the document, with the keys of each in the order of the crate's table.
 /// - [`ConfigFault::OutOfMemory`] if memory ran out, and never for a text of white space and comments alone. For other texts no clause can
 ///   say that there is memory.
@@ -53,12 +53,14 @@ fn read_document(alloc: Global, document: &Table) -> Result<Config, ConfigFault>
     let device = device_at(document, Place::Node)?;
     let name = copied_text_at(alloc, document, Place::Node, Key::Name)?;
     let state = copied_path_at(alloc, document, Place::Node, Key::State)?;
+    let status = optional_path_at(alloc, document, Place::Node, Key::Status)?;
     let folders = read_folders(alloc, document)?;
     let peers = read_peers(alloc, device, folders.as_slice(), document)?;
     Ok(Config {
         device,
         name,
         state,
+        status,
         folders,
         peers,
     })

@@ -10,6 +10,7 @@ pub enum Key {
     Device,
     Name,
     State,
+    Status,
     Folder,
     Peer,
     Id,
@@ -34,6 +35,7 @@ impl Key {
             Key::Device => "device",
             Key::Name => "name",
             Key::State => "state",
+            Key::Status => "status",
             Key::Folder => "folder",
             Key::Peer => "peer",
             Key::Id => "id",
@@ -76,7 +78,14 @@ impl Place {
         ensures { result.now ≡ keys_of self }
     {
         match self {
-            Place::Node => &[Key::Device, Key::Name, Key::State, Key::Folder, Key::Peer],
+            Place::Node => &[
+                Key::Device,
+                Key::Name,
+                Key::State,
+                Key::Status,
+                Key::Folder,
+                Key::Peer,
+            ],
             Place::Folder(_) => &[
                 Key::Id,
                 Key::Path,

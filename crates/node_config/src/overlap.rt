@@ -1,6 +1,6 @@
 //! Folders and a state of which one lies within another.
 ghost use Rattle.std.specs.Prelude.{◌≡◌, ◌↔◌, ℕ, List, [], true};
-ghost use Rattle.node_config.specs.Overlaps.{IsWithin, are_within, checked, fault_of, first_nested, first_overlap, is_within, overlap_of, state_in, stem, with_earlier};
+ghost use Rattle.node_config.specs.Overlaps.{IsWithin, are_within, checked, fault_of, first_nested, first_overlap, is_within, overlap_of, page_checked, state_in, stem, with_earlier};
 ghost use Rattle.std.specs.List.{position};
 
 use crate::fault::ConfigFault;
@@ -28,6 +28,21 @@ pub fn check_paths(folders: &[Text], state: &str) -> Result<(), ConfigFault>
 {
     match first_overlap(folders, state) {
         Some(overlap) => Err(fault_of(overlap)),
+        None => Ok(()),
+    }
+}
+
+/// Fails if the page that is kept of how all is lies within a folder or is one: it would be kept alike too, and change for ever. The paths are canonical. O(n) for n
+/// folders.
+pub fn check_page(folders: &[Text], page: &str) -> Result<(), ConfigFault>
+    ensures { result ≡ page_checked (position (is_within page.now) folders.now) }
+{
+    match first_around(folders, page) {
+        Some(place) => Err(ConfigFault::BadKey {
+            place: Place::Node,
+            key: Key::Status,
+            problem: Problem::Inside { folder: place + 1 },
+        }),
         None => Ok(()),
     }
 }

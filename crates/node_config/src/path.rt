@@ -1,12 +1,12 @@
 //! The paths of a document.
 ghost use Rattle.std.specs.Prelude.{◌≡◌};
 ghost use Rattle.toml.specs.View.{table_view};
-ghost use Rattle.node_config.specs.Paths.{checked_path, is_of_home, path_at};
+ghost use Rattle.node_config.specs.Paths.{checked_path, is_of_home, optional_path_at, path_at};
 ghost use Rattle.node_config.specs.Values.{Finds, Reads};
 
 use crate::fault::ConfigFault;
 use crate::key::{Key, Place, Problem};
-use crate::values::text_at;
+use crate::values::{text_at, text_of, value_at};
 use bep_messages::Text;
 use std::alloc::Global;
 use toml::Table;
@@ -28,6 +28,22 @@ pub(crate) fn copied_path_at(
     ensures { Reads (path_at (table_view table.now) place key) result }
 {
     Ok(Text::from_str(alloc, path_at(table, place, key)?)?)
+}
+
+/// A copy of the path of a key that may be absent.
+pub(crate) fn optional_path_at(
+    alloc: Global,
+    table: &Table,
+    place: Place,
+    key: Key,
+) -> Result<Option<Text>, ConfigFault>
+    ensures { Reads (optional_path_at (table_view table.now) place key) result }
+{
+    let Some(value) = value_at(table, key) else {
+        return Ok(None);
+    };
+    let path = checked_path(text_of(value, place, key)?, place, key)?;
+    Ok(Some(Text::from_str(alloc, path)?))
 }
 
 /// A path that is not empty, and that is no shell's way to say the home directory.

@@ -3,6 +3,7 @@ use crate::doing::Doing;
 use crate::event::{Event, Heard, PeerEvent, PullEvent, ScanEvent};
 use crate::folder_line::push_failure;
 use crate::peer_line::{SILENT, push_front, push_why};
+use crate::tally::{Names, Sum, Tally};
 use bep_messages::Text;
 use node_status::Noted;
 use std::alloc::{AllocError, Global};
@@ -25,6 +26,8 @@ pub struct Board {
     peers: Vec<PeerBoard>,
     /// Why the state can't be written, if it can't.
     pub not_written: Option<String>,
+    /// How many events were taken, but for looks.
+    pub changes: u64,
 }
 
 /// What was told of a folder.
@@ -39,6 +42,25 @@ pub struct FolderBoard {
     pub failed: Vec<Noted>,
     /// How many more there were.
     pub failed_more: u64,
+    // Which names that are recorded are told by name, and what was pulled that isn't told yet.
+    recorded: Names,
+    tally: Tally,
+}
+
+/// What is told of an event.
+#[derive(Clone, Copy)]
+pub(crate) enum Telling {
+    /// Nothing.
+    Nothing,
+    /// A line.
+    Line,
+    /// How far something is, which begins with this or goes on.
+    Far {
+        /// Whether it begins.
+        begins: bool,
+    },
+    /// How many names were pulled that were not told by name.
+    Sum(Sum),
 }
 
 /// What was told of a peer.
@@ -65,6 +87,7 @@ impl Board {
             folders: Vec::new(alloc),
             peers: Vec::new(alloc),
             not_written: None,
+            changes: 0,
         }
     }
 
@@ -78,9 +101,23 @@ impl Board {
         self.peers.iter().find(|peer| peer.device == device)
     }
 
+    /// The name that a device gave itself last, if it gave one.
+    pub(crate) fn name_of(&self, device: DeviceId) -> Option<&str> {
+        match self.peer(device) {
+            Some(peer) => match &peer.name {
+                Some(name) if !name.is_empty() => Some(name.as_str()),
+                _ => None,
+            },
+            None => None,
+        }
+    }
+
     // Takes what happened in this second since 1970.
     pub(crate) fn take(&mut self, now: u64, event: &Event) -> io::Result<()> {
         let alloc = self.alloc;
+        if !matches!(event, Event::Scan(_, ScanEvent::Looked)) {
+            self.changes = self.changes.saturating_add(1);
+        }
         match event {
             Event::NotKept(why) => {
                 self.not_written = Some(String::from_str(
@@ -101,17 +138,34 @@ impl Board {
             }
             Event::Pull(id, event) => {
                 if let Some(folder) = self.folder_of(id)? {
-                    folder.doing = folder.doing.after_pull(event);
+                    folder.doing = folder.doing.after_pull(event, now);
                     folder.take(alloc, now, event)?;
                 }
             }
             Event::Begun(_)
             | Event::InputEnded
             | Event::NoSocket(_, _)
+            | Event::NoPage(_, _)
             | Event::Ended
             | Event::OlderState => {}
         }
         Ok(())
+    }
+
+    /// What is told of an event of this second that was just taken, by name of each name that is pulled or recorded if that `is_verbose`. Of what memory ran out for
+    /// a line is written.
+    pub(crate) fn telling(&mut self, now: u64, event: &Event, is_verbose: bool) -> Telling {
+        match event {
+            Event::Scan(id, event) => match self.folder_of(id) {
+                Ok(Some(folder)) => folder.telling_scan(now, event, is_verbose),
+                _ => Telling::Line,
+            },
+            Event::Pull(id, event) => match self.folder_of(id) {
+                Ok(Some(folder)) => folder.telling_pull(now, event, is_verbose),
+                _ => Telling::Line,
+            },
+            _ => Telling::Line,
+        }
     }
 
     // What was told of the folder with this id; nothing yet, where it is a new one.
@@ -151,7 +205,49 @@ impl FolderBoard {
             conflicts: Vec::new(alloc),
             failed: Vec::new(alloc),
             failed_more: 0,
+            recorded: Names::none(),
+            tally: Tally::none(),
         })
+    }
+
+    fn telling_scan(&mut self, now: u64, event: &ScanEvent, is_verbose: bool) -> Telling {
+        match event {
+            ScanEvent::At(at, _, bytes) => Telling::Far {
+                begins: *at == 0 && *bytes == 0,
+            },
+            ScanEvent::Over(_) | ScanEvent::Looked => Telling::Nothing,
+            ScanEvent::Recorded(_) => {
+                let (is_named, recorded) = self.recorded.take(now);
+                self.recorded = recorded;
+                line_if(is_verbose || is_named)
+            }
+            _ => Telling::Line,
+        }
+    }
+
+    fn telling_pull(&mut self, now: u64, event: &PullEvent, is_verbose: bool) -> Telling {
+        match event {
+            PullEvent::Begun(_) => Telling::Far {
+                begins: self.doing.pulled == 0 && self.doing.came == 0,
+            },
+            PullEvent::At(_) | PullEvent::Came(_) => Telling::Far { begins: false },
+            PullEvent::Received(_, _) => line_if(is_verbose),
+            PullEvent::Pulled(_, _) if is_verbose => Telling::Line,
+            PullEvent::Pulled(_, change) => {
+                let (is_named, tally) = self.tally.take(now, *change);
+                self.tally = tally;
+                line_if(is_named)
+            }
+            PullEvent::Over(needed) => {
+                let (sum, tally) = self.tally.settle(now, *needed);
+                self.tally = tally;
+                match sum {
+                    Some(sum) => Telling::Sum(sum),
+                    None => Telling::Nothing,
+                }
+            }
+            _ => Telling::Line,
+        }
     }
 
     // Takes which names could not be pulled, which were after all, and which conflict copies were made.
@@ -163,7 +259,7 @@ impl FolderBoard {
                 }
                 self.conflicts.push(noted(alloc, now, name, b"")?)?;
             }
-            PullEvent::Pulled(name) => self.forget(name),
+            PullEvent::Pulled(name, _) => self.forget(name),
             PullEvent::Over(needed) => {
                 if *needed == 0 {
                     self.failed.clear();
@@ -183,8 +279,9 @@ impl FolderBoard {
                 }
             }
             PullEvent::Received(_, _)
-            | PullEvent::At(_, _)
-            | PullEvent::Begun
+            | PullEvent::At(_)
+            | PullEvent::Came(_)
+            | PullEvent::Begun(_)
             | PullEvent::HistoryFull
             | PullEvent::NoRoom => {}
         }
@@ -195,6 +292,14 @@ impl FolderBoard {
     fn forget(&mut self, name: &SafeName) {
         self.failed
             .retain(|failed| failed.name.as_str() != name.as_str());
+    }
+}
+
+fn line_if(is_told: bool) -> Telling {
+    if is_told {
+        Telling::Line
+    } else {
+        Telling::Nothing
     }
 }
 
@@ -247,11 +352,11 @@ impl PeerBoard {
                     "it has not connected; it must dial {endpoint}, or be dialled from here"
                 )?;
             }
+            PeerEvent::Listening(endpoint) => write!(why, "it has to connect to {endpoint}")?,
             PeerEvent::OwnIdentity => {
                 why.extend_from_slice(b"who is there has the identity of this device")?;
             }
             PeerEvent::InTurn(_)
-            | PeerEvent::Listening(_)
             | PeerEvent::Stranger(_)
             | PeerEvent::Unshared(_, _)
             | PeerEvent::UnsharedMore(_) => return Ok(()),

@@ -1,6 +1,6 @@
 //! What a folder is doing, by what was told of it last.
 ghost use Rattle.std.specs.Prelude.{◌≡◌};
-ghost use Rattle.node_context.specs.Doing.{after_pull, after_scan, idle};
+ghost use Rattle.node_context.specs.Doing.{after_pull, after_scan, idle, rate_of, round_at};
 
 use crate::event::{PullEvent, ScanEvent};
 use node_status::Progress;
@@ -18,6 +18,15 @@ pub enum Standing {
     Held,
 }
 
+/// A round of pulls that goes on.
+#[derive(Clone, Copy, Debug, PartialEq, Eq)]
+pub struct Round {
+    /// When it began, in seconds since 1970.
+    pub begun: u64,
+    /// How many bytes had come by then.
+    pub came: u64,
+}
+
 /// What a folder is doing.
 #[derive(Clone, Copy, Debug, PartialEq, Eq)]
 pub struct Doing {
@@ -27,10 +36,16 @@ pub struct Doing {
     pub scan: Option<Progress>,
     /// When the last one came to its end, in seconds since 1970.
     pub scanned: Option<u64>,
-    /// Whether a round of pulls goes on.
-    pub is_pulling: bool,
+    /// When it was last looked at for what changed, in seconds since 1970.
+    pub looked: Option<u64>,
+    /// The round of pulls that goes on.
+    pub round: Option<Round>,
+    /// How many names are needed, as it was told last.
+    pub needed: u64,
     /// How many names were pulled since nothing was needed.
     pub pulled: u64,
+    /// How many bytes of files peers gave since then.
+    pub came: u64,
     /// Whether a pull had no room on the disk, and none was done since.
     pub has_no_room: bool,
 }
@@ -44,9 +59,25 @@ impl Doing {
             standing: Standing::There,
             scan: None,
             scanned: None,
-            is_pulling: false,
+            looked: None,
+            round: None,
+            needed: 0,
             pulled: 0,
+            came: 0,
             has_no_room: false,
+        }
+    }
+
+    /// How many bytes came in a second, on average, in the round of pulls that goes on.
+    pub fn rate(&self, now: u64) -> u64
+        ensures { result ≡ rate_of now self.now }
+    {
+        match self.round {
+            Some(round) => {
+                let seconds = now.saturating_sub(round.begun).max(1);
+                self.came.saturating_sub(round.came) / seconds
+            }
+            None => 0,
         }
     }
 
@@ -63,11 +94,13 @@ impl Doing {
                     next.scanned = Some(now);
                 }
             }
+            ScanEvent::Looked => next.looked = Some(now),
             ScanEvent::Away(_) => next.standing = Standing::Away,
             ScanEvent::InUse => next.standing = Standing::InUse,
             ScanEvent::Back => next.standing = Standing::There,
             ScanEvent::Held(_, _) => next.standing = Standing::Held,
             ScanEvent::Keeping(_, _)
+            | ScanEvent::Recorded(_)
             | ScanEvent::Scanned(_)
             | ScanEvent::Ended(_)
             | ScanEvent::Skipped(_, _)
@@ -77,28 +110,44 @@ impl Doing {
         next
     }
 
-    /// What it is doing after this happened to what other devices have of it.
-    pub fn after_pull(self, event: &PullEvent) -> Doing
-        ensures { result ≡ after_pull event.now self }
+    // The round that begins in this second.
+    fn round_at(&self, now: u64) -> Round
+        ensures { result ≡ round_at now self.now }
+    {
+        Round {
+            begun: now,
+            came: self.came,
+        }
+    }
+
+    /// What it is doing after this happened to what other devices have of it, in this second since 1970.
+    pub fn after_pull(self, event: &PullEvent, now: u64) -> Doing
+        ensures { result ≡ after_pull event.now now self }
     {
         let mut next = self;
         match event {
-            PullEvent::Begun => next.is_pulling = true,
+            PullEvent::Begun(needed) => {
+                next.round = Some(self.round_at(now));
+                next.needed = *needed;
+            }
             PullEvent::Over(needed) => {
-                next.is_pulling = false;
+                next.round = None;
+                next.needed = *needed;
                 if *needed == 0 {
                     next.pulled = 0;
+                    next.came = 0;
                     next.has_no_room = false;
                 }
             }
-            PullEvent::Pulled(_) => {
+            PullEvent::Pulled(_, _) => {
                 next.pulled = self.pulled.saturating_add(1);
                 next.has_no_room = false;
             }
+            PullEvent::At(needed) => next.needed = *needed,
+            PullEvent::Came(bytes) => next.came = self.came.saturating_add(*bytes),
             PullEvent::NoRoom => next.has_no_room = true,
             PullEvent::Received(_, _)
             | PullEvent::Kept(_)
-            | PullEvent::At(_, _)
             | PullEvent::Failed(_, _, _)
             | PullEvent::Refused(_, _)
             | PullEvent::Unsupported(_)

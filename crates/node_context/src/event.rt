@@ -40,6 +40,19 @@ pub enum ShareGap {
     WithoutPeer,
 }
 
+/// What a pull changed at a name.
+#[derive(Clone, Copy, Debug, PartialEq, Eq)]
+pub enum Change {
+    /// Nothing was there, and its best is.
+    Got,
+    /// Its best is in the place of something else.
+    Replaced,
+    /// Something was there, and nothing is.
+    Deleted,
+    /// What was there is as its best, and stays.
+    Same,
+}
+
 /// What happened.
 #[derive(Clone, Copy)]
 pub enum Event<'a> {
@@ -49,6 +62,8 @@ pub enum Event<'a> {
     InputEnded,
     /// No commands are taken from elsewhere at the socket with this path, for this reason.
     NoSocket(&'a str, &'a str),
+    /// The page at this path can't be made, for this reason.
+    NoPage(&'a str, &'a str),
     /// The run ended, and the state is written.
     Ended,
     /// The state is an older one than a peer was told of, and the node begins anew.
@@ -99,6 +114,10 @@ pub enum PeerEvent<'a> {
 pub enum ScanEvent<'a> {
     /// It is kept alike at this path, and so many of its files and directories are recorded.
     Keeping(&'a str, u64),
+    /// A change of this name was recorded.
+    Recorded(&'a SafeName),
+    /// It was looked at for what changed. No line says so.
+    Looked,
     /// A scan recorded changes, or left names out.
     Scanned(ScanSum),
     /// A scan was ended with the node.
@@ -128,15 +147,17 @@ pub enum ScanEvent<'a> {
 pub enum PullEvent<'a> {
     /// An index came from this peer, whose records have sequences up to this one.
     Received(DeviceId, u64),
-    /// What is at the name is now its best.
-    Pulled(&'a SafeName),
+    /// What is at the name is now its best, by this change.
+    Pulled(&'a SafeName, Change),
     /// What was at a name is kept under this one.
     Kept(&'a SafeName),
-    /// So many names were pulled, of so many.
-    At(u64, u64),
-    /// A round of pulls begins. No line says so.
-    Begun,
-    /// A round of pulls is over, and so many names are needed. No line says so.
+    /// So many names are needed still.
+    At(u64),
+    /// So many bytes of a file came from a peer.
+    Came(u64),
+    /// A round of pulls begins, and so many names are needed. No line says so.
+    Begun(u64),
+    /// A round of pulls is over, and so many names are needed. No line says so, but how many were pulled that were not told by name.
     Over(u64),
     /// The name could not be pulled, and what the system said, where that is why.
     Failed(&'a SafeName, PullFailure, Option<io::Error>),
@@ -148,26 +169,6 @@ pub enum PullEvent<'a> {
     HistoryFull,
     /// A file could not be written, since the disk is full.
     NoRoom,
-}
-
-impl Event<'_> {
-    // Whether a line says it.
-    pub(crate) fn has_line(&self) -> bool {
-        !matches!(
-            self,
-            Event::Scan(_, ScanEvent::Over(_))
-                | Event::Pull(_, PullEvent::Begun | PullEvent::Over(_))
-        )
-    }
-
-    // Where it only says how far something is: whether that begins.
-    pub(crate) fn begins(&self) -> Option<bool> {
-        match self {
-            Event::Scan(_, ScanEvent::At(at, _, bytes)) => Some(*at == 0 && *bytes == 0),
-            Event::Pull(_, PullEvent::At(at, _)) => Some(*at <= 1),
-            _ => None,
-        }
-    }
 }
 
 /// Why a scan leaves out a name, or why other devices can't have it. Displayed, it is how a line on the name ends.

@@ -1,25 +1,40 @@
 //! The text of each event, as it is told on standard error.
 use crate::VERSION;
+use crate::board::{Board, Telling};
 use crate::event::Event;
-use crate::folder_line::{push_pull_event, push_scan_event};
+use crate::folder_line::{push_pull_event, push_pulled_sum, push_scan_event};
 use crate::peer_line::push_peer_event;
 use jiff::Timestamp;
 use record_lines::push_text;
 use std::io::{self, Write};
 use sync_version::Moment;
 
-/// Appends a line: the time in UTC, and what happened.
-pub(crate) fn push_line(line: &mut Vec<u8>, now: Moment, event: &Event) -> io::Result<()> {
+/// Appends a line: the time in UTC, and what is told.
+pub(crate) fn push_line(
+    line: &mut Vec<u8>,
+    board: &Board,
+    now: Moment,
+    event: &Event,
+    telling: Telling,
+) -> io::Result<()> {
     if let Ok(time) = Timestamp::from_second(now.seconds() as i64) {
         write!(line, "{time} ")?;
     }
-    push_event(line, event)?;
+    match (telling, event) {
+        (Telling::Sum(sum), Event::Pull(folder, _)) => push_pulled_sum(line, folder, &sum)?,
+        _ => push_event(line, board, now, event)?,
+    }
     line.push(b'\n')?;
     Ok(())
 }
 
 /// Appends what happened.
-pub(crate) fn push_event(line: &mut Vec<u8>, event: &Event) -> io::Result<()> {
+pub(crate) fn push_event(
+    line: &mut Vec<u8>,
+    board: &Board,
+    now: Moment,
+    event: &Event,
+) -> io::Result<()> {
     match event {
         Event::Begun(config) => {
             write!(line, "bepd v{VERSION} runs by ")?;
@@ -31,6 +46,11 @@ pub(crate) fn push_event(line: &mut Vec<u8>, event: &Event) -> io::Result<()> {
             push_text(line, path)?;
             write!(line, ": {why}: bepd ask can't reach this run")
         }
+        Event::NoPage(path, why) => {
+            line.extend_from_slice(b"no page at ")?;
+            push_text(line, path)?;
+            write!(line, ": {why}; it is tried again")
+        }
         Event::Ended => Ok(line.extend_from_slice(ENDED)?),
         Event::OlderState => Ok(line.extend_from_slice(OLDER_STATE)?),
         Event::NotKept(why) => {
@@ -41,9 +61,9 @@ pub(crate) fn push_event(line: &mut Vec<u8>, event: &Event) -> io::Result<()> {
             }
         }
         Event::KeptAgain => Ok(line.extend_from_slice(b"state written again")?),
-        Event::Peer(peer, event) => push_peer_event(line, *peer, event),
+        Event::Peer(peer, event) => push_peer_event(line, board, *peer, event),
         Event::Scan(folder, event) => push_scan_event(line, folder, event),
-        Event::Pull(folder, event) => push_pull_event(line, folder, event),
+        Event::Pull(folder, event) => push_pull_event(line, board, now.seconds(), folder, event),
     }
 }
 

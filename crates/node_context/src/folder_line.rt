@@ -1,6 +1,8 @@
 //! The text of what happened to a folder.
-use crate::event::{PullEvent, ScanEvent, SkipWhy};
+use crate::board::Board;
+use crate::event::{Change, PullEvent, ScanEvent, SkipWhy};
 use crate::peer_line::push_device;
+use crate::tally::Sum;
 use record_lines::{push_name, push_text};
 use std::io::{self, Write};
 use sync_names::SafeName;
@@ -9,6 +11,9 @@ use sync_scan::ScanSum;
 
 // How many bytes are told as one MB.
 const MEGABYTE: u64 = 1_000_000;
+
+// How many as one kB.
+const KILOBYTE: u64 = 1_000;
 
 /// Appends what happened to the files of the folder.
 pub(crate) fn push_scan_event(
@@ -21,6 +26,7 @@ pub(crate) fn push_scan_event(
             write!(line, "folder {folder}: {count} names recorded, in ")?;
             Ok(push_text(line, path)?)
         }
+        ScanEvent::Recorded(name) => push_named(line, "recorded", folder, name),
         ScanEvent::Scanned(sum) => {
             push_sum(line, folder, sum)?;
             push_stop(line, sum)
@@ -40,7 +46,7 @@ pub(crate) fn push_scan_event(
                 read => write!(line, ": {read} MB read"),
             }
         }
-        ScanEvent::Over(_) => Ok(()),
+        ScanEvent::Over(_) | ScanEvent::Looked => Ok(()),
         ScanEvent::Skipped(name, why) => push_skipped(line, folder, name, *why),
         ScanEvent::SkippedMore(count) => write!(
             line,
@@ -73,18 +79,20 @@ pub(crate) fn push_scan_event(
 /// Appends what happened to what other devices have of the folder.
 pub(crate) fn push_pull_event(
     line: &mut Vec<u8>,
+    board: &Board,
+    now: u64,
     folder: &str,
     event: &PullEvent,
 ) -> io::Result<()> {
     match event {
         PullEvent::Received(peer, sequence) => {
-            write!(line, "received {folder} up to {sequence} from ")?;
-            push_device(line, *peer)
+            write!(line, "index of {folder} up to {sequence} from ")?;
+            push_device(line, board, *peer)
         }
-        PullEvent::Pulled(name) => push_named(line, "pulled", folder, name),
+        PullEvent::Pulled(name, change) => push_named(line, change_word(*change), folder, name),
         PullEvent::Kept(name) => push_named(line, "conflict copy", folder, name),
-        PullEvent::At(at, of) => write!(line, "pulling {folder} {at} of {of}"),
-        PullEvent::Begun | PullEvent::Over(_) => Ok(()),
+        PullEvent::At(_) | PullEvent::Came(_) => push_far(line, board, now, folder),
+        PullEvent::Begun(_) | PullEvent::Over(_) => Ok(()),
         PullEvent::Failed(name, _, _)
         | PullEvent::Refused(name, _)
         | PullEvent::Unsupported(name) => {
@@ -98,6 +106,51 @@ pub(crate) fn push_pull_event(
             "no room {folder}: the disk is full, or a quota: make room, it is tried again each minute"
         ),
     }
+}
+
+fn change_word(change: Change) -> &'static str {
+    match change {
+        Change::Got => "got",
+        Change::Replaced => "replaced",
+        Change::Deleted => "deleted",
+        Change::Same => "same",
+    }
+}
+
+// Appends how far the pull of a folder is: names, and bytes, also of a file that is under way.
+fn push_far(line: &mut Vec<u8>, board: &Board, now: u64, folder: &str) -> io::Result<()> {
+    let Some(told) = board.folder(folder) else {
+        return Ok(());
+    };
+    let doing = &told.doing;
+    let of = doing.pulled.saturating_add(doing.needed);
+    write!(line, "pulling {folder} {} of {of}", doing.pulled)?;
+    match doing.came / MEGABYTE {
+        0 => Ok(()),
+        came => {
+            let rate = doing.rate(now) / KILOBYTE;
+            write!(line, ": {came} MB came, {rate} kB a second")
+        }
+    }
+}
+
+/// Appends how many names of the folder were pulled that were not told by name.
+pub(crate) fn push_pulled_sum(line: &mut Vec<u8>, folder: &str, sum: &Sum) -> io::Result<()> {
+    write!(line, "pulled {folder}, besides:")?;
+    let mut is_first = true;
+    for (count, word) in [
+        (sum.got, "got"),
+        (sum.replaced, "replaced"),
+        (sum.deleted, "deleted"),
+        (sum.same, "same"),
+    ] {
+        if count > 0 {
+            let comma = if is_first { "" } else { "," };
+            write!(line, "{comma} {word} {count}")?;
+            is_first = false;
+        }
+    }
+    Ok(())
 }
 
 /// Appends why a name could not be pulled, where that is what happened.

@@ -1,5 +1,5 @@
 //! The log of a node: lines of events that wait until they are written on standard error, and what they come to.
-use crate::board::Board;
+use crate::board::{Board, Telling};
 use crate::clock::moment;
 use crate::event::Event;
 use crate::event_line::{push_event, push_line};
@@ -7,7 +7,7 @@ use std::alloc::Global;
 use std::io::{self, Write};
 use std::mem::replace;
 use std::sync::{Condvar, Mutex, Wait};
-use std::time::Clock;
+use std::time::{Clock, Duration};
 use sync_version::Moment;
 
 /// How many bytes of lines may wait to be written. What happens while there are more is counted, and not told.
@@ -32,15 +32,26 @@ impl ProgressStyle {
     }
 }
 
+/// How it is told what happens.
+#[derive(Clone, Copy, Debug, PartialEq, Eq)]
+pub struct LogStyle {
+    /// How it is shown how far something is.
+    pub progress: ProgressStyle,
+    /// Whether a line is written for each name that is pulled or recorded, however many they are.
+    pub is_verbose: bool,
+}
+
 /// What the threads of a node tell, until it is written.
 #[derive(Drop)]
 pub struct Log {
     alloc: Global,
     // `None` where nothing is told.
-    progress: Option<ProgressStyle>,
+    style: Option<LogStyle>,
     waiting: Mutex<Waiting>,
     // Notified when there is something to write, and at the end.
     changes: Condvar,
+    // Notified when the last node has ended.
+    ends: Condvar,
     board: Mutex<Board>,
 }
 
@@ -54,13 +65,15 @@ struct Waiting {
     next: u64,
     // How many lines are left out.
     lost: u64,
+    // Whether the last node has.
+    has_no_node: bool,
     is_ended: bool,
 }
 
 impl Log {
-    /// Takes each event, and shows so how far something is.
-    pub fn new(alloc: Global, progress: ProgressStyle) -> Log {
-        Log::of(alloc, Some(progress))
+    /// Takes each event, and tells it so.
+    pub fn new(alloc: Global, style: LogStyle) -> Log {
+        Log::of(alloc, Some(style))
     }
 
     /// Has no lines of any.
@@ -68,18 +81,20 @@ impl Log {
         Log::of(alloc, None)
     }
 
-    fn of(alloc: Global, progress: Option<ProgressStyle>) -> Log {
+    fn of(alloc: Global, style: Option<LogStyle>) -> Log {
         Log {
             alloc,
-            progress,
+            style,
             waiting: Mutex::new(Waiting {
                 lines: Vec::new(alloc),
                 far: Vec::new(alloc),
                 next: 0,
                 lost: 0,
+                has_no_node: false,
                 is_ended: false,
             }),
             changes: Condvar::new(),
+            ends: Condvar::new(),
             board: Mutex::new(Board::new(alloc)),
         }
     }
@@ -98,26 +113,47 @@ impl Log {
 
     /// Takes an event. Where memory runs out, or too much waits, its line is counted as left out.
     pub fn tell<R: Clock + Wait>(&self, rt: &R, event: &Event) {
-        self.note(rt, event);
-        let Some(progress) = self.progress else {
+        let now = moment(rt);
+        let mut board = self.board.lock(rt);
+        let _ = board.take(now.seconds(), event);
+        let Some(style) = self.style else {
             return;
         };
-        if !event.has_line() {
-            return;
-        }
-        let now = moment(rt);
-        let mut waiting = self.waiting.lock(rt);
-        let is_new = match event.begins() {
-            Some(begins) => waiting.take_far(progress, now, begins, event),
-            None => {
-                waiting.take(now, event);
+        let telling = board.telling(now.seconds(), event, style.is_verbose);
+        let is_new = match telling {
+            Telling::Nothing => false,
+            Telling::Line | Telling::Sum(_) => {
+                self.waiting.lock(rt).take(&board, now, event, telling);
                 true
             }
+            Telling::Far { begins } => {
+                let mut waiting = self.waiting.lock(rt);
+                waiting.is_far_due(style.progress, now, begins)
+                    && {
+                        waiting.take_far(style.progress, &board, now, event);
+                        true
+                    }
+            }
         };
-        drop(waiting);
+        drop(board);
         if is_new {
             self.changes.notify_all();
         }
+    }
+
+    /// Waits for so long, or until the last node has ended, and returns whether it has.
+    pub fn pause_for<R: Clock + Wait>(&self, rt: &R, time: Duration) -> bool {
+        let waiting = self.waiting.lock(rt);
+        let (waiting, _) = self
+            .ends
+            .wait_timeout_while(rt, waiting, time, |waiting| !waiting.has_no_node);
+        waiting.has_no_node
+    }
+
+    /// The last node has ended: no pause lasts.
+    pub fn end_pauses<R: Wait>(&self, rt: &R) {
+        self.waiting.lock(rt).has_no_node = true;
+        self.ends.notify_all();
     }
 
     /// There are no more events.
@@ -128,44 +164,39 @@ impl Log {
 }
 
 impl Waiting {
-    fn take(&mut self, now: Moment, event: &Event) {
+    fn take(&mut self, board: &Board, now: Moment, event: &Event, telling: Telling) {
         let length = self.lines.len();
         if length > MAX_WAITING {
             self.lost = self.lost.saturating_add(1);
             return;
         }
-        if push_line(&mut self.lines, now, event).is_err() {
+        if push_line(&mut self.lines, board, now, event, telling).is_err() {
             self.lines.truncate(length);
             self.lost = self.lost.saturating_add(1);
         }
     }
 
-    // How far something is, if it has taken long enough since it began, or was told. Returns whether it has.
-    fn take_far(
-        &mut self,
-        progress: ProgressStyle,
-        now: Moment,
-        begins: bool,
-        event: &Event,
-    ) -> bool {
+    // Whether it is time to tell how far something is: it has taken long enough since it began, or was told.
+    fn is_far_due(&mut self, progress: ProgressStyle, now: Moment, begins: bool) -> bool {
         let seconds = now.seconds();
         let is_due = !begins && seconds >= self.next;
         if begins || is_due {
             self.next = seconds.saturating_add(progress.seconds());
         }
-        if !is_due {
-            return false;
-        }
+        is_due
+    }
+
+    // How far something is.
+    fn take_far(&mut self, progress: ProgressStyle, board: &Board, now: Moment, event: &Event) {
         match progress {
             ProgressStyle::InPlace => {
                 self.far.clear();
-                if push_event(&mut self.far, event).is_err() {
+                if push_event(&mut self.far, board, now, event).is_err() {
                     self.far.clear();
                 }
             }
-            ProgressStyle::ByLines => self.take(now, event),
+            ProgressStyle::ByLines => self.take(board, now, event, Telling::Line),
         }
-        true
     }
 
     fn is_empty(&self) -> bool {

@@ -1,4 +1,5 @@
 //! The text of what happened to connections of a peer.
+use crate::board::Board;
 use crate::event::{Heard, PeerEvent, ShareGap};
 use bep_messages::Text;
 use peer_reader::ReaderStop;
@@ -12,68 +13,70 @@ const COMPRESSED: u8 = 12;
 /// Appends what happened to connections of the peer.
 pub(crate) fn push_peer_event(
     line: &mut Vec<u8>,
+    board: &Board,
     peer: DeviceId,
     event: &PeerEvent,
 ) -> io::Result<()> {
     match event {
         PeerEvent::Listening(endpoint) => {
             write!(line, "listening on {endpoint} for ")?;
-            push_device(line, peer)
+            push_device(line, board, peer)
         }
         PeerEvent::Connected(heard) => {
-            push_with(line, "connected ", peer)?;
+            line.extend_from_slice(b"connected ")?;
+            push_identity(line, peer)?;
             push_heard(line, heard)
         }
         PeerEvent::Unshared(folder, gap) => {
             line.extend_from_slice(b"not shared ")?;
             push_front(line, folder)?;
-            push_with(line, ": ", peer)?;
+            push_with(line, ": ", board, peer)?;
             Ok(line.extend_from_slice(gap_text(*gap).as_bytes())?)
         }
         PeerEvent::UnsharedMore(count) => {
             write!(line, "not shared: {count} more folders of ")?;
-            push_device(line, peer)
+            push_device(line, board, peer)
         }
         PeerEvent::Stranger(address) => {
             write!(
                 line,
                 "stranger {address}: no ClusterConfig came from there, so it was not taken for "
             )?;
-            push_device(line, peer)
+            push_device(line, board, peer)
         }
         PeerEvent::OwnIdentity => {
-            push_with(line, "not taken for ", peer)?;
+            push_with(line, "not taken for ", board, peer)?;
             Ok(line.extend_from_slice(OWN_IDENTITY)?)
         }
         PeerEvent::NobodyDialled(endpoint, seconds) => {
-            push_with(line, "waiting for ", peer)?;
+            push_with(line, "waiting for ", board, peer)?;
             write!(
                 line,
                 ": it has not connected in {seconds} seconds: it must dial {endpoint}, or be dialled from here"
             )
         }
         PeerEvent::InTurn(from) => {
-            push_with(line, "two devices as ", peer)?;
+            push_with(line, "two devices as ", board, peer)?;
             push_turn(line, *from)
         }
         PeerEvent::Unreached(endpoint, why, seconds) => {
-            push_with(line, "not reached ", peer)?;
+            push_with(line, "not reached ", board, peer)?;
             write!(
                 line,
                 ": {endpoint}: {why}; tried again each {seconds} seconds"
             )
         }
         PeerEvent::Gone(why) => {
-            push_with(line, "gone ", peer)?;
+            push_with(line, "gone ", board, peer)?;
             line.extend_from_slice(b": ")?;
             push_why(line, why)
         }
         PeerEvent::Anew(why) => {
-            push_with(line, "gone ", peer)?;
+            push_with(line, "gone ", board, peer)?;
             write!(line, ": {why}: the connection begins anew")
         }
         PeerEvent::Silent => {
-            push_with(line, "gone ", peer)?;
+            push_with(line, "gone ", board, peer)?;
             line.extend_from_slice(b": ")?;
             Ok(line.extend_from_slice(SILENT)?)
         }
@@ -86,9 +89,9 @@ const OWN_IDENTITY: &[u8] =
 /// Why a connection is ended that says too little.
 pub(crate) const SILENT: &[u8] = b"no ClusterConfig came within 10 seconds";
 
-fn push_with(line: &mut Vec<u8>, words: &str, peer: DeviceId) -> io::Result<()> {
+fn push_with(line: &mut Vec<u8>, words: &str, board: &Board, peer: DeviceId) -> io::Result<()> {
     line.extend_from_slice(words.as_bytes())?;
-    push_device(line, peer)
+    push_device(line, board, peer)
 }
 
 fn push_turn(line: &mut Vec<u8>, from: Option<(IpAddr, IpAddr)>) -> io::Result<()> {
@@ -125,8 +128,26 @@ fn gap_text(gap: ShareGap) -> &'static str {
     }
 }
 
-/// Appends a device's identity, in hexadecimal digits.
-pub(crate) fn push_device(line: &mut Vec<u8>, device: DeviceId) -> io::Result<()> {
+/// Appends which device it is: the name that it gave itself last and the front of its identity, or all of that where it gave no name yet.
+pub(crate) fn push_device(line: &mut Vec<u8>, board: &Board, device: DeviceId) -> io::Result<()> {
+    match board.name_of(device) {
+        Some(name) => {
+            line.extend_from_slice(name.as_bytes())?;
+            line.extend_from_slice(b" (")?;
+            for byte in device.bytes().iter().take(FRONT_BYTES) {
+                write!(line, "{byte:02x}")?;
+            }
+            Ok(line.push(b')')?)
+        }
+        None => push_identity(line, device),
+    }
+}
+
+// How many bytes of an identity are told beside a name.
+const FRONT_BYTES: usize = 4;
+
+// Appends an identity, in hexadecimal digits.
+fn push_identity(line: &mut Vec<u8>, device: DeviceId) -> io::Result<()> {
     for byte in device.bytes() {
         write!(line, "{byte:02x}")?;
     }

@@ -10,7 +10,7 @@ use sync_names::SafeName;
 pub enum Whereabouts {
     /// It is there, with its marker, and this run has it.
     There,
-    /// It isn't there, or has no marker.
+    /// It isn't there, or has no marker, or another directory is in its place.
     Away,
     /// Another run has it.
     InUse,
@@ -26,6 +26,10 @@ pub enum Whereabouts {
 pub trait Marked {
     /// Where the folder is now.
     fn look(&mut self) -> Whereabouts;
+
+    /// It is known to all who look at the folder that it isn't there: what is at its path next is taken anew. As long as this isn't called, another directory in its
+    /// place is away.
+    fn let_go(&mut self);
 
     /// What its last listing left out, once.
     fn take_skipped(&mut self) -> Vec<Skipped>;

@@ -67,11 +67,7 @@ impl<T: Stores<Store = S>, S: FileStore + Drop> Root<'_, T, S> {
         self.is_in_use = false;
         match self.stores.is_marked(&mut store) {
             Ok(true) => {}
-            Ok(false) => {
-                // (what comes back may be on another device)
-                self.stores.let_go(self.path);
-                return Err(StoreRefusal::StoreFault);
-            }
+            Ok(false) => return Err(StoreRefusal::StoreFault),
             Err(refusal) => return Err(refusal),
         }
         match self.stores.take(&mut store, self.path) {
@@ -128,6 +124,12 @@ impl<T: Stores<Store = S>, S: FileStore + Drop> Root<'_, T, S> {
             Err(_) if self.is_in_use => Whereabouts::InUse,
             Err(_) => Whereabouts::Away,
         }
+    }
+
+    /// The directory isn't there, and who looks at it knows: what is at its path next is taken anew.
+    pub(crate) fn let_go(&mut self) {
+        self.store = None;
+        self.stores.let_go(self.path);
     }
 
     /// What the last listing left out, once.

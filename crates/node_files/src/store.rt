@@ -56,6 +56,10 @@ impl<T: Stores<Store = S>, S: FileStore + Drop, E> Marked for FolderStore<'_, T,
         self.root.look()
     }
 
+    fn let_go(&mut self) {
+        self.root.let_go();
+    }
+
     fn take_skipped(&mut self) -> Vec<Skipped> {
         self.root.take_skipped()
     }

@@ -5,7 +5,7 @@ ghost use Rattle.file_store.specs.Refusals.{IsPlain};
 ghost use Rattle.file_store.specs.declared.refusal.StoreRefusal.{StoreRefusal};
 
 use crate::seen::{facts_at, names_at};
-use file_dir::{DirStore, Habits, LockRefusal, MarkerLock, Skipped};
+use file_dir::{DirStore, Habits, LockRefusal, MarkerId, MarkerLock, Skipped};
 use file_store::{FileStore, StoreRefusal};
 use folder_look::Facts;
 use std::alloc::{AllocError, Global};
@@ -73,12 +73,12 @@ pub trait Stores {
     /// with `StoreFault` where no directory is there, and with `InUse` where another run has it.
     fn begin(&self, alloc: Global, path: &str, is_new: bool) -> Result<(), LockRefusal>;
 
-    /// Takes the folder at a path, which has its marker, for as long as these are kept, or until it is let go of. Does nothing where they have it.
-    /// Fails with `InUse` where another run has it.
+    /// Takes the folder at a path, which has its marker, for as long as these are kept, or until it is let go of. Does nothing where they have it. Fails with
+    /// `InUse` where another run has it, and with `StoreFault` where they have another directory, which was at the path before: until that is let go of.
     fn take(&self, store: &mut Self::Store, path: &str) -> Result<(), LockRefusal>
         ensures { takes store.old path.now result store.new };
 
-    /// Lets go of the folder at a path, if these have it.
+    /// Lets go of the folder at a path, if these have it: what is there next may be another directory, on another device.
     fn let_go(&self, path: &str);
 
     /// Removes the versions of moments before so many seconds since 1970, and returns how many files these were.
@@ -124,7 +124,7 @@ struct Kept {
 #[derive(Drop)]
 struct Taken {
     path: String,
-    _lock: MarkerLock,
+    lock: MarkerLock,
 }
 
 impl<'a, R> Disks<'a, R> {
@@ -151,6 +151,32 @@ impl<R: Wait> Disks<'_, R> {
             }
         }
         PLAIN
+    }
+
+    // The marker of the folder at a path that these have, if they have it.
+    fn marker_of(&self, path: &str) -> Option<MarkerId> {
+        let known = self.known.lock(self.files);
+        known
+            .taken
+            .iter()
+            .find(|it| it.path.as_str() == path)
+            .map(|it| it.lock.id())
+    }
+}
+
+impl<'a, R: Files<File = File> + Wait> Disks<'a, R> {
+    // Takes the folder at a path, unless these have one there since just now.
+    fn take_new(&self, store: &mut DirStore<&'a R>, path: &str) -> Result<(), LockRefusal> {
+        let mut known = self.known.lock(self.files);
+        if known.taken.iter().any(|it| it.path.as_str() == path) {
+            return Ok(());
+        }
+        let path = String::from_str(self.alloc, path)?;
+        let lock = store.lock_marker()?;
+        match known.taken.push(Taken { path, lock }) {
+            Ok(()) => Ok(()),
+            Err(_) => Err(LockRefusal::OutOfMemory),
+        }
     }
 }
 
@@ -217,15 +243,9 @@ impl<'a, R: Files<File = File> + Clock + Sync + Wait> Stores for Disks<'a, R> {
     }
 
     fn take(&self, store: &mut DirStore<&'a R>, path: &str) -> Result<(), LockRefusal> {
-        let mut known = self.known.lock(self.files);
-        if known.taken.iter().any(|it| it.path.as_str() == path) {
-            return Ok(());
-        }
-        let path = String::from_str(self.alloc, path)?;
-        let _lock = store.lock_marker()?;
-        match known.taken.push(Taken { path, _lock }) {
-            Ok(()) => Ok(()),
-            Err(_) => Err(LockRefusal::OutOfMemory),
+        match self.marker_of(path) {
+            Some(id) => require_marked_by(store, id),
+            None => self.take_new(store, path),
         }
     }
 
@@ -252,6 +272,17 @@ impl<'a, R: Files<File = File> + Clock + Sync + Wait> Stores for Disks<'a, R> {
 
     fn names_at(&self, path: &str, names: &mut Vec<u8>) -> Result<(), StoreRefusal> {
         names_at(self.files, path, names)
+    }
+}
+
+// Fails unless the folder's marker is this one.
+fn require_marked_by<R: Files<File = File>>(
+    store: &mut DirStore<R>,
+    id: MarkerId,
+) -> Result<(), LockRefusal> {
+    match store.is_marked_by(id).map_err(refusal_of)? {
+        true => Ok(()),
+        false => Err(LockRefusal::StoreFault),
     }
 }
 

@@ -5,6 +5,20 @@ use Rattle.folder_core.specs.declared.scan.ScanAnswer.TheVariants.{Recorded, Unc
 use Rattle.sync_scan.specs.declared.scanned.Scanned.{Scanned}
 use Rattle.sync_scan.specs.declared.scanned.Scanned.TheVariants.{Answered, Skipped, Changing}
 
+-- a change of it was recorded
+abbrev pub is_record : Scanned → Bool
+is_record (Answered (Ok (Recorded sequence))) = true
+is_record (Answered (Ok Unchanged)) = false
+is_record (Answered (Ok (Moved version))) = false
+is_record (Answered (Ok Busy)) = false
+is_record (Answered (Err refusal)) = false
+is_record Skipped = false
+is_record Changing = false
+
+abbrev pub is_recorded : Result Scanned StoreRefusal → Bool
+is_recorded (Ok scanned) = is_record scanned
+is_recorded (Err refusal) = false
+
 -- it was not recorded, though it may be the next time
 abbrev pub is_unrecorded : Scanned → Bool
 is_unrecorded (Answered (Ok (Recorded sequence))) = false

@@ -14,7 +14,7 @@ mod trash;
 
 pub use ends::{GivesUp, WorkerEnds};
 pub use folder::{FolderSettings, FolderWorker, NodeFolder};
-pub use left_over::is_left_over;
+pub use left_over::{is_left_over, is_recorded};
 pub use notes::{Notes, Noticed};
 pub use presence::{Presence, look_at_folder, release};
 pub use scan_times::ScanTimes;

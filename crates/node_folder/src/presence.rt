@@ -127,6 +127,10 @@ where
     if folder.presence.take(cx.rt, found) {
         tell_whereabouts(cx, folder, found);
     }
+    if found == Whereabouts::Away {
+        // (only now: what comes back is doubted, and until then another directory in its place was away)
+        worker.store.let_go();
+    }
     if found != Whereabouts::There || folder.presence.is_checked(cx.rt) {
         return found;
     }

@@ -1,6 +1,6 @@
 //! The scans of folders, when they are due or asked for, and what is told of them.
 use crate::folder::FolderWorker;
-use crate::left_over::is_left_over;
+use crate::left_over::{is_left_over, is_recorded};
 use crate::notes::Notes;
 use crate::presence::look_at_folder;
 use crate::schedule::{FolderScan, ScanOutcome, ScanSchedule, spread};
@@ -222,6 +222,10 @@ impl<R: Clock + Wait> Progress for Seen<'_, R> {
 
     fn came_to(&mut self, name: &SafeName, scanned: &Result<Scanned, StoreRefusal>) {
         self.count = self.count.saturating_add(1);
+        if is_recorded(scanned) {
+            self.log
+                .tell(self.rt, &Event::Scan(self.id, ScanEvent::Recorded(name)));
+        }
         self.left_out.came_to(name, scanned);
         // (once the node stops each name is a fault)
         if is_left_over(scanned) && !self.connections.is_stopping(self.rt) {

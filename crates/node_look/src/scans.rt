@@ -5,10 +5,11 @@ use folder_calls::FolderCalls;
 use folder_core::ScanAnswer;
 use node_context::{Context, Event, Host, ScanEvent};
 use node_files::Marked;
-use node_folder::{FolderWorker, is_left_over};
+use node_folder::{FolderWorker, is_left_over, is_recorded};
 use std::alloc::{AllocError, Global};
 use std::mem::replace;
 use std::thread::for_each_mut;
+use sync_names::SafeName;
 use sync_scan::{ScanSum, Scanned, scan_name};
 use sync_version::Moment;
 
@@ -102,15 +103,39 @@ where
     G: Gate,
 {
     let Looker { worker, ready, sum } = looker;
-    let FolderWorker { store, calls, .. } = worker;
     for one in ready.iter_mut() {
         if cx.is_stopping() {
             return;
         }
-        let scanned = scan_name(cx.rt, cx.alloc, store, calls, cx.gate, &one.name, moment);
+        let scanned = scan_one(cx, worker, &one.name, moment);
         one.is_left = is_left_over(&scanned);
         count(sum, &scanned);
     }
+}
+
+// Scans a name. That a change of it was recorded is told.
+fn scan_one<'x, R, S, W, G>(
+    cx: &Context<'x, R, G>,
+    worker: &mut FolderWorker<'x, S, W>,
+    name: &SafeName,
+    moment: Moment,
+) -> Result<Scanned, StoreRefusal>
+where
+    R: Host,
+    S: FileStore,
+    W: FolderCalls,
+    G: Gate,
+{
+    let FolderWorker {
+        folder,
+        store,
+        calls,
+    } = worker;
+    let scanned = scan_name(cx.rt, cx.alloc, store, calls, cx.gate, name, moment);
+    if is_recorded(&scanned) {
+        cx.tell(&Event::Scan(folder.id(), ScanEvent::Recorded(name)));
+    }
+    scanned
 }
 
 fn count(sum: &mut ScanSum, scanned: &Result<Scanned, StoreRefusal>) {

@@ -9,7 +9,7 @@ use crate::scans::{Looker, scan_ready};
 use file_store::{FileStore, Gate};
 use folder_calls::FolderCalls;
 use folder_look::Looking;
-use node_context::{Context, Host};
+use node_context::{Context, Event, Host, ScanEvent};
 use node_files::{Marked, Whereabouts};
 use node_folder::{Noticed, look_at_folder};
 use std::alloc::{AllocError, Global};
@@ -129,6 +129,7 @@ where
         return Ok(());
     }
     look.take(found)?;
+    cx.note(&Event::Scan(settings.id.as_str(), ScanEvent::Looked));
     let now = milliseconds(cx.rt);
     let took = u32::try_from(now.saturating_sub(began)).unwrap_or(u32::MAX);
     *all_due = after(now, settings.looking.pause_of_all(look.len(), took));
@@ -270,6 +271,7 @@ where
         if worker.look(cx.rt) == Whereabouts::There {
             names.add(look.changes(found.as_slice())?, now)?;
             look.take(found)?;
+            cx.note(&Event::Scan(settings.id.as_str(), ScanEvent::Looked));
         }
         if is_all {
             names.known.clear();

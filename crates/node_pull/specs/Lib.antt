@@ -1,2 +1,3 @@
+pub mod Changes
 pub mod Waits
 pub mod Ways

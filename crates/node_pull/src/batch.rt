@@ -1,5 +1,6 @@
 //! Names of a folder that are pulled side by side.
 use crate::besides::pull_besides;
+use crate::changes::change_of;
 use crate::patient::PatientSource;
 use crate::puller::pull;
 use crate::turn::Turn;
@@ -91,7 +92,7 @@ where
 {
     let id = puller.worker.folder.id();
     let source = PeerSource::new(cx.rt, cx.alloc, id, batch.peers)?;
-    let mut source = PatientSource::new(cx, source, batch.peers, batch.turn, batch.is_patient);
+    let mut source = PatientSource::new(cx, id, source, batch.peers, batch.turn, batch.is_patient);
     for _ in batch.wanted {
         if cx.is_stopping() {
             return Ok(());
@@ -132,15 +133,15 @@ where
     let id = puller.worker.folder.id();
     let answer = pull(cx, &mut puller.worker, source, &wanted.name);
     notice(cx, &mut puller.worker, wanted, answer)?;
-    let count = batch.wanted.len() as u64;
-    cx.tell(&Event::Pull(id, PullEvent::At(place as u64 + 1, count)));
     if puller.note(cx.rt, batch.turn, wanted, place, answer)? {
         let said = match answer {
             PullAnswer::Failed(PullFailure::StoreFault) => puller.worker.store.last_error(),
             _ => None,
         };
-        tell_answer(cx, id, &wanted.name, answer, said);
+        tell_answer(cx, id, wanted, answer, said);
     }
+    let needed = puller.worker.calls.counts().value.needed;
+    cx.tell(&Event::Pull(id, PullEvent::At(needed)));
     Ok(())
 }
 
@@ -228,15 +229,16 @@ impl<'x, S: Marked, W> Puller<'x, S, W> {
 fn tell_answer<R: Host, G>(
     cx: &Context<R, G>,
     id: &str,
-    name: &SafeName,
+    wanted: &Wanted,
     answer: PullAnswer,
     said: Option<io::Error>,
 ) {
+    let name = &wanted.name;
     if cx.is_stopping() && !matches!(answer, PullAnswer::Done(_)) {
         return;
     }
     let event = match answer {
-        PullAnswer::Done(_) => PullEvent::Pulled(name),
+        PullAnswer::Done(_) => PullEvent::Pulled(name, change_of(&wanted.local, &wanted.best)),
         PullAnswer::Failed(why) => PullEvent::Failed(name, why, said),
         PullAnswer::Refused(why) => PullEvent::Refused(name, why),
         PullAnswer::Unsupported => PullEvent::Unsupported(name),

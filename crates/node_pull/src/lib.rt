@@ -4,6 +4,7 @@
 mod batch;
 mod beginning;
 mod besides;
+mod changes;
 mod obstacle;
 mod patience;
 mod patient;

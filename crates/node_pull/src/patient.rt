@@ -3,7 +3,7 @@ ghost use Rattle.std.specs.Prelude.{◌≡◌};
 
 use crate::patience::{NextStep, next_step};
 use crate::turn::Turn;
-use node_context::Context;
+use node_context::{Context, Event, PullEvent};
 use peer_asks::PeerBook;
 use std::alloc::AllocError;
 use std::sync::Wait;
@@ -24,6 +24,8 @@ const LOOKS: u64 = 3_000;
 #[derive(Drop)]
 pub(crate) struct PatientSource<'c, 'x, R, G, S> {
     cx: &'c Context<'x, R, G>,
+    // The folder.
+    id: &'c str,
     source: S,
     peers: &'c [PeerBook<'x>],
     turn: &'c Turn,
@@ -37,6 +39,7 @@ impl<'c, 'x, R: Clock + Wait, G, S: BlockSource> PatientSource<'c, 'x, R, G, S> 
     /// It waits for nobody yet. Does not allocate.
     pub(crate) fn new(
         cx: &'c Context<'x, R, G>,
+        id: &'c str,
         source: S,
         peers: &'c [PeerBook<'x>],
         turn: &'c Turn,
@@ -44,6 +47,7 @@ impl<'c, 'x, R: Clock + Wait, G, S: BlockSource> PatientSource<'c, 'x, R, G, S> 
     ) -> PatientSource<'c, 'x, R, G, S> {
         PatientSource {
             cx,
+            id,
             source,
             peers,
             turn,
@@ -129,6 +133,8 @@ impl<R: Clock + Wait, G, S: BlockSource + Drop> BlockSource for PatientSource<'_
         for _ in self.cx.rt.forever() {
             let before = self.connection(device);
             if self.source.fetch(device, name, block, bytes)? {
+                let came = PullEvent::Came(u64::from(block.size));
+                self.cx.tell(&Event::Pull(self.id, came));
                 return Ok(true);
             }
             if !self.is_asked_again(device, before) {

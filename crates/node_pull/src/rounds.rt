@@ -138,7 +138,7 @@ where
     };
     let up = up.len();
     let mut has_pulled = false;
-    cx.note(&Event::Pull(folder.folder.id(), PullEvent::Begun));
+    tell_begun(cx, folder);
     let turn = Turn::first(cx.alloc)?;
     for wanted in order.live.iter().filter(|wanted| !wanted.is_empty()) {
         turn.begin(cx.rt);
@@ -154,16 +154,28 @@ where
         has_pulled = true;
     }
     folder.retries.end_round(has_pulled);
-    note_over(cx, folder);
+    tell_over(cx, folder);
     Ok(has_pulled)
 }
 
-// Notes that a round is over, and how many names are needed.
-fn note_over<R: Host, S, W: FolderCalls, G>(cx: &Context<R, G>, folder: &mut PulledFolder<S, W>) {
-    if let Some(puller) = folder.pullers.first_mut() {
-        let needed = puller.worker.calls.counts().value.needed;
-        cx.note(&Event::Pull(folder.folder.id(), PullEvent::Over(needed)));
+// How many names of a folder are needed.
+fn needed_of<S, W: FolderCalls>(folder: &mut PulledFolder<S, W>) -> u64 {
+    match folder.pullers.first_mut() {
+        Some(puller) => puller.worker.calls.counts().value.needed,
+        None => 0,
     }
+}
+
+// Tells that a round begins, and how many names are needed.
+fn tell_begun<R: Host, S, W: FolderCalls, G>(cx: &Context<R, G>, folder: &mut PulledFolder<S, W>) {
+    let needed = needed_of(folder);
+    cx.tell(&Event::Pull(folder.folder.id(), PullEvent::Begun(needed)));
+}
+
+// Tells that it is over, and how many are needed then.
+fn tell_over<R: Host, S, W: FolderCalls, G>(cx: &Context<R, G>, folder: &mut PulledFolder<S, W>) {
+    let needed = needed_of(folder);
+    cx.tell(&Event::Pull(folder.folder.id(), PullEvent::Over(needed)));
 }
 
 // What is to be pulled of a folder now, if anything is needed, and the folder is there.
@@ -206,7 +218,7 @@ where
     let needed = calls.need(None, usize::MAX)?.value;
     retries.keep(needed.as_slice());
     if needed.as_slice().is_empty() {
-        cx.note(&Event::Pull(folder.id(), PullEvent::Over(0)));
+        cx.tell(&Event::Pull(folder.id(), PullEvent::Over(0)));
         *idle_at = Some(at);
         return Ok(None);
     }

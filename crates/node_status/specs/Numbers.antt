@@ -29,3 +29,15 @@ part_text p = number_text p.at ++ codes " of " ++ number_text p.of
 -- as "120 of 2,000 (6 %)"
 abbrev pub progress_text : Progress → List ℕ
 progress_text p = part_text p ++ codes " (" ++ number_text (percent p) ++ codes " %)"
+
+-- a number of tenths, as "12.3"
+abbrev pub tenths_text : ℕ → List ℕ
+tenths_text n = number_text (n / 10) ++ codes "." ++ ((48 + n % 10) ∷ [])
+
+-- a number of bytes, as "999 B", "12.3 kB", "12.3 MB" or "1,234.5 GB", rounded down
+abbrev pub bytes_text : ℕ → List ℕ
+bytes_text n =
+    if nat_lt n 1000 then number_text n ++ codes " B"
+    else if nat_lt n 1000000 then tenths_text (n / 100) ++ codes " kB"
+    else if nat_lt n 1000000000 then tenths_text (n / 100000) ++ codes " MB"
+    else tenths_text (n / 100000000) ++ codes " GB"

@@ -1,15 +1,18 @@
 -- What is shown of a status, as rows.
-use Rattle.std.specs.Prelude.{ℕ, ◌==◌, List, [], ◌∷◌, ◌++◌, map, flat_map, codes, string_bytes, Option, Some, None, option_map, if◌then◌else◌}
+use Rattle.std.specs.Prelude.{ℕ, ◌==◌, ◌||◌, Bool, true, false, is_some, List, [], ◌∷◌, ◌++◌, map, flat_map, codes, string_bytes, Option, Some, None, option_map, if◌then◌else◌}
+use Rattle.std.specs.List.{list_any}
 use Rattle.node_status.specs.declared.rows.Mark.{Mark}
 use Rattle.node_status.specs.declared.rows.Mark.TheVariants.{Title, Heading, Good, Busy, Bad, Note, Trouble}
+use Rattle.node_status.specs.declared.rows.Summary.{Summary}
+use Rattle.node_status.specs.declared.rows.Summary.TheVariants.{Trouble as SomeTrouble, Working, Alone, Well}
 use Rattle.node_status.specs.declared.status.FolderState.{FolderState}
-use Rattle.node_status.specs.declared.status.FolderState.TheVariants.{UpToDate, Behind, Scanning, Pulling, NoRoom, Away, InUse, Held}
+use Rattle.node_status.specs.declared.status.FolderState.TheVariants.{UpToDate, Behind, Failing, Scanning, Pulling, NoRoom, Away, InUse, Held}
 use Rattle.node_status.specs.declared.status.FolderStatus.{FolderStatus}
 use Rattle.node_status.specs.declared.status.Noted.{Noted}
 use Rattle.node_status.specs.declared.status.PeerStatus.{PeerStatus}
 use Rattle.node_status.specs.declared.status.Progress.{Progress}
 use Rattle.node_status.specs.declared.status.Status.{Status}
-use Rattle.node_status.specs.Numbers.{number_text}
+use Rattle.node_status.specs.Numbers.{bytes_text, number_text}
 use Rattle.node_status.specs.Times.{moment_text}
 use Rattle.node_status.specs.Words.{folder_text, holdings_text, noted_text, origin_text, past_text, peer_text, short_text}
 
@@ -41,12 +44,53 @@ name_of (Some name) = name
 abbrev pub folder_mark : FolderState → Mark
 folder_mark UpToDate = Good
 folder_mark Behind = Busy
+folder_mark Failing = Bad
 folder_mark Scanning = Busy
 folder_mark Pulling = Busy
 folder_mark NoRoom = Bad
 folder_mark Away = Bad
 folder_mark InUse = Bad
 folder_mark Held = Bad
+
+abbrev pub is_bad_mark : Mark → Bool
+is_bad_mark Bad = true
+is_bad_mark _ = false
+
+abbrev pub is_busy_mark : Mark → Bool
+is_busy_mark Busy = true
+is_busy_mark _ = false
+
+abbrev pub is_bad : FolderStatus → Bool
+is_bad f = is_bad_mark (folder_mark f.state)
+
+abbrev pub is_busy : FolderStatus → Bool
+is_busy f = is_busy_mark (folder_mark f.state)
+
+abbrev pub is_there : PeerStatus → Bool
+is_there p = p.is_up
+
+-- how all is: something can't go on by itself, or is under way, or no peer is there to say what is new, or all is well
+abbrev pub summary_of : Status → Summary
+summary_of s =
+    if is_some s.not_written || list_any is_bad s.folders.items then SomeTrouble
+    else if list_any is_busy s.folders.items then Working
+    else if list_any is_there s.peers.items then Well
+    else Alone
+
+abbrev pub summary_mark : Summary → Mark
+summary_mark SomeTrouble = Bad
+summary_mark Working = Busy
+summary_mark Alone = Busy
+summary_mark Well = Good
+
+abbrev pub summary_text : Summary → List ℕ
+summary_text SomeTrouble = codes "something needs you: see below"
+summary_text Working = codes "under way"
+summary_text Alone = codes "as far as is known: no peer is connected"
+summary_text Well = codes "all is well"
+
+abbrev pub summary_row : List ℕ → Summary → ShownRow
+summary_row name summary = record { mark = summary_mark summary; name = name; words = summary_text summary; progress = None }
 
 -- names that are told, after words, and how many more there are
 abbrev pub noted_rows : Mark → List ℕ → ℕ → List Noted → List ShownRow
@@ -62,7 +106,7 @@ abbrev pub folder_rows : ℕ → FolderStatus → List ShownRow
 folder_rows made f =
     (folder_row f ∷ words_row Note (holdings_text f) ∷ words_row Note (past_text made f) ∷ [])
     ++ noted_rows Trouble (codes "failed: ") made f.failed.items ++ more_rows Trouble f.failed_more (codes " more failed")
-    ++ noted_rows Trouble (codes "left out: ") made f.left_out.items ++ more_rows Trouble f.left_out_more (codes " more left out")
+    ++ noted_rows Note (codes "left out: ") made f.left_out.items ++ more_rows Note f.left_out_more (codes " more left out")
     ++ noted_rows Note (codes "conflict copy: ") made f.conflicts.items
 
 abbrev pub peer_row : ℕ → PeerStatus → ShownRow
@@ -91,17 +135,22 @@ title_row s = record {
   progress = None;
 }
 
+-- how much memory the program holds, if that is known
+abbrev pub memory_rows : Option ℕ → List ShownRow
+memory_rows None = []
+memory_rows (Some bytes) = words_row Note (codes "memory " ++ bytes_text bytes) ∷ []
+
 -- the same, and by which program
 abbrev pub node_rows : Status → List ShownRow
 node_rows s =
     title_row s
     ∷ words_row Note (codes "bepd v" ++ string_bytes s.version)
     ∷ words_row Note (codes "device " ++ string_bytes s.device)
-    ∷ []
+    ∷ memory_rows s.memory
 
 -- all of a status
 abbrev pub status_rows : Status → List ShownRow
 status_rows s =
-    node_rows s ++ state_rows (option_map string_bytes s.not_written)
+    node_rows s ++ (summary_row (codes "In short") (summary_of s) ∷ state_rows (option_map string_bytes s.not_written))
     ++ (heading (codes "Folders") ∷ flat_map (folder_rows s.made) s.folders.items)
     ++ (heading (codes "Peers") ∷ flat_map (peer_rows s.made) s.peers.items)

@@ -1,11 +1,12 @@
 -- What is said of folders and peers, in words.
-use Rattle.std.specs.Prelude.{ℕ, ◌==◌, nat_lt, List, [], ◌∷◌, ◌++◌, map, take, codes, string_bytes, Option, Some, None, option_map, if◌then◌else◌}
+use Rattle.std.specs.Prelude.{ℕ, ◌==◌, ◌&&◌, ◌||◌, nat_lt, Bool, true, false, List, [], ◌∷◌, ◌++◌, map, take, codes, string_bytes, Option, Some, None, option_map, if◌then◌else◌}
 use Rattle.node_status.specs.declared.status.FolderState.{FolderState}
-use Rattle.node_status.specs.declared.status.FolderState.TheVariants.{UpToDate, Behind, Scanning, Pulling, NoRoom, Away, InUse, Held}
+use Rattle.node_status.specs.declared.status.FolderState.TheVariants.{UpToDate, Behind, Failing, Scanning, Pulling, NoRoom, Away, InUse, Held}
 use Rattle.node_status.specs.declared.status.FolderStatus.{FolderStatus}
 use Rattle.node_status.specs.declared.status.Noted.{Noted}
 use Rattle.node_status.specs.declared.status.PeerStatus.{PeerStatus}
-use Rattle.node_status.specs.Numbers.{count_text, part_text, progress_text}
+use Rattle.node_status.specs.declared.status.Progress.{Progress}
+use Rattle.node_status.specs.Numbers.{bytes_text, count_text, part_text, progress_text}
 use Rattle.node_status.specs.Times.{time_text}
 
 -- something that may not be there, after other words
@@ -24,21 +25,34 @@ short_text device = map digit_or_mark (take 7 device)
 abbrev pub state_text : FolderState → List ℕ
 state_text UpToDate = codes "up to date"
 state_text Behind = codes "behind"
+state_text Failing = codes "behind: names that can't be pulled stand below"
 state_text Scanning = codes "scanning"
 state_text Pulling = codes "pulling"
 state_text NoRoom = codes "stopped: the disk is full"
 state_text Away = codes "away: the directory isn't there, or has no .stfolder"
 state_text InUse = codes "stopped: another run has it"
-state_text Held = codes "held: none of the recorded names is there; `scan` takes that as it is"
+state_text Held = codes "held: none of the recorded names is there; `scan` says that they are gone, and all devices delete them"
 
--- names that are needed, if there are any
-abbrev pub needed_text : ℕ → List ℕ
-needed_text n = if n == 0 then [] else codes ", " ++ count_text n (codes "name") (codes "names") ++ codes " needed"
+abbrev pub is_pulling : FolderState → Bool
+is_pulling Pulling = true
+is_pulling _ = false
+
+-- names that are needed, if there are any; of a pull its progress says so
+abbrev pub needed_text : FolderState → ℕ → List ℕ
+needed_text state n = if n == 0 || is_pulling state then [] else codes ", " ++ count_text n (codes "name") (codes "names") ++ codes " needed"
+
+-- bytes that came, and how many of them in a second
+abbrev pub came_text : ℕ → ℕ → List ℕ
+came_text received rate = codes ", " ++ bytes_text received ++ codes " came, " ++ bytes_text rate ++ codes " a second"
+
+-- the bytes that came for a folder, while it pulls, if any came
+abbrev pub received_text : FolderStatus → List ℕ
+received_text f = if is_pulling f.state && nat_lt 0 f.received then came_text f.received f.rate else []
 
 -- how a folder is
-abbrev pub folder_text : FolderStatus → List ℕ
+unfoldable pub folder_text : FolderStatus → List ℕ
 folder_text f =
-    state_text f.state ++ after (codes " ") (option_map progress_text f.progress) ++ needed_text f.needed
+    state_text f.state ++ after (codes " ") (option_map progress_text f.progress) ++ needed_text f.state f.needed ++ received_text f
 
 -- what a folder has
 abbrev pub holdings_text : FolderStatus → List ℕ
@@ -50,19 +64,37 @@ abbrev pub scanned_text : ℕ → Option ℕ → List ℕ
 scanned_text made None = codes "not scanned in this run"
 scanned_text made (Some when) = codes "scanned " ++ time_text made when
 
--- when a folder was scanned, and its history
-abbrev pub past_text : ℕ → FolderStatus → List ℕ
-past_text made f = scanned_text made f.scanned ++ codes "; history " ++ part_text f.history
+abbrev pub looked_text : ℕ → Option ℕ → List ℕ
+looked_text made None = []
+looked_text made (Some when) = codes "; looked " ++ time_text made when
+
+abbrev pub times_text : ℕ → FolderStatus → List ℕ
+times_text made f = scanned_text made f.scanned ++ looked_text made f.looked
+
+abbrev pub history_text : Progress → List ℕ
+history_text p = codes "; history " ++ part_text p ++ codes " changes"
+
+-- when a folder was scanned and looked at, and its history
+unfoldable pub past_text : ℕ → FolderStatus → List ℕ
+past_text made f = times_text made f ++ history_text f.history
 
 -- why, if there is more to say
 abbrev pub why_text : List ℕ → List ℕ
 why_text [] = []
 why_text (b ∷ bs) = codes ": " ++ (b ∷ bs)
 
+-- a time, if it is known
+abbrev pub bracketed : ℕ → ℕ → List ℕ
+bracketed made when = codes " (" ++ time_text made when ++ codes ")"
+
+abbrev pub in_brackets : ℕ → Option ℕ → List ℕ
+in_brackets made None = []
+in_brackets made (Some when) = bracketed made when
+
 -- a name that is told, after words
 abbrev pub noted_text : List ℕ → ℕ → Noted → List ℕ
 noted_text words made n =
-    words ++ string_bytes n.name ++ why_text (string_bytes n.why) ++ after (codes ", ") (option_map (time_text made) n.when)
+    words ++ string_bytes n.name ++ why_text (string_bytes n.why) ++ in_brackets made n.when
 
 -- how a peer is
 abbrev pub peer_text : ℕ → PeerStatus → List ℕ

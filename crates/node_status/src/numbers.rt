@@ -1,6 +1,6 @@
 //! Numbers as a person reads them.
 ghost use Rattle.std.specs.Prelude.{◌≡◌, ◌++◌, ◌+◌, ◌<◌, ◌≤◌, [], ◌∷◌, OnOk, string_bytes};
-ghost use Rattle.node_status.specs.Numbers.{count_text, grouped, number_text, part_text, percent, progress_text, three_digits};
+ghost use Rattle.node_status.specs.Numbers.{bytes_text, count_text, grouped, number_text, part_text, percent, progress_text, tenths_text, three_digits};
 
 use crate::status::Progress;
 use itoa::Buffer;
@@ -74,6 +74,32 @@ pub(crate) fn push_progress(text: &mut String, progress: Progress) -> Result<(),
     text.push_str(" (")?;
     push_number(text, percent(progress))?;
     text.push_str(" %)")
+}
+
+/// Appends a number of bytes, as `12.3 MB`.
+pub(crate) fn push_bytes(text: &mut String, bytes: u64) -> Result<(), AllocError>
+    ensures { OnOk result (string_bytes text.new ≡ string_bytes text.old ++ bytes_text bytes) }
+{
+    if bytes < 1000 {
+        push_number(text, bytes)?;
+        text.push_str(" B")
+    } else if bytes < 1_000_000 {
+        push_tenths(text, bytes / 100, " kB")
+    } else if bytes < 1_000_000_000 {
+        push_tenths(text, bytes / 100_000, " MB")
+    } else {
+        push_tenths(text, bytes / 100_000_000, " GB")
+    }
+}
+
+// Appends a number of tenths, and of what.
+fn push_tenths(text: &mut String, tenths: u64, unit: &str) -> Result<(), AllocError>
+    ensures { OnOk result (string_bytes text.new ≡ string_bytes text.old ++ (tenths_text tenths ++ unit.now)) }
+{
+    push_number(text, tenths / 10)?;
+    text.push_str(".")?;
+    push_digit(text, (tenths % 10) as u8)?;
+    text.push_str(unit)
 }
 
 /// Whole per cent, 100 at most.

@@ -23,13 +23,13 @@ const HEAD: &str = "<!DOCTYPE html>
 const STYLE: &str = "
 :root { color-scheme: light dark; --back: #fff; --text: #222; --dim: #666; --good: #2e7d32; --busy: #b26a00; --bad: #c62828; }
 @media (prefers-color-scheme: dark) {
-  :root { --back: #181818; --text: #ddd; --dim: #999; --good: #81c784; --busy: #ffb74d; --bad: #ef9a9a; }
+  :root { --back: #181818; --text: #ddd; --dim: #999; --good: #81c784; --busy: #ffb74d; --bad: #ff8a80; }
 }
 body { margin: 0 auto; padding: 1rem; max-width: 60rem; background: var(--back); color: var(--text); font: 1rem/1.5 system-ui, sans-serif; overflow-wrap: anywhere; }
 h1, h2, p { margin: 0; }
-h1 { font-size: 1.2rem; }
+h1 { font-size: 1.6rem; }
 h2 { margin-top: 1.5rem; font-size: 1rem; color: var(--dim); }
-.made { font-size: 1.6rem; font-weight: 600; font-variant-numeric: tabular-nums; }
+.made { font-variant-numeric: tabular-nums; }
 .row { display: flex; flex-wrap: wrap; gap: 0 1rem; margin-top: 0.75rem; padding-left: 0.75rem; border-left: 0.25rem solid; }
 .row b, .row span { color: var(--text); }
 .row b { min-width: 9rem; }
@@ -38,7 +38,8 @@ h2 { margin-top: 1.5rem; font-size: 1rem; color: var(--dim); }
 .busy { border-color: var(--busy); color: var(--busy); }
 .bad { border-color: var(--bad); color: var(--bad); }
 .note { padding-left: 1rem; color: var(--dim); font-size: 0.9rem; }
-.trouble { color: var(--bad); }
+.trouble { color: var(--bad); font-weight: 600; }
+@media (max-width: 30rem) { .row { display: block; } .row span { display: block; } }
 ";
 
 /// Appends a page of HTML that shows the status: the same rows as [`push_screen`](crate::push_screen), and bars. It has no script and loads

@@ -1,9 +1,10 @@
 //! What is shown of a status, as rows: the same for a terminal and for a browser.
 ghost use Rattle.std.specs.Prelude.{◌≡◌, ◌++◌, [], ◌∷◌, IfOk, OnOk, string_bytes, option_map, flat_map};
-ghost use Rattle.node_status.specs.Rows.{folder_row, folder_rows, folder_mark, heading, more_rows, name_of, name_or_short, node_rows, noted_rows, peer_row, peer_rows, state_rows, status_rows, title_row, words_row};
+ghost use Rattle.std.specs.List.{list_any};
+ghost use Rattle.node_status.specs.Rows.{folder_row, folder_rows, folder_mark, heading, memory_rows, is_bad, is_busy, more_rows, name_of, name_or_short, node_rows, noted_rows, peer_row, peer_rows, state_rows, status_rows, is_there, summary_mark, summary_of, summary_row, summary_text, title_row, words_row};
 ghost use Rattle.node_status.specs.Words.{holdings_text, noted_text, past_text, origin_text};
 
-use crate::numbers::push_number;
+use crate::numbers::{push_bytes, push_number};
 use crate::status::{FolderState, FolderStatus, Noted, PeerStatus, Progress, Status};
 use crate::times::push_moment;
 use crate::words::{
@@ -29,6 +30,19 @@ pub enum Mark {
     Note,
     /// The same, of something that is wrong.
     Trouble,
+}
+
+/// How all is.
+#[derive(Clone, Copy)]
+pub enum Summary {
+    /// Something can't go on by itself.
+    Trouble,
+    /// Something is under way.
+    Working,
+    /// All is up to date, as far as is known: no peer is connected.
+    Alone,
+    /// All is up to date.
+    Well,
 }
 
 /// A row.
@@ -62,6 +76,7 @@ fn push_status(rows: &mut Vec<Row>, status: &Status) -> Result<(), AllocError>
     ensures { OnOk result (rows.new.items ≡ rows.old.items ++ status_rows status.now) }
 {
     push_node_rows(rows, status)?;
+    push_summary_row(rows, "In short", summary_of(status))?;
     push_state_rows(rows, &status.not_written)?;
     push_heading(rows, "Folders")?;
     push_folders(rows, status.made, status.folders.as_slice())?;
@@ -124,7 +139,21 @@ fn push_node_rows(rows: &mut Vec<Row>, status: &Status) -> Result<(), AllocError
 {
     push_title(rows, status)?;
     push_joined(rows, Mark::Note, "bepd v", status.version.as_str())?;
-    push_joined(rows, Mark::Note, "device ", status.device.as_str())
+    push_joined(rows, Mark::Note, "device ", status.device.as_str())?;
+    push_memory_row(rows, status.memory)
+}
+
+fn push_memory_row(rows: &mut Vec<Row>, memory: Option<u64>) -> Result<(), AllocError>
+    ensures { OnOk result (rows.new.items ≡ rows.old.items ++ memory_rows memory) }
+{
+    match memory {
+        Some(bytes) => {
+            let mut words = String::from_str(*rows.allocator(), "memory ")?;
+            push_bytes(&mut words, bytes)?;
+            push_words(rows, Mark::Note, words)
+        }
+        None => Ok(()),
+    }
 }
 
 fn push_title(rows: &mut Vec<Row>, status: &Status) -> Result<(), AllocError>
@@ -151,6 +180,72 @@ fn name_of(alloc: Global, name: &str, device: &str) -> Result<String, AllocError
     let mut text = String::new(alloc);
     push_short(&mut text, device)?;
     Ok(text)
+}
+
+fn push_summary_row(rows: &mut Vec<Row>, name: &str, summary: Summary) -> Result<(), AllocError>
+    ensures { OnOk result (rows.new.items ≡ rows.old.items ++ (summary_row name.now summary ∷ [])) }
+{
+    let name = String::from_str(*rows.allocator(), name)?;
+    let words = String::from_str(*rows.allocator(), summary_words(summary))?;
+    push_row(rows, summary_mark(summary), name, words, None)
+}
+
+fn summary_mark(summary: Summary) -> Mark
+    ensures { result ≡ summary_mark summary }
+{
+    match summary {
+        Summary::Trouble => Mark::Bad,
+        Summary::Working => Mark::Busy,
+        Summary::Alone => Mark::Busy,
+        Summary::Well => Mark::Good,
+    }
+}
+
+fn summary_words(summary: Summary) -> &'static str
+    ensures { result.now ≡ summary_text summary }
+{
+    match summary {
+        Summary::Trouble => "something needs you: see below",
+        Summary::Working => "under way",
+        Summary::Alone => "as far as is known: no peer is connected",
+        Summary::Well => "all is well",
+    }
+}
+
+fn summary_of(status: &Status) -> Summary
+    ensures { result ≡ summary_of status.now }
+{
+    if status.not_written.is_some() || has_bad(status.folders.as_slice()) {
+        Summary::Trouble
+    } else if has_busy(status.folders.as_slice()) {
+        Summary::Working
+    } else if has_peer(status.peers.as_slice()) {
+        Summary::Well
+    } else {
+        Summary::Alone
+    }
+}
+
+fn has_peer(peers: &[PeerStatus]) -> bool
+    ensures { result ≡ list_any is_there peers.now }
+{
+    peers.iter().any(|peer| peer.is_up)
+}
+
+fn has_bad(folders: &[FolderStatus]) -> bool
+    ensures { result ≡ list_any is_bad folders.now }
+{
+    folders
+        .iter()
+        .any(|folder| matches!(mark_of(folder.state), Mark::Bad))
+}
+
+fn has_busy(folders: &[FolderStatus]) -> bool
+    ensures { result ≡ list_any is_busy folders.now }
+{
+    folders
+        .iter()
+        .any(|folder| matches!(mark_of(folder.state), Mark::Busy))
 }
 
 fn push_state_rows(rows: &mut Vec<Row>, not_written: &Option<String>) -> Result<(), AllocError>
@@ -200,12 +295,12 @@ fn push_folder_rows(rows: &mut Vec<Row>, made: u64, folder: &FolderStatus) -> Re
     push_more_row(rows, Mark::Trouble, folder.failed_more, " more failed")?;
     push_noted_rows(
         rows,
-        Mark::Trouble,
+        Mark::Note,
         "left out: ",
         made,
         folder.left_out.as_slice(),
     )?;
-    push_more_row(rows, Mark::Trouble, folder.left_out_more, " more left out")?;
+    push_more_row(rows, Mark::Note, folder.left_out_more, " more left out")?;
     push_noted_rows(
         rows,
         Mark::Note,
@@ -230,6 +325,7 @@ fn mark_of(state: FolderState) -> Mark
     match state {
         FolderState::UpToDate => Mark::Good,
         FolderState::Behind => Mark::Busy,
+        FolderState::Failing => Mark::Bad,
         FolderState::Scanning => Mark::Busy,
         FolderState::Pulling => Mark::Busy,
         FolderState::NoRoom => Mark::Bad,

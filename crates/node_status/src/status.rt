@@ -12,6 +12,8 @@ pub struct Status {
     pub device: String,
     /// When this was said, in seconds since 1970 (UTC).
     pub made: u64,
+    /// How many bytes of memory the program holds, where the system says that.
+    pub memory: Option<u64>,
     /// Why the state can't be written, if it can't: until it can be, nothing is put in place, and peers are told nothing.
     pub not_written: Option<String>,
     /// Its folders, as the configuration has them.
@@ -27,6 +29,8 @@ pub enum FolderState {
     UpToDate,
     /// Names are needed, and none is being pulled.
     Behind,
+    /// Names are needed that could not be pulled; they are tried again.
+    Failing,
     /// All names are scanned.
     Scanning,
     /// Needed names are pulled.
@@ -67,11 +71,17 @@ pub struct FolderStatus {
     pub directories: u64,
     /// How many names are needed.
     pub needed: u64,
+    /// How many bytes peers have given for its names since nothing was needed.
+    pub received: u64,
+    /// How many of these came in a second, on average.
+    pub rate: u64,
     /// When the last scan of all names ended, in seconds since 1970, if one did in this run.
     pub scanned: Option<u64>,
+    /// When it was last looked at for what changed, in seconds since 1970, if it was in this run.
+    pub looked: Option<u64>,
     /// How many entries its history has, and how many it takes.
     pub history: Progress,
-    /// The last conflict copies that were made in this run, the newest first, ten at most.
+    /// The last conflict copies that this run made, the newest first, ten at most.
     pub conflicts: Vec<Noted>,
     /// Names that could not be pulled, and why; they are tried again.
     pub failed: Vec<Noted>,

@@ -2,20 +2,22 @@
 ghost use Rattle.std.specs.Prelude.{◌≡◌, ◌++◌, [], ◌∷◌, OnOk, codes, if◌then◌else◌, map, string_bytes, option_map};
 ghost use Rattle.node_status.specs.Numbers.{progress_text};
 ghost use Rattle.node_status.specs.Times.{time_text};
-ghost use Rattle.node_status.specs.Words.{after, digit_or_mark, folder_text, holdings_text, needed_text, noted_text, origin_text, past_text, peer_text, scanned_text, short_text, state_text, why_text};
+ghost use Rattle.node_status.specs.Words.{after, bracketed, came_text, digit_or_mark, folder_text, history_text, holdings_text, in_brackets, is_pulling, looked_text, needed_text, noted_text, origin_text, past_text, peer_text, received_text, scanned_text, short_text, state_text, times_text, why_text};
 
-use crate::numbers::{push_count, push_part, push_progress};
+use crate::numbers::{push_bytes, push_count, push_part, push_progress};
 use crate::status::{FolderState, FolderStatus, Noted, PeerStatus, Progress};
 use crate::times::push_time;
 use std::alloc::AllocError;
 
 /// Appends how a folder is.
+#[tactic(auto, unfolding(crate::specs::Words::folder_text))]
 pub(crate) fn push_folder(text: &mut String, folder: &FolderStatus) -> Result<(), AllocError>
     ensures { OnOk result (string_bytes text.new ≡ string_bytes text.old ++ folder_text folder.now) }
 {
     text.push_str(state_words(folder.state))?;
     push_how_far(text, folder.progress)?;
-    push_needed(text, folder.needed)
+    push_needed(text, folder.state, folder.needed)?;
+    push_received(text, folder)
 }
 
 fn state_words(state: FolderState) -> &'static str
@@ -24,13 +26,14 @@ fn state_words(state: FolderState) -> &'static str
     match state {
         FolderState::UpToDate => "up to date",
         FolderState::Behind => "behind",
+        FolderState::Failing => "behind: names that can't be pulled stand below",
         FolderState::Scanning => "scanning",
         FolderState::Pulling => "pulling",
         FolderState::NoRoom => "stopped: the disk is full",
         FolderState::Away => "away: the directory isn't there, or has no .stfolder",
         FolderState::InUse => "stopped: another run has it",
         FolderState::Held => {
-            "held: none of the recorded names is there; `scan` takes that as it is"
+            "held: none of the recorded names is there; `scan` says that they are gone, and all devices delete them"
         }
     }
 }
@@ -47,15 +50,41 @@ fn push_how_far(text: &mut String, progress: Option<Progress>) -> Result<(), All
     }
 }
 
-fn push_needed(text: &mut String, needed: u64) -> Result<(), AllocError>
-    ensures { OnOk result (string_bytes text.new ≡ string_bytes text.old ++ needed_text needed) }
+fn push_needed(text: &mut String, state: FolderState, needed: u64) -> Result<(), AllocError>
+    ensures { OnOk result (string_bytes text.new ≡ string_bytes text.old ++ needed_text state needed) }
 {
-    if needed == 0 {
+    if needed == 0 || is_pulling(state) {
         return Ok(());
     }
     text.push_str(", ")?;
     push_count(text, needed, "name", "names")?;
     text.push_str(" needed")
+}
+
+// Appends the bytes that came for a folder, while it pulls.
+fn push_received(text: &mut String, folder: &FolderStatus) -> Result<(), AllocError>
+    ensures { OnOk result (string_bytes text.new ≡ string_bytes text.old ++ received_text folder.now) }
+{
+    if !is_pulling(folder.state) || folder.received == 0 {
+        return Ok(());
+    }
+    push_came(text, folder.received, folder.rate)
+}
+
+fn is_pulling(state: FolderState) -> bool
+    ensures { result ≡ is_pulling state }
+{
+    matches!(state, FolderState::Pulling)
+}
+
+fn push_came(text: &mut String, received: u64, rate: u64) -> Result<(), AllocError>
+    ensures { OnOk result (string_bytes text.new ≡ string_bytes text.old ++ came_text received rate) }
+{
+    text.push_str(", ")?;
+    push_bytes(text, received)?;
+    text.push_str(" came, ")?;
+    push_bytes(text, rate)?;
+    text.push_str(" a second")
 }
 
 /// Appends what a folder has, and where.
@@ -69,7 +98,8 @@ pub(crate) fn push_holdings(text: &mut String, folder: &FolderStatus) -> Result<
     text.push_str(folder.path.as_str())
 }
 
-/// Appends when a folder was scanned, and what its history takes.
+/// Appends when a folder was scanned and looked at, and what its history takes.
+#[tactic(auto, unfolding(crate::specs::Words::past_text))]
 pub(crate) fn push_past(
     text: &mut String,
     made: u64,
@@ -77,9 +107,35 @@ pub(crate) fn push_past(
 ) -> Result<(), AllocError>
     ensures { OnOk result (string_bytes text.new ≡ string_bytes text.old ++ past_text made folder.now) }
 {
+    push_times(text, made, folder)?;
+    push_history(text, folder.history)
+}
+
+fn push_times(text: &mut String, made: u64, folder: &FolderStatus) -> Result<(), AllocError>
+    ensures { OnOk result (string_bytes text.new ≡ string_bytes text.old ++ times_text made folder.now) }
+{
     push_scanned(text, made, folder.scanned)?;
+    push_looked(text, made, folder.looked)
+}
+
+fn push_looked(text: &mut String, made: u64, looked: Option<u64>) -> Result<(), AllocError>
+    ensures { OnOk result (string_bytes text.new ≡ string_bytes text.old ++ looked_text made looked) }
+{
+    match looked {
+        Some(when) => {
+            text.push_str("; looked ")?;
+            push_time(text, made, when)
+        }
+        None => Ok(()),
+    }
+}
+
+fn push_history(text: &mut String, history: Progress) -> Result<(), AllocError>
+    ensures { OnOk result (string_bytes text.new ≡ string_bytes text.old ++ history_text history) }
+{
     text.push_str("; history ")?;
-    push_part(text, folder.history)
+    push_part(text, history)?;
+    text.push_str(" changes")
 }
 
 fn push_scanned(text: &mut String, made: u64, scanned: Option<u64>) -> Result<(), AllocError>
@@ -106,7 +162,24 @@ pub(crate) fn push_noted(
     text.push_str(words)?;
     text.push_str(noted.name.as_str())?;
     push_why(text, noted.why.as_str())?;
-    push_when(text, ", ", made, noted.when)
+    push_time_in_brackets(text, made, noted.when)
+}
+
+fn push_time_in_brackets(text: &mut String, made: u64, when: Option<u64>) -> Result<(), AllocError>
+    ensures { OnOk result (string_bytes text.new ≡ string_bytes text.old ++ in_brackets made when) }
+{
+    match when {
+        Some(when) => push_in_brackets(text, made, when),
+        None => Ok(()),
+    }
+}
+
+fn push_in_brackets(text: &mut String, made: u64, when: u64) -> Result<(), AllocError>
+    ensures { OnOk result (string_bytes text.new ≡ string_bytes text.old ++ bracketed made when) }
+{
+    text.push_str(" (")?;
+    push_time(text, made, when)?;
+    text.push_str(")")
 }
 
 fn push_why(text: &mut String, why: &str) -> Result<(), AllocError>

@@ -20,10 +20,8 @@ use node_peer::Reach;
 use node_saver::DiskJournal;
 use std::alloc::{AllocError, Global};
 use std::io::{self, Write};
-use std::net::{Net, TcpListener, TcpStream};
 use std::sync::Wait;
-use std::thread::{Threads, join};
-use std::time::Clock;
+use std::thread::join;
 
 /// What a node begins with.
 #[derive(Drop)]
@@ -87,7 +85,7 @@ pub fn run_node<R, T, C, G, J, L, O>(
     consoles: &mut [Console<L, O>],
 ) -> Result<NodeEnd<C>, NodeFault>
 where
-    R: Clock + Net<Listener = TcpListener, Stream = TcpStream> + Threads + Wait + Sync,
+    R: Host,
     T: Stores + Sync,
     T::Store: Send,
     C: FolderCore + Drop + Send + Sync,
@@ -155,7 +153,7 @@ fn run_opened<'x, R, T, C, G, J, L, O>(
     consoles: &mut [Console<L, O>],
 ) -> Result<Left, NodeFault>
 where
-    R: Clock + Net<Listener = TcpListener, Stream = TcpStream> + Threads + Wait + Sync,
+    R: Host,
     T: Stores + Sync,
     T::Store: Send,
     C: FolderCore + Drop + Send + Sync,

@@ -13,6 +13,8 @@ pub(super) const RUN_QUIET: &str = "Tell nothing on standard error of what happe
 pub(super) const RUN_NO_INPUT: &str =
     "Read no commands from standard input: they come by `bepd ask`";
 
+pub(super) const RUN_VERBOSE: &str = "Write a line for each name that is pulled or recorded";
+
 /// What the help says first, with the numbers of a folder by their table. Fails only if out of memory.
 pub(crate) fn run_about(alloc: Global) -> Result<String, AllocError> {
     let mut text = String::from_str(alloc, CONFIGURATION)?;
@@ -65,7 +67,9 @@ Configuration, by example:
 A device's identity has 64 hexadecimal digits, of which the first 16 must differ
 between devices; it may be written as Syncthing shows it, too. In place of dial, listen
 has the address of this device at which the peer makes the connection. localhost:22000
-is an address too, and unix:/home/me/bepd.socket a Unix socket at that path.
+is an address too, and unix:/home/me/bepd.socket a Unix socket at that path. With
+status = \"/home/me/bepd.html\" beside state, the node keeps that file as a page that
+says how all is.
 
 A folder may have more; where it has not, it is as if it had
 
@@ -117,10 +121,12 @@ time in UTC, and
 
     connected ID, gone ID: WHY
     not taken for ID: WHY              who is there has this device's own identity
-    received F up to N from ID         more of a peer's index came, up to sequence N
+    recorded F NAME                    a change was recorded; of many, ten are named
     scanned F recorded R unchanged U other O
     skipped F NAME: WHY                a scan left it out, and did not before
-    pulled F NAME                      the best version is in place
+    got F NAME, replaced F NAME,       the best version is in place: it is new, or goes
+    deleted F NAME, same F NAME        before another one, or nothing, or was there
+    pulled F, besides: got N, ..       how many more; of many, ten are named
     conflict copy F NAME               what was there before is kept under this name
     failed F NAME: NUMBER WHY          it could not be pulled, and is tried again; told
                                        again where it is for another reason

@@ -13,8 +13,10 @@ Show how a running node, its folders and its peers are.
 
 Each folder is shown with its state, how far a scan or a pull is, how many files and
 directories it has, the names that failed or are left out, and the last conflict
-copies; each peer with since when it is connected, or why it isn't. With --json all of
-it is one JSON document; with --watch it is printed again each second, until it fails.
+copies of this run; each peer with since when it is connected, or why it isn't. With
+--json all of it is one JSON document; with --watch it is printed again each second,
+until it fails. Where the configuration has the key status, the path of a file, the node
+also keeps it there as a page, which a browser shows.
 
 The node is asked by a socket beside its state, which only the user whom the node runs
 as may use. Its command status, of which `bepd help run` speaks, gives the same.";

@@ -1,7 +1,7 @@
 use Rattle.std.proofs.Common.{map, Some, None, false, true, sym, inl, inr, option_map, codes, if◌then◌else◌, ◌∙◌}
 use Rattle.std.specs.String.{string_bytes}
 use Rattle.clap.specs.Words.{app_of}
-use Rattle.bepd.specs.CommandLine.{ask_command_at, ask_config_at, ask_folder_at, check_at, config_at, dial_at, directory_at, folder_at, is_pair, is_true, json_at, listen_at, no_input_at, quiet_at, shared_at, status_config_at, syncthing_at, watch_at}
+use Rattle.bepd.specs.CommandLine.{ask_command_at, ask_config_at, ask_folder_at, check_at, config_at, dial_at, directory_at, folder_at, is_pair, is_true, json_at, listen_at, no_input_at, quiet_at, shared_at, status_config_at, syncthing_at, verbose_at, watch_at}
 use Rattle.bepd.proofs.Matching.{at_error, error_at, no_faults, read_at}
 use Rattle.bepd.proofs.command.command_of.Goals as goal
 
@@ -30,6 +30,7 @@ returns-in-Some-clause-named c =
       ),
       read_at (λ command. is_true (quiet_at command)) app words c.in_ok-matches.matches false c.in_ok-command.ensures c.in_ok-matches.ensures.ok.2 (sym c.if-is_quiet.false ∙ c.is_quiet.ensures),
       read_at (λ command. is_true (no_input_at command)) app words c.in_ok-matches.matches c.has_no_input.result c.in_ok-command.ensures c.in_ok-matches.ensures.ok.2 c.has_no_input.ensures,
+      read_at (λ command. is_true (verbose_at command)) app words c.in_ok-matches.matches c.is_verbose.result c.in_ok-command.ensures c.in_ok-matches.ensures.ok.2 c.is_verbose.ensures,
     )
 
 pub returns-then-is_quiet-clause-named : goal.returns-then-is_quiet-clause-named
@@ -43,6 +44,7 @@ returns-then-is_quiet-clause-named c =
       ),
       read_at (λ command. is_true (quiet_at command)) app words c.in_ok-matches.matches true c.in_ok-command.ensures c.in_ok-matches.ensures.ok.2 (sym c.if-is_quiet.true ∙ c.is_quiet.ensures),
       read_at (λ command. is_true (no_input_at command)) app words c.in_ok-matches.matches c.has_no_input.result c.in_ok-command.ensures c.in_ok-matches.ensures.ok.2 c.has_no_input.ensures,
+      read_at (λ command. is_true (verbose_at command)) app words c.in_ok-matches.matches c.is_verbose.result c.in_ok-command.ensures c.in_ok-matches.ensures.ok.2 c.is_verbose.ensures,
     )
 
 pub returns-in-Some-asked_in-clause-named : goal.returns-in-Some-asked_in-clause-named

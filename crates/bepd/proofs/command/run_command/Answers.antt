@@ -1,6 +1,6 @@
 use Rattle.std.proofs.Common.{rules, ap₂, ◌∙◌, ◌≡◌}
 use Rattle.std.proofs.lemmas.Result.{IfOk-weaker}
-use Rattle.bepd.specs.CommandLine.{check_rule, config_rule, quiet_rule}
+use Rattle.bepd.specs.CommandLine.{check_rule, config_rule, no_input_rule, quiet_rule}
 use Rattle.clap.specs.Words.{app_of, new_app, with_rule}
 use Rattle.clap.specs.declared.builder.command.Command.{out-Command}
 use Rattle.std.specs.Prelude.{codes, false, ◌||◌}
@@ -17,4 +17,7 @@ returns c =
     let third : app_of c.in_ok-arg-3.field-0 ≡ with_rule (with_rule (with_rule (new_app (codes "run")) config_rule) check_rule) quiet_rule =
     c.in_ok-arg-3.ensures.shape c.quiet_arg-quiet.ensures.local ∙ ap₂ with_rule second c.quiet_arg-quiet.ensures.rule in
     let yet : (out-Command c.in_ok-arg-3.field-0).has_globals ≡ false = c.in_ok-arg-3.ensures.globals ∙ ap₂ (λ x y. x || y) still c.quiet_arg-quiet.ensures.local in
-    IfOk-weaker c.arg-4.result _ _ (λ command h. (h.shape c.no_input_arg-no_input.ensures.local ∙ ap₂ with_rule third c.no_input_arg-no_input.ensures.rule, h.globals ∙ ap₂ (λ x y. x || y) yet c.no_input_arg-no_input.ensures.local)) c.arg-4.ensures
+    let fourth : app_of c.in_ok-arg-4.field-0 ≡ with_rule (with_rule (with_rule (with_rule (new_app (codes "run")) config_rule) check_rule) quiet_rule) no_input_rule =
+    c.in_ok-arg-4.ensures.shape c.no_input_arg-no_input.ensures.local ∙ ap₂ with_rule third c.no_input_arg-no_input.ensures.rule in
+    let more : (out-Command c.in_ok-arg-4.field-0).has_globals ≡ false = c.in_ok-arg-4.ensures.globals ∙ ap₂ (λ x y. x || y) yet c.no_input_arg-no_input.ensures.local in
+    IfOk-weaker c.arg-5.result _ _ (λ command h. (h.shape c.verbose_arg-verbose.ensures.local ∙ ap₂ with_rule fourth c.verbose_arg-verbose.ensures.rule, h.globals ∙ ap₂ (λ x y. x || y) more c.verbose_arg-verbose.ensures.local)) c.arg-5.ensures
