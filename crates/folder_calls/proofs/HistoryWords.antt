@@ -18,7 +18,7 @@ use Rattle.folder_calls.specs.declared.entry.Entry.{Entry}
 use Rattle.folder_calls.specs.declared.lone_state.LoneState.{LoneState}
 use Rattle.folder_calls.specs.declared.planned.Plan.{Plan}
 use Rattle.folder_calls.specs.Histories.{EndsPull, ends_pull_of, is_begin_of, is_end_of, is_enter_of, state_after}
-use Rattle.folder_calls.specs.Journals.{Appends, end}
+use Rattle.folder_calls.specs.RecordedFolders.{Appends, end}
 use Rattle.folder_calls.specs.LoneStates.{ChangesAfterPlan, IsOwnChange, IsOwnRead, IsPlanMade, PlanGoesOn, ReadsAfterPlan}
 
 -- ---- entries of pulls

@@ -7,8 +7,8 @@ pub mod HistoryAnswers
 pub mod HistoryMeetings
 pub mod HistoryHeadline
 pub mod HistoryWords
-pub mod JournalPulls
-pub mod JournalSteps
+pub mod RecordedPulls
+pub mod RecordedSteps
 pub mod LoneCalls
 pub mod Rows
 pub mod Same

@@ -15,7 +15,7 @@ use Rattle.folder_calls.specs.declared.history.History.{History}
 use Rattle.folder_calls.specs.Calls.{answered_at}
 use Rattle.folder_calls.specs.LoneStates.{ChangesAfterPlan, PlanGoesOn, IsLone, IsOwnChange, IsOwnRead, WithPoint, ReadsAfterPlan, change_of, seen_by}
 use Rattle.folder_calls.specs.Histories.{IsLegal, own_entries}
-use Rattle.folder_calls.specs.Journals.{Appends, IsHistory, answered, end, with_entry}
+use Rattle.folder_calls.specs.RecordedFolders.{Appends, IsHistory, answered, end, with_entry}
 use Rattle.folder_calls.specs.Shared.{Closes, IsLegalView, ReadsAt, ChangesAt, CallerView, own_entry, seeing}
 use Rattle.folder_calls.proofs.HistoryFronts.{view-front}
 use Rattle.folder_calls.proofs.HistoryMeetings.{may-close}

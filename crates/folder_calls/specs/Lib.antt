@@ -2,7 +2,7 @@
 pub mod Histories
 pub mod Shared
 pub mod Adds
-pub mod Journals
+pub mod RecordedFolders
 pub mod LoneStates
 -- how calls say the rules
 pub mod Calls

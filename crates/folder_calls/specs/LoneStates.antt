@@ -12,7 +12,7 @@ use Rattle.folder_calls.specs.declared.at.At.{At}
 use Rattle.folder_calls.specs.declared.planned.Outside.{Outside}
 use Rattle.folder_calls.specs.declared.planned.Outside.TheVariants as outside
 use Rattle.folder_calls.specs.Histories.{own_entries}
-use Rattle.folder_calls.specs.Journals.{Appends, IsHistory, end, new_history}
+use Rattle.folder_calls.specs.RecordedFolders.{Appends, IsHistory, end, new_history}
 use Rattle.folder_calls.specs.Shared.{CallerView}
 
 -- the change that another caller makes

@@ -7,7 +7,8 @@ ghost use Rattle.folder_calls.specs.Calls.{GivesBack, begin_value, enter_value, 
 ghost use Rattle.folder_calls.specs.Shared.{IsLegalView, ReadsAt, ChangesAt, CallerView};
 
 use crate::{
-    At, BeginAnswer, Commit, EnterAllocError, EnterRefusal, HistoryFull, ScanRefusal, Ticket,
+    At, BeginAnswer, EnterAllocError, EnterRefusal, HistoryFull, PullCommit, PullTicket,
+    ScanRefusal,
 };
 use bep_messages::Items;
 use folder_core::{Best, Counts, Finding, Place, ScanAnswer, Stray};
@@ -118,8 +119,8 @@ pub trait FolderCalls {
     /// of its ticket.
     fn enter_commit(
         &mut self,
-        ticket: Ticket,
-    ) -> Result<At<Result<Commit, EnterRefusal>>, EnterAllocError>
+        ticket: PullTicket,
+    ) -> Result<At<Result<PullCommit, EnterRefusal>>, EnterAllocError>
         ensures folder { folder self.new ≡ folder self.old }
         ensures changes { ChangesAt (view self.old) (EnterCommit ticket)
             (answered_at enter_value result)
@@ -130,7 +131,7 @@ pub trait FolderCalls {
     /// Announces the target of a commit, whose file is in place, as the local record, with what the base had seen added
     /// to its version; closes the pull, and returns the record's sequence. A stray commit changes nothing. Does not
     /// allocate.
-    fn finish(&mut self, commit: Commit, assembled: Assembled) -> At<Result<u64, Stray>>
+    fn finish(&mut self, commit: PullCommit, assembled: Assembled) -> At<Result<u64, Stray>>
         requires { assembled ≡ commit.target }
         ensures folder { folder self.new ≡ folder self.old }
         ensures changes { ChangesAt (view self.old) (Finish commit assembled)
@@ -138,7 +139,7 @@ pub trait FolderCalls {
 
     /// Closes a pull whose commit was not entered. Returns `false` if the ticket is stray; then nothing changes. Does not
     /// allocate.
-    fn give_up(&mut self, ticket: Ticket) -> At<bool>
+    fn give_up(&mut self, ticket: PullTicket) -> At<bool>
         ensures folder { folder self.new ≡ folder self.old }
         ensures changes { ChangesAt (view self.old) (GiveUp ticket)
             (Some (answer_at close_answer result))
@@ -146,7 +147,7 @@ pub trait FolderCalls {
 
     /// Closes a pull whose commit was entered; the local record stays. Returns `false` if the commit is stray; then
     /// nothing changes. Does not allocate.
-    fn abort(&mut self, commit: Commit) -> At<bool>
+    fn abort(&mut self, commit: PullCommit) -> At<bool>
         ensures folder { folder self.new ≡ folder self.old }
         ensures changes { ChangesAt (view self.old) (Abort commit)
             (Some (answer_at close_answer result))

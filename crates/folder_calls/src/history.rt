@@ -2,7 +2,7 @@ use crate::Entry;
 use bep_messages::Items;
 use folder_core::PlainFolder;
 
-/// What a [`Journal`](crate::Journal) keeps, as contracts see it; no value of it is made.
+/// What a [`RecordedFolder`](crate::RecordedFolder) keeps, as contracts see it; no value of it is made.
 pub struct History {
     /// What the folder was when it was opened.
     pub opening: PlainFolder,

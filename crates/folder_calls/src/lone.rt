@@ -7,12 +7,12 @@ ghost use Rattle.folder_core.specs.Steps.{is_recordable};
 ghost use Rattle.folder_core.specs.declared.change.Change.TheVariants.{Forget, IndexFull, IndexMore, ScanFound, ScanGone, BeginPull, EnterCommit, Finish, GiveUp, Abort};
 ghost use Rattle.folder_calls.specs.LoneStates.{ChangesAfterPlan, ReadsAfterPlan, WithPoint, new_lone, seen_by};
 ghost use Rattle.folder_calls.specs.Calls.{GivesBack, begin_value, enter_value, best_entry, index_value, scan_value, answered_at, answer_at};
-ghost use Rattle.folder_calls.specs.Journals.{IsHistory, end};
+ghost use Rattle.folder_calls.specs.RecordedFolders.{IsHistory, end};
 ghost use Rattle.folder_calls.specs.Shared.{ChangesAt, Closes, ReadsAt};
 
 use crate::{
-    At, BeginAnswer, Commit, EnterAllocError, EnterRefusal, FolderCalls, HistoryFull, Journal,
-    Plan, ScanRefusal, Ticket,
+    At, BeginAnswer, EnterAllocError, EnterRefusal, FolderCalls, HistoryFull, Plan, PullCommit,
+    PullTicket, RecordedFolder, ScanRefusal,
 };
 use bep_messages::Items;
 use folder_core::{Best, Counts, Finding, FolderCore, Place, ScanAnswer, Stray};
@@ -27,7 +27,7 @@ use sync_version::{Moment, Version};
 /// Tests of what calls it may plan a change of another caller ([`Lone::plan`]), whose entry is one of pass 2.
 #[derive(Drop)]
 pub struct Lone<C: FolderCore> {
-    pub(crate) journal: Journal<C>,
+    pub(crate) recorded: RecordedFolder<C>,
     seen: u64,
     pub(crate) plan: Option<Plan>,
     pub(crate) planned: bool,
@@ -44,14 +44,14 @@ impl<C: FolderCore> Model for Lone<C> {
     ghost coded = { coded_lone };
 
     ghost view = { λ l. record {
-      history = l.journal;
+      history = l.recorded;
       seen = l.seen;
       plan = l.plan;
       planned = l.planned;
     } };
 
     ghost invariant = { λ l. IsLone
-        (record { history = l.journal; seen = l.seen; plan = l.plan; planned = l.planned }) };
+        (record { history = l.recorded; seen = l.seen; plan = l.plan; planned = l.planned }) };
 }
 
 impl<C: FolderCore> Lone<C> {
@@ -63,7 +63,7 @@ impl<C: FolderCore> Lone<C> {
         ensures err { IfErr result (λ back. C.state back ≡ C.state core) }
     {
         Ok(Lone {
-            journal: Journal::open(alloc, core, history_limit, 2)?,
+            recorded: RecordedFolder::open(alloc, core, history_limit, 2)?,
             seen: 0,
             plan: None,
             planned: false,
@@ -80,12 +80,12 @@ impl<C: FolderCore> Lone<C> {
         ensures whole { self.planned ≡ false → self.seen ≡ length self.history.entries }
     {
         let Lone {
-            journal,
+            recorded,
             seen: _,
             plan: _,
             planned: _,
         } = self;
-        journal.into_core()
+        recorded.into_core()
     }
 }
 
@@ -98,7 +98,7 @@ impl<C: FolderCore> FolderCalls for Lone<C> {
     ghost view = { λ l. seen_by l };
 
     fn me(&self) -> DeviceId {
-        self.journal.core().me()
+        self.recorded.core().me()
     }
 
     fn scan_found(
@@ -118,8 +118,8 @@ impl<C: FolderCore> FolderCalls for Lone<C> {
             (answered_at scan_value result) self.new }
     {
         self.go_on();
-        let answer = self.journal.scan_found(1, name, expected, found, moment);
-        with_point(&self.journal, &mut self.seen, answer)
+        let answer = self.recorded.scan_found(1, name, expected, found, moment);
+        with_point(&self.recorded, &mut self.seen, answer)
     }
 
     fn scan_gone(
@@ -138,8 +138,8 @@ impl<C: FolderCore> FolderCalls for Lone<C> {
             (answered_at scan_value result) self.new }
     {
         self.go_on();
-        let answer = self.journal.scan_gone(1, name, expected, moment);
-        with_point(&self.journal, &mut self.seen, answer)
+        let answer = self.recorded.scan_gone(1, name, expected, moment);
+        with_point(&self.recorded, &mut self.seen, answer)
     }
 
     fn index_full(
@@ -155,8 +155,8 @@ impl<C: FolderCore> FolderCalls for Lone<C> {
             (answered_at index_value result) self.new }
     {
         self.go_on();
-        let answer = self.journal.index_full(1, device, records);
-        with_point(&self.journal, &mut self.seen, answer)
+        let answer = self.recorded.index_full(1, device, records);
+        with_point(&self.recorded, &mut self.seen, answer)
     }
 
     fn index_more(
@@ -172,8 +172,8 @@ impl<C: FolderCore> FolderCalls for Lone<C> {
             (answered_at index_value result) self.new }
     {
         self.go_on();
-        let answer = self.journal.index_more(1, device, records);
-        with_point(&self.journal, &mut self.seen, answer)
+        let answer = self.recorded.index_more(1, device, records);
+        with_point(&self.recorded, &mut self.seen, answer)
     }
 
     fn forget(&mut self, device: DeviceId) -> Result<At<Result<(), HistoryFull>>, AllocError>
@@ -186,8 +186,8 @@ impl<C: FolderCore> FolderCalls for Lone<C> {
             (answered_at index_value result) self.new }
     {
         self.go_on();
-        let answer = self.journal.forget(1, device);
-        with_point(&self.journal, &mut self.seen, answer)
+        let answer = self.recorded.forget(1, device);
+        with_point(&self.recorded, &mut self.seen, answer)
     }
 
     fn begin_pull(
@@ -202,14 +202,14 @@ impl<C: FolderCore> FolderCalls for Lone<C> {
             (answered_at begin_value result) self.new }
     {
         self.go_on();
-        let answer = self.journal.begin_pull(1, name);
-        with_point(&self.journal, &mut self.seen, answer)
+        let answer = self.recorded.begin_pull(1, name);
+        with_point(&self.recorded, &mut self.seen, answer)
     }
 
     fn enter_commit(
         &mut self,
-        ticket: Ticket,
-    ) -> Result<At<Result<Commit, EnterRefusal>>, EnterAllocError>
+        ticket: PullTicket,
+    ) -> Result<At<Result<PullCommit, EnterRefusal>>, EnterAllocError>
         ensures folder { self.new.planned ≡ self.old.planned }
         ensures changes { ChangesAt (seen_by self.old) (EnterCommit ticket)
             (answered_at enter_value result)
@@ -220,11 +220,11 @@ impl<C: FolderCore> FolderCalls for Lone<C> {
         ensures out_of_memory { IfErr result (λ refused. refused.0 ≡ ticket) }
     {
         self.go_on();
-        let answer = self.journal.enter_commit(1, ticket);
-        with_point(&self.journal, &mut self.seen, answer)
+        let answer = self.recorded.enter_commit(1, ticket);
+        with_point(&self.recorded, &mut self.seen, answer)
     }
 
-    fn finish(&mut self, commit: Commit, assembled: Assembled) -> At<Result<u64, Stray>>
+    fn finish(&mut self, commit: PullCommit, assembled: Assembled) -> At<Result<u64, Stray>>
         requires { assembled ≡ commit.target }
         ensures folder { self.new.planned ≡ self.old.planned }
         ensures changes { ChangesAt (seen_by self.old) (Finish commit assembled)
@@ -233,15 +233,15 @@ impl<C: FolderCore> FolderCalls for Lone<C> {
             (Some (answer_at finish_answer result)) self.new }
     {
         self.go_on();
-        let value = self.journal.finish(1, commit, assembled);
-        self.seen = self.journal.len();
+        let value = self.recorded.finish(1, commit, assembled);
+        self.seen = self.recorded.len();
         At {
             at: self.seen,
             value,
         }
     }
 
-    fn give_up(&mut self, ticket: Ticket) -> At<bool>
+    fn give_up(&mut self, ticket: PullTicket) -> At<bool>
         ensures folder { self.new.planned ≡ self.old.planned }
         ensures changes { ChangesAt (seen_by self.old) (GiveUp ticket)
             (Some (answer_at close_answer result)) (seen_by self.new) }
@@ -249,15 +249,15 @@ impl<C: FolderCore> FolderCalls for Lone<C> {
             (Some (answer_at close_answer result)) self.new }
     {
         self.go_on();
-        let value = self.journal.give_up(1, ticket);
-        self.seen = self.journal.len();
+        let value = self.recorded.give_up(1, ticket);
+        self.seen = self.recorded.len();
         At {
             at: self.seen,
             value,
         }
     }
 
-    fn abort(&mut self, commit: Commit) -> At<bool>
+    fn abort(&mut self, commit: PullCommit) -> At<bool>
         ensures folder { self.new.planned ≡ self.old.planned }
         ensures changes { ChangesAt (seen_by self.old) (Abort commit)
             (Some (answer_at close_answer result))
@@ -266,8 +266,8 @@ impl<C: FolderCore> FolderCalls for Lone<C> {
             (Some (answer_at close_answer result)) self.new }
     {
         self.go_on();
-        let value = self.journal.abort(1, commit);
-        self.seen = self.journal.len();
+        let value = self.recorded.abort(1, commit);
+        self.seen = self.recorded.len();
         At {
             at: self.seen,
             value,
@@ -282,8 +282,8 @@ impl<C: FolderCore> FolderCalls for Lone<C> {
             (answered_at (λ b. option_map best_entry b) result) self.new }
     {
         self.go_on();
-        let answer = self.journal.core().best(name);
-        with_point(&self.journal, &mut self.seen, answer)
+        let answer = self.recorded.core().best(name);
+        with_point(&self.recorded, &mut self.seen, answer)
     }
 
     fn bests(
@@ -298,8 +298,8 @@ impl<C: FolderCore> FolderCalls for Lone<C> {
             (answered_at (λ page. map best_entry page) result) self.new }
     {
         self.go_on();
-        let answer = self.journal.core().bests(after, limit);
-        with_point(&self.journal, &mut self.seen, answer)
+        let answer = self.recorded.core().bests(after, limit);
+        with_point(&self.recorded, &mut self.seen, answer)
     }
 
     fn local(&mut self, name: &SafeName) -> Result<At<Option<Record>>, AllocError>
@@ -310,8 +310,8 @@ impl<C: FolderCore> FolderCalls for Lone<C> {
             self.new }
     {
         self.go_on();
-        let answer = self.journal.core().local(name);
-        with_point(&self.journal, &mut self.seen, answer)
+        let answer = self.recorded.core().local(name);
+        with_point(&self.recorded, &mut self.seen, answer)
     }
 
     fn need(
@@ -326,8 +326,8 @@ impl<C: FolderCore> FolderCalls for Lone<C> {
             (answered_at (λ names. names) result) self.new }
     {
         self.go_on();
-        let answer = self.journal.core().need(after, limit);
-        with_point(&self.journal, &mut self.seen, answer)
+        let answer = self.recorded.core().need(after, limit);
+        with_point(&self.recorded, &mut self.seen, answer)
     }
 
     fn local_since(&mut self, sequence: u64, limit: usize) -> Result<At<Items<Record>>, AllocError>
@@ -338,8 +338,8 @@ impl<C: FolderCore> FolderCalls for Lone<C> {
             (answered_at (λ page. page) result) self.new }
     {
         self.go_on();
-        let answer = self.journal.core().local_since(sequence, limit);
-        with_point(&self.journal, &mut self.seen, answer)
+        let answer = self.recorded.core().local_since(sequence, limit);
+        with_point(&self.recorded, &mut self.seen, answer)
     }
 
     fn find_block(&mut self, hash: &[u8; 32]) -> Result<At<Option<Place>>, AllocError>
@@ -350,8 +350,8 @@ impl<C: FolderCore> FolderCalls for Lone<C> {
             (answered_at (λ place. place) result) self.new }
     {
         self.go_on();
-        let answer = self.journal.core().find_block(hash);
-        with_point(&self.journal, &mut self.seen, answer)
+        let answer = self.recorded.core().find_block(hash);
+        with_point(&self.recorded, &mut self.seen, answer)
     }
 
     fn known(&mut self, device: DeviceId) -> At<u64>
@@ -362,8 +362,8 @@ impl<C: FolderCore> FolderCalls for Lone<C> {
             (Some (answer_at (λ sequence. sequence) result)) self.new }
     {
         self.go_on();
-        let value = self.journal.core().known(device);
-        self.seen = self.journal.len();
+        let value = self.recorded.core().known(device);
+        self.seen = self.recorded.len();
         At {
             at: self.seen,
             value,
@@ -378,8 +378,8 @@ impl<C: FolderCore> FolderCalls for Lone<C> {
             (Some (answer_at (λ counts. counts) result)) self.new }
     {
         self.go_on();
-        let value = self.journal.core().counts();
-        self.seen = self.journal.len();
+        let value = self.recorded.core().counts();
+        self.seen = self.recorded.len();
         At {
             at: self.seen,
             value,
@@ -389,13 +389,13 @@ impl<C: FolderCore> FolderCalls for Lone<C> {
 
 // What a call returns that got this answer of the folder: its point, which its caller has then seen, if it has an answer.
 fn with_point<C: FolderCore, T, E>(
-    journal: &Journal<C>,
+    recorded: &RecordedFolder<C>,
     seen: &mut u64,
     answer: Result<T, E>,
 ) -> Result<At<T>, E>
-    ensures { WithPoint (length journal.now.entries) answer result seen.old seen.new }
+    ensures { WithPoint (length recorded.now.entries) answer result seen.old seen.new }
 {
     let value = answer?;
-    *seen = journal.len();
+    *seen = recorded.len();
     Ok(At { at: *seen, value })
 }

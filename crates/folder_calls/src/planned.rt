@@ -3,9 +3,9 @@ ghost use Rattle.std.specs.Prelude.{◌≡◌, ◌≤◌, Option, true};
 ghost use Rattle.folder_core.specs.Steps.{MayChange};
 ghost use Rattle.folder_core.specs.declared.answer.Answer.{Answer as AnswerOf};
 ghost use Rattle.folder_calls.specs.LoneStates.{PlanGoesOn, change_of, seen_by};
-ghost use Rattle.folder_calls.specs.Journals.{Appends, IsHistory};
+ghost use Rattle.folder_calls.specs.RecordedFolders.{Appends, IsHistory};
 
-use crate::{Journal, Lone};
+use crate::{Lone, RecordedFolder};
 use bep_messages::Items;
 use folder_core::{Finding, FolderCore};
 use sync_names::SafeName;
@@ -79,19 +79,19 @@ impl<C: FolderCore> Lone<C> {
                     change,
                 });
             }
-            Some(Plan { call: _, change }) => make_outside(&mut self.journal, change),
+            Some(Plan { call: _, change }) => make_outside(&mut self.recorded, change),
             None => {}
         }
     }
 }
 
 // Makes another caller's change, as one of pass 2.
-fn make_outside<C: FolderCore>(journal: &mut Journal<C>, change: Outside)
-    requires passes { journal.old.passes ≡ 2 }
-    requires may { MayChange journal.old.opening.me (change_of change) }
+fn make_outside<C: FolderCore>(recorded: &mut RecordedFolder<C>, change: Outside)
+    requires passes { recorded.old.passes ≡ 2 }
+    requires may { MayChange recorded.old.opening.me (change_of change) }
     ensures made { (answer : Option AnswerOf)
-        × Appends journal.old 2 (change_of change) answer journal.new }
-    ensures history { IsHistory journal.new }
+        × Appends recorded.old 2 (change_of change) answer recorded.new }
+    ensures history { IsHistory recorded.new }
 {
     match change {
         Outside::ScanFound {
@@ -100,23 +100,23 @@ fn make_outside<C: FolderCore>(journal: &mut Journal<C>, change: Outside)
             found,
             moment,
         } => {
-            let _ = journal.scan_found(2, &name, expected.as_ref(), &found, moment);
+            let _ = recorded.scan_found(2, &name, expected.as_ref(), &found, moment);
         }
         Outside::ScanGone {
             name,
             expected,
             moment,
         } => {
-            let _ = journal.scan_gone(2, &name, expected.as_ref(), moment);
+            let _ = recorded.scan_gone(2, &name, expected.as_ref(), moment);
         }
         Outside::IndexFull { device, records } => {
-            let _ = journal.index_full(2, device, records);
+            let _ = recorded.index_full(2, device, records);
         }
         Outside::IndexMore { device, records } => {
-            let _ = journal.index_more(2, device, records);
+            let _ = recorded.index_more(2, device, records);
         }
         Outside::Forget { device } => {
-            let _ = journal.forget(2, device);
+            let _ = recorded.forget(2, device);
         }
     }
 }

@@ -10,12 +10,12 @@ use sync_record::Record;
 /// the pull: it is neither copied nor dropped. It holds what the history's entry of that needs, so that ending a pull does
 /// not allocate.
 #[derive(Debug)]
-pub struct Ticket {
+pub struct PullTicket {
     pub(crate) inner: folder_core::Ticket,
     pub(crate) info: PullInfo,
 }
 
-impl Model for Ticket {
+impl Model for PullTicket {
     ghost use Rattle.std.specs.Prelude.{◌≡◌};
     ghost use Rattle.folder_core.specs.declared.pull_info.PullInfo.{PullInfo};
 
@@ -26,7 +26,7 @@ impl Model for Ticket {
     ghost invariant = { λ t. t.inner ≡ t.info };
 }
 
-impl Ticket {
+impl PullTicket {
     /// Its number; no two open pulls of a folder have the same one. O(1).
     pub fn number(&self) -> u64
         ensures { result ≡ self.now.number }
@@ -60,12 +60,12 @@ impl Ticket {
 /// Only the folder makes one, and it must be handed back: it is neither copied nor dropped. It holds what the history's entry
 /// of that needs.
 #[derive(Debug)]
-pub struct Commit {
+pub struct PullCommit {
     pub(crate) inner: folder_core::Commit,
     pub(crate) info: PullInfo,
 }
 
-impl Model for Commit {
+impl Model for PullCommit {
     ghost use Rattle.std.specs.Prelude.{◌≡◌};
     ghost use Rattle.folder_core.specs.declared.pull_info.PullInfo.{PullInfo};
 
@@ -76,7 +76,7 @@ impl Model for Commit {
     ghost invariant = { λ c. c.inner ≡ c.info };
 }
 
-impl Commit {
+impl PullCommit {
     /// The number of its pull; no two open pulls of a folder have the same one. O(1).
     pub fn number(&self) -> u64
         ensures { result ≡ self.now.number }
@@ -110,7 +110,7 @@ impl Commit {
 #[derive(Debug)]
 pub enum BeginAnswer {
     /// The pull is open.
-    Begun(Ticket),
+    Begun(PullTicket),
     /// There is no best, the local record is as good, or the best is deleted and there is no local record.
     NotNeeded,
     /// A pull of the name is open already.
@@ -125,15 +125,15 @@ pub enum EnterRefusal {
     /// No pull is open with the ticket's number, name and target. The ticket is used up.
     Stray,
     /// The local version is no longer the one over which the pull began.
-    LocalMoved(Ticket),
+    LocalMoved(PullTicket),
     /// The best of the name no longer has the target's version and content.
-    Superseded(Ticket),
+    Superseded(PullTicket),
     /// No sequence is left, except those that the open commits will take.
-    SequenceFull(Ticket),
+    SequenceFull(PullTicket),
     /// The history has no room, except for what ends the open pulls.
-    HistoryFull(Ticket),
+    HistoryFull(PullTicket),
 }
 
 /// A commit was not entered, because memory is out. Nothing changed, and the ticket comes back.
 #[derive(Debug)]
-pub struct EnterAllocError(pub Ticket);
+pub struct EnterAllocError(pub PullTicket);

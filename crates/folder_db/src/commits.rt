@@ -20,7 +20,7 @@ use sync_record::Record;
 
 /// What a commit announces, twice.
 #[derive(Drop)]
-pub(crate) struct Ready {
+pub(crate) struct ReservedCommit {
     pub(crate) announced: Record,
     pub(crate) copied: Record,
 }
@@ -97,7 +97,7 @@ pub(crate) fn take_ready(
     pulls: &mut Vec<OpenPull>,
     copies: &mut Vec<Option<Record>>,
     info: &PullInfo,
-) -> Option<Ready>
+) -> Option<ReservedCommit>
     requires { copies.old.items ≡ ready_of pulls.old.items }
     ensures taken { MatchOption result ((pull_for info.now Committing pulls.old.items ≡ None)
         × (pulls.new.items ≡ pulls.old.items))
@@ -114,7 +114,7 @@ pub(crate) fn take_ready(
         unreachable!()
     };
     let Some(copied) = copied else { unreachable!() };
-    Some(Ready { announced, copied })
+    Some(ReservedCommit { announced, copied })
 }
 
 /// Makes ready, twice, what the pull at this place will announce, and reserves what that needs in the index. Returns `Err` only

@@ -15,7 +15,7 @@ ghost use Rattle.sync_record.specs.Infos.{is_natural};
 ghost use Rattle.folder_index.specs.Devices.{names_by};
 ghost use Rattle.folder_db.specs.Indexed.{choices_after, counted_more, names_in, names_with};
 
-use crate::commits::{Ready, begin, close, make_ready, take_ready};
+use crate::commits::{ReservedCommit, begin, close, make_ready, take_ready};
 use crate::filled::filled;
 use crate::message::{clear_all, stale_names};
 use bep_messages::Items;
@@ -337,7 +337,7 @@ impl FolderCore for IndexedFolder {
         let Some(ready) = take_ready(&mut self.pulls, &mut self.copies, &info) else {
             return Err(Stray);
         };
-        let Ready { announced, copied } = ready;
+        let ReservedCommit { announced, copied } = ready;
         self.last += 1;
         let announced = announced.with_sequence(self.last);
         let copied = copied.with_sequence(self.last);

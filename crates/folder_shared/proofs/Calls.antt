@@ -17,13 +17,13 @@ use Rattle.folder_calls.specs.declared.entry.Entry.{Entry}
 use Rattle.folder_calls.specs.declared.history.History.{History}
 use Rattle.folder_calls.specs.Calls.{answered_at}
 use Rattle.folder_calls.specs.Histories.{own_entries, shared_answer}
-use Rattle.folder_calls.specs.Journals.{Appends, IsHistory, answered, with_entry}
+use Rattle.folder_calls.specs.RecordedFolders.{Appends, IsHistory, answered, with_entry}
 use Rattle.folder_calls.specs.Shared.{Declines, IsAnswered, IsLegalView, Makes, Sees, ChangesAt, CallerView, seeing}
 use Rattle.folder_shared.specs.declared.known.PassHistory.{PassHistory}
 use Rattle.folder_shared.specs.declared.known.Known.{Known}
 use Rattle.folder_shared.specs.declared.shared.Pass.{Pass}
 use Rattle.folder_shared.specs.declared.shared.LockedFolder.{LockedFolder}
-use Rattle.folder_shared.specs.Rule.{pass_history, first_history, IsFit, IsSame, Kept, MayPut, PutBack, seen_all}
+use Rattle.folder_shared.specs.Rule.{pass_history, first_history, IsFit, IsSame, RuleHolds, MayPut, PutBack, seen_all}
 use Rattle.folder_shared.specs.Passes.{IsGivenBack, IsGrown, IsHeld, IsPassOf, IsPutBack, MayPutBack, history_of, knows, limit_of, opened_of, opening_of, seen_of, view_of}
 use Rattle.folder_shared.proofs.Histories.{length_starts, starts_trans, take_same, take_starts}
 use Rattle.folder_shared.proofs.Puts.{puts}
@@ -133,7 +133,7 @@ module _ {C : Type 0} (s : LockedFolder C) (before held : Pass C) (x : History) 
     same-grown : IsSame y (opened_of s)
     same-grown = let g = grown-same x y before.number grown in (g.0 ∙ same-held.0, g.1 ∙ same-held.1)
 
-    pub rule-back : (n port : ℕ) → Pushes Kept n port (knows held) y (PutBack (knows held) y)
+    pub rule-back : (n port : ℕ) → Pushes RuleHolds n port (knows held) y (PutBack (knows held) y)
     rule-back n port = puts n port (knows held) y (ap (λ (v : Known). v.state) h.taken.after) (grown-put (knows held) x y before.number (history_of before) memo-held one-held grown)
 
     module _ (now : Pass C) (number : now.number ≡ held.number) (seat : IsSeatAt (sends_on s.sender) now.token) (put : PutBack (knows held) y (knows now)) where

@@ -13,7 +13,7 @@ use Rattle.folder_core.specs.States.{FolderState}
 use Rattle.folder_calls.specs.declared.entry.Entry.{Entry}
 use mathlib.Core.List.{IsPrefix}
 use Rattle.folder_calls.specs.Histories.{own_entries, IsLegal, state_after}
-use Rattle.folder_calls.specs.Journals.{IsHistory, end}
+use Rattle.folder_calls.specs.RecordedFolders.{IsHistory, end}
 use Rattle.folder_calls.specs.Shared.{Closes, Sees, CallerView, seeing}
 use Rattle.folder_calls.proofs.HistoryEntries.{legal-front}
 use Rattle.folder_calls.proofs.HistoryFronts.{own-divided}

@@ -9,7 +9,7 @@ use Rattle.folder_calls.specs.declared.history.History.{History}
 use Rattle.folder_shared.specs.declared.known.PassHistory.{PassHistory}
 use Rattle.folder_shared.specs.declared.known.TokenState.TheVariants.{Idle}
 use Rattle.folder_shared.specs.declared.known.Known.{Known}
-use Rattle.folder_shared.specs.Rule.{spent, AreFit, SitAt, Fits, Runs, Kept, joined}
+use Rattle.folder_shared.specs.Rule.{spent, AreFit, SitAt, Fits, Runs, RuleHolds, joined}
 use Rattle.folder_shared.proofs.Lists.{at_append, all_set}
 use Rattle.folder_shared.proofs.Moves.{not_new, no_claims, no_seats, idle_new, idle_holding}
 
@@ -60,7 +60,7 @@ join_runs port v other w items views is r at apart at' =
           (λ j u far e. old j u e far);
     }
 
-pub joins : (port : ℕ) (v : Known) (other : ℕ) (w : Known) → v.state ≡ Idle → w.state ≡ Idle → Merges Kept port v other w (joined v w) spent
+pub joins : (port : ℕ) (v : Known) (other : ℕ) (w : Known) → v.state ≡ Idle → w.state ≡ Idle → Merges RuleHolds port v other w (joined v w) spent
 joins port v other w is is' items views (inl e) at apart at' = absurd (idle_new (sym is ∙ not_new views port v e.1 at))
 joins port v other w is is' items views (inr r) at apart at' =
     let was : get_elem? views other ≡ some w = ⊎_elim (λ (x : (other ≡ port) × (joined v w ≡ w)). absurd (apart x.0)) (λ (x : (other ≢ port) × (get_elem? views other ≡ some w)). x.1) (at_set views port other (joined v w) w at') in

@@ -6,7 +6,7 @@ use Rattle.crossbeam_channel.specs.Fifo.{Pushes, Pops, Forks, Learns}
 use Rattle.folder_calls.specs.declared.history.History.{History}
 use Rattle.folder_shared.specs.declared.known.TokenState.TheVariants.{New, Idle, Holding}
 use Rattle.folder_shared.specs.declared.known.Known.{Known}
-use Rattle.folder_shared.specs.Rule.{Agree, known, newcomer, AreFit, SitAt, IsSame, Fits, Runs, Kept, Opened, Taken, blank_of}
+use Rattle.folder_shared.specs.Rule.{Agree, known, newcomer, AreFit, SitAt, IsSame, Fits, Runs, RuleHolds, Opened, Taken, blank_of}
 use Rattle.folder_shared.proofs.Lists.{at_none, at_one, all_set, all_end}
 
 pub idle_new : Idle ≢ New
@@ -41,7 +41,7 @@ no_seats seat port i c e = absurd (at_none i c e)
 pub bare : (m : History) (items : List History) (holder : ℕ) (seat : ℕ → ℕ × ℕ) (port : ℕ) (n : History) → IsSame n m → n.passes ≤ m.passes → Fits m items holder seat port (known Idle n [])
 bare m items holder seat port n same low = record { old = idle_new; same = λ _. same; grown = λ _. low; holds = λ e. absurd (idle_holding e); sits = no_seats seat port; fit = no_claims m }
 
-pub begins : Kept [] (newcomer ∷ [])
+pub begins : RuleHolds [] (newcomer ∷ [])
 begins = inl (refl, refl)
 
 opens_runs : (port : ℕ) (x : History) (items : List History) (views : List Known) (v : Known) → items ≡ [] → views ≡ newcomer ∷ [] → get_elem? views port ≡ some v → Runs (items ++ x ∷ []) (set views port (known Idle x []))
@@ -54,7 +54,7 @@ opens_runs port x items views v none is at = record {
       (λ j u apart e. absurd (apart ((new_is views j u is e).0 ∙ sym (new_is views port v is at).0)));
 }
 
-pub opens : (n port : ℕ) (v : Known) (m : History) → v.state ≡ New → Pushes Kept n port v m (Opened v m)
+pub opens : (n port : ℕ) (v : Known) (m : History) → v.state ≡ New → Pushes RuleHolds n port v m (Opened v m)
 opens n port v m new items views room h at = (known Idle m [], inr (elim h [ inl e ↦ opens_runs port m items views v e.0 e.1 at | inr r ↦ absurd ((r.all port v at).old new) ]), refl)
 
 -- what stays of another view at a take
@@ -86,13 +86,13 @@ first_is : (x now : History) (items : List History) → (x ∷ items ≡ now ∷
 first_is x now items (inl e) = (cc, cc)
 first_is x now items (inr e) = absurd (cc)
 
-takes_step : (port : ℕ) (v : Known) (x : History) (items : List History) (views : List Known) → v.state ≡ Idle → Kept (x ∷ items) views → get_elem? views port ≡ some v
-    → (w : Known) × Kept items (set views port w) × Taken v x w
+takes_step : (port : ℕ) (v : Known) (x : History) (items : List History) (views : List Known) → v.state ≡ Idle → RuleHolds (x ∷ items) views → get_elem? views port ≡ some v
+    → (w : Known) × RuleHolds items (set views port w) × Taken v x w
 takes_step port v x items views is (inl e) at = let n = e.0 in absurd (cc)
 takes_step port v x items views is (inr r) at = let p = first_is x r.now items r.place in
     (known Holding x v.histories, inr (takes_runs port v x items views is r at p.0 p.1), takes_fact port v x items views is r at p.0)
 
-pub takes : (port : ℕ) (v : Known) → v.state ≡ Idle → Pops Kept port v (Taken v)
+pub takes : (port : ℕ) (v : Known) → v.state ≡ Idle → Pops RuleHolds port v (Taken v)
 takes port v is x items views h at = takes_step port v x items views is h at
 
 blanks_runs : (port : ℕ) (v : Known) (items : List History) (views : List Known) → v.state ≡ Idle → (r : Runs items views) → get_elem? views port ≡ some v → Runs items (set views port v ++ blank_of v ∷ [])
@@ -105,10 +105,10 @@ blanks_runs port v items views is r at = let f = r.all port v at in record {
       (all_set (Fits r.now items r.holder r.seat) views port v f (λ j u apart e. r.all j u e));
 }
 
-pub blanks : (port : ℕ) (v : Known) → v.state ≡ Idle → Forks Kept port v v (blank_of v)
+pub blanks : (port : ℕ) (v : Known) → v.state ≡ Idle → Forks RuleHolds port v v (blank_of v)
 blanks port v is items views (inl e) at = absurd (idle_new (sym is ∙ not_new views port v e.1 at))
 blanks port v is items views (inr r) at = inr (blanks_runs port v items views is r at)
 
-pub compares : (port : ℕ) (v : Known) → v.state ≡ Idle → Learns Kept port v (Agree v)
+pub compares : (port : ℕ) (v : Known) → v.state ≡ Idle → Learns RuleHolds port v (Agree v)
 compares port v is items views (inl e) at = absurd (idle_new (sym is ∙ not_new views port v e.1 at))
 compares port v is items views (inr r) at = let f = r.all port v at in (r.now, f.same (λ e. cc), f.fit)

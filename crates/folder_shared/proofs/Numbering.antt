@@ -9,7 +9,7 @@ use Rattle.folder_core.specs.States.{FolderState, IsFolder}
 use Rattle.folder_calls.specs.declared.entry.Entry.{Entry}
 use Rattle.folder_calls.specs.declared.history.History.{History}
 use Rattle.folder_calls.specs.Histories.{IsLegal, after, own_entries}
-use Rattle.folder_calls.specs.Journals.{IsHistory}
+use Rattle.folder_calls.specs.RecordedFolders.{IsHistory}
 use Rattle.folder_calls.specs.Shared.{IsLegalView}
 use Rattle.folder_calls.proofs.HistoryShared.{view-opened}
 use Rattle.folder_shared.specs.declared.known.Known.{Known}
@@ -17,7 +17,7 @@ use Rattle.folder_shared.specs.declared.known.TokenState.TheVariants.{Holding}
 use Rattle.folder_shared.specs.declared.shared.Pass.{Pass}
 use Rattle.folder_shared.specs.declared.shared.SharedFolder.{SharedFolder}
 use Rattle.folder_shared.specs.Blank.{IsBlankOf}
-use Rattle.folder_shared.specs.Rule.{blank_of, pass_history, first_history, IsSame, Kept, MayNumber, Numbered, PutBack, Taken}
+use Rattle.folder_shared.specs.Rule.{blank_of, pass_history, first_history, IsSame, RuleHolds, MayNumber, Numbered, PutBack, Taken}
 use Rattle.folder_shared.specs.Passes.{IsPassOf, history_of, knows, limit_of, opened_of, opening_of, seen_of}
 use Rattle.folder_shared.proofs.Puts.{numbers, puts}
 
@@ -52,7 +52,7 @@ module _ {C : Type 0} (s : SharedFolder C) (blank : Token History Known) (m : Is
         ap (λ (h : History). h.entries) is ∙ ap (λ (h : History). h.entries) (sym memo),
       )
 
-      pub number-rule : (n port : ℕ) → Pushes Kept n port w y (Numbered w y)
+      pub number-rule : (n port : ℕ) → Pushes RuleHolds n port w y (Numbered w y)
       number-rule n port = numbers n port w y holds may
 
       pub numbered-pass : IsHistory x → (p : Pass C) → p.number ≡ number → p.seen ≡ 0 → IsSeatAt (sends_on s.locked.sender) p.token → Numbered w y (knows p) → IsPassOf s.locked p
@@ -72,6 +72,6 @@ module _ {C : Type 0} (s : SharedFolder C) (blank : Token History Known) (m : Is
 
     -- as it was
     module _ (is : y ≡ x) where
-      pub back-rule : (n port : ℕ) → Pushes Kept n port w y (PutBack w y)
+      pub back-rule : (n port : ℕ) → Pushes RuleHolds n port w y (PutBack w y)
       back-rule n port = puts n port w y holds
           ((ap (λ (h : History). h.opening) (is ∙ sym memo), ap (λ (h : History). h.limit) (is ∙ sym memo)), ap (λ (h : History). h.passes) (is ∙ sym memo), inl (ap (λ (h : History). h.entries) (is ∙ sym memo)))

@@ -8,7 +8,7 @@ use Rattle.folder_calls.specs.declared.history.History.{History}
 use Rattle.folder_shared.specs.declared.known.PassHistory.{PassHistory}
 use Rattle.folder_shared.specs.declared.known.TokenState.TheVariants.{Idle}
 use Rattle.folder_shared.specs.declared.known.Known.{Known}
-use Rattle.folder_shared.specs.Rule.{pass_history, IsFit, AreFit, SitAt, Fits, Runs, Kept, longer, first_of_two, second_of_two, left_of, right_of}
+use Rattle.folder_shared.specs.Rule.{pass_history, IsFit, AreFit, SitAt, Fits, Runs, RuleHolds, longer, first_of_two, second_of_two, left_of, right_of}
 use Rattle.folder_shared.proofs.Lists.{at_one, all_set, all_end}
 use Rattle.folder_shared.proofs.Histories.{longer_starts, own_between}
 use Rattle.folder_shared.proofs.Moves.{not_new, no_claims, no_seats, idle_new, idle_holding}
@@ -83,6 +83,6 @@ part_runs port v items views is r at =
           (λ j u apart e. let fu = r.all j u e in record { old = fu.old; same = fu.same; grown = fu.grown; holds = fu.holds; sits = (λ i c k. cut_else r.seat port to c.pass j i (fu.sits i c k) apart); fit = fu.fit }));
     }
 
-pub parts : (port : ℕ) (v : Known) → v.state ≡ Idle → Forks Kept port v (left_of v) (right_of v)
+pub parts : (port : ℕ) (v : Known) → v.state ≡ Idle → Forks RuleHolds port v (left_of v) (right_of v)
 parts port v is items views (inl e) at = absurd (idle_new (sym is ∙ not_new views port v e.1 at))
 parts port v is items views (inr r) at = inr (part_runs port v items views is r at)

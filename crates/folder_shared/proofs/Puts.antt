@@ -11,7 +11,7 @@ use Rattle.folder_calls.specs.declared.history.History.{History}
 use Rattle.folder_shared.specs.declared.known.PassHistory.{PassHistory}
 use Rattle.folder_shared.specs.declared.known.TokenState.TheVariants.{Idle, Holding}
 use Rattle.folder_shared.specs.declared.known.Known.{Known}
-use Rattle.folder_shared.specs.Rule.{pass_history, known, IsFit, SitAt, IsSame, Fits, Runs, Kept, seen_all, PutBack, MayPut, Numbered, MayNumber}
+use Rattle.folder_shared.specs.Rule.{pass_history, known, IsFit, SitAt, IsSame, Fits, Runs, RuleHolds, seen_all, PutBack, MayPut, Numbered, MayNumber}
 use Rattle.folder_shared.proofs.Lists.{at_one, of_map, all_set}
 use Rattle.folder_shared.proofs.Histories.{starts_refl, starts_trans}
 use Rattle.folder_calls.proofs.HistoryEntries.{own-skip}
@@ -75,7 +75,7 @@ grows_of : (port : ℕ) (v : Known) (x now : History) (seat : ℕ → ℕ × ℕ
 grows_of port v x now seat is sits (inl e) = inl (e ∙ ap (λ (m : History). m.entries) is)
 grows_of port v x now seat is sits (inr g) = inr (g.0, g.1 ∙ ap (λ (m : History). m.entries ++ g.0 ∷ []) is, ap (λ n. (seat n).0) g.5 ∙ ap (λ (y : ℕ × ℕ). y.0) (sits g.2 g.3 g.4))
 
-pub puts : (n port : ℕ) (v : Known) (x : History) → v.state ≡ Holding → MayPut v x → Pushes Kept n port v x (PutBack v x)
+pub puts : (n port : ℕ) (v : Known) (x : History) → v.state ≡ Holding → MayPut v x → Pushes RuleHolds n port v x (PutBack v x)
 puts n port v x is may items views room (inl e) at = absurd (let s = not_new views port v e.1 at in cc)
 puts n port v x is may items views room (inr r) at =
     let f = r.all port v at in
@@ -133,6 +133,6 @@ number_runs port v x items views is r at may =
           });
     }
 
-pub numbers : (n port : ℕ) (v : Known) (x : History) → v.state ≡ Holding → MayNumber v x → Pushes Kept n port v x (Numbered v x)
+pub numbers : (n port : ℕ) (v : Known) (x : History) → v.state ≡ Holding → MayNumber v x → Pushes RuleHolds n port v x (Numbered v x)
 numbers n port v x is may items views room (inl e) at = absurd (let s = not_new views port v e.1 at in cc)
 numbers n port v x is may items views room (inr r) at = (known Idle x (pass_history x.passes x.entries ∷ []), inr (number_runs port v x items views is r at may), refl)

@@ -71,8 +71,8 @@ pub record Runs (items : List History) (views : List Known) : Type 0 where
   pub all : (port : ℕ) (v : Known) → get_elem? views port ≡ some v → Fits now items holder seat port v
 
 -- the rule: nothing was put yet and there is one new token, or the folder is under the lock
-abbrev pub Kept : List History → List Known → Type 0
-Kept items views = ((items ≡ []) × (views ≡ newcomer ∷ [])) ⊎ Runs items views
+abbrev pub RuleHolds : List History → List Known → Type 0
+RuleHolds items views = ((items ≡ []) × (views ≡ newcomer ∷ [])) ⊎ Runs items views
 
 -- after the first put: the token is a blank one
 abbrev pub Opened : Known → History → Known → Type 0

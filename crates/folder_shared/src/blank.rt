@@ -4,7 +4,7 @@ ghost use Rattle.folder_shared.specs.Blank.{Guarded, Seized, IsBlankOf, IsLoanOf
 
 use crate::shared::{BlankSlot, Token};
 use atomic_table::{Play, Seat, Table, TableRule};
-use folder_calls::Journal;
+use folder_calls::RecordedFolder;
 use folder_core::FolderCore;
 use std::alloc::{AllocError, Global};
 use std::snapshot::Snapshot;
@@ -14,7 +14,7 @@ use std::sync::Wait;
 #[derive(Drop)]
 pub struct Origin<C: FolderCore + Drop> {
     pub(crate) seat: Snapshot<Token<C>>,
-    pub(crate) first: Snapshot<Journal<C>>,
+    pub(crate) first: Snapshot<RecordedFolder<C>>,
 }
 
 /// The word is 0 where the blank token is in the slot, 1 where a call has it, and 2 until it is first put there.

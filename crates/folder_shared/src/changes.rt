@@ -10,7 +10,8 @@ ghost use Rattle.folder_shared.specs.Passes.{IsPassOf, opening_of, view_of};
 use crate::{LockedFolder, Pass};
 use bep_messages::Items;
 use folder_calls::{
-    At, BeginAnswer, Commit, EnterAllocError, EnterRefusal, HistoryFull, ScanRefusal, Ticket,
+    At, BeginAnswer, EnterAllocError, EnterRefusal, HistoryFull, PullCommit, PullTicket,
+    ScanRefusal,
 };
 use folder_core::{Finding, FolderCore, ScanAnswer, Stray};
 use std::alloc::AllocError;
@@ -41,9 +42,9 @@ impl<C: FolderCore + Drop> LockedFolder<C> {
             (ScanFound name.now (option_copied expected.entry) found.now moment)
             (answered_at scan_value result) (view_of self.now pass.new) }
     {
-        let mut journal = self.lend(rt, pass);
-        let answer = journal.scan_found(pass.number, name, expected, found, moment);
-        self.hand_in(rt, pass, journal, answer)
+        let mut recorded = self.lend(rt, pass);
+        let answer = recorded.scan_found(pass.number, name, expected, found, moment);
+        self.hand_in(rt, pass, recorded, answer)
     }
 
     /// Records that nothing is at a name, if its local version is still the expected one. The version is raised by this
@@ -64,9 +65,9 @@ impl<C: FolderCore + Drop> LockedFolder<C> {
             (answered_at scan_value result)
             (view_of self.now pass.new) }
     {
-        let mut journal = self.lend(rt, pass);
-        let answer = journal.scan_gone(pass.number, name, expected, moment);
-        self.hand_in(rt, pass, journal, answer)
+        let mut recorded = self.lend(rt, pass);
+        let answer = recorded.scan_gone(pass.number, name, expected, moment);
+        self.hand_in(rt, pass, recorded, answer)
     }
 
     /// The device announces these records and no others; of several under one name the last counts.
@@ -83,9 +84,9 @@ impl<C: FolderCore + Drop> LockedFolder<C> {
         ensures changes { ChangesAt (view_of self.now pass.old) (IndexFull device records)
             (answered_at index_value result) (view_of self.now pass.new) }
     {
-        let mut journal = self.lend(rt, pass);
-        let answer = journal.index_full(pass.number, device, records);
-        self.hand_in(rt, pass, journal, answer)
+        let mut recorded = self.lend(rt, pass);
+        let answer = recorded.index_full(pass.number, device, records);
+        self.hand_in(rt, pass, recorded, answer)
     }
 
     /// The device announces these records too; of several under one name the last counts.
@@ -102,9 +103,9 @@ impl<C: FolderCore + Drop> LockedFolder<C> {
         ensures changes { ChangesAt (view_of self.now pass.old) (IndexMore device records)
             (answered_at index_value result) (view_of self.now pass.new) }
     {
-        let mut journal = self.lend(rt, pass);
-        let answer = journal.index_more(pass.number, device, records);
-        self.hand_in(rt, pass, journal, answer)
+        let mut recorded = self.lend(rt, pass);
+        let answer = recorded.index_more(pass.number, device, records);
+        self.hand_in(rt, pass, recorded, answer)
     }
 
     /// The device announces nothing.
@@ -121,9 +122,9 @@ impl<C: FolderCore + Drop> LockedFolder<C> {
             (answered_at index_value result)
             (view_of self.now pass.new) }
     {
-        let mut journal = self.lend(rt, pass);
-        let answer = journal.forget(pass.number, device);
-        self.hand_in(rt, pass, journal, answer)
+        let mut recorded = self.lend(rt, pass);
+        let answer = recorded.forget(pass.number, device);
+        self.hand_in(rt, pass, recorded, answer)
     }
 
     /// Begins to pull the best of a name, and answers the first of these that applies: `Busy` if a pull of the name is
@@ -140,9 +141,9 @@ impl<C: FolderCore + Drop> LockedFolder<C> {
         ensures changes { ChangesAt (view_of self.now pass.old) (BeginPull name.now)
             (answered_at begin_value result) (view_of self.now pass.new) }
     {
-        let mut journal = self.lend(rt, pass);
-        let answer = journal.begin_pull(pass.number, name);
-        self.hand_in(rt, pass, journal, answer)
+        let mut recorded = self.lend(rt, pass);
+        let answer = recorded.begin_pull(pass.number, name);
+        self.hand_in(rt, pass, recorded, answer)
     }
 
     /// Enters the commit of a pull, and fails with the first of these that applies: `Stray`, `LocalMoved`, `Superseded`,
@@ -151,8 +152,8 @@ impl<C: FolderCore + Drop> LockedFolder<C> {
         &self,
         rt: &R,
         pass: &mut Pass<C>,
-        ticket: Ticket,
-    ) -> Result<At<Result<Commit, EnterRefusal>>, EnterAllocError>
+        ticket: PullTicket,
+    ) -> Result<At<Result<PullCommit, EnterRefusal>>, EnterAllocError>
         requires pass { IsPassOf self.now pass.old }
         ensures pass { IsPassOf self.now pass.new × (pass.new.number ≡ pass.old.number) }
         ensures changes { ChangesAt (view_of self.now pass.old) (EnterCommit ticket)
@@ -160,9 +161,9 @@ impl<C: FolderCore + Drop> LockedFolder<C> {
         ensures given_back { IfOk result (λ reply. IfErr reply.value (GivesBack ticket)) }
         ensures out_of_memory { IfErr result (λ refused. refused.0 ≡ ticket) }
     {
-        let mut journal = self.lend(rt, pass);
-        let answer = journal.enter_commit(pass.number, ticket);
-        self.hand_in(rt, pass, journal, answer)
+        let mut recorded = self.lend(rt, pass);
+        let answer = recorded.enter_commit(pass.number, ticket);
+        self.hand_in(rt, pass, recorded, answer)
     }
 
     /// Announces the target of a commit, whose file is in place, as the local record, with what the base had seen added
@@ -172,7 +173,7 @@ impl<C: FolderCore + Drop> LockedFolder<C> {
         &self,
         rt: &R,
         pass: &mut Pass<C>,
-        commit: Commit,
+        commit: PullCommit,
         assembled: Assembled,
     ) -> At<Result<u64, Stray>>
         requires pass { IsPassOf self.now pass.old }
@@ -181,9 +182,9 @@ impl<C: FolderCore + Drop> LockedFolder<C> {
         ensures changes { ChangesAt (view_of self.now pass.old) (Finish commit assembled)
             (Some (answer_at finish_answer result)) (view_of self.now pass.new) }
     {
-        let mut journal = self.lend(rt, pass);
-        let value = journal.finish(pass.number, commit, assembled);
-        let reply: Result<At<_>, Infallible> = self.hand_in(rt, pass, journal, Ok(value));
+        let mut recorded = self.lend(rt, pass);
+        let value = recorded.finish(pass.number, commit, assembled);
+        let reply: Result<At<_>, Infallible> = self.hand_in(rt, pass, recorded, Ok(value));
         match reply {
             Ok(reply) => reply,
             Err(never) => match never {},
@@ -192,15 +193,15 @@ impl<C: FolderCore + Drop> LockedFolder<C> {
 
     /// Closes a pull whose commit was not entered. Returns `false` if the ticket is stray; then nothing changes. Does not
     /// allocate.
-    pub fn give_up<R: Wait>(&self, rt: &R, pass: &mut Pass<C>, ticket: Ticket) -> At<bool>
+    pub fn give_up<R: Wait>(&self, rt: &R, pass: &mut Pass<C>, ticket: PullTicket) -> At<bool>
         requires pass { IsPassOf self.now pass.old }
         ensures pass { IsPassOf self.now pass.new × (pass.new.number ≡ pass.old.number) }
         ensures changes { ChangesAt (view_of self.now pass.old) (GiveUp ticket)
             (Some (answer_at close_answer result)) (view_of self.now pass.new) }
     {
-        let mut journal = self.lend(rt, pass);
-        let value = journal.give_up(pass.number, ticket);
-        let reply: Result<At<_>, Infallible> = self.hand_in(rt, pass, journal, Ok(value));
+        let mut recorded = self.lend(rt, pass);
+        let value = recorded.give_up(pass.number, ticket);
+        let reply: Result<At<_>, Infallible> = self.hand_in(rt, pass, recorded, Ok(value));
         match reply {
             Ok(reply) => reply,
             Err(never) => match never {},
@@ -209,15 +210,15 @@ impl<C: FolderCore + Drop> LockedFolder<C> {
 
     /// Closes a pull whose commit was entered; the local record stays. Returns `false` if the commit is stray; then
     /// nothing changes. Does not allocate.
-    pub fn abort<R: Wait>(&self, rt: &R, pass: &mut Pass<C>, commit: Commit) -> At<bool>
+    pub fn abort<R: Wait>(&self, rt: &R, pass: &mut Pass<C>, commit: PullCommit) -> At<bool>
         requires pass { IsPassOf self.now pass.old }
         ensures pass { IsPassOf self.now pass.new × (pass.new.number ≡ pass.old.number) }
         ensures changes { ChangesAt (view_of self.now pass.old) (Abort commit)
             (Some (answer_at close_answer result)) (view_of self.now pass.new) }
     {
-        let mut journal = self.lend(rt, pass);
-        let value = journal.abort(pass.number, commit);
-        let reply: Result<At<_>, Infallible> = self.hand_in(rt, pass, journal, Ok(value));
+        let mut recorded = self.lend(rt, pass);
+        let value = recorded.abort(pass.number, commit);
+        let reply: Result<At<_>, Infallible> = self.hand_in(rt, pass, recorded, Ok(value));
         match reply {
             Ok(reply) => reply,
             Err(never) => match never {},

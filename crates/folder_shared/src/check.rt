@@ -13,7 +13,7 @@ impl<C: FolderCore + Drop> LockedFolder<C> {
     /// is for whoever doubts it. The pass has then seen the history. Returns `Err` only if out of memory; then it has seen no
     /// more.
     ///
-    /// Other calls wait meanwhile, since the journal cannot be copied: its changes are made once more, at their cost on a plain folder.
+    /// Other calls wait meanwhile, since the recorded folder cannot be copied: its changes are made once more, at their cost on a plain folder.
     pub fn verify<R: Wait>(&self, rt: &R, pass: &mut Pass<C>) -> Result<bool, AllocError>
         requires { IsPassOf self.now pass.old }
         ensures pass { IsPassOf self.now pass.new × (pass.new.number ≡ pass.old.number) }
@@ -23,9 +23,9 @@ impl<C: FolderCore + Drop> LockedFolder<C> {
         ensures out_of_memory { IfErr result
             (λ _. view_of self.now pass.new ≡ view_of self.now pass.old) }
     {
-        let journal = self.lend(rt, pass);
-        let answer = journal.verify();
-        let reply = self.give_back(rt, pass, journal, answer)?;
+        let recorded = self.lend(rt, pass);
+        let answer = recorded.verify();
+        let reply = self.give_back(rt, pass, recorded, answer)?;
         Ok(reply.value)
     }
 }

@@ -3,7 +3,7 @@ ghost use Rattle.std.specs.Prelude.{ℕ, ◌≡◌, ◌<◌, ◌≤◌, ◌^◌,
 ghost use Rattle.std.specs.FinMap.{len};
 ghost use mathlib.Core.Option.{some};
 ghost use lib.ListN.{get_elem?};
-ghost use Rattle.folder_calls.specs.Journals.{new_history};
+ghost use Rattle.folder_calls.specs.RecordedFolders.{new_history};
 ghost use Rattle.folder_calls.specs.Shared.{Closes, Meets};
 ghost use Rattle.folder_shared.specs.declared.shared.LockedFolder.{LockedFolder as Folder};
 ghost use Rattle.folder_shared.specs.Passes.{IsPassOf, IsCountOf, IsFullOf, knows, limit_of, opened_of, opening_of, seen_of, view_of};
@@ -15,7 +15,7 @@ use crate::mark::marked;
 use crate::rule::{Apart, Blank, Both, Compares, Numbers, OneHistory, Opens, Puts};
 use crate::shared::{BlankSlot, LockedFolder, Pass, PassCount, PassesFull, SharedFolder};
 use crossbeam_channel::bounded_with;
-use folder_calls::Journal;
+use folder_calls::RecordedFolder;
 use folder_core::FolderCore;
 use std::alloc::Global;
 use std::mem::replace;
@@ -68,26 +68,26 @@ impl<C: FolderCore + Drop> SharedFolder<C> {
         ensures err { IfErr result (λ back. C.state back ≡ C.state core) }
     {
         let me = core.me();
-        let journal = Journal::open(alloc, core, history_limit, 0)?;
+        let recorded = RecordedFolder::open(alloc, core, history_limit, 0)?;
         let Ok((sender, receiver, mut keeper)) = bounded_with::<
-            Journal<C>,
+            RecordedFolder<C>,
             Known,
             OneHistory,
             Global,
         >(alloc, 1) else {
-            return Err(journal.into_core());
+            return Err(recorded.into_core());
         };
         let origin = Origin {
             seat: Snapshot::of(&keeper),
-            first: Snapshot::of(&journal),
+            first: Snapshot::of(&recorded),
         };
-        let Ok(mark) = marked(alloc, &journal) else {
-            return Err(journal.into_core());
+        let Ok(mark) = marked(alloc, &recorded) else {
+            return Err(recorded.into_core());
         };
         let Ok((blank, loan)) = BlankSlot::new(alloc, &origin) else {
-            return Err(journal.into_core());
+            return Err(recorded.into_core());
         };
-        put::<C, Opens, R>(rt, &sender, &mut keeper, journal);
+        put::<C, Opens, R>(rt, &sender, &mut keeper, recorded);
         blank.put_back(keeper, loan);
         let locked = LockedFolder {
             sender,
@@ -109,12 +109,12 @@ impl<C: FolderCore + Drop> SharedFolder<C> {
         let (mut blank, loan) = self.blank.take(rt);
         let mut token = self.locked.sender.another::<Blank>(&mut blank);
         self.blank.put_back(blank, loan);
-        let mut journal = take::<C, R>(rt, &self.locked.receiver, &mut token);
-        // A call of the journal, after which it is known that what it holds is a history.
-        let _ = journal.len();
-        match journal.add_pass() {
+        let mut recorded = take::<C, R>(rt, &self.locked.receiver, &mut token);
+        // A call of the recorded folder, after which it is known that what it holds is a history.
+        let _ = recorded.len();
+        match recorded.add_pass() {
             Some(number) => {
-                put::<C, Numbers, R>(rt, &self.locked.sender, &mut token, journal);
+                put::<C, Numbers, R>(rt, &self.locked.sender, &mut token, recorded);
                 Ok(Pass {
                     number,
                     seen: 0,
@@ -122,7 +122,7 @@ impl<C: FolderCore + Drop> SharedFolder<C> {
                 })
             }
             None => {
-                put::<C, Puts, R>(rt, &self.locked.sender, &mut token, journal);
+                put::<C, Puts, R>(rt, &self.locked.sender, &mut token, recorded);
                 Err(PassesFull { token })
             }
         }
@@ -163,9 +163,9 @@ impl<C: FolderCore + Drop> SharedFolder<C> {
             } = pass;
             sender.absorb::<Both>(&mut keeper, token);
         }
-        let journal = take::<C, R>(rt, &receiver, &mut keeper);
-        let count = journal.passes();
-        let core = journal.into_core();
+        let recorded = take::<C, R>(rt, &receiver, &mut keeper);
+        let count = recorded.passes();
+        let core = recorded.into_core();
         let token = keeper;
         (core, PassCount { count, token })
     }

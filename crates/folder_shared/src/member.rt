@@ -9,8 +9,8 @@ ghost use Rattle.folder_shared.specs.Passes.{IsPassOf, view_of};
 use crate::{LockedFolder, Pass, SharedFolder};
 use bep_messages::Items;
 use folder_calls::{
-    At, BeginAnswer, Commit, EnterAllocError, EnterRefusal, FolderCalls, HistoryFull, ScanRefusal,
-    Ticket,
+    At, BeginAnswer, EnterAllocError, EnterRefusal, FolderCalls, HistoryFull, PullCommit,
+    PullTicket, ScanRefusal,
 };
 use folder_core::{Best, Counts, Finding, FolderCore, Place, ScanAnswer, Stray};
 use std::alloc::AllocError;
@@ -119,21 +119,21 @@ impl<'a, C: FolderCore + Drop, R: Wait> FolderCalls for Member<'a, C, R> {
 
     fn enter_commit(
         &mut self,
-        ticket: Ticket,
-    ) -> Result<At<Result<Commit, EnterRefusal>>, EnterAllocError> {
+        ticket: PullTicket,
+    ) -> Result<At<Result<PullCommit, EnterRefusal>>, EnterAllocError> {
         self.folder.enter_commit(self.rt, &mut self.pass, ticket)
     }
 
-    fn finish(&mut self, commit: Commit, assembled: Assembled) -> At<Result<u64, Stray>> {
+    fn finish(&mut self, commit: PullCommit, assembled: Assembled) -> At<Result<u64, Stray>> {
         self.folder
             .finish(self.rt, &mut self.pass, commit, assembled)
     }
 
-    fn give_up(&mut self, ticket: Ticket) -> At<bool> {
+    fn give_up(&mut self, ticket: PullTicket) -> At<bool> {
         self.folder.give_up(self.rt, &mut self.pass, ticket)
     }
 
-    fn abort(&mut self, commit: Commit) -> At<bool> {
+    fn abort(&mut self, commit: PullCommit) -> At<bool> {
         self.folder.abort(self.rt, &mut self.pass, commit)
     }
 

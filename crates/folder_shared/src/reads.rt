@@ -29,9 +29,9 @@ impl<C: FolderCore + Drop> LockedFolder<C> {
         ensures reads { ReadsAt (view_of self.now pass.old) (BestOf name.now)
             (answered_at (λ b. option_map best_entry b) result) (view_of self.now pass.new) }
     {
-        let journal = self.lend(rt, pass);
-        let answer = journal.core().best(name);
-        self.give_back(rt, pass, journal, answer)
+        let recorded = self.lend(rt, pass);
+        let answer = recorded.core().best(name);
+        self.give_back(rt, pass, recorded, answer)
     }
 
     /// The bests of the names greater than `after`, or of all names where it is `None`, in byte order of the names: the
@@ -50,9 +50,9 @@ impl<C: FolderCore + Drop> LockedFolder<C> {
             (answered_at (λ page. map best_entry page) result)
             (view_of self.now pass.new) }
     {
-        let journal = self.lend(rt, pass);
-        let answer = journal.core().bests(after, limit);
-        self.give_back(rt, pass, journal, answer)
+        let recorded = self.lend(rt, pass);
+        let answer = recorded.core().bests(after, limit);
+        self.give_back(rt, pass, recorded, answer)
     }
 
     /// The record that this device announces of a name, if there is one.
@@ -67,9 +67,9 @@ impl<C: FolderCore + Drop> LockedFolder<C> {
         ensures reads { ReadsAt (view_of self.now pass.old) (Local name.now)
             (answered_at (λ r. r) result) (view_of self.now pass.new) }
     {
-        let journal = self.lend(rt, pass);
-        let answer = journal.core().local(name);
-        self.give_back(rt, pass, journal, answer)
+        let recorded = self.lend(rt, pass);
+        let answer = recorded.core().local(name);
+        self.give_back(rt, pass, recorded, answer)
     }
 
     /// The names greater than `after`, or all names where it is `None`, that this device needs, in byte order: those whose
@@ -88,9 +88,9 @@ impl<C: FolderCore + Drop> LockedFolder<C> {
             (Need (option_copied after.entry) limit) (answered_at (λ names. names) result)
             (view_of self.now pass.new) }
     {
-        let journal = self.lend(rt, pass);
-        let answer = journal.core().need(after, limit);
-        self.give_back(rt, pass, journal, answer)
+        let recorded = self.lend(rt, pass);
+        let answer = recorded.core().need(after, limit);
+        self.give_back(rt, pass, recorded, answer)
     }
 
     /// The local records of greater sequence, in rising sequence: the first `limit` of them, but no more than have
@@ -107,9 +107,9 @@ impl<C: FolderCore + Drop> LockedFolder<C> {
         ensures reads { ReadsAt (view_of self.now pass.old) (LocalSince sequence limit)
             (answered_at (λ page. page) result) (view_of self.now pass.new) }
     {
-        let journal = self.lend(rt, pass);
-        let answer = journal.core().local_since(sequence, limit);
-        self.give_back(rt, pass, journal, answer)
+        let recorded = self.lend(rt, pass);
+        let answer = recorded.core().local_since(sequence, limit);
+        self.give_back(rt, pass, recorded, answer)
     }
 
     /// A place of the block with this SHA-256 digest in a live local file, if there is one.
@@ -124,9 +124,9 @@ impl<C: FolderCore + Drop> LockedFolder<C> {
         ensures reads { ReadsAt (view_of self.now pass.old) (FindBlock hash.now)
             (answered_at (λ place. place) result) (view_of self.now pass.new) }
     {
-        let journal = self.lend(rt, pass);
-        let answer = journal.core().find_block(hash);
-        self.give_back(rt, pass, journal, answer)
+        let recorded = self.lend(rt, pass);
+        let answer = recorded.core().find_block(hash);
+        self.give_back(rt, pass, recorded, answer)
     }
 
     /// The greatest sequence that the device announced, 0 without any; of this device the last one that it gave. Does not
@@ -137,9 +137,9 @@ impl<C: FolderCore + Drop> LockedFolder<C> {
         ensures reads { ReadsAt (view_of self.now pass.old) (KnownOf device)
             (Some (answer_at (λ sequence. sequence) result)) (view_of self.now pass.new) }
     {
-        let journal = self.lend(rt, pass);
-        let value = journal.core().known(device);
-        let reply: Result<At<_>, Infallible> = self.give_back(rt, pass, journal, Ok(value));
+        let recorded = self.lend(rt, pass);
+        let value = recorded.core().known(device);
+        let reply: Result<At<_>, Infallible> = self.give_back(rt, pass, recorded, Ok(value));
         match reply {
             Ok(reply) => reply,
             Err(never) => match never {},
@@ -153,9 +153,9 @@ impl<C: FolderCore + Drop> LockedFolder<C> {
         ensures reads { ReadsAt (view_of self.now pass.old) CountAll
             (Some (answer_at (λ counts. counts) result)) (view_of self.now pass.new) }
     {
-        let journal = self.lend(rt, pass);
-        let value = journal.core().counts();
-        let reply: Result<At<_>, Infallible> = self.give_back(rt, pass, journal, Ok(value));
+        let recorded = self.lend(rt, pass);
+        let value = recorded.core().counts();
+        let reply: Result<At<_>, Infallible> = self.give_back(rt, pass, recorded, Ok(value));
         match reply {
             Ok(reply) => reply,
             Err(never) => match never {},

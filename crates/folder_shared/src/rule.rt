@@ -1,15 +1,15 @@
 //! The rule of the lock, and what is learned of its steps.
 use crate::known::Known;
 use crossbeam_channel::protocol::{Join, Lesson, Outcome, Protocol, Split};
-use folder_calls::Journal;
+use folder_calls::RecordedFolder;
 use folder_core::FolderCore;
 
 pub struct OneHistory;
 
-impl<C: FolderCore + Drop> Protocol<Journal<C>, Known> for OneHistory {
-    ghost use Rattle.folder_shared.specs.Rule.{Kept, newcomer};
+impl<C: FolderCore + Drop> Protocol<RecordedFolder<C>, Known> for OneHistory {
+    ghost use Rattle.folder_shared.specs.Rule.{RuleHolds, newcomer};
 
-    ghost holds = { Kept };
+    ghost holds = { RuleHolds };
 
     ghost first = { newcomer };
 }
@@ -17,52 +17,52 @@ impl<C: FolderCore + Drop> Protocol<Journal<C>, Known> for OneHistory {
 /// The first put.
 pub struct Opens;
 
-impl<C: FolderCore + Drop> Outcome<Journal<C>, Known> for Opens {
+impl<C: FolderCore + Drop> Outcome<RecordedFolder<C>, Known> for Opens {
     ghost use Rattle.folder_shared.specs.Rule.{Opened};
 
     ghost then = { Opened };
 }
 
-impl<C: FolderCore + Drop> Lesson<Journal<C>, Known> for Opens {
+impl<C: FolderCore + Drop> Lesson<RecordedFolder<C>, Known> for Opens {
     ghost fact = { λ v items. Unit {0} };
 }
 
 /// A take.
 pub struct Takes;
 
-impl<C: FolderCore + Drop> Outcome<Journal<C>, Known> for Takes {
+impl<C: FolderCore + Drop> Outcome<RecordedFolder<C>, Known> for Takes {
     ghost use Rattle.folder_shared.specs.Rule.{Taken};
 
     ghost then = { Taken };
 }
 
-impl<C: FolderCore + Drop> Lesson<Journal<C>, Known> for Takes {
+impl<C: FolderCore + Drop> Lesson<RecordedFolder<C>, Known> for Takes {
     ghost fact = { λ v items. Unit {0} };
 }
 
 /// A put.
 pub struct Puts;
 
-impl<C: FolderCore + Drop> Outcome<Journal<C>, Known> for Puts {
+impl<C: FolderCore + Drop> Outcome<RecordedFolder<C>, Known> for Puts {
     ghost use Rattle.folder_shared.specs.Rule.{PutBack};
 
     ghost then = { PutBack };
 }
 
-impl<C: FolderCore + Drop> Lesson<Journal<C>, Known> for Puts {
+impl<C: FolderCore + Drop> Lesson<RecordedFolder<C>, Known> for Puts {
     ghost fact = { λ v items. Unit {0} };
 }
 
 /// A put that numbers a pass.
 pub struct Numbers;
 
-impl<C: FolderCore + Drop> Outcome<Journal<C>, Known> for Numbers {
+impl<C: FolderCore + Drop> Outcome<RecordedFolder<C>, Known> for Numbers {
     ghost use Rattle.folder_shared.specs.Rule.{Numbered};
 
     ghost then = { Numbered };
 }
 
-impl<C: FolderCore + Drop> Lesson<Journal<C>, Known> for Numbers {
+impl<C: FolderCore + Drop> Lesson<RecordedFolder<C>, Known> for Numbers {
     ghost fact = { λ v items. Unit {0} };
 }
 
@@ -91,7 +91,7 @@ impl Join<Known> for Both {
 /// Two passes that were put together: what they have seen begins one history.
 pub struct Compares;
 
-impl<C: FolderCore + Drop> Lesson<Journal<C>, Known> for Compares {
+impl<C: FolderCore + Drop> Lesson<RecordedFolder<C>, Known> for Compares {
     ghost use Rattle.folder_shared.specs.Rule.{Agree};
 
     ghost fact = { Agree };

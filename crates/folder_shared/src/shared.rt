@@ -13,13 +13,13 @@ use crate::mark::Mark;
 use crate::rule::OneHistory;
 use atomic_table::Table;
 use crossbeam_channel::{Pass as ChannelPass, RuledReceiver, RuledSender};
-use folder_calls::Journal;
+use folder_calls::RecordedFolder;
 use folder_core::FolderCore;
 use std::alloc::Global;
 use sync_record::DeviceId;
 
 /// A token of the channel that is the lock.
-pub type Token<C> = ChannelPass<Journal<C>, Known>;
+pub type Token<C> = ChannelPass<RecordedFolder<C>, Known>;
 
 /// The place of the blank token, from which that of each pass is cut. A call may have taken it.
 #[derive(Drop)]
@@ -31,8 +31,8 @@ pub struct BlankSlot<C: FolderCore + Drop> {
 /// A folder under its lock. Each call waits until no other has the folder, and then makes one change or one read of it.
 #[derive(Drop)]
 pub struct LockedFolder<C: FolderCore + Drop> {
-    pub(crate) sender: RuledSender<Journal<C>, Known, OneHistory>,
-    pub(crate) receiver: RuledReceiver<Journal<C>, Known, OneHistory>,
+    pub(crate) sender: RuledSender<RecordedFolder<C>, Known, OneHistory>,
+    pub(crate) receiver: RuledReceiver<RecordedFolder<C>, Known, OneHistory>,
     pub(crate) mark: Mark<C>,
     pub(crate) me: DeviceId,
     ghost one: { receives_on receiver ≡ sends_on sender },

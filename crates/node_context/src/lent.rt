@@ -2,8 +2,8 @@
 use crate::fault::NodeFault;
 use bep_messages::Items;
 use folder_calls::{
-    At, BeginAnswer, Commit, EnterAllocError, EnterRefusal, FolderCalls, HistoryFull, ScanRefusal,
-    Ticket,
+    At, BeginAnswer, EnterAllocError, EnterRefusal, FolderCalls, HistoryFull, PullCommit,
+    PullTicket, ScanRefusal,
 };
 use folder_core::{Best, Counts, Finding, Place, ScanAnswer, Stray};
 use std::alloc::{AllocError, Global};
@@ -101,20 +101,20 @@ impl<W: FolderCalls> FolderCalls for Lent<'_, W> {
 
     fn enter_commit(
         &mut self,
-        ticket: Ticket,
-    ) -> Result<At<Result<Commit, EnterRefusal>>, EnterAllocError> {
+        ticket: PullTicket,
+    ) -> Result<At<Result<PullCommit, EnterRefusal>>, EnterAllocError> {
         self.calls.enter_commit(ticket)
     }
 
-    fn finish(&mut self, commit: Commit, assembled: Assembled) -> At<Result<u64, Stray>> {
+    fn finish(&mut self, commit: PullCommit, assembled: Assembled) -> At<Result<u64, Stray>> {
         self.calls.finish(commit, assembled)
     }
 
-    fn give_up(&mut self, ticket: Ticket) -> At<bool> {
+    fn give_up(&mut self, ticket: PullTicket) -> At<bool> {
         self.calls.give_up(ticket)
     }
 
-    fn abort(&mut self, commit: Commit) -> At<bool> {
+    fn abort(&mut self, commit: PullCommit) -> At<bool> {
         self.calls.abort(commit)
     }
 

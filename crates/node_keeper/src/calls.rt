@@ -5,8 +5,8 @@ use crate::keeper::Keeper;
 use crate::plans::PlannedPull;
 use bep_messages::Items;
 use folder_calls::{
-    At, BeginAnswer, Commit, EnterAllocError, EnterRefusal, FolderCalls, HistoryFull, ScanRefusal,
-    Ticket,
+    At, BeginAnswer, EnterAllocError, EnterRefusal, FolderCalls, HistoryFull, PullCommit,
+    PullTicket, ScanRefusal,
 };
 use folder_core::{Best, Counts, Finding, Place, ScanAnswer, Stray};
 use peer_conn::KeptCalls;
@@ -74,7 +74,7 @@ impl<'a, W, R> PlannedCalls<'a, W, R> {
 }
 
 // What the pull of this ticket may put in place. Returns `Err` only if a record has 2^63 - 1 copies.
-fn plan_of(ticket: &Ticket) -> Result<PlannedPull, AllocError>
+fn plan_of(ticket: &PullTicket) -> Result<PlannedPull, AllocError>
     ensures { IfOk result (λ plan. (plan.base ≡ ticket.now.base) × (plan.target ≡ ticket.now.target)) }
 {
     let base = match ticket.base() {
@@ -150,8 +150,8 @@ impl<W: FolderCalls, R: Wait> FolderCalls for PlannedCalls<'_, W, R> {
 
     fn enter_commit(
         &mut self,
-        ticket: Ticket,
-    ) -> Result<At<Result<Commit, EnterRefusal>>, EnterAllocError> {
+        ticket: PullTicket,
+    ) -> Result<At<Result<PullCommit, EnterRefusal>>, EnterAllocError> {
         let number = ticket.number();
         let entered = self.calls.enter_commit(ticket)?;
         if let Err(EnterRefusal::Stray) = &entered.value {
@@ -160,17 +160,17 @@ impl<W: FolderCalls, R: Wait> FolderCalls for PlannedCalls<'_, W, R> {
         Ok(entered)
     }
 
-    fn finish(&mut self, commit: Commit, assembled: Assembled) -> At<Result<u64, Stray>> {
+    fn finish(&mut self, commit: PullCommit, assembled: Assembled) -> At<Result<u64, Stray>> {
         self.keeper.end_pull(commit.number());
         self.calls.finish(commit, assembled)
     }
 
-    fn give_up(&mut self, ticket: Ticket) -> At<bool> {
+    fn give_up(&mut self, ticket: PullTicket) -> At<bool> {
         self.keeper.end_pull(ticket.number());
         self.calls.give_up(ticket)
     }
 
-    fn abort(&mut self, commit: Commit) -> At<bool> {
+    fn abort(&mut self, commit: PullCommit) -> At<bool> {
         self.keeper.end_pull(commit.number());
         self.calls.abort(commit)
     }

@@ -9,17 +9,17 @@ use Rattle.node_laws.proofs.Places.{inside, none-there, there-below}
 -- ---- what a filter keeps
 
 module _ {A : Type 0} (p : A → Bool) where
-  abbrev Kept : List A → A → Type 0
-  Kept xs x = (k : ℕ) × (slice_get xs k ≡ Some x) × (p x ≡ true)
+  abbrev RuleHolds : List A → A → Type 0
+  RuleHolds xs x = (k : ℕ) × (slice_get xs k ≡ Some x) × (p x ≡ true)
 
-  kept-here : (y x : A) (xs : List A) → p y ≡ true → ((i : ℕ) → slice_get (filter p xs) i ≡ Some x → Kept xs x) → (i : ℕ) → slice_get (y ∷ filter p xs) i ≡ Some x → Kept (y ∷ xs) x
+  kept-here : (y x : A) (xs : List A) → p y ≡ true → ((i : ℕ) → slice_get (filter p xs) i ≡ Some x → RuleHolds xs x) → (i : ℕ) → slice_get (y ∷ filter p xs) i ≡ Some x → RuleHolds (y ∷ xs) x
   kept-here y x xs t rest zero e = (0, e, ap p (sym (inside y x e)) ∙ t)
   kept-here y x xs t rest (suc i) e = let r = rest i e in (suc r.0, r.1, r.2)
 
-  pub filter-at : (xs : List A) (i : ℕ) (x : A) → slice_get (filter p xs) i ≡ Some x → Kept xs x
+  pub filter-at : (xs : List A) (i : ℕ) (x : A) → slice_get (filter p xs) i ≡ Some x → RuleHolds xs x
   filter-at [] i x e = none-there x e
   filter-at (y ∷ xs) i x e =
-      elim (p y) as (λ b. p y ≡ b → slice_get (cond b (y ∷ filter p xs) (filter p xs)) i ≡ Some x → Kept (y ∷ xs) x) [
+      elim (p y) as (λ b. p y ≡ b → slice_get (cond b (y ∷ filter p xs) (filter p xs)) i ≡ Some x → RuleHolds (y ∷ xs) x) [
         | true ↦ λ t e. kept-here y x xs t (λ i e. filter-at xs i x e) i e
         | false ↦ λ t e. let r = filter-at xs i x e in (suc r.0, r.1, r.2)
       ] refl e

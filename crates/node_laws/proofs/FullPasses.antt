@@ -3,7 +3,7 @@ use Rattle.std.proofs.Common.{◌≡◌, ◌≢◌, ◌∙◌, ◌≤◌, ℕ, z
 use mathlib.Core.Option.{none, some}
 use lib.ListN.{get_elem?}
 use Rattle.folder_calls.specs.declared.history.History.{History}
-use Rattle.folder_shared.specs.Rule.{IsSame, Kept, Runs, newcomer}
+use Rattle.folder_shared.specs.Rule.{IsSame, RuleHolds, Runs, newcomer}
 use Rattle.folder_shared.specs.declared.known.Known.{Known}
 use Rattle.folder_shared.specs.declared.known.TokenState.TheVariants.{Idle, New, Spent}
 
@@ -13,7 +13,7 @@ alone v w (suc port) e = absurd (let f : none ≡ some w = e in cc)
 
 module _ (items : List History) (views : List Known) (port : ℕ) (v : Known) (at : get_elem? views port ≡ some v) (idle : v.state ≡ Idle) where
   -- an idle token is not the new one
-  pub idle-runs : Kept items views → Runs items views
+  pub idle-runs : RuleHolds items views → Runs items views
   idle-runs (inl h) =
       let same : newcomer ≡ v = alone newcomer v port (ap (λ (vs : List Known). get_elem? vs port) (sym h.1) ∙ at) in
       let new : New ≡ Idle = ap (λ (x : Known). x.state) same ∙ idle in

@@ -6,7 +6,7 @@ ghost use Rattle.crossbeam_channel.specs.Claims.{IsSeatAt, view};
 ghost use Rattle.crossbeam_channel.specs.Ends.{sends_on};
 ghost use Rattle.folder_calls.specs.declared.history.History.{History};
 ghost use Rattle.folder_shared.specs.Passes.{IsFullOf, limit_of, opening_of};
-ghost use Rattle.folder_shared.specs.Rule.{Kept, Runs};
+ghost use Rattle.folder_shared.specs.Rule.{RuleHolds, Runs};
 ghost use Rattle.folder_shared.specs.declared.known.Known.{Known};
 ghost use Rattle.folder_shared.specs.declared.known.TokenState.TheVariants.{Idle};
 ghost use Rattle.folder_shared.specs.declared.shared.LockedFolder.{LockedFolder as Folder};
@@ -35,7 +35,7 @@ pub fn a_full_folder_has_all_passes<C: FolderCore + Drop>()
 /// False of a definition that a call can meet which finds that passes are left.
 pub fn no_pass_is_left_of_a_full_folder<C: FolderCore + Drop>()
     ensures { (s : Folder C) (e : Full C) (items : List History) (views : List Known) (port : ℕ) →
-        IsFullOf s e → Kept items views → get_elem? views port ≡ some (view e.token) →
+        IsFullOf s e → RuleHolds items views → get_elem? views port ≡ some (view e.token) →
         (runs : Runs items views) × (2 ^ 32 ≤ runs.now.passes)
         × (runs.now.opening ≡ opening_of s) × (runs.now.limit ≡ limit_of s) }
 {}

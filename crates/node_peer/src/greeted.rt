@@ -6,8 +6,8 @@ use crate::shares::{
 use bep_messages::{ClusterConfig, Hello, Text};
 use bep_session::{Event as Said, Session};
 use node_context::{Context, Event, Heard, PeerEvent, ShareGap};
-use peer_conn::IndexedFolder;
-use peer_reader::PeerFolder;
+use peer_conn::IndexerFolder;
+use peer_reader::ReaderFolder;
 use std::alloc::{AllocError, Global};
 use std::io::{self, ErrorKind, Read};
 use std::net::SocketAddr;
@@ -37,7 +37,10 @@ pub(crate) struct Ends<'g> {
 }
 
 /// The ids of folders.
-pub(crate) fn ids_of<W>(alloc: Global, folders: &[PeerFolder<W>]) -> Result<Vec<Text>, AllocError> {
+pub(crate) fn ids_of<W>(
+    alloc: Global,
+    folders: &[ReaderFolder<W>],
+) -> Result<Vec<Text>, AllocError> {
     let mut ids = Vec::with_capacity(alloc, folders.len())?;
     for folder in folders {
         ids.push(Text::from_str(alloc, folder.id.as_str())?)?;
@@ -48,7 +51,7 @@ pub(crate) fn ids_of<W>(alloc: Global, folders: &[PeerFolder<W>]) -> Result<Vec<
 /// The numbers of this device's indexes of folders.
 pub(crate) fn indexes_of<W>(
     alloc: Global,
-    folders: &[IndexedFolder<W>],
+    folders: &[IndexerFolder<W>],
 ) -> Result<Vec<u64>, AllocError> {
     let mut numbers = Vec::with_capacity(alloc, folders.len())?;
     for folder in folders {

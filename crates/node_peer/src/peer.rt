@@ -10,7 +10,7 @@ use node_context::{Context, Endpoint, Host};
 use peer_asks::AskBook;
 use peer_conn::KeptCalls;
 use peer_link::LinkFolders;
-use peer_reader::PeerFolder;
+use peer_reader::ReaderFolder;
 use std::alloc::Global;
 use std::sync::Mutex;
 use sync_record::DeviceId;
@@ -91,7 +91,7 @@ impl<'x> Greeting<'x> {
     fn of<W: KeptCalls>(
         alloc: Global,
         peer: &'x Peer<'x>,
-        folders: &[PeerFolder<W>],
+        folders: &[ReaderFolder<W>],
     ) -> Result<Greeting<'x>, WriteFault> {
         let me = match folders.first() {
             Some(folder) => folder.calls.me(),

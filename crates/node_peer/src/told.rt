@@ -5,9 +5,9 @@ ghost use Rattle.node_peer.specs.Told.{IsKnown, received};
 use bep_messages::{ClusterConfig, Hello, Items, Text};
 use folder_calls::FolderCalls;
 use node_context::VERSION;
-use peer_conn::{FolderTold, IndexedFolder, KeptCalls, cluster_config};
+use peer_conn::{FolderTold, IndexerFolder, KeptCalls, cluster_config};
 use peer_link::LinkFolders;
-use peer_reader::PeerFolder;
+use peer_reader::ReaderFolder;
 use std::alloc::{AllocError, Global};
 use sync_record::DeviceId;
 
@@ -51,8 +51,8 @@ pub(crate) fn own_config<S, W: KeptCalls>(
 
 // What the peer is told of a folder.
 fn folder_told<'a, W>(
-    folder: &'a PeerFolder<W>,
-    indexed: &IndexedFolder<W>,
+    folder: &'a ReaderFolder<W>,
+    indexed: &IndexerFolder<W>,
     known: Known,
 ) -> FolderTold<'a>
     ensures id { result.id.now ≡ folder.now.id }
@@ -87,7 +87,7 @@ pub(crate) struct Known {
 fn known_of<W: KeptCalls>(
     alloc: Global,
     peer: DeviceId,
-    read: &mut [PeerFolder<W>],
+    read: &mut [ReaderFolder<W>],
 ) -> Result<Vec<Known>, AllocError> {
     let mut known = Vec::with_capacity(alloc, read.len())?;
     for folder in read.iter_mut() {

@@ -1,7 +1,7 @@
 -- What a node leaves of its folders (own rule).
 use Rattle.std.specs.Prelude.{◌≡◌, ⊤, ℕ, List, [], ◌∷◌}
 use Rattle.folder_core.specs.States.{FolderState}
-use Rattle.folder_calls.specs.Journals.{new_history}
+use Rattle.folder_calls.specs.RecordedFolders.{new_history}
 use Rattle.folder_calls.specs.Shared.{CallerView, Closes}
 use Rattle.folder_shared.specs.declared.shared.SharedFolder.{SharedFolder}
 use Rattle.folder_shared.specs.Passes.{limit_of, opened_of, opening_of}

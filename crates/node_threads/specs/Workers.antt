@@ -1,7 +1,7 @@
 -- A folder that is shared with a peer, as the workers of a connection have it (own rule).
 use Rattle.std.specs.Prelude.{◌≡◌, false, ℕ, List, Some, map, slice_get}
 use Rattle.node_folder.specs.declared.folder.NodeFolder.{NodeFolder}
-use Rattle.peer_reader.specs.declared.folder.PeerFolder.{PeerFolder}
+use Rattle.peer_reader.specs.declared.folder.ReaderFolder.{ReaderFolder}
 use Rattle.node_threads.specs.declared.peers.Share.{Share}
 use Rattle.node_threads.specs.declared.workers.SharedWith.{SharedWith}
 
@@ -16,5 +16,5 @@ module _ {S : Type 0} (is_at : ℕ → S → Type 0) where
       × (s.indexed.id ≡ folder.settings.id) × (s.indexed.index_id ≡ folder.settings.index_id)
 
 -- the numbers of a peer's indexes of which there are records, by the folders that its reader has
-abbrev pub kept_numbers : {W : Type 0} → List (PeerFolder W) → List ℕ
+abbrev pub kept_numbers : {W : Type 0} → List (ReaderFolder W) → List ℕ
 kept_numbers read = map (λ f. f.kept_index_id) read

@@ -19,7 +19,7 @@ use node_pull::{PulledFolder, run_rounds};
 use node_saver::DiskJournal;
 use peer_conn::KeptCalls;
 use peer_link::LinkFolders;
-use peer_reader::PeerFolder;
+use peer_reader::ReaderFolder;
 use std::alloc::{AllocError, Global};
 use std::thread::{for_each_mut, join, map_vec};
 
@@ -211,7 +211,7 @@ fn kept_of<S: Drop, W: Drop>(
     Ok(all)
 }
 
-fn kept_numbers<W>(alloc: Global, read: &[PeerFolder<W>]) -> Result<Vec<u64>, AllocError>
+fn kept_numbers<W>(alloc: Global, read: &[ReaderFolder<W>]) -> Result<Vec<u64>, AllocError>
     ensures { IfOk result (λ kept. kept.items ≡ kept_numbers read.now) }
 {
     let mut kept = Vec::with_capacity(alloc, read.len())?;

@@ -15,10 +15,10 @@ use node_look::{LOOKERS, Looker, WatchedFolder};
 use node_peer::{Peer, PeerWorker, Reach};
 use node_pull::{PULLERS, PulledFolder, Puller};
 use peer_asks::{AskBook, PeerBook};
-use peer_conn::IndexedFolder;
+use peer_conn::IndexerFolder;
 use peer_link::LinkFolders;
-use peer_reader::PeerFolder;
-use peer_server::ServedFolder;
+use peer_reader::ReaderFolder;
+use peer_server::ServerFolder;
 use std::alloc::{AllocError, Global};
 use std::sync::Wait;
 use sync_record::DeviceId;
@@ -275,9 +275,9 @@ fn link_folders<'x, 'b, F: FolderFiles, W: FolderCalls, R: Wait>(
 // A folder, as the workers of a connection have it.
 #[derive(Drop)]
 pub(crate) struct SharedWith<S, W> {
-    read: PeerFolder<W>,
-    served: ServedFolder<S, W>,
-    indexed: IndexedFolder<W>,
+    read: ReaderFolder<W>,
+    served: ServerFolder<S, W>,
+    indexed: IndexerFolder<W>,
 }
 
 // The folder of a share: under its id to the peer, from its files, with its index number and the peer's.
@@ -305,17 +305,17 @@ fn share_folder<'x, 'b, F: FolderFiles, W: FolderCalls, R: Wait>(
         callers.next(place)?,
     );
     Ok(SharedWith {
-        read: PeerFolder {
+        read: ReaderFolder {
             id,
             kept_index_id: share.kept_index_id,
             is_told: false,
             calls: reader,
         },
-        served: ServedFolder {
+        served: ServerFolder {
             store,
             calls: server,
         },
-        indexed: IndexedFolder {
+        indexed: IndexerFolder {
             id: told_id,
             index_id: folder.settings.index_id,
             calls: indexer,

@@ -10,7 +10,7 @@ use Rattle.peer_conn.specs.declared.known.SeatName.TheVariants.{Indexer, Server,
 use Rattle.peer_conn.specs.declared.known.Sent.{Sent}
 use Rattle.peer_conn.specs.declared.known.Account.{Account}
 use Rattle.peer_conn.specs.declared.known.Known.{Known}
-use Rattle.peer_conn.specs.Rule.{is_same, account, of, newcomer, spent, Fits, Kept, put_in, IsOfSeat, after_put, Waits, after_take, Tells, first_of, rest_of, left_of, right_of, joined, AlwaysBegins}
+use Rattle.peer_conn.specs.Rule.{is_same, account, of, newcomer, spent, Fits, RuleHolds, put_in, IsOfSeat, after_put, Waits, after_take, Tells, first_of, rest_of, left_of, right_of, joined, AlwaysBegins}
 use Rattle.peer_conn.proofs.Lists.{at_none, at_one, of_append, all_set, all_end}
 use Rattle.peer_conn.proofs.Names.{parts, of_own, of_other, same_self, same_not}
 
@@ -31,7 +31,7 @@ module _ {T : Type 0} where
   fresh (suc (suc zero)) c e = ap (λ (d : Account T). d.put) (sym (some-injective (account Requester []) c e))
   fresh (suc (suc (suc i))) c e = absurd (some-ne-none c (sym e))
 
-  pub begins : Kept {T = T} [] (newcomer ∷ [])
+  pub begins : RuleHolds {T = T} [] (newcomer ∷ [])
   begins = record {
     owner = λ _. 0;
     put = λ _. [];
@@ -46,7 +46,7 @@ module _ {T : Type 0} where
   first_owned : (v : Known T) (name : SeatName) → IsOfSeat name v → get_elem? v.accounts 0 ≡ some (account name (put_in v.accounts))
   first_owned v name is = ap (λ (u : Known T). get_elem? u.accounts 0) is
 
-  puts_kept : (port : ℕ) (v : Known T) (x : Sent T) (items : List (Sent T)) (views : List (Known T)) → IsOfSeat x.from v → (k : Kept items views) → get_elem? views port ≡ some v → Kept (items ++ x ∷ []) (set views port (after_put v x))
+  puts_kept : (port : ℕ) (v : Known T) (x : Sent T) (items : List (Sent T)) (views : List (Known T)) → IsOfSeat x.from v → (k : RuleHolds items views) → get_elem? views port ≡ some v → RuleHolds (items ++ x ∷ []) (set views port (after_put v x))
   puts_kept port v x items views is k at =
       let f = k.all port v at in
       let put : SeatName → List T = λ name. k.put name ++ of name (x ∷ []) in
@@ -73,10 +73,10 @@ module _ {T : Type 0} where
             });
       }
 
-  pub puts : (n port : ℕ) (v : Known T) (x : Sent T) → IsOfSeat x.from v → Pushes Kept n port v x (λ w. w ≡ after_put v x)
+  pub puts : (n port : ℕ) (v : Known T) (x : Sent T) → IsOfSeat x.from v → Pushes RuleHolds n port v x (λ w. w ≡ after_put v x)
   puts n port v x is items views room k at = (after_put v x, puts_kept port v x items views is k at, refl)
 
-  takes_kept : (port : ℕ) (v : Known T) (x : Sent T) (items : List (Sent T)) (views : List (Known T)) → v.takes ≡ true → (k : Kept (x ∷ items) views) → get_elem? views port ≡ some v → Kept items (set views port (after_take v x))
+  takes_kept : (port : ℕ) (v : Known T) (x : Sent T) (items : List (Sent T)) (views : List (Known T)) → v.takes ≡ true → (k : RuleHolds (x ∷ items) views) → get_elem? views port ≡ some v → RuleHolds items (set views port (after_take v x))
   takes_kept port v x items views may k at =
       let f = k.all port v at in record {
         owner = k.owner;
@@ -89,18 +89,18 @@ module _ {T : Type 0} where
             (λ j u apart e. let g = k.all j u e in record { owns = g.owns; says = g.says; reads = g.reads; took = λ p. absurd (apart (g.reads p ∙ sym (f.reads may))) });
       }
 
-  pub takes : (port : ℕ) (v : Known T) → v.takes ≡ true → Pops Kept port v (λ x w. w ≡ after_take v x)
+  pub takes : (port : ℕ) (v : Known T) → v.takes ≡ true → Pops RuleHolds port v (λ x w. w ≡ after_take v x)
   takes port v may x items views k at = (after_take v x, takes_kept port v x items views may k at, refl)
 
-  pub waits : (port : ℕ) (v : Known T) → Learns Kept port v (Waits v)
+  pub waits : (port : ℕ) (v : Known T) → Learns RuleHolds port v (Waits v)
   waits port v items views k at i c e = (of c.from k.got, (k.all port v at).says i c e ∙ sym (k.even c.from) ∙ parts c.from k.got items)
 
-  pub tells : (port : ℕ) (v : Known T) → v.takes ≡ true → Learns Kept port v (Tells v)
+  pub tells : (port : ℕ) (v : Known T) → v.takes ≡ true → Learns RuleHolds port v (Tells v)
   tells port v may items views k at i c e = let f = k.all port v at in ap (λ (l : List (Sent T)). of c.from (l ++ items)) (f.took may) ∙ k.even c.from ∙ sym (f.says i c e)
 
   -- where the first account goes to a new end, no other account of the end is of the same seat
   pub cuts : (port : ℕ) (v : Known T) (a : Account T) (rest : List (Account T)) → v.accounts ≡ a ∷ rest → ((i : ℕ) (c : Account T) → get_elem? rest i ≡ some c → c.from ≢ a.from)
-      → Forks Kept port v (left_of v) (right_of v)
+      → Forks RuleHolds port v (left_of v) (right_of v)
   cuts port v a rest is apart items views k at =
       let f = k.all port v at in
       let vs : List (Known T) = set views port (left_of v) in
@@ -138,7 +138,7 @@ module _ {T : Type 0} where
             }));
       }
 
-  pub takes_in : (port : ℕ) (v : Known T) (other : ℕ) (w : Known T) → Merges Kept port v other w (joined v w) spent
+  pub takes_in : (port : ℕ) (v : Known T) (other : ℕ) (w : Known T) → Merges RuleHolds port v other w (joined v w) spent
   takes_in port v other w items views k at two at' =
       let f = k.all port v at in
       let both : Known T = joined v w in
@@ -170,17 +170,17 @@ module _ {T : Type 0} where
             (λ j u apart e. now j u e apart);
       }
 
-  pub cut_only : (port : ℕ) (v : Known T) (a : Account T) → v.accounts ≡ a ∷ [] → Forks Kept port v (left_of v) (right_of v)
+  pub cut_only : (port : ℕ) (v : Known T) (a : Account T) → v.accounts ≡ a ∷ [] → Forks RuleHolds port v (left_of v) (right_of v)
   cut_only port v a is = cuts port v a [] is (λ i c e. absurd (at_none i c e))
 
-  pub cut_last_two : (port : ℕ) (v : Known T) → v.accounts ≡ account Server [] ∷ account Requester [] ∷ [] → Forks Kept port v (left_of v) (right_of v)
+  pub cut_last_two : (port : ℕ) (v : Known T) → v.accounts ≡ account Server [] ∷ account Requester [] ∷ [] → Forks RuleHolds port v (left_of v) (right_of v)
   cut_last_two port v is = cuts port v (account Server []) (account Requester [] ∷ []) is (λ i c e q. let h = ap (λ (d : Account T). d.from) (at_one (account Requester []) i c e).1 in cc)
 
   not_indexer : (i : ℕ) (c : Account T) → get_elem? (account Server [] ∷ account Requester [] ∷ []) i ≡ some c → c.from ≢ Indexer
   not_indexer zero c e q = let h = ap (λ (d : Account T). d.from) (some-injective (account Server []) c e) in cc
   not_indexer (suc i) c e q = let h = ap (λ (d : Account T). d.from) (at_one (account Requester []) i c e).1 in cc
 
-  pub cut_all : (port : ℕ) (v : Known T) → v ≡ newcomer → Forks Kept port v (left_of v) (right_of v)
+  pub cut_all : (port : ℕ) (v : Known T) → v ≡ newcomer → Forks RuleHolds port v (left_of v) (right_of v)
   cut_all port v is = cuts port v (account Indexer []) (account Server [] ∷ account Requester [] ∷ []) (ap (λ (u : Known T). u.accounts) is) not_indexer
 
   pub always_begins : (items : List (Sent T)) (views : List (Known T)) → AlwaysBegins items views

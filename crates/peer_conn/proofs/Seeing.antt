@@ -6,7 +6,7 @@ use Rattle.folder_calls.specs.Histories.{own_entries}
 use Rattle.folder_calls.specs.Shared.{CallerView, Sees}
 use Rattle.folder_calls.specs.declared.entry.Entry.{Entry}
 use Rattle.peer_conn.specs.Turns.{OnlySees}
-use Rattle.peer_conn.specs.declared.indexer.IndexedFolder.{IndexedFolder}
+use Rattle.peer_conn.specs.declared.indexer.IndexerFolder.{IndexerFolder}
 
 -- ---- what a caller sees
 
@@ -49,13 +49,13 @@ module _ {A : Type 0} (R : A → A → Type 0) where
 -- ---- folders
 
 module _ {W F : Type 0} (folder : W → F) (view : W → CallerView) where
-  abbrev Only : IndexedFolder W → IndexedFolder W → Type 0
+  abbrev Only : IndexerFolder W → IndexerFolder W → Type 0
   Only = OnlySees folder view
 
-  pub only_itself : (f : IndexedFolder W) → Only f f
+  pub only_itself : (f : IndexerFolder W) → Only f f
   only_itself f = record { id = refl; index_id = refl; folder_is = refl; sees = sees_itself (view f.calls) }
 
-  only_together : (a b c : IndexedFolder W) → Only a b → Only b c → Only a c
+  only_together : (a b c : IndexerFolder W) → Only a b → Only b c → Only a c
   only_together a b c x y = record {
     id = y.id ∙ x.id;
     index_id = y.index_id ∙ x.index_id;
@@ -63,13 +63,13 @@ module _ {W F : Type 0} (folder : W → F) (view : W → CallerView) where
     sees = sees_together (view a.calls) (view b.calls) (view c.calls) x.sees y.sees;
   }
 
-  pub all_itself : (l : List (IndexedFolder W)) → AllZip (OnlySees folder view) l l
+  pub all_itself : (l : List (IndexerFolder W)) → AllZip (OnlySees folder view) l l
   all_itself = each_itself Only only_itself
 
-  pub all_together : (a b c : List (IndexedFolder W)) → AllZip (OnlySees folder view) a b → AllZip (OnlySees folder view) b c → AllZip (OnlySees folder view) a c
+  pub all_together : (a b c : List (IndexerFolder W)) → AllZip (OnlySees folder view) a b → AllZip (OnlySees folder view) b c → AllZip (OnlySees folder view) a c
   all_together = each_together Only only_together
 
   -- one more went on
-  pub all_set : (a b : List (IndexedFolder W)) (i : ℕ) (d new : IndexedFolder W) → AllZip (OnlySees folder view) a b → i < length b → OnlySees folder view (get_or b i d) new
+  pub all_set : (a b : List (IndexerFolder W)) (i : ℕ) (d new : IndexerFolder W) → AllZip (OnlySees folder view) a b → i < length b → OnlySees folder view (get_or b i d) new
       → AllZip (OnlySees folder view) a (set b i new)
   all_set a b i d new before lt h = all_together a b (set b i new) before (each_set Only only_itself b i d new lt h)

@@ -48,7 +48,7 @@ module _ {T : Type 0} where
     pub reads : v.takes ≡ true → port ≡ reader
     pub took : v.takes ≡ true → v.got ≡ got
 
-  pub record Kept (items : List (Sent T)) (views : List (Known T)) : Type 0 where
+  pub record RuleHolds (items : List (Sent T)) (views : List (Known T)) : Type 0 where
     pub owner : SeatName → ℕ
     pub put : SeatName → List T
     pub reader : ℕ
@@ -106,5 +106,5 @@ module _ {T : Type 0} where
   -- at any time, what the end that takes took of a seat is a beginning of what it put
   abbrev pub AlwaysBegins : List (Sent T) → List (Known T) → Type 0
   AlwaysBegins items views =
-      Kept items views → (i j : ℕ) (name : SeatName) (seat taker : Known T) → get_elem? views i ≡ some seat → get_elem? views j ≡ some taker → IsOfSeat name seat → IsOfTaker taker
+      RuleHolds items views → (i j : ℕ) (name : SeatName) (seat taker : Known T) → get_elem? views i ≡ some seat → get_elem? views j ≡ some taker → IsOfSeat name seat → IsOfTaker taker
       → (rest : List T) × (put_in seat.accounts ≡ of name taker.got ++ rest)

@@ -7,7 +7,7 @@ use Rattle.folder_calls.specs.Shared.{CallerView, IsLegalView, Sees, now}
 use Rattle.index_sender.specs.Pages.{GivesKept, Progress}
 use Rattle.index_sender.specs.declared.page.Page.{Page}
 use Rattle.index_sender.specs.declared.page.Page.TheVariants as page
-use Rattle.peer_conn.specs.declared.indexer.IndexedFolder.{IndexedFolder}
+use Rattle.peer_conn.specs.declared.indexer.IndexerFolder.{IndexerFolder}
 use Rattle.peer_conn.specs.declared.turn.Turn.{Turn}
 use Rattle.peer_conn.specs.declared.turn.Turn.TheVariants.{Put, Nothing, Waiting, Ended}
 use Rattle.peer_conn.specs.declared.turn.TurnEnd.TheVariants.{OutOfMemory, Gone}
@@ -38,7 +38,7 @@ Turns folder kept v old new before after (Ended OutOfMemory) = MayGiveMessage fo
 
 module _ {W F : Type 0} (folder : W → F) (view : W → CallerView) where
   -- It is the same folder: its history went on without an entry of this caller.
-  pub record OnlySees (old new : IndexedFolder W) : Type 0 where
+  pub record OnlySees (old new : IndexerFolder W) : Type 0 where
     pub id : new.id ≡ old.id
     pub index_id : new.index_id ≡ old.index_id
     pub folder_is : folder new.calls ≡ folder old.calls

@@ -31,7 +31,7 @@ const KEEPING_PAUSE_MILLIS: u64 = 20;
 
 /// A folder that is shared with the peer.
 #[derive(Drop)]
-pub struct IndexedFolder<W> {
+pub struct IndexerFolder<W> {
     /// The folder's id.
     pub id: Text,
     /// The number of this device's index of the folder.
@@ -70,7 +70,7 @@ pub fn run_indexer<R: Wait + Clock, C: Source<ClusterConfig>, W: KeptCalls>(
     alloc: Global,
     config: ClusterConfig,
     configs: &mut C,
-    folders: &mut [IndexedFolder<W>],
+    folders: &mut [IndexerFolder<W>],
     seat: Seat<Message>,
 ) -> (Ended<Message>, IndexerEnd)
     ensures same { IsSameEnded seat result.0 }
@@ -91,7 +91,7 @@ fn index_all<R: Wait + Clock, C: Source<ClusterConfig>, W: KeptCalls>(
     rt: &R,
     alloc: Global,
     configs: &mut C,
-    folders: &mut [IndexedFolder<W>],
+    folders: &mut [IndexerFolder<W>],
     seat: &mut Seat<Message>,
 ) -> IndexerEnd
     ensures same { IsSameSeat seat.old seat.new }
@@ -129,7 +129,7 @@ fn index_once<R: Wait + Clock, C: Source<ClusterConfig>, W: KeptCalls>(
     rt: &R,
     alloc: Global,
     configs: &mut C,
-    folders: &mut [IndexedFolder<W>],
+    folders: &mut [IndexerFolder<W>],
     senders: &mut [Option<IndexSender>],
     seat: &mut Seat<Message>,
     last_put: Moment,
@@ -168,7 +168,7 @@ fn put_ping<R: Wait>(rt: &R, seat: &mut Seat<Message>) -> Result<(), IndexerEnd>
 fn senders_of<W: FolderCalls>(
     alloc: Global,
     config: &ClusterConfig,
-    folders: &mut [IndexedFolder<W>],
+    folders: &mut [IndexerFolder<W>],
 ) -> Result<Vec<Option<IndexSender>>, AllocError>
     ensures stays { AllZip (OnlySees W.folder W.view) folders.old folders.new }
     ensures begins { IfOk result (λ senders. AllZip (BeginsAt W.view config.now) folders.old senders.items) }
@@ -182,7 +182,7 @@ fn senders_of<W: FolderCalls>(
 
 fn sender_of<W: FolderCalls>(
     config: &ClusterConfig,
-    folder: &mut IndexedFolder<W>,
+    folder: &mut IndexerFolder<W>,
 ) -> Option<IndexSender>
     ensures stays { OnlySees W.folder W.view folder.old folder.new }
     ensures begins { BeginsAt W.view config.now folder.old result }
@@ -228,7 +228,7 @@ impl Round {
 fn index_round<R: Wait, W: KeptCalls>(
     rt: &R,
     alloc: Global,
-    folders: &mut [IndexedFolder<W>],
+    folders: &mut [IndexerFolder<W>],
     senders: &mut [Option<IndexSender>],
     seat: &mut Seat<Message>,
 ) -> Result<Round, IndexerEnd>
@@ -240,7 +240,7 @@ fn index_round<R: Wait, W: KeptCalls>(
 {
     let mut round = Round::Nothing;
     for i in 0..folders.len().min(senders.len()) {
-        let IndexedFolder {
+        let IndexerFolder {
             id,
             index_id: _,
             calls,

@@ -20,7 +20,7 @@ mod writer;
 
 pub use config::{FolderTold, cluster_config, entry_of, folder_of, start_of};
 pub use ends::{Bell, Ended, NotPut, Rings, Seat, Taker};
-pub use indexer::{IndexedFolder, IndexerEnd, run_indexer};
+pub use indexer::{IndexerEnd, IndexerFolder, run_indexer};
 pub use kept::KeptCalls;
 pub use known::{Account, Known, SeatName, Sent};
 pub use queue::OutQueue;

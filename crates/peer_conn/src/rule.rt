@@ -11,9 +11,9 @@ use crossbeam_channel::protocol::{Join, Lesson, Outcome, Protocol, Split};
 pub struct InOrder;
 
 impl<T> Protocol<Sent<T>, Known<T>> for InOrder {
-    ghost use Rattle.peer_conn.specs.Rule.{Kept, newcomer};
+    ghost use Rattle.peer_conn.specs.Rule.{RuleHolds, newcomer};
 
-    ghost holds = { Kept };
+    ghost holds = { RuleHolds };
 
     ghost first = { newcomer };
 }

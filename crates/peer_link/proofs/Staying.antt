@@ -5,9 +5,9 @@ use Rattle.std.proofs.lemmas.List.Elements.{length_all_zip}
 use Rattle.folder_calls.specs.Shared.{CallerView, Sees}
 use Rattle.file_store.specs.Trees.{Tree}
 use Rattle.peer_conn.specs.Turns.{OnlySees}
-use Rattle.peer_conn.specs.declared.indexer.IndexedFolder.{IndexedFolder}
+use Rattle.peer_conn.specs.declared.indexer.IndexerFolder.{IndexerFolder}
 use Rattle.peer_server.specs.Answered.{Stays}
-use Rattle.peer_server.specs.declared.request.ServedFolder.{ServedFolder}
+use Rattle.peer_server.specs.declared.request.ServerFolder.{ServerFolder}
 use Rattle.peer_conn.proofs.Slices.{written_back}
 
 sees_itself : (v : CallerView) → Sees v v
@@ -26,9 +26,9 @@ module _ {A : Type 0} (R : A → A → Type 0) where
       subst (AllZip R olds) (sym (written_back olds news len news_long (long ∙ ap length same))) kept
 
 module _ {W F : Type 0} (folder : W → F) (view : W → CallerView) where
-  pub indexed_itself : (l : List (IndexedFolder W)) → AllZip (OnlySees folder view) l l
+  pub indexed_itself : (l : List (IndexerFolder W)) → AllZip (OnlySees folder view) l l
   indexed_itself = each_itself (OnlySees folder view) (λ f. record { id = refl; index_id = refl; folder_is = refl; sees = sees_itself (view f.calls) })
 
 module _ {S W F : Type 0} (keeps : Bool) (tree : S → Tree) (folder : W → F) (view : W → CallerView) where
-  pub served_itself : (l : List (ServedFolder S W)) → AllZip (Stays keeps tree folder view) l l
+  pub served_itself : (l : List (ServerFolder S W)) → AllZip (Stays keeps tree folder view) l l
   served_itself = each_itself (Stays keeps tree folder view) (λ f. record { folder_is = refl; sees = sees_itself (view f.calls); kept = λ k. refl })

@@ -4,7 +4,7 @@ use Rattle.std.specs.List.{slice_get}
 use Rattle.std.specs.Option.{option_map_or}
 use Rattle.peer_link.specs.Told.{without_number}
 use Rattle.peer_link.specs.declared.told.ToldFolder.{ToldFolder}
-use Rattle.peer_reader.specs.declared.folder.PeerFolder.{PeerFolder}
+use Rattle.peer_reader.specs.declared.folder.ReaderFolder.{ReaderFolder}
 use Rattle.std.proofs.lemmas.List.{length-set}
 use Rattle.std.proofs.lemmas.Option.{same_Some}
 use Rattle.std.proofs.lemmas.Bool.{cases_eq}
@@ -44,5 +44,5 @@ module _ {X : Type 0} (f : ℕ → X → X) (olds : List X) where
   }
 
 -- the folder at a place without its number, if the one at the same place lost records
-abbrev pub without_at : {W : Type 0} → List ToldFolder → ℕ → PeerFolder W → PeerFolder W
+abbrev pub without_at : {W : Type 0} → List ToldFolder → ℕ → ReaderFolder W → ReaderFolder W
 without_at told k f = option_map_or (λ (t : ToldFolder). without_number t f) (slice_get told k) f

@@ -9,7 +9,7 @@ use Rattle.peer_link.specs.declared.told.Anew.{Anew}
 use Rattle.peer_link.specs.declared.told.Told.{Told}
 use Rattle.peer_link.specs.declared.told.ToldFolder.{ToldFolder}
 use Rattle.peer_reader.specs.Effects.{index_told}
-use Rattle.peer_reader.specs.declared.folder.PeerFolder.{PeerFolder}
+use Rattle.peer_reader.specs.declared.folder.ReaderFolder.{ReaderFolder}
 use Rattle.sync_record.specs.Devices.{Identity}
 
 -- whether the peer shares the folder, has paused it, and the number of its index of it
@@ -21,7 +21,7 @@ abbrev pub told_in : Identity → ClusterConfig → List ℕ → Told
 told_in peer config id = told_of (index_told peer config id) (folder_in id config)
 
 -- before the first ClusterConfig
-abbrev pub untold : {W : Type 0} → PeerFolder W → ToldFolder
+abbrev pub untold : {W : Type 0} → ReaderFolder W → ToldFolder
 untold f = record { id = f.id; first = told_of 0 None; is_lost = false }
 
 -- at the first one
@@ -59,9 +59,9 @@ or_else None why = Some why
 or_else (Some first) why = Some first
 
 -- no number is kept of a folder that lost records
-abbrev pub without_number : {W : Type 0} → ToldFolder → PeerFolder W → PeerFolder W
+abbrev pub without_number : {W : Type 0} → ToldFolder → ReaderFolder W → ReaderFolder W
 without_number t f = if t.is_lost then record f { kept_index_id = 0 } else f
 
-abbrev pub WithoutNumber : {W : Type 0} → List ToldFolder → List (PeerFolder W) → List (PeerFolder W) → Type 0
+abbrev pub WithoutNumber : {W : Type 0} → List ToldFolder → List (ReaderFolder W) → List (ReaderFolder W) → Type 0
 WithoutNumber {W} told olds news =
-    (length news ≡ length olds) × ((k : ℕ) (t : ToldFolder) (f : PeerFolder W) → slice_get told k ≡ Some t → slice_get olds k ≡ Some f → slice_get news k ≡ Some (without_number t f))
+    (length news ≡ length olds) × ((k : ℕ) (t : ToldFolder) (f : ReaderFolder W) → slice_get told k ≡ Some t → slice_get olds k ≡ Some f → slice_get news k ≡ Some (without_number t f))

@@ -18,11 +18,11 @@ use file_store::{FileStore, Gate};
 use folder_calls::FolderCalls;
 use peer_asks::{RequesterEnd, run_requester};
 use peer_conn::{
-    Bell, Ended, IndexedFolder, IndexerEnd, KeptCalls, Seat, Taker, WriterFault, run_indexer,
+    Bell, Ended, IndexerEnd, IndexerFolder, KeptCalls, Seat, Taker, WriterFault, run_indexer,
     run_writer,
 };
-use peer_reader::{PeerFolder, ReaderEnd, run_reader};
-use peer_server::{PeerRequest, ServedFolder, ServerEnd, run_server};
+use peer_reader::{ReaderEnd, ReaderFolder, run_reader};
+use peer_server::{PeerRequest, ServerEnd, ServerFolder, run_server};
 use std::alloc::Global;
 use std::io::{Read, Write};
 use std::sync::Wait;
@@ -33,7 +33,7 @@ use sync_record::DeviceId;
 pub(crate) struct ReadJob<'a, R, I, W, L> {
     pub(crate) peer: DeviceId,
     pub(crate) reader: I,
-    pub(crate) folders: Vec<PeerFolder<W>>,
+    pub(crate) folders: Vec<ReaderFolder<W>>,
     pub(crate) inbox: LinkInbox<'a, R, L>,
 }
 
@@ -41,7 +41,7 @@ pub(crate) struct ReadJob<'a, R, I, W, L> {
 pub(crate) struct HasRead<W> {
     pub(crate) end: ReaderEnd,
     pub(crate) told: ToldFolders,
-    pub(crate) folders: Vec<PeerFolder<W>>,
+    pub(crate) folders: Vec<ReaderFolder<W>>,
 }
 
 /// Reads until there is a reason to end. Then no one waits for a Response any more, and the line is hung up.
@@ -89,7 +89,7 @@ where
 pub(crate) struct IndexJob<W> {
     pub(crate) config: ClusterConfig,
     pub(crate) configs: Receiver<ClusterConfig>,
-    pub(crate) folders: Vec<IndexedFolder<W>>,
+    pub(crate) folders: Vec<IndexerFolder<W>>,
     pub(crate) seat: Seat<Message>,
 }
 
@@ -97,7 +97,7 @@ pub(crate) struct IndexJob<W> {
 pub(crate) struct HasIndexed<W> {
     pub(crate) seat: Ended<Message>,
     pub(crate) end: IndexerEnd,
-    pub(crate) folders: Vec<IndexedFolder<W>>,
+    pub(crate) folders: Vec<IndexerFolder<W>>,
 }
 
 /// Tells the peer the folders until there is a reason to end, and hangs the line up.
@@ -139,7 +139,7 @@ pub(crate) fn index<R: Clock + Wait, W: KeptCalls + Drop, L: Line>(
 #[derive(Drop)]
 pub(crate) struct ServeJob<S, W> {
     pub(crate) requests: Receiver<PeerRequest>,
-    pub(crate) folders: Vec<ServedFolder<S, W>>,
+    pub(crate) folders: Vec<ServerFolder<S, W>>,
     pub(crate) seat: Seat<Message>,
 }
 
@@ -147,7 +147,7 @@ pub(crate) struct ServeJob<S, W> {
 pub(crate) struct HasServed<S, W> {
     pub(crate) seat: Ended<Message>,
     pub(crate) end: ServerEnd,
-    pub(crate) folders: Vec<ServedFolder<S, W>>,
+    pub(crate) folders: Vec<ServerFolder<S, W>>,
 }
 
 /// Answers the peer's Requests until there is a reason to end, and hangs the line up.

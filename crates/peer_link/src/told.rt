@@ -7,7 +7,7 @@ ghost use Rattle.peer_link.specs.declared.told.Anew.TheVariants.{OtherFolders, R
 
 use bep_messages::{ClusterConfig, Text};
 use peer_conn::{entry_of, folder_of};
-use peer_reader::PeerFolder;
+use peer_reader::ReaderFolder;
 use std::alloc::{AllocError, Global};
 use sync_record::DeviceId;
 
@@ -72,7 +72,7 @@ fn told_in(config: &ClusterConfig, id: &str, peer: DeviceId) -> Told
 }
 
 // A folder of which nothing was told yet.
-fn untold_of<W>(alloc: Global, folder: &PeerFolder<W>) -> Result<ToldFolder, AllocError>
+fn untold_of<W>(alloc: Global, folder: &ReaderFolder<W>) -> Result<ToldFolder, AllocError>
     ensures { IfOk result (λ told. told ≡ untold folder.now) }
 {
     Ok(ToldFolder {
@@ -129,7 +129,7 @@ impl ToldFolders {
     pub(crate) fn new<W>(
         alloc: Global,
         peer: DeviceId,
-        folders: &[PeerFolder<W>],
+        folders: &[ReaderFolder<W>],
     ) -> Result<ToldFolders, AllocError>
         ensures untold { IfOk result (λ told. told.folders.items ≡ map untold folders.now) }
         ensures begun { IfOk result (λ told. (told.peer ≡ peer) × (told.has_begun ≡ false) × (told.anew ≡ None)) }
@@ -255,7 +255,7 @@ impl ToldFolders {
 
     /// Of the folders with which the connection couldn't go on, no number of the peer's index is kept any more, so that all of it comes again. They are those that the
     /// reader has, in its order. O(n) for n folders.
-    pub fn forget_lost<W>(&self, folders: &mut [PeerFolder<W>])
+    pub fn forget_lost<W>(&self, folders: &mut [ReaderFolder<W>])
         ensures { WithoutNumber self.now.folders.items folders.old folders.new }
     {
         for at in 0..folders.len().min(self.folders.len()) {

@@ -16,7 +16,7 @@ use Rattle.folder_calls.specs.Shared.{CallerView}
 use Rattle.peer_reader.proofs.EachLemmas.{GoTogether, at_place, each_more, each_same}
 use Rattle.peer_reader.proofs.EffectLemmas.{count_changes-append, forgets-more}
 use Rattle.peer_reader.specs.declared.counts.ReaderCounts.{ReaderCounts}
-use Rattle.peer_reader.specs.declared.folder.PeerFolder.{PeerFolder}
+use Rattle.peer_reader.specs.declared.folder.ReaderFolder.{ReaderFolder}
 use Rattle.peer_reader.specs.Counts.{one_change}
 use Rattle.peer_reader.specs.Effects.{Heard, count_changes, forgets, forgets_one, is_forgotten, told_by}
 use Rattle.peer_reader.specs.Hears.{AsksEach, AsksOne, HasHeard, IsCutShort, Stops, StopsOne, applied, counted_forget, forget_asked, forget_due, heard_of}
@@ -39,17 +39,17 @@ one_counted false peer k c = refl
 
 module _ {W F : Type 0} (view : W → CallerView) (folder : W → F) where
   -- the first i folders heard it
-  pub record Front (peer : Identity) (config : ClusterConfig) (i : ℕ) (olds : List (PeerFolder W)) (counts : ReaderCounts) (news : List (PeerFolder W)) (later : ReaderCounts) : Type 0 where
+  pub record Front (peer : Identity) (config : ClusterConfig) (i : ℕ) (olds : List (ReaderFolder W)) (counts : ReaderCounts) (news : List (ReaderFolder W)) (later : ReaderCounts) : Type 0 where
     pub heard : map heard_of news ≡ map (told_by peer config) (take i (map heard_of olds)) ++ drop i (map heard_of olds)
     pub asks : AsksEach view folder 0 (map applied (forgets peer config 0 (take i (map heard_of olds)))) olds news
     pub counts_are : later ≡ count_changes (forgets peer config 0 (take i (map heard_of olds))) counts
 
-  pub front_none : (peer : Identity) (config : ClusterConfig) (olds : List (PeerFolder W)) (counts : ReaderCounts)
+  pub front_none : (peer : Identity) (config : ClusterConfig) (olds : List (ReaderFolder W)) (counts : ReaderCounts)
       → Front peer config 0 olds counts olds counts
   front_none peer config olds counts = record { heard = refl; asks = each_same view folder 0 olds; counts_are = refl }
 
   -- the folder at the place i is as it was
-  pub at_front : (peer : Identity) (config : ClusterConfig) (i : ℕ) (olds : List (PeerFolder W)) (counts : ReaderCounts) (news : List (PeerFolder W)) (later : ReaderCounts) (f : PeerFolder W)
+  pub at_front : (peer : Identity) (config : ClusterConfig) (i : ℕ) (olds : List (ReaderFolder W)) (counts : ReaderCounts) (news : List (ReaderFolder W)) (later : ReaderCounts) (f : ReaderFolder W)
       → Front peer config i olds counts news later → slice_get news i ≡ Some f → i < length (map heard_of olds) → get_or (map heard_of olds) i (heard_of f) ≡ heard_of f
   at_front peer config i olds counts news later f a there h =
       let xs = map heard_of olds in
@@ -61,7 +61,7 @@ module _ {W F : Type 0} (view : W → CallerView) (folder : W → F) where
       sym (ap (λ l. get_or l i (heard_of f)) a.heard ∙ get_or-append_right front (drop i xs) i i (heard_of f) long (le_refl i)
       ∙ get_or-drop i xs (i - i) (heard_of f) ∙ ap (λ (k : ℕ). get_or xs k (heard_of f)) here) ∙ now
 
-  pub front_more : GoTogether → (peer : Identity) (config : ClusterConfig) (i : ℕ) (olds : List (PeerFolder W)) (counts : ReaderCounts) (news : List (PeerFolder W)) (later : ReaderCounts) (f g : PeerFolder W) (last : ReaderCounts)
+  pub front_more : GoTogether → (peer : Identity) (config : ClusterConfig) (i : ℕ) (olds : List (ReaderFolder W)) (counts : ReaderCounts) (news : List (ReaderFolder W)) (later : ReaderCounts) (f g : ReaderFolder W) (last : ReaderCounts)
       → Front peer config i olds counts news later → slice_get news i ≡ Some f → i < length (map heard_of olds)
       → heard_of g ≡ told_by peer config (heard_of f) → AsksOne view folder (forget_asked peer config (heard_of f)) f g
       → last ≡ counted_forget peer config (heard_of f) later
@@ -93,7 +93,7 @@ module _ {W F : Type 0} (view : W → CallerView) (folder : W → F) where
       }
 
   -- one of them is as before, but for what it was asked for
-  same_folders : (peer : Identity) (config : ClusterConfig) (i : ℕ) (olds : List (PeerFolder W)) (counts : ReaderCounts) (news : List (PeerFolder W)) (later : ReaderCounts) (f g : PeerFolder W)
+  same_folders : (peer : Identity) (config : ClusterConfig) (i : ℕ) (olds : List (ReaderFolder W)) (counts : ReaderCounts) (news : List (ReaderFolder W)) (later : ReaderCounts) (f g : ReaderFolder W)
       → Front peer config i olds counts news later → slice_get news i ≡ Some f → heard_of g ≡ heard_of f
       → map heard_of (set news i g) ≡ map (told_by peer config) (take i (map heard_of olds)) ++ drop i (map heard_of olds)
   same_folders peer config i olds counts news later f g a there same =
@@ -101,7 +101,7 @@ module _ {W F : Type 0} (view : W → CallerView) (folder : W → F) where
       = get_or-map heard_of news i f (heard_of f) (slice_get_within news i f there) ∙ ap heard_of (get_or_from_slice_get news i f f there) in
       map-set heard_of news i g ∙ ap (set (map heard_of news) i) (same ∙ sym now) ∙ set-get_or (map heard_of news) i (heard_of f) ∙ a.heard
 
-  cut_short : GoTogether → (peer : Identity) (config : ClusterConfig) (i : ℕ) (olds : List (PeerFolder W)) (counts : ReaderCounts) (news : List (PeerFolder W)) (later : ReaderCounts) (f g : PeerFolder W) (last : ReaderCounts) (asked : List Asked)
+  cut_short : GoTogether → (peer : Identity) (config : ClusterConfig) (i : ℕ) (olds : List (ReaderFolder W)) (counts : ReaderCounts) (news : List (ReaderFolder W)) (later : ReaderCounts) (f g : ReaderFolder W) (last : ReaderCounts) (asked : List Asked)
       → Front peer config i olds counts news later → slice_get news i ≡ Some f → heard_of g ≡ heard_of f → AsksOne view folder asked f g → last ≡ later
       → IsCutShort view folder peer (PeerConfig config) olds counts i (at_place i asked) (set news i g) last
   cut_short together peer config i olds counts news later f g last asked a there same asks counted =
@@ -115,7 +115,7 @@ module _ {W F : Type 0} (view : W → CallerView) (folder : W → F) where
         counts_are = counted ∙ a.counts_are;
       }
 
-  pub front_stops : GoTogether → (peer : Identity) (config : ClusterConfig) (i : ℕ) (olds : List (PeerFolder W)) (counts : ReaderCounts) (news : List (PeerFolder W)) (later : ReaderCounts) (f g : PeerFolder W) (last : ReaderCounts) (why : ReaderStop)
+  pub front_stops : GoTogether → (peer : Identity) (config : ClusterConfig) (i : ℕ) (olds : List (ReaderFolder W)) (counts : ReaderCounts) (news : List (ReaderFolder W)) (later : ReaderCounts) (f g : ReaderFolder W) (last : ReaderCounts) (why : ReaderStop)
       → Front peer config i olds counts news later → slice_get news i ≡ Some f → i < length (map heard_of olds)
       → StopsOne view folder (forget_due peer config (Some (heard_of f))) f g why → last ≡ later
       → Stops view folder peer (PeerConfig config) olds counts why (set news i g) last
@@ -134,7 +134,7 @@ module _ {W F : Type 0} (view : W → CallerView) (folder : W → F) where
   front_stops together peer config i olds counts news later f g last stop.TimedOut a there h stops counted = stops
 
   -- all of them heard it
-  pub front_all : (peer : Identity) (config : ClusterConfig) (olds : List (PeerFolder W)) (counts : ReaderCounts) (news : List (PeerFolder W)) (later : ReaderCounts) (n : ℕ)
+  pub front_all : (peer : Identity) (config : ClusterConfig) (olds : List (ReaderFolder W)) (counts : ReaderCounts) (news : List (ReaderFolder W)) (later : ReaderCounts) (n : ℕ)
       → Front peer config n olds counts news later → n ≡ length olds
       → HasHeard view folder peer (PeerConfig config) olds counts (passed.Config config) news later
   front_all peer config olds counts news later n a e =

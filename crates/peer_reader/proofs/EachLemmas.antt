@@ -9,7 +9,7 @@ use Rattle.folder_core.specs.declared.answer.Answer.{Answer}
 use Rattle.folder_core.specs.declared.change.Change.{Change}
 use Rattle.folder_calls.specs.declared.at.At.{At}
 use Rattle.folder_calls.specs.Shared.{CallerView, ChangesAt, Gets}
-use Rattle.peer_reader.specs.declared.folder.PeerFolder.{PeerFolder}
+use Rattle.peer_reader.specs.declared.folder.ReaderFolder.{ReaderFolder}
 use Rattle.peer_reader.specs.declared.stop.ReaderStop.{ReaderStop}
 use Rattle.peer_reader.specs.declared.stop.ReaderStop.TheVariants as stop
 use Rattle.peer_reader.specs.Hears.{AskedOf, AsksEach, AsksOne, IsApart, StopsOne, asked_at}
@@ -65,12 +65,12 @@ asks_one_as got old new c wanted reply a same h e = subst (λ x. Asks old ((x, a
 
 module _ {W F : Type 0} (view : W → CallerView) (folder : W → F) where
   -- no folder was asked for anything
-  pub each_same : (k : ℕ) (fs : List (PeerFolder W)) → AsksEach view folder k [] fs fs
+  pub each_same : (k : ℕ) (fs : List (ReaderFolder W)) → AsksEach view folder k [] fs fs
   each_same k [] = tt
   each_same k (f ∷ fs) = ((refl, refl), each_same (k + 1) fs)
 
   -- what a folder before them was asked for
-  pub each_other : (k m : ℕ) → m < k → (asked : List AskedOf) (xs : List Asked) (fs gs : List (PeerFolder W))
+  pub each_other : (k m : ℕ) → m < k → (asked : List AskedOf) (xs : List Asked) (fs gs : List (ReaderFolder W))
       → AsksEach view folder k asked fs gs → AsksEach view folder k (asked ++ at_place m xs) fs gs
   each_other k m h asked xs [] [] e = tt
   each_other k m h asked xs (f ∷ fs) [] e = e
@@ -83,11 +83,11 @@ module _ {W F : Type 0} (view : W → CallerView) (folder : W → F) where
       )
 
   -- a folder was asked for more
-  pub one_more : GoTogether → (f g h : PeerFolder W) (asked xs : List Asked)
+  pub one_more : GoTogether → (f g h : ReaderFolder W) (asked xs : List Asked)
       → AsksOne view folder asked f g → AsksOne view folder xs g h → AsksOne view folder (asked ++ xs) f h
   one_more together f g h asked xs a b = (b.0 ∙ a.0, together asked xs _ _ _ a.1 b.1)
 
-  pub each_more : GoTogether → (k : ℕ) (asked : List AskedOf) (olds news : List (PeerFolder W)) (i : ℕ) (g h : PeerFolder W) (xs : List Asked)
+  pub each_more : GoTogether → (k : ℕ) (asked : List AskedOf) (olds news : List (ReaderFolder W)) (i : ℕ) (g h : ReaderFolder W) (xs : List Asked)
       → AsksEach view folder k asked olds news → slice_get news i ≡ Some g → AsksOne view folder xs g h
       → AsksEach view folder k (asked ++ at_place (k + i) xs) olds (set news i h)
   each_more together k asked [] [] i g h xs e there one = cc
@@ -96,7 +96,7 @@ module _ {W F : Type 0} (view : W → CallerView) (folder : W → F) where
   each_more together k asked (o ∷ os) (n ∷ ns) zero g h xs e there one =
       let place : k ≡ k + 0 = omega arith in
       let same : n ≡ g = cc in
-      let first = one_more together o n h (asked_at k asked) xs e.0 (subst (λ (x : PeerFolder W). AsksOne view folder xs x h) (sym same) one) in
+      let first = one_more together o n h (asked_at k asked) xs e.0 (subst (λ (x : ReaderFolder W). AsksOne view folder xs x h) (sym same) one) in
       subst (λ (p : ℕ). AsksEach view folder k (asked ++ at_place p xs) (o ∷ os) (h ∷ ns)) place (
         (first.0, subst (λ l. Asks (view o.calls) l (view h.calls)) (sym (at_own k asked xs)) first.1),
         each_other (k + 1) k (omega arith) asked xs os ns e.1,
@@ -110,7 +110,7 @@ module _ {W F : Type 0} (view : W → CallerView) (folder : W → F) where
       )
 
   -- the peer is still none of the folders' own device
-  apart_each : AddEntries → (peer : Identity) (k : ℕ) (asked : List AskedOf) (olds news : List (PeerFolder W))
+  apart_each : AddEntries → (peer : Identity) (k : ℕ) (asked : List AskedOf) (olds news : List (ReaderFolder W))
       → AsksEach view folder k asked olds news → AllByRecursion (IsApart view peer) olds → AllByRecursion (IsApart view peer) news
   apart_each opening peer k asked [] [] e all = tt
   apart_each opening peer k asked (o ∷ os) [] e all = absurd e
@@ -120,13 +120,13 @@ module _ {W F : Type 0} (view : W → CallerView) (folder : W → F) where
     apart_each opening peer (k + 1) asked os ns e.1 all.1,
   )
 
-  pub each_apart : AddEntries → (peer : Identity) (k : ℕ) (asked : List AskedOf) (olds news : List (PeerFolder W))
+  pub each_apart : AddEntries → (peer : Identity) (k : ℕ) (asked : List AskedOf) (olds news : List (ReaderFolder W))
       → AsksEach view folder k asked olds news → All (IsApart view peer) olds → All (IsApart view peer) news
   each_apart opening peer k asked olds news e all =
       All-from_recursion (IsApart view peer) news (apart_each opening peer k asked olds news e (recursion_from_All (IsApart view peer) olds all))
 
   -- a reader that stops at a change that is due in one sense, where it is so in another
-  pub stops_as : (P Q : Change → Type 0) → ((c : Change) → P c → Q c) → (old new : PeerFolder W) (why : ReaderStop)
+  pub stops_as : (P Q : Change → Type 0) → ((c : Change) → P c → Q c) → (old new : ReaderFolder W) (why : ReaderStop)
       → StopsOne view folder P old new why → StopsOne view folder Q old new why
   stops_as P Q leads old new stop.HistoryFull h = (h.0, (h.1.0, leads h.1.0 h.1.1, h.1.2))
   stops_as P Q leads old new stop.OutOfMemory h = h

@@ -11,7 +11,7 @@ use Rattle.folder_core.specs.declared.answer.Answer.TheVariants.{Applied, Histor
 use Rattle.folder_core.specs.declared.change.Change.{Change}
 use Rattle.peer_reader.proofs.EachLemmas.{GoTogether, at_place, each_more, each_same}
 use Rattle.peer_reader.specs.declared.counts.ReaderCounts.{ReaderCounts}
-use Rattle.peer_reader.specs.declared.folder.PeerFolder.{PeerFolder}
+use Rattle.peer_reader.specs.declared.folder.ReaderFolder.{ReaderFolder}
 use Rattle.peer_reader.specs.declared.hearing.Passed.{Passed}
 use Rattle.peer_reader.specs.declared.stop.ReaderStop.{ReaderStop}
 use Rattle.peer_reader.specs.declared.stop.ReaderStop.TheVariants as stop
@@ -30,7 +30,7 @@ position-map p f xs =
     ap (λ (n : ℕ). cond (nat_lt n (length (map f xs))) (Some n) None) (prefix-map p f xs)
     ∙ ap (λ (m : ℕ). cond (nat_lt (position_or_len (λ x. p (f x)) xs) m) (Some (position_or_len (λ x. p (f x)) xs)) None) (length-map xs f)
 
-pub place_is : {W : Type 0} (id : List ℕ) (fs : List (PeerFolder W)) (found : Option ℕ) → found ≡ position (λ f. is_shared_as id (heard_of f)) fs → found ≡ place_of id (map heard_of fs)
+pub place_is : {W : Type 0} (id : List ℕ) (fs : List (ReaderFolder W)) (found : Option ℕ) → found ≡ position (λ f. is_shared_as id (heard_of f)) fs → found ≡ place_of id (map heard_of fs)
 place_is id fs found e = e ∙ sym (position-map (is_shared_as id) heard_of fs)
 
 -- a Request, of a shared folder or not
@@ -42,7 +42,7 @@ module _ {W F : Type 0} (view : W → CallerView) (folder : W → F) where
   -- ---- events that mean nothing to the folders
 
   -- an event of which only something is counted
-  pub heard_alone : (peer : Identity) (event : Event) (olds : List (PeerFolder W)) (counts : ReaderCounts) (given : Passed) (later : ReaderCounts) (count : ReaderCounts → ReaderCounts)
+  pub heard_alone : (peer : Identity) (event : Event) (olds : List (ReaderFolder W)) (counts : ReaderCounts) (given : Passed) (later : ReaderCounts) (count : ReaderCounts → ReaderCounts)
       → after_event peer (map heard_of olds) event ≡ record { folders = map heard_of olds; made = []; count = count } → later ≡ count counts → given ≡ passed_of (map heard_of olds) event
       → HasHeard view folder peer event olds counts given olds later
   heard_alone peer event olds counts given later count e counted passes =
@@ -55,20 +55,20 @@ module _ {W F : Type 0} (view : W → CallerView) (folder : W → F) where
 
   -- ---- a change of the folder at a place
 
-  same_heard : (i : ℕ) (olds : List (PeerFolder W)) (f g : PeerFolder W) → slice_get olds i ≡ Some f → heard_of g ≡ heard_of f → map heard_of (set olds i g) ≡ map heard_of olds
+  same_heard : (i : ℕ) (olds : List (ReaderFolder W)) (f g : ReaderFolder W) → slice_get olds i ≡ Some f → heard_of g ≡ heard_of f → map heard_of (set olds i g) ≡ map heard_of olds
   same_heard i olds f g there same =
       let now : get_or (map heard_of olds) i (heard_of f) ≡ heard_of f
       = get_or-map heard_of olds i f (heard_of f) (slice_get_within olds i f there) ∙ ap heard_of (get_or_from_slice_get olds i f f there) in
       map-set heard_of olds i g ∙ ap (set (map heard_of olds) i) (same ∙ sym now) ∙ set-get_or (map heard_of olds) i (heard_of f)
 
-  asked_alone : GoTogether → (i : ℕ) (olds : List (PeerFolder W)) (f g : PeerFolder W) (asked : List Asked) → slice_get olds i ≡ Some f → AsksOne view folder asked f g
+  asked_alone : GoTogether → (i : ℕ) (olds : List (ReaderFolder W)) (f g : ReaderFolder W) (asked : List Asked) → slice_get olds i ≡ Some f → AsksOne view folder asked f g
       → AsksEach view folder 0 (at_place i asked) olds (set olds i g)
   asked_alone together i olds f g asked there asks =
       let place : 0 + i ≡ i = omega arith in
       subst (λ (p : ℕ). AsksEach view folder 0 (at_place p asked) olds (set olds i g)) place (each_more view folder together 0 [] olds olds i f g asked (each_same view folder 0 olds) there asks)
 
   -- an event that is one change of the folder at a place
-  pub heard_change : GoTogether → (peer : Identity) (event : Event) (i : ℕ) (change : Change) (count : ReaderCounts → ReaderCounts) (olds : List (PeerFolder W)) (counts : ReaderCounts) (f g : PeerFolder W) (later : ReaderCounts) (given : Passed)
+  pub heard_change : GoTogether → (peer : Identity) (event : Event) (i : ℕ) (change : Change) (count : ReaderCounts → ReaderCounts) (olds : List (ReaderFolder W)) (counts : ReaderCounts) (f g : ReaderFolder W) (later : ReaderCounts) (given : Passed)
       → after_event peer (map heard_of olds) event ≡ record { folders = map heard_of olds; made = (i, change) ∷ []; count = count }
       → slice_get olds i ≡ Some f → heard_of g ≡ heard_of f → AsksOne view folder ((change, Applied) ∷ []) f g → later ≡ count counts → given ≡ passed_of (map heard_of olds) event
       → HasHeard view folder peer event olds counts given (set olds i g) later
@@ -81,7 +81,7 @@ module _ {W F : Type 0} (view : W → CallerView) (folder : W → F) where
       }
 
   -- one that is due, and is refused, or for which memory is out
-  pub change_stops : GoTogether → (peer : Identity) (event : Event) (i : ℕ) (wanted : Change) (olds : List (PeerFolder W)) (counts : ReaderCounts) (f g : PeerFolder W) (later : ReaderCounts) (why : ReaderStop)
+  pub change_stops : GoTogether → (peer : Identity) (event : Event) (i : ℕ) (wanted : Change) (olds : List (ReaderFolder W)) (counts : ReaderCounts) (f g : ReaderFolder W) (later : ReaderCounts) (why : ReaderStop)
       → before_change peer (map heard_of olds) event i ≡ no_effect (map heard_of olds)
       → ((change : Change) → change ≡ wanted → IsDue peer (map heard_of olds) event i change)
       → slice_get olds i ≡ Some f → StopsOne view folder (λ change. change ≡ wanted) f g why → later ≡ counts

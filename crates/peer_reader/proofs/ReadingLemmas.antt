@@ -7,7 +7,7 @@ use Rattle.folder_calls.specs.Adds.{Adds, Asked, Asks}
 use Rattle.folder_calls.specs.Shared.{CallerView}
 use Rattle.peer_reader.proofs.EachLemmas.{AddEntries, GoTogether, asked_at-append, each_same}
 use Rattle.peer_reader.specs.declared.counts.ReaderCounts.{ReaderCounts}
-use Rattle.peer_reader.specs.declared.folder.PeerFolder.{PeerFolder}
+use Rattle.peer_reader.specs.declared.folder.ReaderFolder.{ReaderFolder}
 use Rattle.peer_reader.specs.declared.hearing.Passed.{Passed}
 use Rattle.peer_reader.specs.Effects.{Heard, after_event}
 use Rattle.peer_reader.specs.Hears.{AskedOf, AsksEach, HasHeard, applied, asked_at, heard_of}
@@ -39,7 +39,7 @@ after_count peer fs (x ∷ es) e c = after_count peer (after_event peer fs x).fo
 
 module _ {W F : Type 0} (view : W → CallerView) (folder : W → F) where
   -- what each folder was asked for, and then for more
-  pub each_together : GoTogether → (k : ℕ) (one two : List AskedOf) (fs gs hs : List (PeerFolder W))
+  pub each_together : GoTogether → (k : ℕ) (one two : List AskedOf) (fs gs hs : List (ReaderFolder W))
       → AsksEach view folder k one fs gs → AsksEach view folder k two gs hs → AsksEach view folder k (one ++ two) fs hs
   each_together together k one two [] [] [] a b = tt
   each_together together k one two [] [] (h ∷ hs) a b = absurd b
@@ -53,7 +53,7 @@ module _ {W F : Type 0} (view : W → CallerView) (folder : W → F) where
       )
 
   -- one event more
-  pub heard_more : GoTogether → (peer : Identity) (es : List Event) (e : Event) (olds mids news : List (PeerFolder W)) (counts before later : ReaderCounts) (given : Passed)
+  pub heard_more : GoTogether → (peer : Identity) (es : List Event) (e : Event) (olds mids news : List (ReaderFolder W)) (counts before later : ReaderCounts) (given : Passed)
       → HasHeardAll view folder peer es olds counts mids before → HasHeard view folder peer e mids before given news later
       → HasHeardAll view folder peer (es ++ e ∷ []) olds counts news later
   heard_more together peer es e olds mids news counts before later given a b =
@@ -72,5 +72,5 @@ module _ {W F : Type 0} (view : W → CallerView) (folder : W → F) where
       }
 
   -- no event yet
-  pub heard_no_event : (peer : Identity) (olds : List (PeerFolder W)) (counts : ReaderCounts) → HasHeardAll view folder peer [] olds counts olds counts
+  pub heard_no_event : (peer : Identity) (olds : List (ReaderFolder W)) (counts : ReaderCounts) → HasHeardAll view folder peer [] olds counts olds counts
   heard_no_event peer olds counts = record { heard = refl; asks = each_same view folder 0 olds; counts_are = refl }

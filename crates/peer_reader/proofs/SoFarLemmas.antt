@@ -14,7 +14,7 @@ use Rattle.peer_reader.proofs.ReadingLemmas.{each_together, heard_no_event}
 use Rattle.peer_reader.proofs.RunLemmas.{fed_of-append, run_events-append, run_session-append}
 use Rattle.peer_reader.specs.Counts.{no_counts}
 use Rattle.peer_reader.specs.declared.counts.ReaderCounts.{ReaderCounts}
-use Rattle.peer_reader.specs.declared.folder.PeerFolder.{PeerFolder}
+use Rattle.peer_reader.specs.declared.folder.ReaderFolder.{ReaderFolder}
 use Rattle.peer_reader.specs.declared.stop.ReaderStop.{ReaderStop}
 use Rattle.peer_reader.specs.declared.stop.ReaderStop.TheVariants as stop
 use Rattle.peer_reader.specs.Effects.{Heard, after_event}
@@ -107,7 +107,7 @@ module _ (shows : ℕ → ℕ → Type 0) where
   shown_later last mid now (inr l) shown = at_a_later_look mid now l shown
 
 module _ {W F : Type 0} (view : W → CallerView) (folder : W → F) where
-  heard_together : GoTogether → (peer : Identity) (xs ys : List Event) (olds mids news : List (PeerFolder W)) (counts before later : ReaderCounts)
+  heard_together : GoTogether → (peer : Identity) (xs ys : List Event) (olds mids news : List (ReaderFolder W)) (counts before later : ReaderCounts)
       → HasHeardAll view folder peer xs olds counts mids before → HasHeardAll view folder peer ys mids before news later
       → HasHeardAll view folder peer (xs ++ ys) olds counts news later
   heard_together together peer xs ys olds mids news counts before later a b =
@@ -123,7 +123,7 @@ module _ {W F : Type 0} (view : W → CallerView) (folder : W → F) where
         counts_are = b.counts_are ∙ ap (λ l. (after_events peer l ys).count before) same ∙ ap (λ c. then.count c) a.counts_are ∙ sym (count-append peer fs xs ys counts);
       }
 
-  stops_together : GoTogether → (peer : Identity) (xs ys : List Event) (olds mids news : List (PeerFolder W)) (counts before later : ReaderCounts) (why : ReaderStop)
+  stops_together : GoTogether → (peer : Identity) (xs ys : List Event) (olds mids news : List (ReaderFolder W)) (counts before later : ReaderCounts) (why : ReaderStop)
       → HasHeardAll view folder peer xs olds counts mids before → StopsIn view folder peer ys mids before why news later
       → StopsIn view folder peer (xs ++ ys) olds counts why news later
   stops_together together peer xs ys olds mids news counts before later why a s =
@@ -139,7 +139,7 @@ module _ {W F : Type 0} (view : W → CallerView) (folder : W → F) where
       }
 
   -- all that was read was heard, when the clock showed the moments of it, this one last
-  pub record IsSoFar (shows : ℕ → ℕ → Type 0) (peer : Identity) (given left : Option (List ℕ)) (session : View) (olds news : List (PeerFolder W)) (counts : ReaderCounts) (now : ℕ) : Type 0 where
+  pub record IsSoFar (shows : ℕ → ℕ → Type 0) (peer : Identity) (given left : Option (List ℕ)) (session : View) (olds news : List (ReaderFolder W)) (counts : ReaderCounts) (now : ℕ) : Type 0 where
     pub moment : ℕ
     pub acts : List Act
     pub taken : Consumes given left (fed_of acts)
@@ -149,7 +149,7 @@ module _ {W F : Type 0} (view : W → CallerView) (folder : W → F) where
     pub timed : AreTimed shows moment acts
     pub now_then : (now ≡ last_fed moment acts) ⊎ ShowsLater shows (last_fed moment acts) now
 
-  pub at_first : (shows : ℕ → ℕ → Type 0) (peer : Identity) (given : Option (List ℕ)) (moment : ℕ) (session : View) (olds : List (PeerFolder W)) (counts : ReaderCounts)
+  pub at_first : (shows : ℕ → ℕ → Type 0) (peer : Identity) (given : Option (List ℕ)) (moment : ℕ) (session : View) (olds : List (ReaderFolder W)) (counts : ReaderCounts)
       → Consumes given given [] → session ≡ begun moment → counts ≡ no_counts → shows 0 moment → IsSoFar shows peer given given session olds olds counts moment
   unfolding run
   at_first shows peer given moment session olds counts none e c shown =
@@ -165,7 +165,7 @@ module _ {W F : Type 0} (view : W → CallerView) (folder : W → F) where
       }
 
   -- nothing was read
-  pub nothing_read : (peer : Identity) (given : Option (List ℕ)) (olds : List (PeerFolder W)) (counts : ReaderCounts)
+  pub nothing_read : (peer : Identity) (given : Option (List ℕ)) (olds : List (ReaderFolder W)) (counts : ReaderCounts)
       → Consumes given given [] → counts ≡ no_counts → ReadsAll view folder peer given given [] olds olds counts
   unfolding run
   nothing_read peer given olds counts none c =
@@ -177,7 +177,7 @@ module _ {W F : Type 0} (view : W → CallerView) (folder : W → F) where
       }
 
   -- nothing more was read
-  pub no_more : (shows : ℕ → ℕ → Type 0) (peer : Identity) (given left after : Option (List ℕ)) (session : View) (olds news : List (PeerFolder W)) (counts : ReaderCounts) (now : ℕ)
+  pub no_more : (shows : ℕ → ℕ → Type 0) (peer : Identity) (given left after : Option (List ℕ)) (session : View) (olds news : List (ReaderFolder W)) (counts : ReaderCounts) (now : ℕ)
       → IsSoFar shows peer given left session olds news counts now → Keeps left after → IsSoFar shows peer given after session olds news counts now
   no_more shows peer given left after session olds news counts now a kept =
       record {
@@ -192,7 +192,7 @@ module _ {W F : Type 0} (view : W → CallerView) (folder : W → F) where
       }
 
   -- the clock was looked at once more
-  pub looked : (shows : ℕ → ℕ → Type 0) (peer : Identity) (given left : Option (List ℕ)) (session : View) (olds news : List (PeerFolder W)) (counts : ReaderCounts) (last now : ℕ)
+  pub looked : (shows : ℕ → ℕ → Type 0) (peer : Identity) (given left : Option (List ℕ)) (session : View) (olds news : List (ReaderFolder W)) (counts : ReaderCounts) (last now : ℕ)
       → IsSoFar shows peer given left session olds news counts last → shows last now → IsSoFar shows peer given left session olds news counts now
   looked shows peer given left session olds news counts last now a shown =
       record {
@@ -206,12 +206,12 @@ module _ {W F : Type 0} (view : W → CallerView) (folder : W → F) where
         now_then = inr (shown_later shows (last_fed a.moment a.acts) last now a.now_then shown);
       }
 
-  pub at_end : (shows : ℕ → ℕ → Type 0) (peer : Identity) (given left after : Option (List ℕ)) (session : View) (olds news : List (PeerFolder W)) (counts : ReaderCounts) (now : ℕ)
+  pub at_end : (shows : ℕ → ℕ → Type 0) (peer : Identity) (given left after : Option (List ℕ)) (session : View) (olds news : List (ReaderFolder W)) (counts : ReaderCounts) (now : ℕ)
       → IsSoFar shows peer given left session olds news counts now → Consumes left after [] → ReadsAll view folder peer given after [] olds news counts
   at_end shows peer given left after session olds news counts now a none =
       record { moment = a.moment; acts = a.acts; taken = Consumes-trans given left after (fed_of a.acts) [] a.taken none; heard = a.heard }
 
-  pub one_piece : (shows : ℕ → ℕ → Type 0) → GoTogether → (peer : Identity) (given left next : Option (List ℕ)) (session after : View) (olds mids news : List (PeerFolder W)) (counts later : ReaderCounts) (piece : List ℕ) (last moment : ℕ)
+  pub one_piece : (shows : ℕ → ℕ → Type 0) → GoTogether → (peer : Identity) (given left next : Option (List ℕ)) (session after : View) (olds mids news : List (ReaderFolder W)) (counts later : ReaderCounts) (piece : List ℕ) (last moment : ℕ)
       → IsSoFar shows peer given left session olds mids counts last → shows last moment → Consumes left next piece → HearsPiece view folder peer session mids counts piece moment after news later
       → IsSoFar shows peer given next after olds news later moment
   one_piece shows together peer given left next session after olds mids news counts later piece last moment a shown taken h =
@@ -236,12 +236,12 @@ module _ {W F : Type 0} (view : W → CallerView) (folder : W → F) where
 
   -- ---- how it ends
 
-  pub reads_all : (shows : ℕ → ℕ → Type 0) (peer : Identity) (given left : Option (List ℕ)) (session : View) (olds news : List (PeerFolder W)) (counts : ReaderCounts) (now : ℕ)
+  pub reads_all : (shows : ℕ → ℕ → Type 0) (peer : Identity) (given left : Option (List ℕ)) (session : View) (olds news : List (ReaderFolder W)) (counts : ReaderCounts) (now : ℕ)
       → IsSoFar shows peer given left session olds news counts now → ReadsAll view folder peer given left [] olds news counts
   reads_all shows peer given left session olds news counts now a =
       record { moment = a.moment; acts = a.acts; taken = subst (λ l. Consumes given left l) (sym (append-nil (fed_of a.acts))) a.taken; heard = a.heard }
 
-  pub times_out : (shows : ℕ → ℕ → Type 0) (peer : Identity) (given left : Option (List ℕ)) (session : View) (olds news : List (PeerFolder W)) (counts : ReaderCounts) (now : ℕ)
+  pub times_out : (shows : ℕ → ℕ → Type 0) (peer : Identity) (given left : Option (List ℕ)) (session : View) (olds news : List (ReaderFolder W)) (counts : ReaderCounts) (now : ℕ)
       → IsSoFar shows peer given left session olds news counts now → tick_at session.conversation.received session.conversation.said now ≡ TimedOut → HasTimedOut shows given left
   times_out shows peer given left session olds news counts now a late =
       record {
@@ -255,12 +255,12 @@ module _ {W F : Type 0} (view : W → CallerView) (folder : W → F) where
         late = subst (λ (v : View). tick_at v.conversation.received v.conversation.said now ≡ TimedOut) a.session_is late;
       }
 
-  lost_piece : (shows : ℕ → ℕ → Type 0) (peer : Identity) (given left next : Option (List ℕ)) (session : View) (olds news : List (PeerFolder W)) (counts : ReaderCounts) (piece : List ℕ) (now : ℕ)
+  lost_piece : (shows : ℕ → ℕ → Type 0) (peer : Identity) (given left next : Option (List ℕ)) (session : View) (olds news : List (ReaderFolder W)) (counts : ReaderCounts) (piece : List ℕ) (now : ℕ)
       → IsSoFar shows peer given left session olds news counts now → Consumes left next piece → ReadsAll view folder peer given next piece olds news counts
   lost_piece shows peer given left next session olds news counts piece now a taken =
       record { moment = a.moment; acts = a.acts; taken = Consumes-trans given left next (fed_of a.acts) piece a.taken taken; heard = a.heard }
 
-  up_to : (shows : ℕ → ℕ → Type 0) → GoTogether → (peer : Identity) (given left next : Option (List ℕ)) (session opened : View) (olds mids news : List (PeerFolder W)) (counts later : ReaderCounts) (piece : List ℕ) (moment : ℕ) (why : ReaderStop)
+  up_to : (shows : ℕ → ℕ → Type 0) → GoTogether → (peer : Identity) (given left next : Option (List ℕ)) (session opened : View) (olds mids news : List (ReaderFolder W)) (counts later : ReaderCounts) (piece : List ℕ) (moment : ℕ) (why : ReaderStop)
       → IsSoFar shows peer given left session olds mids counts moment → Consumes left next piece → OnlyOpens session opened → StopsIn view folder peer (fed opened piece moment).events mids counts why news later
       → ReadsUpTo view folder peer given next olds why news later
   up_to shows together peer given left next session opened olds mids news counts later piece moment why a taken o s =
@@ -278,7 +278,7 @@ module _ {W F : Type 0} (view : W → CallerView) (folder : W → F) where
             (stops_together together peer (run start a.acts).events (fed opened piece moment).events olds mids news no_counts counts later why a.heard s);
       }
 
-  stops_to : (peer : Identity) (given now : Option (List ℕ)) (olds news : List (PeerFolder W)) (later : ReaderCounts) (why : ReaderStop)
+  stops_to : (peer : Identity) (given now : Option (List ℕ)) (olds news : List (ReaderFolder W)) (later : ReaderCounts) (why : ReaderStop)
       → ReadsUpTo view folder peer given now olds why news later → ReadsTo view folder peer given now olds why news later
   stops_to peer given now olds news later stop.InputEnded u = absurd u.stops.stops
   stops_to peer given now olds news later (stop.Read kind) u = absurd u.stops.stops
@@ -288,7 +288,7 @@ module _ {W F : Type 0} (view : W → CallerView) (folder : W → F) where
   stops_to peer given now olds news later stop.HistoryFull u = u
   stops_to peer given now olds news later stop.OutOfMemory u = inr u
 
-  pub piece_stops : (shows : ℕ → ℕ → Type 0) → GoTogether → (peer : Identity) (given left next : Option (List ℕ)) (session : View) (olds mids news : List (PeerFolder W)) (counts later : ReaderCounts) (piece : List ℕ) (moment : ℕ) (why : ReaderStop)
+  pub piece_stops : (shows : ℕ → ℕ → Type 0) → GoTogether → (peer : Identity) (given left next : Option (List ℕ)) (session : View) (olds mids news : List (ReaderFolder W)) (counts later : ReaderCounts) (piece : List ℕ) (moment : ℕ) (why : ReaderStop)
       → IsSoFar shows peer given left session olds mids counts moment → Consumes left next piece → StopsInPiece view folder peer session mids counts piece moment why news later
       → ReadsTo view folder peer given next olds why news later
   piece_stops shows together peer given left next session olds mids news counts later piece moment why a taken (inl s) =
@@ -297,12 +297,12 @@ module _ {W F : Type 0} (view : W → CallerView) (folder : W → F) where
       subst (λ (w : ReaderStop). ReadsTo view folder peer given next olds w news later) (sym s.0)
       (inl (
         piece,
-        subst (λ (x : List (PeerFolder W) × ReaderCounts). ReadsAll view folder peer given next piece olds x.0 x.1) (λ i. (sym s.1 i, sym s.2 i))
+        subst (λ (x : List (ReaderFolder W) × ReaderCounts). ReadsAll view folder peer given next piece olds x.0 x.1) (λ i. (sym s.1 i, sym s.2 i))
             (lost_piece shows peer given left next session olds mids counts piece moment a taken),
       ))
 
   -- such an end is none of a read or a clock
-  of_events : (peer : Identity) (events : List Event) (olds news : List (PeerFolder W)) (counts later : ReaderCounts) (why : ReaderStop)
+  of_events : (peer : Identity) (events : List Event) (olds news : List (ReaderFolder W)) (counts later : ReaderCounts) (why : ReaderStop)
       → StopsIn view folder peer events olds counts why news later → IsOfEvents why
   of_events peer events olds news counts later stop.InputEnded s = absurd s.stops
   of_events peer events olds news counts later (stop.Read kind) s = absurd s.stops
@@ -312,16 +312,16 @@ module _ {W F : Type 0} (view : W → CallerView) (folder : W → F) where
   of_events peer events olds news counts later stop.HistoryFull s = tt
   of_events peer events olds news counts later stop.OutOfMemory s = tt
 
-  pub of_piece : (peer : Identity) (session : View) (olds news : List (PeerFolder W)) (counts later : ReaderCounts) (piece : List ℕ) (moment : ℕ) (why : ReaderStop)
+  pub of_piece : (peer : Identity) (session : View) (olds news : List (ReaderFolder W)) (counts later : ReaderCounts) (piece : List ℕ) (moment : ℕ) (why : ReaderStop)
       → StopsInPiece view folder peer session olds counts piece moment why news later → IsOfEvents why
   of_piece peer session olds news counts later piece moment why (inl s) = of_events peer (fed s.0 piece moment).events olds news counts later why s.2
   of_piece peer session olds news counts later piece moment why (inr s) = subst IsOfEvents (sym s.0) tt
 
   -- the same of values that are equal
-  pub same_so_far : (shows : ℕ → ℕ → Type 0) (peer : Identity) (given left : Option (List ℕ)) (v w : View) (olds ms ns : List (PeerFolder W)) (c d : ReaderCounts) (m n : ℕ)
+  pub same_so_far : (shows : ℕ → ℕ → Type 0) (peer : Identity) (given left : Option (List ℕ)) (v w : View) (olds ms ns : List (ReaderFolder W)) (c d : ReaderCounts) (m n : ℕ)
       → w ≡ v → ns ≡ ms → d ≡ c → n ≡ m → IsSoFar shows peer given left v olds ms c m → IsSoFar shows peer given left w olds ns d n
   same_so_far shows peer given left v w olds ms ns c d m n e f h k a =
       subst (λ (x : View). IsSoFar shows peer given left x olds ns d n) (sym e)
-      (subst (λ (x : List (PeerFolder W)). IsSoFar shows peer given left v olds x d n) (sym f)
+      (subst (λ (x : List (ReaderFolder W)). IsSoFar shows peer given left v olds x d n) (sym f)
       (subst (λ (x : ReaderCounts). IsSoFar shows peer given left v olds ms x n) (sym h)
       (subst (λ (x : ℕ). IsSoFar shows peer given left v olds ms c x) (sym k) a)))

@@ -13,7 +13,7 @@ use Rattle.folder_calls.specs.Shared.{CallerView}
 use Rattle.peer_reader.specs.Counts.{one_change}
 use Rattle.peer_reader.specs.Effects.{Effect, Heard, Made, after_config_of, after_event, full_of, is_forgotten, more_of, no_effect, place_of}
 use Rattle.peer_reader.specs.declared.counts.ReaderCounts.{ReaderCounts}
-use Rattle.peer_reader.specs.declared.folder.PeerFolder.{PeerFolder}
+use Rattle.peer_reader.specs.declared.folder.ReaderFolder.{ReaderFolder}
 use Rattle.peer_reader.specs.declared.hearing.Passed.{Passed}
 use Rattle.peer_reader.specs.declared.hearing.Passed.TheVariants as passed
 use Rattle.peer_reader.specs.declared.stop.ReaderStop.{ReaderStop}
@@ -73,34 +73,34 @@ abbrev pub before_change : Identity → List Heard → Event → ℕ → Effect
 before_change peer fs (PeerConfig config) n = after_config_of peer config n fs
 before_change peer fs _ n = no_effect fs
 
-abbrev pub heard_of : {W : Type 0} → PeerFolder W → Heard
+abbrev pub heard_of : {W : Type 0} → ReaderFolder W → Heard
 heard_of f = record { id = f.id; kept = f.kept_index_id; told = f.is_told }
 
 -- the peer is not this device
-abbrev pub IsApart : {W : Type 0} → (W → CallerView) → Identity → PeerFolder W → Type 0
+abbrev pub IsApart : {W : Type 0} → (W → CallerView) → Identity → ReaderFolder W → Type 0
 IsApart view peer f = peer ≢ (view f.calls).opening.me
 
 module _ {W F : Type 0} (view : W → CallerView) (folder : W → F) where
   -- the folder was asked for these changes, one after another
-  abbrev pub AsksOne : List Asked → PeerFolder W → PeerFolder W → Type 0
+  abbrev pub AsksOne : List Asked → ReaderFolder W → ReaderFolder W → Type 0
   AsksOne asked old new = (folder new.calls ≡ folder old.calls) × Asks (view old.calls) asked (view new.calls)
 
   -- a reader stops at a change of a folder, which is as before: the folder refused it, or memory is out
-  abbrev pub StopsOne : (Change → Type 0) → PeerFolder W → PeerFolder W → ReaderStop → Type 0
+  abbrev pub StopsOne : (Change → Type 0) → ReaderFolder W → ReaderFolder W → ReaderStop → Type 0
   StopsOne due old new stop.HistoryFull =
       (heard_of new ≡ heard_of old) × ((change : Change) × due change × AsksOne ((change, HistoryFull) ∷ []) old new)
   StopsOne due old new stop.OutOfMemory = (heard_of new ≡ heard_of old) × AsksOne [] old new
   StopsOne due old new _ = ⊥
 
   -- each folder from this place on was asked for its changes
-  abbrev pub AsksEach : ℕ → List AskedOf → List (PeerFolder W) → List (PeerFolder W) → Type 0
+  abbrev pub AsksEach : ℕ → List AskedOf → List (ReaderFolder W) → List (ReaderFolder W) → Type 0
   AsksEach k asked [] [] = ⊤
   AsksEach k asked (f ∷ fs) [] = ⊥
   AsksEach k asked [] (g ∷ gs) = ⊥
   AsksEach k asked (f ∷ fs) (g ∷ gs) = AsksOne (asked_at k asked) f g × AsksEach (k + 1) asked fs gs
 
   -- Of the caller of each folder from this place on there are just the entries of its changes that were accepted more, in their order.
-  abbrev pub AddsEach : ℕ → List AskedOf → List (PeerFolder W) → List (PeerFolder W) → Type 0
+  abbrev pub AddsEach : ℕ → List AskedOf → List (ReaderFolder W) → List (ReaderFolder W) → Type 0
   AddsEach k asked [] [] = ⊤
   AddsEach k asked (f ∷ fs) [] = ⊥
   AddsEach k asked [] (g ∷ gs) = ⊥
@@ -108,20 +108,20 @@ module _ {W F : Type 0} (view : W → CallerView) (folder : W → F) where
       Adds (view f.calls) (filter (λ a. is_accepted a.1) (asked_at k asked)) (view g.calls) × AddsEach (k + 1) asked fs gs
 
   -- an event was heard: the folders were asked for its changes, which were made
-  pub record HasHeard (peer : Identity) (event : Event) (olds : List (PeerFolder W)) (counts : ReaderCounts) (given : Passed) (news : List (PeerFolder W)) (later : ReaderCounts) : Type 0 where
+  pub record HasHeard (peer : Identity) (event : Event) (olds : List (ReaderFolder W)) (counts : ReaderCounts) (given : Passed) (news : List (ReaderFolder W)) (later : ReaderCounts) : Type 0 where
     pub heard : map heard_of news ≡ (after_event peer (map heard_of olds) event).folders
     pub asks : AsksEach 0 (map applied (after_event peer (map heard_of olds) event).made) olds news
     pub counts_are : later ≡ (after_event peer (map heard_of olds) event).count counts
     pub passed_is : given ≡ passed_of (map heard_of olds) event
 
   -- An event was not heard to its end: its changes before that of the folder at some place were made, and then these were asked for.
-  pub record IsCutShort (peer : Identity) (event : Event) (olds : List (PeerFolder W)) (counts : ReaderCounts) (n : ℕ) (refused : List AskedOf) (news : List (PeerFolder W)) (later : ReaderCounts) : Type 0 where
+  pub record IsCutShort (peer : Identity) (event : Event) (olds : List (ReaderFolder W)) (counts : ReaderCounts) (n : ℕ) (refused : List AskedOf) (news : List (ReaderFolder W)) (later : ReaderCounts) : Type 0 where
     pub heard : map heard_of news ≡ (before_change peer (map heard_of olds) event n).folders
     pub asks : AsksEach 0 (map applied (before_change peer (map heard_of olds) event n).made ++ refused) olds news
     pub counts_are : later ≡ (before_change peer (map heard_of olds) event n).count counts
 
   -- a reader stops at an event
-  abbrev pub Stops : Identity → Event → List (PeerFolder W) → ReaderCounts → ReaderStop → List (PeerFolder W) → ReaderCounts → Type 0
+  abbrev pub Stops : Identity → Event → List (ReaderFolder W) → ReaderCounts → ReaderStop → List (ReaderFolder W) → ReaderCounts → Type 0
   Stops peer event olds counts (stop.Closed reason) news later = (event ≡ PeerClosed reason) × (news ≡ olds) × (later ≡ counts)
   Stops peer event olds counts (stop.Fault fault) news later = (event ≡ Ended fault) × (news ≡ olds) × (later ≡ counts)
   Stops peer event olds counts stop.HistoryFull news later =

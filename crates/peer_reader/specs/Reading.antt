@@ -13,7 +13,7 @@ use Rattle.peer_reader.specs.Counts.{no_counts}
 use Rattle.peer_reader.specs.Effects.{Effect, Heard, after_event, no_effect}
 use Rattle.peer_reader.specs.Hears.{AsksEach, Stops, applied, heard_of}
 use Rattle.peer_reader.specs.declared.counts.ReaderCounts.{ReaderCounts}
-use Rattle.peer_reader.specs.declared.folder.PeerFolder.{PeerFolder}
+use Rattle.peer_reader.specs.declared.folder.ReaderFolder.{ReaderFolder}
 use Rattle.peer_reader.specs.declared.stop.ReaderStop.{ReaderStop}
 use Rattle.peer_reader.specs.declared.stop.ReaderStop.TheVariants as stop
 use Rattle.sync_record.specs.Devices.{Identity}
@@ -58,43 +58,43 @@ pub record OnlyOpens (old new : View) : Type 0 where
 
 module _ {W F : Type 0} (view : W → CallerView) (folder : W → F) where
   -- all events were heard: their changes were made, and nothing else was asked for
-  pub record HasHeardAll (peer : Identity) (events : List Event) (olds : List (PeerFolder W)) (counts : ReaderCounts) (news : List (PeerFolder W)) (later : ReaderCounts) : Type 0 where
+  pub record HasHeardAll (peer : Identity) (events : List Event) (olds : List (ReaderFolder W)) (counts : ReaderCounts) (news : List (ReaderFolder W)) (later : ReaderCounts) : Type 0 where
     pub heard : map heard_of news ≡ (after_events peer (map heard_of olds) events).folders
     pub asks : AsksEach view folder 0 (map applied (after_events peer (map heard_of olds) events).made) olds news
     pub counts_are : later ≡ (after_events peer (map heard_of olds) events).count counts
 
   -- it stopped at one of the events
-  pub record StopsIn (peer : Identity) (events : List Event) (olds : List (PeerFolder W)) (counts : ReaderCounts) (why : ReaderStop) (news : List (PeerFolder W)) (later : ReaderCounts) : Type 0 where
+  pub record StopsIn (peer : Identity) (events : List Event) (olds : List (ReaderFolder W)) (counts : ReaderCounts) (why : ReaderStop) (news : List (ReaderFolder W)) (later : ReaderCounts) : Type 0 where
     pub before : List Event
     pub event : Event
     pub after : List Event
     pub divided : events ≡ before ++ event ∷ after
-    pub mids : List (PeerFolder W)
+    pub mids : List (ReaderFolder W)
     pub counts_before : ReaderCounts
     pub heard : HasHeardAll peer before olds counts mids counts_before
     pub stops : Stops view folder peer event mids counts_before why news later
 
   -- Ids were opened and a piece was fed, all of whose events were heard.
-  pub record HearsPiece (peer : Identity) (session : View) (olds : List (PeerFolder W)) (counts : ReaderCounts) (piece : List ℕ) (moment : ℕ) (after : View) (news : List (PeerFolder W)) (later : ReaderCounts) : Type 0 where
+  pub record HearsPiece (peer : Identity) (session : View) (olds : List (ReaderFolder W)) (counts : ReaderCounts) (piece : List ℕ) (moment : ℕ) (after : View) (news : List (ReaderFolder W)) (later : ReaderCounts) : Type 0 where
     pub opened : View
     pub opens : OnlyOpens session opened
     pub after_is : after ≡ (fed opened piece moment).session
     pub heard : HasHeardAll peer (fed opened piece moment).events olds counts news later
 
   -- It stopped at one of its events, or memory ran out before any was heard.
-  abbrev pub StopsInPiece : Identity → View → List (PeerFolder W) → ReaderCounts → List ℕ → ℕ → ReaderStop → List (PeerFolder W) → ReaderCounts → Type 0
+  abbrev pub StopsInPiece : Identity → View → List (ReaderFolder W) → ReaderCounts → List ℕ → ℕ → ReaderStop → List (ReaderFolder W) → ReaderCounts → Type 0
   StopsInPiece peer session olds counts piece moment why news later =
       ((opened : View) × OnlyOpens session opened × StopsIn peer (fed opened piece moment).events olds counts why news later)
       ⊎ ((why ≡ stop.OutOfMemory) × (news ≡ olds) × (later ≡ counts))
 
   -- Pieces were read, between which ids were opened; the events of them all were heard. After them these bytes were taken.
-  pub record ReadsAll (peer : Identity) (given left : Option (List ℕ)) (lost : List ℕ) (olds : List (PeerFolder W)) (news : List (PeerFolder W)) (counts : ReaderCounts) : Type 0 where
+  pub record ReadsAll (peer : Identity) (given left : Option (List ℕ)) (lost : List ℕ) (olds : List (ReaderFolder W)) (news : List (ReaderFolder W)) (counts : ReaderCounts) : Type 0 where
     pub moment : ℕ
     pub acts : List Act
     pub taken : Consumes given left (fed_of acts ++ lost)
     pub heard : HasHeardAll peer (run (begun moment) acts).events olds no_counts news counts
 
-  pub record ReadsUpTo (peer : Identity) (given left : Option (List ℕ)) (olds : List (PeerFolder W)) (why : ReaderStop) (news : List (PeerFolder W)) (counts : ReaderCounts) : Type 0 where
+  pub record ReadsUpTo (peer : Identity) (given left : Option (List ℕ)) (olds : List (ReaderFolder W)) (why : ReaderStop) (news : List (ReaderFolder W)) (counts : ReaderCounts) : Type 0 where
     pub moment : ℕ
     pub acts : List Act
     pub taken : Consumes given left (fed_of acts)
@@ -102,7 +102,7 @@ module _ {W F : Type 0} (view : W → CallerView) (folder : W → F) where
 
   -- How a reader ends: where all that it read was heard; at a Close, a fault or a refused change; or out of memory, which may lose
   -- the last piece.
-  abbrev pub ReadsTo : Identity → Option (List ℕ) → Option (List ℕ) → List (PeerFolder W) → ReaderStop → List (PeerFolder W) → ReaderCounts → Type 0
+  abbrev pub ReadsTo : Identity → Option (List ℕ) → Option (List ℕ) → List (ReaderFolder W) → ReaderStop → List (ReaderFolder W) → ReaderCounts → Type 0
   ReadsTo peer given left olds stop.InputEnded news counts = ReadsAll peer given left [] olds news counts × IsAtEnd left
   ReadsTo peer given left olds (stop.Read kind) news counts = ReadsAll peer given left [] olds news counts × (is_for_now kind ≡ false)
   ReadsTo peer given left olds stop.TimedOut news counts = ReadsAll peer given left [] olds news counts

@@ -7,7 +7,7 @@ use sync_record::DeviceId;
 
 /// A folder that is shared with the peer.
 #[derive(Drop)]
-pub struct PeerFolder<W> {
+pub struct ReaderFolder<W> {
     /// The folder's id.
     pub id: Text,
     /// The number of the peer's index of which the folder has records, or 0 for none.
@@ -20,13 +20,13 @@ pub struct PeerFolder<W> {
 
 /// Whether the peer is another device than this one, by each folder, as [`run_reader`](crate::run_reader) requires. Does not
 /// allocate. O(n) for n folders.
-pub fn are_apart<W: FolderCalls>(folders: &[PeerFolder<W>], peer: DeviceId) -> bool
+pub fn are_apart<W: FolderCalls>(folders: &[ReaderFolder<W>], peer: DeviceId) -> bool
     ensures { IsTrue result ↔ All (IsApart W.view peer) folders.now }
 {
     folders.iter().all(|folder| is_apart(folder, peer))
 }
 
-fn is_apart<W: FolderCalls>(folder: &PeerFolder<W>, peer: DeviceId) -> bool
+fn is_apart<W: FolderCalls>(folder: &ReaderFolder<W>, peer: DeviceId) -> bool
     ensures { IsTrue result ↔ IsApart W.view peer folder.now }
 {
     folder.calls.me() != peer

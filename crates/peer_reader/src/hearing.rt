@@ -8,7 +8,7 @@ ghost use Rattle.peer_reader.specs.Effects.{asked_effect, count_index, full_of, 
 ghost use Rattle.peer_reader.specs.Hears.{AsksOne, HasHeard, IsApart, Stops, StopsOne, counted_forget, forget_asked, forget_due, heard_of, passed_of};
 
 use crate::counts::ReaderCounts;
-use crate::folder::PeerFolder;
+use crate::folder::ReaderFolder;
 use crate::records::keep;
 use crate::stop::ReaderStop;
 use bep_messages::{ClusterConfig, FileInfo, Index, IndexUpdate, Items, Request, Response, Text};
@@ -51,7 +51,7 @@ pub fn hear<W: FolderCalls, G: Gate>(
     alloc: Global,
     gate: &G,
     peer: DeviceId,
-    folders: &mut [PeerFolder<W>],
+    folders: &mut [ReaderFolder<W>],
     counts: &mut ReaderCounts,
     event: Event,
 ) -> Result<Passed, ReaderStop>
@@ -83,7 +83,7 @@ fn hear_index<W: FolderCalls, G: Gate>(
     alloc: Global,
     gate: &G,
     peer: DeviceId,
-    folders: &mut [PeerFolder<W>],
+    folders: &mut [ReaderFolder<W>],
     counts: &mut ReaderCounts,
     index: Index,
 ) -> Result<Passed, ReaderStop>
@@ -109,7 +109,7 @@ fn hear_update<W: FolderCalls, G: Gate>(
     alloc: Global,
     gate: &G,
     peer: DeviceId,
-    folders: &mut [PeerFolder<W>],
+    folders: &mut [ReaderFolder<W>],
     counts: &mut ReaderCounts,
     update: IndexUpdate,
 ) -> Result<Passed, ReaderStop>
@@ -131,7 +131,11 @@ fn hear_update<W: FolderCalls, G: Gate>(
 }
 
 // What a Request gives to the server.
-fn hear_request<W>(folders: &[PeerFolder<W>], counts: &mut ReaderCounts, request: Request) -> Passed
+fn hear_request<W>(
+    folders: &[ReaderFolder<W>],
+    counts: &mut ReaderCounts,
+    request: Request,
+) -> Passed
     ensures given { result ≡ passed_of (map heard_of folders.now) (AskedEvent request) }
     ensures counted { counts.new ≡ (asked_effect (map heard_of folders.now)
         (place_of request.folder (map heard_of folders.now))).count counts.old }
@@ -146,7 +150,7 @@ fn hear_request<W>(folders: &[PeerFolder<W>], counts: &mut ReaderCounts, request
 }
 
 // The place of the first folder with this id that the peer's last ClusterConfig has. O(n).
-fn place_of<W>(folders: &[PeerFolder<W>], id: &str) -> Option<usize>
+fn place_of<W>(folders: &[ReaderFolder<W>], id: &str) -> Option<usize>
     ensures { result ≡ position (λ f. is_shared_as id.now (heard_of f)) folders.now }
 {
     folders
@@ -158,7 +162,7 @@ fn place_of<W>(folders: &[PeerFolder<W>], id: &str) -> Option<usize>
 fn hear_config<W: FolderCalls, G: Gate>(
     gate: &G,
     peer: DeviceId,
-    folders: &mut [PeerFolder<W>],
+    folders: &mut [ReaderFolder<W>],
     counts: &mut ReaderCounts,
     config: &ClusterConfig,
 ) -> Result<(), ReaderStop>
@@ -179,7 +183,7 @@ fn hear_config<W: FolderCalls, G: Gate>(
 fn hear_config_of<W: FolderCalls, G: Gate>(
     gate: &G,
     peer: DeviceId,
-    folder: &mut PeerFolder<W>,
+    folder: &mut ReaderFolder<W>,
     counts: &mut ReaderCounts,
     config: &ClusterConfig,
 ) -> Result<(), ReaderStop>
@@ -221,7 +225,7 @@ fn is_new_index(index_id: u64, kept: u64) -> bool
 fn forget_if<W: FolderCalls, G: Gate>(
     gate: &G,
     peer: DeviceId,
-    folder: &mut PeerFolder<W>,
+    folder: &mut ReaderFolder<W>,
     counts: &mut ReaderCounts,
     is_due: bool,
 ) -> Result<(), ReaderStop>
@@ -257,7 +261,7 @@ fn is_told_in(config: &ClusterConfig, id: &str) -> bool
 fn forget<W: FolderCalls, G: Gate>(
     gate: &G,
     peer: DeviceId,
-    folder: &mut PeerFolder<W>,
+    folder: &mut ReaderFolder<W>,
 ) -> Result<(), ReaderStop>
     requires { IsApart W.view peer folder.old }
     ensures heard { heard_of folder.new ≡ heard_of folder.old }
@@ -277,7 +281,7 @@ fn hear_full<W: FolderCalls, G: Gate>(
     alloc: Global,
     gate: &G,
     peer: DeviceId,
-    folder: &mut PeerFolder<W>,
+    folder: &mut ReaderFolder<W>,
     counts: &mut ReaderCounts,
     files: Items<FileInfo>,
 ) -> Result<(), ReaderStop>
@@ -306,7 +310,7 @@ fn hear_more<W: FolderCalls, G: Gate>(
     alloc: Global,
     gate: &G,
     peer: DeviceId,
-    folder: &mut PeerFolder<W>,
+    folder: &mut ReaderFolder<W>,
     counts: &mut ReaderCounts,
     files: Items<FileInfo>,
 ) -> Result<(), ReaderStop>

@@ -5,7 +5,7 @@ ghost use Rattle.bep_session.specs.Sessions.{begun};
 ghost use Rattle.peer_reader.specs.declared.counts.ReaderCounts.{ReaderCounts};
 ghost use Rattle.peer_reader.specs.Effects.{Heard};
 ghost use Rattle.peer_reader.specs.Hears.{AddsEach, AskedOf, AsksEach};
-ghost use Rattle.peer_reader.specs.declared.folder.PeerFolder.{PeerFolder};
+ghost use Rattle.peer_reader.specs.declared.folder.ReaderFolder.{ReaderFolder};
 ghost use Rattle.peer_reader.specs.Reading.{after_events, fed_of};
 ghost use Rattle.peer_reader.specs.Streams.{stream_effect};
 ghost use Rattle.sync_record.specs.Devices.{Identity};
@@ -32,7 +32,7 @@ pub fn changes_are_those_of_the_stream()
 /// Where folders are asked for changes, the entries of their callers grow by just those of the accepted ones, in their order: over a
 /// shared folder those of the pass that a reader has.
 pub fn what_is_asked_is_added<W: FolderCalls>()
-    ensures { (k : ℕ) (asked : List AskedOf) (olds news : List (PeerFolder W)) →
+    ensures { (k : ℕ) (asked : List AskedOf) (olds news : List (ReaderFolder W)) →
         AsksEach W.view W.folder k asked olds news → AddsEach W.view W.folder k asked olds news }
 {
     changes_are_asked_in_order();

@@ -15,7 +15,7 @@ mod records;
 mod stop;
 
 pub use counts::ReaderCounts;
-pub use folder::{PeerFolder, are_apart};
+pub use folder::{ReaderFolder, are_apart};
 pub use hearing::{Passed, hear};
 pub use inbox::Inbox;
 pub use input::{PeerStream, ReaderClock};

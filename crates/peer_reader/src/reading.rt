@@ -5,7 +5,7 @@ ghost use Rattle.peer_reader.specs.Hears.{IsApart};
 ghost use Rattle.peer_reader.specs.Reading.{HasFailed, HasHeardAll, HearsPiece, IsOfEvents, OnlyOpens, ReadsTo, StopsIn, StopsInPiece, TimesOut, is_for_now};
 
 use crate::counts::ReaderCounts;
-use crate::folder::PeerFolder;
+use crate::folder::ReaderFolder;
 use crate::hearing::hear;
 use crate::inbox::Inbox;
 use crate::input::{PeerStream, ReaderClock};
@@ -46,7 +46,7 @@ pub fn run_reader<R: Wait + ReaderClock, I: PeerStream, W: FolderCalls, G: Gate,
     alloc: Global,
     reader: &mut I,
     peer: DeviceId,
-    folders: &mut [PeerFolder<W>],
+    folders: &mut [ReaderFolder<W>],
     gate: &G,
     inbox: &mut B,
 ) -> ReaderEnd
@@ -70,7 +70,7 @@ fn read_all<R: Wait + ReaderClock, I: PeerStream, W: FolderCalls, G: Gate, B: In
     alloc: Global,
     reader: &mut I,
     peer: DeviceId,
-    folders: &mut [PeerFolder<W>],
+    folders: &mut [ReaderFolder<W>],
     gate: &G,
     inbox: &mut B,
     counts: &mut ReaderCounts,
@@ -144,7 +144,7 @@ fn hear_piece<W: FolderCalls, G: Gate, B: Inbox>(
     alloc: Global,
     session: &mut Session,
     peer: DeviceId,
-    folders: &mut [PeerFolder<W>],
+    folders: &mut [ReaderFolder<W>],
     gate: &G,
     inbox: &mut B,
     counts: &mut ReaderCounts,
@@ -179,7 +179,7 @@ fn open_asks<B: Inbox>(session: &mut Session, inbox: &mut B) -> Result<(), Alloc
 fn hear_all<W: FolderCalls, G: Gate, B: Inbox>(
     alloc: Global,
     peer: DeviceId,
-    folders: &mut [PeerFolder<W>],
+    folders: &mut [ReaderFolder<W>],
     gate: &G,
     inbox: &mut B,
     counts: &mut ReaderCounts,

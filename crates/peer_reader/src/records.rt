@@ -10,14 +10,14 @@ use sync_record::Record;
 
 /// Records whose names are safe, and how many were skipped.
 #[derive(Drop)]
-pub(crate) struct Kept {
+pub(crate) struct SafeRecords {
     pub(crate) records: Items<Record>,
     pub(crate) skipped: u64,
 }
 
 /// The records whose names are safe, in order; the others are counted. Fails only if out of memory. O(n) for n records and what they
 /// hold, which is moved.
-pub(crate) fn keep(alloc: Global, files: Items<FileInfo>) -> Result<Kept, AllocError>
+pub(crate) fn keep(alloc: Global, files: Items<FileInfo>) -> Result<SafeRecords, AllocError>
     ensures records { IfOk result (λ kept. kept.records ≡ kept_records files) }
     ensures skipped { IfOk result (λ kept. kept.skipped ≡ skipped_count files) }
 {
@@ -34,7 +34,7 @@ pub(crate) fn keep(alloc: Global, files: Items<FileInfo>) -> Result<Kept, AllocE
         }
     }
     let skipped = count - records.len();
-    Ok(Kept {
+    Ok(SafeRecords {
         records: Items::from_vec(records),
         skipped: skipped as u64,
     })

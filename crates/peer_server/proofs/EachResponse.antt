@@ -13,7 +13,7 @@ use Rattle.block_server.specs.declared.code.Code.TheVariants.{NoSuchFile}
 use Rattle.peer_server.specs.Answered.{Answers, Responds, Stays}
 use Rattle.peer_server.specs.Served.{AnswersEach, IsAnswerOf}
 use Rattle.peer_server.specs.declared.request.PeerRequest.{PeerRequest}
-use Rattle.peer_server.specs.declared.request.ServedFolder.{ServedFolder}
+use Rattle.peer_server.specs.declared.request.ServerFolder.{ServerFolder}
 use Rattle.peer_server.proofs.Serving.{sees-together, stays-answer, stays-each, stays-on}
 
 module _ {A : Type 0} where
@@ -36,27 +36,27 @@ module _ {A : Type 0} where
   zip-get R (a ∷ rest) (b ∷ bs) (suc i) x y h e f = zip-get R rest bs i x y h.1 e f
 
 module _ {S W F : Type 0} (keeps : Bool) (tree : S → Tree) (folder : W → F) (view : W → CallerView) (faults : S → ℕ) (gives : S → (call : Call) → Result (Value call) StoreRefusal → S → Type 0) where
-  abbrev Each : List (ServedFolder S W) → List (PeerRequest × Response) → List (ServedFolder S W) → Type 0
+  abbrev Each : List (ServerFolder S W) → List (PeerRequest × Response) → List (ServerFolder S W) → Type 0
   Each = AnswersEach keeps tree folder view faults gives
 
-  abbrev Kept : ServedFolder S W → ServedFolder S W → Type 0
+  abbrev Kept : ServerFolder S W → ServerFolder S W → Type 0
   Kept = Stays keeps tree folder view
 
-  record Between (old : List (ServedFolder S W)) (asked : PeerRequest) (response : Response) (new : List (ServedFolder S W)) : Type 0 where
-    first : List (ServedFolder S W)
-    then : List (ServedFolder S W)
+  record Between (old : List (ServerFolder S W)) (asked : PeerRequest) (response : Response) (new : List (ServerFolder S W)) : Type 0 where
+    first : List (ServerFolder S W)
+    then : List (ServerFolder S W)
     until : AllZip Kept old first
     answers : Answers keeps tree folder view faults gives first asked response then
     since : AllZip Kept then new
 
-  between : (old new : List (ServedFolder S W)) (front back : List (PeerRequest × Response)) (asked : PeerRequest) (response : Response) → Each old (front ++ (asked, response) ∷ back) new → Between old asked response new
+  between : (old new : List (ServerFolder S W)) (front back : List (PeerRequest × Response)) (asked : PeerRequest) (response : Response) → Each old (front ++ (asked, response) ∷ back) new → Between old asked response new
   between old new front back asked response h = by front old old (stays-each keeps tree folder view faults gives old [] old refl) h
     where
-      by : (front : List (PeerRequest × Response)) (start old : List (ServedFolder S W)) → AllZip Kept start old → Each old (front ++ (asked, response) ∷ back) new → Between start asked response new
+      by : (front : List (PeerRequest × Response)) (start old : List (ServerFolder S W)) → AllZip Kept start old → Each old (front ++ (asked, response) ∷ back) new → Between start asked response new
       by [] start old kept h = record { first = old; then = h.0; until = kept; answers = h.1; since = stays-each keeps tree folder view faults gives h.0 back new h.2 }
       by (x ∷ xs) start old kept h = by xs start h.0 (stays-on keeps tree folder view start old h.0 kept (stays-answer keeps tree folder view faults gives old x.0 x.1 h.0 h.1)) h.2
 
-  of-folder : (a before after b : ServedFolder S W) (asked : PeerRequest) (response : Response) → Kept a before → Responds keeps tree folder view faults gives asked.request response before after → Kept after b
+  of-folder : (a before after b : ServerFolder S W) (asked : PeerRequest) (response : Response) → Kept a before → Responds keeps tree folder view faults gives asked.request response before after → Kept after b
       → IsAnswerOf keeps tree folder view faults gives a b asked.request response
   of-folder a before after b asked response first answer last = record {
     point = view after.calls;
@@ -74,7 +74,7 @@ module _ {S W F : Type 0} (keeps : Bool) (tree : S → Tree) (folder : W → F) 
     };
   }
 
-  pub at-its-folder : (old new : List (ServedFolder S W)) (front back : List (PeerRequest × Response)) (asked : PeerRequest) (response : Response) (place : ℕ) (a b : ServedFolder S W)
+  pub at-its-folder : (old new : List (ServerFolder S W)) (front back : List (PeerRequest × Response)) (asked : PeerRequest) (response : Response) (place : ℕ) (a b : ServerFolder S W)
       → Each old (front ++ (asked, response) ∷ back) new → asked.folder ≡ Some place → slice_get old place ≡ Some a → slice_get new place ≡ Some b
       → IsAnswerOf keeps tree folder view faults gives a b asked.request response
   at-its-folder old new front back asked response place a b h asks start end = let m = between old new front back asked response h in by m m.answers
@@ -90,7 +90,7 @@ module _ {S W F : Type 0} (keeps : Bool) (tree : S → Tree) (folder : W → F) 
           (zip-get Kept m.then new (length g.front) g.after b m.since last (subst (λ i. slice_get new i ≡ Some b) same end))
       by m (inr g) = let less = g.none place asks in let long = length_all_zip Kept old m.first m.until in absurd (within old place a start (omega arith))
 
-  pub at-no-folder : (old new : List (ServedFolder S W)) (front back : List (PeerRequest × Response)) (asked : PeerRequest) (response : Response)
+  pub at-no-folder : (old new : List (ServerFolder S W)) (front back : List (PeerRequest × Response)) (asked : PeerRequest) (response : Response)
       → Each old (front ++ (asked, response) ∷ back) new → ((place : ℕ) → asked.folder ≡ Some place → length old ≤ place) → response ≡ answers_code asked.request NoSuchFile
   at-no-folder old new front back asked response h none = let m = between old new front back asked response h in by m m.answers
     where

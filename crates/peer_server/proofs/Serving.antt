@@ -18,7 +18,7 @@ use Rattle.peer_conn.proofs.Coming.{come-more}
 use Rattle.peer_server.specs.Answered.{Answers, OneGoesOn, Responds, RunsOut, Stays}
 use Rattle.peer_server.specs.Served.{AnswersEach, HasServed, Leaves, PutsAnswer, ServesPeer, asked_of, message_of}
 use Rattle.peer_server.specs.declared.request.PeerRequest.{PeerRequest}
-use Rattle.peer_server.specs.declared.request.ServedFolder.{ServedFolder}
+use Rattle.peer_server.specs.declared.request.ServerFolder.{ServerFolder}
 use Rattle.peer_server.specs.declared.server.ServerEnd.{ServerEnd}
 use Rattle.peer_server.specs.declared.server.ServerEnd.TheVariants.{Closed, Gone, OutOfMemory}
 
@@ -76,7 +76,7 @@ module _ {A : Type 0} where
 
 -- ---- one request
 
-one-at : {S W : Type 0} (goes : ServedFolder S W → ServedFolder S W → Type 0) (old : List (ServedFolder S W)) (asked : PeerRequest) (place : ℕ) (d after : ServedFolder S W)
+one-at : {S W : Type 0} (goes : ServerFolder S W → ServerFolder S W → Type 0) (old : List (ServerFolder S W)) (asked : PeerRequest) (place : ℕ) (d after : ServerFolder S W)
     → place < length old → asked.folder ≡ Some place → goes (get_or old place d) after → OneGoesOn goes old asked (set old place after)
 one-at goes old asked place d after lt asks h =
     let parts = divides old place d lt in
@@ -92,34 +92,34 @@ one-at goes old asked place d after lt asks h =
     }
 
 module _ {S W F : Type 0} (keeps : Bool) (tree : S → Tree) (folder : W → F) (view : W → CallerView) where
-  abbrev Kept : ServedFolder S W → ServedFolder S W → Type 0
+  abbrev Kept : ServerFolder S W → ServerFolder S W → Type 0
   Kept = Stays keeps tree folder view
 
-  stays-itself : (f : ServedFolder S W) → Kept f f
+  stays-itself : (f : ServerFolder S W) → Kept f f
   stays-itself f = record { folder_is = refl; sees = sees-itself (view f.calls); kept = λ k. refl }
 
-  stays-together : (a b c : ServedFolder S W) → Kept a b → Kept b c → Kept a c
+  stays-together : (a b c : ServerFolder S W) → Kept a b → Kept b c → Kept a c
   stays-together a b c x y = record {
     folder_is = y.folder_is ∙ x.folder_is;
     sees = sees-together (view a.calls) (view b.calls) (view c.calls) x.sees y.sees;
     kept = λ k. y.kept k ∙ x.kept k;
   }
 
-  stays-one : (goes : ServedFolder S W → ServedFolder S W → Type 0) → ((x y : ServedFolder S W) → goes x y → Kept x y)
-      → (old : List (ServedFolder S W)) (asked : PeerRequest) (new : List (ServedFolder S W)) → OneGoesOn goes old asked new → AllZip Kept old new
+  stays-one : (goes : ServerFolder S W → ServerFolder S W → Type 0) → ((x y : ServerFolder S W) → goes x y → Kept x y)
+      → (old : List (ServerFolder S W)) (asked : PeerRequest) (new : List (ServerFolder S W)) → OneGoesOn goes old asked new → AllZip Kept old new
   stays-one goes keep old asked new h =
       subst (λ l. AllZip Kept l new) (sym h.old_is)
       (subst (λ l. AllZip Kept (h.front ++ h.before ∷ h.back) l) (sym h.new_is)
       (all-but-one Kept stays-itself h.front h.back h.before h.after (keep h.before h.after h.goes_on)))
 
-  stays-all : (l m : List (ServedFolder S W)) → m ≡ l → AllZip Kept l m
+  stays-all : (l m : List (ServerFolder S W)) → m ≡ l → AllZip Kept l m
   stays-all l m e = subst (λ n. AllZip Kept l n) (sym e) (all-refl Kept stays-itself l)
 
-  pub stays-on : (a b c : List (ServedFolder S W)) → AllZip Kept a b → AllZip Kept b c → AllZip Kept a c
+  pub stays-on : (a b c : List (ServerFolder S W)) → AllZip Kept a b → AllZip Kept b c → AllZip Kept a c
   stays-on = all-trans Kept stays-together
 
   module _ (faults : S → ℕ) (gives : S → (call : Call) → Result (Value call) StoreRefusal → S → Type 0) where
-    module _ {E : Type 0} (old : List (ServedFolder S W)) (asked : PeerRequest) (place : ℕ) (d after : ServedFolder S W) (lt : place < length old) (asks : asked.folder ≡ Some place) where
+    module _ {E : Type 0} (old : List (ServerFolder S W)) (asked : PeerRequest) (place : ℕ) (d after : ServerFolder S W) (lt : place < length old) (asks : asked.folder ≡ Some place) where
       pub answers-at : (r : Result Response E) → IfOk r (λ response. Responds keeps tree folder view faults gives asked.request response (get_or old place d) after) → IfOk r (λ response. Answers keeps tree folder view faults gives old asked response (set old place after))
       answers-at (Ok x) h = inl (one-at (Responds keeps tree folder view faults gives asked.request x) old asked place d after lt asks h)
       answers-at (Err e) h = tt
@@ -130,39 +130,39 @@ module _ {S W F : Type 0} (keeps : Bool) (tree : S → Tree) (folder : W → F) 
 
     -- ---- all requests
 
-    abbrev Answer : List (ServedFolder S W) → PeerRequest → Response → List (ServedFolder S W) → Type 0
+    abbrev Answer : List (ServerFolder S W) → PeerRequest → Response → List (ServerFolder S W) → Type 0
     Answer = Answers keeps tree folder view faults gives
 
-    pub stays-answer : (old : List (ServedFolder S W)) (asked : PeerRequest) (response : Response) (new : List (ServedFolder S W)) → Answer old asked response new → AllZip Kept old new
+    pub stays-answer : (old : List (ServerFolder S W)) (asked : PeerRequest) (response : Response) (new : List (ServerFolder S W)) → Answer old asked response new → AllZip Kept old new
     stays-answer old asked response new (inl h) = stays-one (Responds keeps tree folder view faults gives asked.request response) (λ x y g. g.stays) old asked new h
     stays-answer old asked response new (inr h) = stays-all old new h.same
 
-    pub stays-each : (old : List (ServedFolder S W)) (served : List (PeerRequest × Response)) (new : List (ServedFolder S W)) → AnswersEach keeps tree folder view faults gives old served new → AllZip Kept old new
+    pub stays-each : (old : List (ServerFolder S W)) (served : List (PeerRequest × Response)) (new : List (ServerFolder S W)) → AnswersEach keeps tree folder view faults gives old served new → AllZip Kept old new
     stays-each old [] new h = stays-all old new h
     stays-each old (x ∷ xs) new h = stays-on old h.0 new (stays-answer old x.0 x.1 h.0 h.1) (stays-each h.0 xs new h.2)
 
     module _ {Q : Type 0} (comes : Q → Option PeerRequest → Q → Type 0) where
-      stays-left : (from to : Q) (end : ServerEnd) (old new : List (ServedFolder S W)) → Leaves keeps tree folder view faults gives comes from to end old new → AllZip Kept old new
+      stays-left : (from to : Q) (end : ServerEnd) (old new : List (ServerFolder S W)) → Leaves keeps tree folder view faults gives comes from to end old new → AllZip Kept old new
       stays-left from to Closed old new h = stays-all old new h.1
       stays-left from to Gone old new h = stays-answer old h.0 h.2.0 new h.2.1
       stays-left from to OutOfMemory old new h = stays-one (RunsOut keeps tree folder view faults h.0.request) (λ x y g. g.stays) old h.0 new h.2
 
       -- whatever a server did, each folder stays
-      pub stays-served : (from to : Q) (old : List (ServedFolder S W)) (before after : List Message) (end : ServerEnd) (new : List (ServedFolder S W))
+      pub stays-served : (from to : Q) (old : List (ServerFolder S W)) (before after : List Message) (end : ServerEnd) (new : List (ServerFolder S W))
           → ServesPeer keeps tree folder view faults gives comes from to old before after end new → AllZip Kept old new
       stays-served from to old before after end new h =
           stays-on old h.point new (stays-each old h.has_served.served h.point h.has_served.answered) (stays-left h.source to end h.point new h.leaves)
 
-    each-more : (old : List (ServedFolder S W)) (served : List (PeerRequest × Response)) (point : List (ServedFolder S W)) (asked : PeerRequest) (response : Response) (new : List (ServedFolder S W))
+    each-more : (old : List (ServerFolder S W)) (served : List (PeerRequest × Response)) (point : List (ServerFolder S W)) (asked : PeerRequest) (response : Response) (new : List (ServerFolder S W))
         → AnswersEach keeps tree folder view faults gives old served point → Answer point asked response new → AnswersEach keeps tree folder view faults gives old (served ++ (asked, response) ∷ []) new
     each-more old [] point asked response new h a = (new, subst (λ l. Answer l asked response new) h a, refl)
     each-more old (x ∷ xs) point asked response new h a = (h.0, h.1, each-more h.0 xs point asked response new h.2 a)
 
     module _ {Q : Type 0} (comes : Q → Option PeerRequest → Q → Type 0) where
-      pub none-served : (from : Q) (old : List (ServedFolder S W)) (before : List Message) → HasServed keeps tree folder view faults gives comes from from old before before old
+      pub none-served : (from : Q) (old : List (ServerFolder S W)) (before : List Message) → HasServed keeps tree folder view faults gives comes from from old before before old
       none-served from old before = record { served = []; came = refl; put = sym (append-nil before); answered = refl }
 
-      pub one-more : (from source to : Q) (old : List (ServedFolder S W)) (before then after : List Message) (point new : List (ServedFolder S W))
+      pub one-more : (from source to : Q) (old : List (ServerFolder S W)) (before then after : List Message) (point new : List (ServerFolder S W))
           → HasServed keeps tree folder view faults gives comes from source old before then point
           → (asked : PeerRequest) × comes source (Some asked) to × PutsAnswer keeps tree folder view faults gives asked point then after new
           → HasServed keeps tree folder view faults gives comes from to old before after new

@@ -4,7 +4,7 @@ ghost use Rattle.block_server.specs.Served.{answers_code};
 ghost use Rattle.block_server.specs.declared.code.Code.TheVariants.{NoSuchFile};
 ghost use Rattle.peer_server.specs.Answered.{Answers, OneGoesOn, Responds, RunsOut};
 
-use crate::request::{PeerRequest, ServedFolder};
+use crate::request::{PeerRequest, ServerFolder};
 use bep_messages::{Octets, Request, Response};
 use block_server::{Code, answer};
 use file_store::{FileStore, Gate};
@@ -14,7 +14,7 @@ use std::alloc::{AllocError, Global};
 /// The Response to a Request: that of the folder at the place that is asked for, or code 2 and no bytes where no folder is there.
 pub(crate) fn respond<S: FileStore, W: FolderCalls, G: Gate>(
     alloc: Global,
-    folders: &mut [ServedFolder<S, W>],
+    folders: &mut [ServerFolder<S, W>],
     gate: &G,
     asked: &PeerRequest,
 ) -> Result<Response, AllocError>
@@ -34,7 +34,7 @@ pub(crate) fn respond<S: FileStore, W: FolderCalls, G: Gate>(
 // The Response to a Request of this folder.
 fn serve_one<S: FileStore, W: FolderCalls, G: Gate>(
     alloc: Global,
-    folder: &mut ServedFolder<S, W>,
+    folder: &mut ServerFolder<S, W>,
     gate: &G,
     request: &Request,
 ) -> Result<Response, AllocError>
@@ -43,7 +43,7 @@ fn serve_one<S: FileStore, W: FolderCalls, G: Gate>(
     ensures out_of_memory { IfErr result (λ _. RunsOut S.keeps S.tree W.folder W.view S.fault_count
         request.now folder.old folder.new) }
 {
-    let ServedFolder { store, calls } = folder;
+    let ServerFolder { store, calls } = folder;
     answer(alloc, store, calls, gate, request)
 }
 

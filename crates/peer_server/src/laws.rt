@@ -6,7 +6,7 @@ ghost use Rattle.block_server.specs.Served.{answers_code};
 ghost use Rattle.block_server.specs.declared.code.Code.TheVariants.{NoSuchFile};
 ghost use Rattle.peer_server.specs.Served.{AnswersEach, IsAnswerOf};
 ghost use Rattle.peer_server.specs.declared.request.PeerRequest.{PeerRequest};
-ghost use Rattle.peer_server.specs.declared.request.ServedFolder.{ServedFolder};
+ghost use Rattle.peer_server.specs.declared.request.ServerFolder.{ServerFolder};
 
 use file_store::FileStore;
 use folder_calls::FolderCalls;
@@ -14,15 +14,15 @@ use folder_calls::FolderCalls;
 /// Of requests that were answered one after the other, each response is the right one for its request: where a folder is at the place
 /// that was asked for, that of this folder, between what it was at the start and what it came to at the end; else code 2.
 pub fn each_response_is_of_its_folder<S: FileStore, W: FolderCalls>()
-    ensures shared { (old new : List (ServedFolder S W)) (front back : List (PeerRequest × Response))
-        (asked : PeerRequest) (response : Response) (place : ℕ) (start end : ServedFolder S W) →
+    ensures shared { (old new : List (ServerFolder S W)) (front back : List (PeerRequest × Response))
+        (asked : PeerRequest) (response : Response) (place : ℕ) (start end : ServerFolder S W) →
         AnswersEach S.keeps S.tree W.folder W.view S.fault_count S.gives old
         (front ++ (asked, response) ∷ back) new →
         asked.folder ≡ Some place → slice_get old place ≡ Some start →
         slice_get new place ≡ Some end →
         IsAnswerOf S.keeps S.tree W.folder W.view S.fault_count S.gives start end asked.request
         response }
-    ensures not_shared { (old new : List (ServedFolder S W))
+    ensures not_shared { (old new : List (ServerFolder S W))
         (front back : List (PeerRequest × Response)) (asked : PeerRequest) (response : Response) →
         AnswersEach S.keeps S.tree W.folder W.view S.fault_count S.gives old
         (front ++ (asked, response) ∷ back) new →

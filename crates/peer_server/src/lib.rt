@@ -9,5 +9,5 @@ pub mod laws;
 mod request;
 mod server;
 
-pub use request::{PeerRequest, ServedFolder};
+pub use request::{PeerRequest, ServerFolder};
 pub use server::{ServerEnd, run_server};

@@ -13,7 +13,7 @@ pub struct PeerRequest {
 
 /// A folder that is shared with the peer, as the server reads it.
 #[derive(Drop)]
-pub struct ServedFolder<S, W> {
+pub struct ServerFolder<S, W> {
     /// Its files.
     pub store: S,
     /// Its records.

@@ -7,7 +7,7 @@ ghost use Rattle.peer_server.specs.Answered.{Stays};
 ghost use Rattle.peer_server.specs.declared.request.PeerRequest.{PeerRequest};
 
 use crate::answering::respond;
-use crate::request::{PeerRequest, ServedFolder};
+use crate::request::{PeerRequest, ServerFolder};
 use bep_frames::Message;
 use file_store::{FileStore, Gate};
 use folder_calls::FolderCalls;
@@ -44,7 +44,7 @@ pub fn run_server<R: Wait, Q: Source<PeerRequest> + Drop, S: FileStore, W: Folde
     rt: &R,
     alloc: Global,
     requests: Q,
-    folders: &mut [ServedFolder<S, W>],
+    folders: &mut [ServerFolder<S, W>],
     gate: &G,
     seat: Seat<Message>,
 ) -> (Ended<Message>, ServerEnd)
@@ -64,7 +64,7 @@ fn serve_all<R: Wait, Q: Source<PeerRequest>, S: FileStore, W: FolderCalls, G: G
     rt: &R,
     alloc: Global,
     requests: &mut Q,
-    folders: &mut [ServedFolder<S, W>],
+    folders: &mut [ServerFolder<S, W>],
     gate: &G,
     seat: &mut Seat<Message>,
 ) -> ServerEnd
@@ -85,7 +85,7 @@ fn serve_next<R: Wait, Q: Source<PeerRequest>, S: FileStore, W: FolderCalls, G: 
     rt: &R,
     alloc: Global,
     requests: &mut Q,
-    folders: &mut [ServedFolder<S, W>],
+    folders: &mut [ServerFolder<S, W>],
     gate: &G,
     seat: &mut Seat<Message>,
 ) -> Result<(), ServerEnd>
@@ -107,7 +107,7 @@ fn serve_next<R: Wait, Q: Source<PeerRequest>, S: FileStore, W: FolderCalls, G: 
 fn serve_request<R: Wait, S: FileStore, W: FolderCalls, G: Gate>(
     rt: &R,
     alloc: Global,
-    folders: &mut [ServedFolder<S, W>],
+    folders: &mut [ServerFolder<S, W>],
     gate: &G,
     seat: &mut Seat<Message>,
     asked: &PeerRequest,

@@ -16,14 +16,14 @@ use crate::replace::{CopyPlan, replace};
 use crate::{PullAnswer, PullRefusal, Standing, standing_of};
 use file_store::{FileStore, Gate, GatePlace};
 use folder_calls::laws::tickets_are_those_that_were_asked_for;
-use folder_calls::{At, Commit, EnterAllocError, FolderCalls, Ticket};
+use folder_calls::{At, EnterAllocError, FolderCalls, PullCommit, PullTicket};
 use sync_names::SafeName;
 use sync_record::{Assembled, Record};
 
 // What a pull has got before its commit is entered: the target, whose bytes are in the temporary file if it is a file, and the
 // buffer for the check of the file that is replaced.
 #[derive(Drop)]
-pub(crate) struct Ready {
+pub(crate) struct Prepared {
     pub(crate) assembled: Assembled,
     pub(crate) room: Vec<u8>,
 }
@@ -50,8 +50,8 @@ pub(crate) fn commit_pull<S: FileStore, W: FolderCalls, G: Gate>(
     calls: &mut W,
     gate: &G,
     name: &SafeName,
-    ticket: Ticket,
-    ready: Ready,
+    ticket: PullTicket,
+    ready: Prepared,
     plan: &CopyPlan,
 ) -> PullAnswer
     requires assembled { ready.assembled ≡ ticket.target }
@@ -113,8 +113,8 @@ fn replace_and_finish<S: FileStore, W: FolderCalls, G: Gate>(
     calls: &mut W,
     gate: &G,
     name: &SafeName,
-    commit: Commit,
-    ready: Ready,
+    commit: PullCommit,
+    ready: Prepared,
     plan: &CopyPlan,
 ) -> PullAnswer
     requires assembled { ready.assembled ≡ commit.target }
@@ -148,7 +148,7 @@ fn replace_and_finish<S: FileStore, W: FolderCalls, G: Gate>(
     ensures checks { ChecksFirst S.gives name.now commit.base (IsOfPlace name.now (copy_of plan.now))
         (IfDone result ⊥) store.old store.new }
 {
-    let Ready {
+    let Prepared {
         assembled,
         mut room,
     } = ready;

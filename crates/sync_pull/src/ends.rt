@@ -6,7 +6,7 @@ ghost use Rattle.sync_pull.specs.Ends.{Closes, Finishes, IsRefused, stopped};
 use crate::answer::Stop;
 use crate::{PullAnswer, PullRefusal};
 use file_store::{Gate, GatePlace};
-use folder_calls::{Commit, EnterRefusal, FolderCalls, Ticket};
+use folder_calls::{EnterRefusal, FolderCalls, PullCommit, PullTicket};
 use sync_record::Assembled;
 
 // The answer of a pull that stops so.
@@ -23,7 +23,7 @@ pub(crate) fn answer_of(stop: Stop) -> PullAnswer
 pub(crate) fn give_up<W: FolderCalls, G: Gate>(
     calls: &mut W,
     gate: &G,
-    ticket: Ticket,
+    ticket: PullTicket,
     answer: PullAnswer,
 ) -> PullAnswer
     ensures folder { W.folder calls.new ≡ W.folder calls.old }
@@ -41,7 +41,7 @@ pub(crate) fn give_up<W: FolderCalls, G: Gate>(
 pub(crate) fn abort<W: FolderCalls, G: Gate>(
     calls: &mut W,
     gate: &G,
-    commit: Commit,
+    commit: PullCommit,
     answer: PullAnswer,
 ) -> PullAnswer
     ensures folder { W.folder calls.new ≡ W.folder calls.old }
@@ -59,7 +59,7 @@ pub(crate) fn abort<W: FolderCalls, G: Gate>(
 pub(crate) fn finish<W: FolderCalls, G: Gate>(
     calls: &mut W,
     gate: &G,
-    commit: Commit,
+    commit: PullCommit,
     assembled: Assembled,
 ) -> PullAnswer
     requires { assembled ≡ commit.target }

@@ -18,14 +18,14 @@ ghost use Rattle.sync_pull.specs.Sources.{HasNoSource};
 ghost use Rattle.sync_pull.specs.Standing.{HasRoom, IsReadyAs};
 
 use crate::answer::Stop;
-use crate::commit_pull::{Ready, commit_pull, drop_temp};
+use crate::commit_pull::{Prepared, commit_pull, drop_temp};
 use crate::ends::{answer_of, give_up};
 use crate::fetch::fetch_file;
 use crate::plan::plan_copy;
 use crate::replace::CopyPlan;
 use crate::{BlockSource, MaxConflicts, PullAnswer, PullRefusal, remove_old_copies, room_for};
 use file_store::{FileStore, Gate, GatePlace};
-use folder_calls::{At, BeginAnswer, FolderCalls, Ticket};
+use folder_calls::{At, BeginAnswer, FolderCalls, PullTicket};
 use std::alloc::Global;
 use std::thread::Threads;
 use sync_blocks::laws::tiling_is_tested;
@@ -88,10 +88,10 @@ fn prepare<S: FileStore, W: FolderCalls, B: BlockSource, G: Gate>(
     source: &mut B,
     gate: &G,
     name: &SafeName,
-    ticket: &Ticket,
+    ticket: &PullTicket,
     moment: Moment,
     max_conflicts: MaxConflicts,
-) -> Result<(Ready, CopyPlan), Stop>
+) -> Result<(Prepared, CopyPlan), Stop>
     requires others { (device : Identity) → device ≢ (W.view calls.old).opening.me → B.may_ask device }
     requires target { IsPullable ticket.now.target }
     ensures folder { W.folder calls.new ≡ W.folder calls.old }
@@ -114,7 +114,7 @@ fn prepare<S: FileStore, W: FolderCalls, B: BlockSource, G: Gate>(
     let plan = plan_copy(name, ticket.base(), ticket.target(), moment, max_conflicts)?;
     let room = room_for(alloc, ticket.base())?;
     let assembled = assemble(rt, alloc, store, calls, source, gate, name, ticket.target())?;
-    Ok((Ready { assembled, room }, plan))
+    Ok((Prepared { assembled, room }, plan))
 }
 
 // Removes older conflict copies after a pull that is done and made one.
@@ -145,7 +145,7 @@ fn pull_begun<S: FileStore, W: FolderCalls, B: BlockSource, G: Gate>(
     source: &mut B,
     gate: &G,
     name: &SafeName,
-    ticket: Ticket,
+    ticket: PullTicket,
     moment: Moment,
     max_conflicts: MaxConflicts,
 ) -> PullAnswer

@@ -3,7 +3,7 @@ ghost use Rattle.std.specs.Prelude.{◌≡◌, ◌↔◌, ◌≤◌, ◌<◌, �
 ghost use Rattle.folder_core.specs.Reads.{Query, Reads, Reply};
 ghost use Rattle.folder_core.specs.declared.answer.Answer.{Answer};
 ghost use Rattle.folder_core.specs.declared.change.Change.{Change};
-ghost use Rattle.folder_calls.specs.Journals.{Appends, end};
+ghost use Rattle.folder_calls.specs.RecordedFolders.{Appends, end};
 ghost use Rattle.folder_calls.specs.LoneStates.{ChangesAfterPlan, PlanGoesOn, ReadsAfterPlan, change_of};
 ghost use Rattle.folder_calls.specs.declared.at.At.{At};
 ghost use Rattle.folder_calls.specs.declared.lone_state.LoneState.{LoneState};

@@ -7,7 +7,7 @@ use Rattle.peer_reader.proofs.IndexLemmas.{change_stops, heard_alone, heard_chan
 use Rattle.peer_reader.specs.Counts.{one_unshared}
 use Rattle.peer_reader.specs.Effects.{count_index, full_of, index_effect, is_shared_as, place_of}
 use Rattle.peer_reader.specs.Hears.{heard_of, passed_over}
-use Rattle.peer_reader.specs.declared.folder.PeerFolder.{PeerFolder}
+use Rattle.peer_reader.specs.declared.folder.ReaderFolder.{ReaderFolder}
 use Rattle.peer_reader.specs.declared.hearing.Passed.TheVariants as passed
 use Rattle.peer_reader.proofs.hearing.hear_index.Goals as goal
 
@@ -26,7 +26,7 @@ returns-in-Ok-clause-heard g c =
     let m = c.args.index in
     let i = c.in-Some.place in
     let f = get_or olds i c.index-folders-place.result in
-    let found : position (λ (x : PeerFolder g.row.W.Denot). is_shared_as c.as_str.result.now (heard_of x)) olds ≡ Some i = sym c.place_of.ensures ∙ c.in-Some.is in
+    let found : position (λ (x : ReaderFolder g.row.W.Denot). is_shared_as c.as_str.result.now (heard_of x)) olds ≡ Some i = sym c.place_of.ensures ∙ c.in-Some.is in
     let within : i < length olds = (position-Some _ olds i c.index-folders-place.result found).0 in
     let placed : place_of m.folder (map heard_of olds) ≡ Some i
     = ap (λ (id : List ℕ). place_of id (map heard_of olds)) (sym c.as_str.ensures) ∙ sym (place_is c.as_str.result.now olds c.place_of.result c.place_of.ensures) ∙ c.in-Some.is in
@@ -41,7 +41,7 @@ returns-clause-stopped g c =
     let m = c.args.index in
     let i = c.in-Some.place in
     let f = get_or olds i c.index-folders-place.result in
-    let found : position (λ (x : PeerFolder g.row.W.Denot). is_shared_as c.as_str.result.now (heard_of x)) olds ≡ Some i = sym c.place_of.ensures ∙ c.in-Some.is in
+    let found : position (λ (x : ReaderFolder g.row.W.Denot). is_shared_as c.as_str.result.now (heard_of x)) olds ≡ Some i = sym c.place_of.ensures ∙ c.in-Some.is in
     let within : i < length olds = (position-Some _ olds i c.index-folders-place.result found).0 in
     let placed : place_of m.folder (map heard_of olds) ≡ Some i
     = ap (λ (id : List ℕ). place_of id (map heard_of olds)) (sym c.as_str.ensures) ∙ sym (place_is c.as_str.result.now olds c.place_of.result c.place_of.ensures) ∙ c.in-Some.is in

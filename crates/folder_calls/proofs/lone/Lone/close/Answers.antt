@@ -8,4 +8,4 @@ use Rattle.folder_calls.proofs.lone.Lone.close.Goals as goal
 pub returns-clause-closes : goal.returns-clause-closes
 returns-clause-closes g c =
     subst (λ (a : LoneState). Closes a.history.opening a.history.limit 2 (seen_by a ∷ []) (g.C.FolderCore.state c.into_core.result)) c.self.view_is
-    (subst (Closes c.self.inside.journal.opening c.self.inside.journal.limit 2 _) (sym c.into_core.ensures.core) (lone-closes _ c.self.invariant))
+    (subst (Closes c.self.inside.recorded.opening c.self.inside.recorded.limit 2 _) (sym c.into_core.ensures.core) (lone-closes _ c.self.invariant))

@@ -9,7 +9,7 @@ use Rattle.folder_calls.proofs.lone.LoneFolderCalls.me.Goals as goal
 
 pub returns-clause-me : goal.returns-clause-me
 returns-clause-me g c =
-    c.me.ensures.me ∙ ap (λ (s : FolderState). s.me) c.core.ensures.core ∙ state-me c.self.inside.journal.opening c.self.inside.journal.entries
+    c.me.ensures.me ∙ ap (λ (s : FolderState). s.me) c.core.ensures.core ∙ state-me c.self.inside.recorded.opening c.self.inside.recorded.entries
     ∙ ap (λ (a : LoneState). a.history.opening.me) c.self.view_is
 
 pub returns-clause-legal : goal.returns-clause-legal

@@ -35,18 +35,18 @@ loop-pass-preserved g c = let i = c.loop-pass.invariant in let j = i.joined in
     }
 
 pub returns-clause-closes : goal.returns-clause-closes
-returns-clause-closes g c = let i = c.loop-pass.invariant in let j = i.joined in let t = c.take-journal.ensures.taken in
+returns-clause-closes g c = let i = c.loop-pass.invariant in let j = i.joined in let t = c.take-recorded.ensures.taken in
     let all : j.0 ≡ c.args.passes.items = back_all c.args.passes.items c.loop-pass.passes.items j.0 j.1 (let k = c.in_default-pop.ensures.cases in let o = c.loop-pass.passes.ok in omega arith) in
-    closes c.args.self.locked c.take-journal.result (view c.loop-pass.keeper) _ c.args.passes.items t (j.2 ∙ ap claims_back all) (t.same.0 ∙ i.memo.0, t.same.1 ∙ i.memo.1) c.into_core-core.ensures.history c.requires.some c.requires.passes _ c.into_core-core.ensures.core _ c.passes-count.ensures
+    closes c.args.self.locked c.take-recorded.result (view c.loop-pass.keeper) _ c.args.passes.items t (j.2 ∙ ap claims_back all) (t.same.0 ∙ i.memo.0, t.same.1 ∙ i.memo.1) c.into_core-core.ensures.history c.requires.some c.requires.passes _ c.into_core-core.ensures.core _ c.passes-count.ensures
 
 pub returns-clause-given : goal.returns-clause-given
-returns-clause-given g c = let i = c.loop-pass.invariant in let j = i.joined in let t = c.take-journal.ensures.taken in
+returns-clause-given g c = let i = c.loop-pass.invariant in let j = i.joined in let t = c.take-recorded.ensures.taken in
     let all : j.0 ≡ c.args.passes.items = back_all c.args.passes.items c.loop-pass.passes.items j.0 j.1 (let k = c.in_default-pop.ensures.cases in let o = c.loop-pass.passes.ok in omega arith) in
-    closes-given c.take-journal.result (view c.loop-pass.keeper) _ c.args.passes.items t (j.2 ∙ ap claims_back all) _ c.passes-count.ensures
+    closes-given c.take-recorded.result (view c.loop-pass.keeper) _ c.args.passes.items t (j.2 ∙ ap claims_back all) _ c.passes-count.ensures
 
 pub returns-clause-count : goal.returns-clause-count
-returns-clause-count g c = let i = c.loop-pass.invariant in let t = c.take-journal.ensures.taken in record {
-  seat = search (c.take-journal.ensures.seat, rules);
+returns-clause-count g c = let i = c.loop-pass.invariant in let t = c.take-recorded.ensures.taken in record {
+  seat = search (c.take-recorded.ensures.seat, rules);
   holds = ap (λ (v : Known). v.state) t.after;
   same = (ap (λ (v : Known). v.memo.opening) t.after ∙ t.same.0 ∙ i.memo.0, ap (λ (v : Known). v.memo.limit) t.after ∙ t.same.1 ∙ i.memo.1);
   count = ap (λ (v : Known). v.memo.passes) t.after ∙ sym c.passes-count.ensures;

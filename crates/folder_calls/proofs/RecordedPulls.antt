@@ -1,4 +1,4 @@
--- Of a journal's pulls: a commit that was entered is its ticket, a pull that is given up at once leaves the folder as it
+-- Of a recorded's pulls: a commit that was entered is its ticket, a pull that is given up at once leaves the folder as it
 -- was, and one that begins is entered with room for the entry that ends it.
 use Rattle.std.proofs.Common.{◌≡◌, ℕ, ◌+◌, ◌≤◌, true, false, List, [], ◌∷◌, ◌++◌, length, refl, sym, ap, subst, ◌∙◌, arith}
 use Rattle.std.specs.Prelude.{if◌then◌else◌, ⊤, nat_le, Option, None, Some, is_some, option_map, unwrap_or, Result, Ok, Err, IfOk, IfSome}
@@ -23,8 +23,8 @@ use Rattle.folder_core.proofs.ListTests.{none_of}
 use Rattle.folder_core.proofs.Orders.{bytes_total, exact_names}
 use Rattle.folder_calls.specs.declared.entry.Entry.{Entry}
 use Rattle.folder_calls.specs.declared.history.History.{History}
-use Rattle.folder_calls.specs.Journals.{Appends, IsJournal, end, appended}
-use Rattle.folder_calls.proofs.JournalSteps.{declined-after, enters-after, found-room, full-after, journal-after}
+use Rattle.folder_calls.specs.RecordedFolders.{Appends, IsRecordedFolder, end, appended}
+use Rattle.folder_calls.proofs.RecordedSteps.{declined-after, enters-after, found-room, full-after, recorded-after}
 
 -- ---- entered
 
@@ -100,7 +100,7 @@ given-back s begun after n t a began gave =
 
 -- ---- begun
 
-module _ (h now : History) (view_is : h ≡ now) (pulls capacity : ℕ) (s : FolderState) (j : IsJournal s pulls capacity h) (pass : ℕ) (given : (1 ≤ pass) × (pass ≤ now.passes))
+module _ (h now : History) (view_is : h ≡ now) (pulls capacity : ℕ) (s : FolderState) (j : IsRecordedFolder s pulls capacity h) (pass : ℕ) (given : (1 ≤ pass) × (pass ≤ now.passes))
     (n : Name) where
   pub full-begin : (es : List Entry) → es ≡ h.entries → is_accepted (step s (BeginPull n)).0 ≡ true → nat_le (length now.entries + len (end now).pulls + 2) now.limit ≡ false → Appends now pass (BeginPull n) (Some HistoryFull) (record h { entries = es })
   full-begin es kept accepted full =
@@ -115,11 +115,11 @@ module _ (h now : History) (view_is : h ≡ now) (pulls capacity : ℕ) (s : Fol
 
     pub begin-after : (copy : Option PullInfo) → IfSome copy (λ ticket. a ≡ Begun ticket) → (copy ≡ None → is_accepted a ≡ false)
         → (es : List Entry) → es ≡ appended h.entries pass (BeginPull n) (option_map Begun copy)
-        → IsJournal t (pulls + (if is_some copy then 1 else 0)) capacity' (record h { entries = es }) × Appends now pass (BeginPull n) (Some a) (record h { entries = es })
+        → IsRecordedFolder t (pulls + (if is_some copy then 1 else 0)) capacity' (record h { entries = es }) × Appends now pass (BeginPull n) (Some a) (record h { entries = es })
     begin-after None same other es pushed =
         let tested = other refl in
         let unmade : t ≡ s = ap (λ (d : Answer × FolderState). d.1) (sym made) ∙ step-keeps s (BeginPull n) (ap (λ (d : Answer × FolderState). is_accepted d.0) made ∙ tested) in (
-          subst (λ es. IsJournal t (pulls + 0) capacity' (record h { entries = es })) (sym pushed)
+          subst (λ es. IsRecordedFolder t (pulls + 0) capacity' (record h { entries = es })) (sym pushed)
               (record { history = j.history; state_is = unmade ∙ j.state_is; pulls_is = let r = j.pulls_is in omega arith; room = let r = j.room in omega arith }),
           subst (Appends now pass (BeginPull n) (Some a)) (sym (ap (λ es. record h { entries = es }) pushed ∙ view_is))
               (declined-after h now view_is pulls capacity s j pass given (BeginPull n) tt a t made tested),
@@ -131,6 +131,6 @@ module _ (h now : History) (view_is : h ≡ now) (pulls capacity : ℕ) (s : Fol
         let room = found-room h now view_is pulls capacity s j pass given (BeginPull n) tt a t made accepted found.0 refl in
         let entered : es ≡ h.entries ++ (record { pass = pass; change = BeginPull n; answer = a }) ∷ [] =
         pushed ∙ ap (λ b. h.entries ++ (record { pass = pass; change = BeginPull n; answer = b }) ∷ []) (sym same) in (
-          journal-after h now view_is pulls capacity s j pass given (BeginPull n) tt a t made accepted room es entered (pulls + 1) capacity' (omega arith) (omega arith),
+          recorded-after h now view_is pulls capacity s j pass given (BeginPull n) tt a t made accepted room es entered (pulls + 1) capacity' (omega arith) (omega arith),
           enters-after h now view_is pulls capacity s j pass given (BeginPull n) tt a t made accepted room es entered,
         )

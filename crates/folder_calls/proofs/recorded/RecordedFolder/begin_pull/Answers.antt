@@ -3,9 +3,9 @@ use Rattle.std.specs.Prelude.{IfSome, Ok, option_map, vec_capacity}
 use Rattle.folder_core.specs.declared.answer.Answer.TheVariants.{Begun}
 use Rattle.folder_core.specs.declared.change.Change.TheVariants.{BeginPull}
 use Rattle.folder_calls.specs.Calls.{begin_value}
-use Rattle.folder_calls.specs.Journals.{IsJournal, appended}
-use Rattle.folder_calls.proofs.JournalPulls.{begin-after, full-begin}
-use Rattle.folder_calls.proofs.journal.Journal.begin_pull.Goals as goal
+use Rattle.folder_calls.specs.RecordedFolders.{IsRecordedFolder, appended}
+use Rattle.folder_calls.proofs.RecordedPulls.{begin-after, full-begin}
+use Rattle.folder_calls.proofs.recorded.RecordedFolder.begin_pull.Goals as goal
 
 pub returns-in_default-clause-appends : goal.returns-in_default-clause-appends
 returns-in_default-clause-appends g c =
@@ -15,8 +15,8 @@ returns-in_default-clause-appends g c =
 
 pub invariant_of-self-2 : goal.invariant_of-self-2
 invariant_of-self-2 g c =
-    subst (λ k. IsJournal (g.C.FolderCore.state c.begin.new.core) (c.self.inside.pulls + c.append_begin.result) k (record { opening = c.self.inside.opening; entries = c.append_begin.new.entries.items; limit = c.self.inside.limit; passes = c.self.inside.passes })) (sym c.append_begin.ensures.capacity)
-    (subst (λ more. IsJournal (g.C.FolderCore.state c.begin.new.core) (c.self.inside.pulls + more) (vec_capacity c.admit_begin.new.entries) (record { opening = c.self.inside.opening; entries = c.append_begin.new.entries.items; limit = c.self.inside.limit; passes = c.self.inside.passes })) (sym c.append_begin.ensures.opened)
+    subst (λ k. IsRecordedFolder (g.C.FolderCore.state c.begin.new.core) (c.self.inside.pulls + c.append_begin.result) k (record { opening = c.self.inside.opening; entries = c.append_begin.new.entries.items; limit = c.self.inside.limit; passes = c.self.inside.passes })) (sym c.append_begin.ensures.capacity)
+    (subst (λ more. IsRecordedFolder (g.C.FolderCore.state c.begin.new.core) (c.self.inside.pulls + more) (vec_capacity c.admit_begin.new.entries) (record { opening = c.self.inside.opening; entries = c.append_begin.new.entries.items; limit = c.self.inside.limit; passes = c.self.inside.passes })) (sym c.append_begin.ensures.opened)
     (begin-after _ c.args.self.now c.self.view_is _ _ _ c.self.invariant c.args.pass c.requires.pass c.args.name.now
     _ c.admit_begin.ensures.kept
     (λ accepted. let r = c.admit_begin.ensures.admitted _ (c.in_ok-change.was ∙ ap Ok c.in-Some.is) accepted in (sym c.has_room-has_room.ensures ∙ r.0, r.1))

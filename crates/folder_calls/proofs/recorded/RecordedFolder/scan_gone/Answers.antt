@@ -3,9 +3,9 @@ use Rattle.std.specs.Prelude.{IfSome, Ok, option_copied}
 use Rattle.folder_core.specs.Calls.{scan_answer}
 use Rattle.folder_core.specs.Steps.{is_accepted, step}
 use Rattle.folder_core.specs.declared.change.Change.TheVariants.{ScanGone}
-use Rattle.folder_calls.specs.Journals.{Appends, IsJournal, appended}
-use Rattle.folder_calls.proofs.JournalSteps.{entered-after, refused-after}
-use Rattle.folder_calls.proofs.journal.Journal.scan_gone.Goals as goal
+use Rattle.folder_calls.specs.RecordedFolders.{Appends, IsRecordedFolder, appended}
+use Rattle.folder_calls.proofs.RecordedSteps.{entered-after, refused-after}
+use Rattle.folder_calls.proofs.recorded.RecordedFolder.scan_gone.Goals as goal
 
 pub returns-in_default-clause-appends : goal.returns-in_default-clause-appends
 returns-in_default-clause-appends g c =
@@ -16,7 +16,7 @@ returns-in_default-clause-appends g c =
 
 pub invariant_of-self-2 : goal.invariant_of-self-2
 invariant_of-self-2 g c =
-    subst (λ k. IsJournal (g.C.FolderCore.state c.scan_gone-answer.new.self) c.self.inside.pulls k (record { opening = c.self.inside.opening; entries = c.append_scan.new.entries.items; limit = c.self.inside.limit; passes = c.self.inside.passes })) (sym c.append_scan.ensures.capacity)
+    subst (λ k. IsRecordedFolder (g.C.FolderCore.state c.scan_gone-answer.new.self) c.self.inside.pulls k (record { opening = c.self.inside.opening; entries = c.append_scan.new.entries.items; limit = c.self.inside.limit; passes = c.self.inside.passes })) (sym c.append_scan.ensures.capacity)
     (entered-after _ c.args.self.now c.self.view_is _ _ _ c.self.invariant c.args.pass c.requires.pass (ScanGone c.args.name.now (option_copied c.args.expected) c.args.moment) tt refl refl
     _ c.admit.ensures.kept
     (λ accepted. let r = c.admit.ensures.admitted _ (c.in_ok-change-2.was ∙ ap Ok c.in-Some.is) (subst (λ x. is_accepted (step (g.C.FolderCore.state c.self.inside.core) x).0 ≡ true) (sym c.in_ok-change.ensures) accepted) in (sym c.has_room-has_room.ensures ∙ r.0, r.1))

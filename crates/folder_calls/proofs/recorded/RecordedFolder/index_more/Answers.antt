@@ -4,8 +4,8 @@ use Rattle.folder_core.specs.declared.answer.Answer.TheVariants.{Applied}
 use Rattle.folder_core.specs.declared.change.Change.TheVariants.{IndexMore}
 use Rattle.folder_calls.specs.declared.history.History.{History}
 use Rattle.folder_calls.proofs.HistoryEntries.{state-me}
-use Rattle.folder_calls.proofs.JournalSteps.{found-room, history-after, journal-after, pushed-as}
-use Rattle.folder_calls.proofs.journal.Journal.index_more.Goals as goal
+use Rattle.folder_calls.proofs.RecordedSteps.{found-room, history-after, recorded-after, pushed-as}
+use Rattle.folder_calls.proofs.recorded.RecordedFolder.index_more.Goals as goal
 
 pub index_more-requires : goal.index_more-requires
 index_more-requires g c = λ e. c.requires.device (e ∙ ap (λ (s : FolderState). s.me) c.self.invariant.state_is ∙ state-me c.self.inside.opening c.self.inside.entries.items ∙ ap (λ (h : History). h.opening.me) c.self.view_is)
@@ -16,7 +16,7 @@ invariant_of-self-2 g c =
     let room = found-room _ c.args.self.now c.self.view_is _ _ _ c.self.invariant c.args.pass c.requires.pass (IndexMore c.args.device c.args.records) c.requires.device Applied _ made refl (sym c.has_room.ensures ∙ c.if-not-has_room.false) refl in
     let more = c.in_ok-make_room.ensures.room refl in
     let same = c.append.ensures.capacity in
-    journal-after _ c.args.self.now c.self.view_is _ _ _ c.self.invariant c.args.pass c.requires.pass (IndexMore c.args.device c.args.records) c.requires.device Applied _ made refl room
+    recorded-after _ c.args.self.now c.self.view_is _ _ _ c.self.invariant c.args.pass c.requires.pass (IndexMore c.args.device c.args.records) c.requires.device Applied _ made refl room
     c.append.new.entries.items (pushed-as _ c.append.ensures.items c.make_room.ensures.items (ap (IndexMore c.args.device) c.in_ok-copy.ensures.value) refl)
     c.self.inside.pulls _ refl (omega arith)
 

@@ -3,10 +3,10 @@ use Rattle.std.proofs.Common.{◌≡◌, true, refl, sym, ap, subst, ◌∙◌}
 use Rattle.folder_core.specs.Calls.{Changes, enter_answer}
 use Rattle.folder_core.specs.Steps.{is_accepted, step}
 use Rattle.folder_core.specs.declared.change.Change.TheVariants.{EnterCommit}
-use Rattle.folder_calls.specs.Journals.{Appends, IsJournal, appended}
-use Rattle.folder_calls.proofs.JournalPulls.{commit-copies}
-use Rattle.folder_calls.proofs.JournalSteps.{entered-after, refused-after}
-use Rattle.folder_calls.proofs.journal.Journal.enter_commit.Goals as goal
+use Rattle.folder_calls.specs.RecordedFolders.{Appends, IsRecordedFolder, appended}
+use Rattle.folder_calls.proofs.RecordedPulls.{commit-copies}
+use Rattle.folder_calls.proofs.RecordedSteps.{entered-after, refused-after}
+use Rattle.folder_calls.proofs.recorded.RecordedFolder.enter_commit.Goals as goal
 
 pub returns-in-Ok-None-clause-appends : goal.returns-in-Ok-None-clause-appends
 returns-in-Ok-None-clause-appends g c =
@@ -22,7 +22,7 @@ append_enter-requires-clause-same g c =
 
 pub invariant_of-self-2 : goal.invariant_of-self-2
 invariant_of-self-2 g c =
-    subst (λ k. IsJournal (g.C.FolderCore.state c.enter_commit-entered.new.self) c.self.inside.pulls k (record { opening = c.self.inside.opening; entries = c.append_enter.new.entries.items; limit = c.self.inside.limit; passes = c.self.inside.passes })) (sym c.append_enter.ensures.capacity)
+    subst (λ k. IsRecordedFolder (g.C.FolderCore.state c.enter_commit-entered.new.self) c.self.inside.pulls k (record { opening = c.self.inside.opening; entries = c.append_enter.new.entries.items; limit = c.self.inside.limit; passes = c.self.inside.passes })) (sym c.append_enter.ensures.capacity)
     (entered-after _ c.args.self.now c.self.view_is _ _ _ c.self.invariant c.args.pass c.requires.pass (EnterCommit c.args.ticket) tt refl refl
     _ c.admit.ensures.kept
     (λ accepted. let r = c.in-Ok-Some.ensures.admitted _ (ap Ok c.in-Ok-Some.field-0-is) (subst (λ t. is_accepted (step (g.C.FolderCore.state c.self.inside.core) (EnterCommit t)).0 ≡ true) (sym (c.in-Ok.ensures.0 ∙ c.ticket.view_is)) accepted) in (sym c.has_room-has_room.ensures ∙ r.0, r.1))

@@ -2,8 +2,8 @@ use Rattle.std.proofs.Common.{refl, sym, ap, ◌∙◌}
 use Rattle.folder_core.specs.Calls.{close_answer}
 use Rattle.folder_core.specs.Steps.{is_accepted}
 use Rattle.folder_core.specs.declared.change.Change.TheVariants.{GiveUp}
-use Rattle.folder_calls.proofs.JournalSteps.{ended-enters, ended-history, ended-journal, ended-pulls, ended-room, made-as, pushed-as, tested-journal}
-use Rattle.folder_calls.proofs.journal.Journal.give_up.Goals as goal
+use Rattle.folder_calls.proofs.RecordedSteps.{ended-enters, ended-history, ended-recorded, ended-pulls, ended-room, made-as, pushed-as, tested-recorded}
+use Rattle.folder_calls.proofs.recorded.RecordedFolder.give_up.Goals as goal
 
 pub overflow_sub-self : goal.overflow_sub-self
 overflow_sub-self g c =
@@ -21,7 +21,7 @@ append-requires g c = record {
 
 pub invariant_of-self : goal.invariant_of-self
 invariant_of-self g c =
-    ended-journal _ c.args.self.now c.self.view_is _ _ _ c.self.invariant c.args.pass c.requires.pass (GiveUp c.args.ticket)
+    ended-recorded _ c.args.self.now c.self.view_is _ _ _ c.self.invariant c.args.pass c.requires.pass (GiveUp c.args.ticket)
     tt _ _ (made-as _ (ap GiveUp (c.ticket.invariant ∙ c.ticket.view_is)) c.give_up-is_closed.ensures)
     (ap (λ b. is_accepted (close_answer b)) c.if-is_closed.true) refl refl
     c.append.new.entries.items (pushed-as _ c.append.ensures.items refl (ap GiveUp c.ticket.view_is) (sym (ap close_answer c.if-is_closed.true)))
@@ -29,7 +29,7 @@ invariant_of-self g c =
 
 pub invariant_of-self-else-is_closed : goal.invariant_of-self-else-is_closed
 invariant_of-self-else-is_closed g c =
-    tested-journal _ c.args.self.now c.self.view_is _ _ _ c.self.invariant c.args.pass c.requires.pass (GiveUp c.args.ticket)
+    tested-recorded _ c.args.self.now c.self.view_is _ _ _ c.self.invariant c.args.pass c.requires.pass (GiveUp c.args.ticket)
     tt _ _ (made-as _ (ap GiveUp (c.ticket.invariant ∙ c.ticket.view_is)) c.give_up-is_closed.ensures)
     (ap (λ b. is_accepted (close_answer b)) c.if-is_closed.false)
 

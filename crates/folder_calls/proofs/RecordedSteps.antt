@@ -1,4 +1,4 @@
--- A journal's entries: each change of a pass is answered with the shared answer, and the open pulls are counted.
+-- A recorded's entries: each change of a pass is answered with the shared answer, and the open pulls are counted.
 use Rattle.std.proofs.Common.{◌≡◌, ℕ, ◌+◌, ◌-◌, ◌^◌, ◌<◌, ◌≤◌, Bool, true, false, List, [], ◌∷◌, ◌++◌, length, refl, sym, ap, subst, ◌∙◌, arith, inl, inr}
 use Rattle.std.specs.Prelude.{cond, Option, Some, None, is_some, nat_le}
 use Rattle.std.specs.FinMap.{get, insert, remove, len, len-insert}
@@ -19,7 +19,7 @@ use Rattle.folder_core.proofs.ChangeCases.{step-cases}
 use Rattle.folder_core.proofs.ChangeKept.{step-keeps}
 use Rattle.folder_calls.specs.declared.entry.Entry.{Entry}
 use Rattle.folder_calls.specs.declared.history.History.{History}
-use Rattle.folder_calls.specs.Journals.{Appends, IsHistory, IsJournal, end, appended, with_entry}
+use Rattle.folder_calls.specs.RecordedFolders.{Appends, IsHistory, IsRecordedFolder, end, appended, with_entry}
 use Rattle.folder_calls.proofs.HistoryEntries.{allowed-after, legal-push, pulls-fewer, shared-full, shared-same, state-push}
 use Rattle.folder_calls.proofs.HistoryFronts.{legal-more, removed-less}
 
@@ -68,8 +68,8 @@ more-passes h history below = record {
   few = omega arith;
 }
 
-pub more-passes-journal : (h : History) (pulls capacity : ℕ) (s : FolderState) → IsJournal s pulls capacity h → h.passes < 2 ^ 32 → IsJournal s pulls capacity (record h { passes = h.passes + 1 })
-more-passes-journal h pulls capacity s j below = record { history = more-passes h j.history below; state_is = j.state_is; pulls_is = j.pulls_is; room = j.room }
+pub more-passes-recorded : (h : History) (pulls capacity : ℕ) (s : FolderState) → IsRecordedFolder s pulls capacity h → h.passes < 2 ^ 32 → IsRecordedFolder s pulls capacity (record h { passes = h.passes + 1 })
+more-passes-recorded h pulls capacity s j below = record { history = more-passes h j.history below; state_is = j.state_is; pulls_is = j.pulls_is; room = j.room }
 
 module _ (h : History) (pass : ℕ) (c : Change) (history : IsHistory h) (given : (1 ≤ pass) × (pass ≤ h.passes)) (may : MayChange h.opening.me c) where
   abbrev made : Answer × FolderState
@@ -106,8 +106,8 @@ module _ (h : History) (pass : ℕ) (c : Change) (history : IsHistory h) (given 
   pub full-enters : is_accepted made.0 ≡ true → h.limit < length h.entries + 1 + len made.1.pulls → Appends h pass c (Some HistoryFull) h
   full-enters accepted over = (sym (shared-full h.limit h.opening h.entries c accepted over), refl)
 
--- the same of a journal's own values: of what the core answered, of the entries with the new one, and of the room that was made
-module _ (h : History) (pulls capacity : ℕ) (s : FolderState) (j : IsJournal s pulls capacity h) (pass : ℕ) (given : (1 ≤ pass) × (pass ≤ h.passes))
+-- the same of a recorded's own values: of what the core answered, of the entries with the new one, and of the room that was made
+module _ (h : History) (pulls capacity : ℕ) (s : FolderState) (j : IsRecordedFolder s pulls capacity h) (pass : ℕ) (given : (1 ≤ pass) × (pass ≤ h.passes))
     (c : Change) (may : MayChange h.opening.me c) (a : Answer) (t : FolderState) (made : step s c ≡ (a, t)) where
   there : step (end h) c ≡ (a, t)
   there = ap (λ s. step s c) (sym j.state_is) ∙ made
@@ -163,8 +163,8 @@ module _ (h : History) (pulls capacity : ℕ) (s : FolderState) (j : IsJournal s
       pub answer-enters : Appends h pass c (Some a) with_answer
       answer-enters = subst (λ b. Appends h pass c (Some b) (with_entry h pass c b)) answer-there (entered-enters h pass c j.history given may accepted-there room-there)
 
-      pub answer-journal : (pulls' capacity' : ℕ) → pulls' + closes c ≡ pulls + opens c → length h.entries + 1 + pulls' ≤ capacity' → IsJournal t pulls' capacity' with_answer
-      answer-journal pulls' capacity' counted made_room = record {
+      pub answer-recorded : (pulls' capacity' : ℕ) → pulls' + closes c ≡ pulls + opens c → length h.entries + 1 + pulls' ≤ capacity' → IsRecordedFolder t pulls' capacity' with_answer
+      answer-recorded pulls' capacity' counted made_room = record {
         history = answer-history;
         state_is = sym state-there ∙ sym (entered-end h pass c j.history given may accepted-there room-there) ∙ ap end grown-is;
         pulls_is =
@@ -186,8 +186,8 @@ module _ (h : History) (pulls capacity : ℕ) (s : FolderState) (j : IsJournal s
     pub tested-state : t ≡ s
     tested-state = ap (λ (d : Answer × FolderState). d.1) (sym made) ∙ step-keeps s c (ap (λ (d : Answer × FolderState). is_accepted d.0) made ∙ tested)
 
--- the same of the journal that a call was handed, whose entries are then these
-module _ (h now : History) (view_is : h ≡ now) (pulls capacity : ℕ) (s : FolderState) (j : IsJournal s pulls capacity h) (pass : ℕ) (given : (1 ≤ pass) × (pass ≤ now.passes))
+-- the same of the recorded that a call was handed, whose entries are then these
+module _ (h now : History) (view_is : h ≡ now) (pulls capacity : ℕ) (s : FolderState) (j : IsRecordedFolder s pulls capacity h) (pass : ℕ) (given : (1 ≤ pass) × (pass ≤ now.passes))
     (c : Change) (may : MayChange now.opening.me c) (a : Answer) (t : FolderState) (made : step s c ≡ (a, t)) where
   given-here : (1 ≤ pass) × (pass ≤ h.passes)
   given-here = subst (λ (h : History). (1 ≤ pass) × (pass ≤ h.passes)) (sym view_is) given
@@ -200,9 +200,9 @@ module _ (h now : History) (view_is : h ≡ now) (pulls capacity : ℕ) (s : Fol
     grown-by : with_entry h pass c a ≡ record h { entries = es }
     grown-by = ap (λ es. record h { entries = es }) (sym pushed)
 
-    pub journal-after : (pulls' capacity' : ℕ) → pulls' + closes c ≡ pulls + opens c → length h.entries + 1 + pulls' ≤ capacity' → IsJournal t pulls' capacity' (record h { entries = es })
-    journal-after pulls' capacity' counted made_room =
-        subst (IsJournal t pulls' capacity') grown-by (answer-journal h pulls capacity s j pass given-here c may-here a t made accepted room pulls' capacity' counted made_room)
+    pub recorded-after : (pulls' capacity' : ℕ) → pulls' + closes c ≡ pulls + opens c → length h.entries + 1 + pulls' ≤ capacity' → IsRecordedFolder t pulls' capacity' (record h { entries = es })
+    recorded-after pulls' capacity' counted made_room =
+        subst (IsRecordedFolder t pulls' capacity') grown-by (answer-recorded h pulls capacity s j pass given-here c may-here a t made accepted room pulls' capacity' counted made_room)
 
     pub history-after : IsHistory (record h { entries = es })
     history-after = subst IsHistory grown-by (answer-history h pulls capacity s j pass given-here c may-here a t made accepted room)
@@ -228,9 +228,9 @@ module _ (h now : History) (view_is : h ≡ now) (pulls capacity : ℕ) (s : Fol
       (room-full h pulls capacity s j pass given-here c may-here a t made accepted
       (subst (λ (h : History). nat_le (length h.entries + len (end h).pulls + (1 + opens c)) h.limit ≡ false) (sym view_is) full) none)
 
-  -- any other answer leaves the journal
-  pub tested-journal : is_accepted a ≡ false → IsJournal t pulls capacity h
-  tested-journal tested = subst (λ s. IsJournal s pulls capacity h) (sym (tested-state h pulls capacity s j pass given-here c may-here a t made tested)) j
+  -- any other answer leaves the recorded
+  pub tested-recorded : is_accepted a ≡ false → IsRecordedFolder t pulls capacity h
+  tested-recorded tested = subst (λ s. IsRecordedFolder s pulls capacity h) (sym (tested-state h pulls capacity s j pass given-here c may-here a t made tested)) j
 
   -- what ends a pull: one is open, and the room for its entry was kept
   module _ (accepted : is_accepted a ≡ true) (one : closes c ≡ 1) (none : opens c ≡ 0) where
@@ -243,11 +243,11 @@ module _ (h now : History) (view_is : h ≡ now) (pulls capacity : ℕ) (s : Fol
     pub ended-room : length h.entries < capacity
     ended-room = let p = ended-pulls in let r = j.room in omega arith
 
-    pub ended-journal : (es : List Entry) → es ≡ h.entries ++ (record { pass = pass; change = c; answer = a }) ∷ [] → (capacity' : ℕ) → capacity' ≡ capacity → IsJournal t (pulls - 1) capacity' (record h { entries = es })
-    ended-journal es pushed capacity' same =
+    pub ended-recorded : (es : List Entry) → es ≡ h.entries ++ (record { pass = pass; change = c; answer = a }) ∷ [] → (capacity' : ℕ) → capacity' ≡ capacity → IsRecordedFolder t (pulls - 1) capacity' (record h { entries = es })
+    ended-recorded es pushed capacity' same =
         let p = ended-pulls in
         let r = j.room in
-        journal-after accepted (kept-room accepted one none) es pushed (pulls - 1) capacity' (omega arith) (omega arith)
+        recorded-after accepted (kept-room accepted one none) es pushed (pulls - 1) capacity' (omega arith) (omega arith)
 
     pub ended-history : (es : List Entry) → es ≡ h.entries ++ (record { pass = pass; change = c; answer = a }) ∷ [] → IsHistory (record h { entries = es })
     ended-history es pushed = history-after accepted (kept-room accepted one none) es pushed
@@ -256,7 +256,7 @@ module _ (h now : History) (view_is : h ≡ now) (pulls capacity : ℕ) (s : Fol
     ended-enters es pushed = enters-after accepted (kept-room accepted one none) es pushed
 
 -- the same of a change that was admitted or refused, whether it is then accepted or not
-module _ (h now : History) (view_is : h ≡ now) (pulls capacity : ℕ) (s : FolderState) (j : IsJournal s pulls capacity h) (pass : ℕ) (given : (1 ≤ pass) × (pass ≤ now.passes))
+module _ (h now : History) (view_is : h ≡ now) (pulls capacity : ℕ) (s : FolderState) (j : IsRecordedFolder s pulls capacity h) (pass : ℕ) (given : (1 ≤ pass) × (pass ≤ now.passes))
     (c : Change) (may : MayChange now.opening.me c) (none : closes c ≡ 0) (same : opens c ≡ 0) where
   pub refused-after : (es : List Entry) → es ≡ h.entries → is_accepted (step s c).0 ≡ true → nat_le (length now.entries + len (end now).pulls + 1) now.limit ≡ false → Appends now pass c (Some HistoryFull) (record h { entries = es })
   refused-after es kept accepted full =
@@ -268,10 +268,10 @@ module _ (h now : History) (view_is : h ≡ now) (pulls capacity : ℕ) (s : Fol
       (admitted : is_accepted (step s c).0 ≡ true → (nat_le (length now.entries + len (end now).pulls + 1) now.limit ≡ true) × (length h.entries + pulls + 1 ≤ capacity'))
       (t : FolderState) (es : List Entry) where
     abbrev pub Entered : Option Answer → Type 0
-    Entered o = IsJournal t pulls capacity' (record h { entries = es }) × Appends now pass c o (record h { entries = es })
+    Entered o = IsRecordedFolder t pulls capacity' (record h { entries = es }) × Appends now pass c o (record h { entries = es })
 
-    unchanged : t ≡ s → es ≡ h.entries → IsJournal t pulls capacity' (record h { entries = es })
-    unchanged e f = subst (λ es. IsJournal t pulls capacity' (record h { entries = es })) (sym f)
+    unchanged : t ≡ s → es ≡ h.entries → IsRecordedFolder t pulls capacity' (record h { entries = es })
+    unchanged e f = subst (λ es. IsRecordedFolder t pulls capacity' (record h { entries = es })) (sym f)
         (record { history = j.history; state_is = e ∙ j.state_is; pulls_is = j.pulls_is; room = let r = j.room in omega arith })
 
     by : (a : Answer) → step s c ≡ (a, t) → (b : Bool) → is_accepted a ≡ b → es ≡ cond b (h.entries ++ (record { pass = pass; change = c; answer = a }) ∷ []) h.entries → Entered (Some a)
@@ -280,7 +280,7 @@ module _ (h now : History) (view_is : h ≡ now) (pulls capacity : ℕ) (s : Fol
         let room = found-room h now view_is pulls capacity s j pass given c may a t made accepted
         (subst (λ n. nat_le (length now.entries + len (end now).pulls + (1 + n)) now.limit ≡ true) (sym same) found.0) none in
         let more = found.1 in (
-          journal-after h now view_is pulls capacity s j pass given c may a t made accepted room es pushed pulls capacity' (omega arith) (omega arith),
+          recorded-after h now view_is pulls capacity s j pass given c may a t made accepted room es pushed pulls capacity' (omega arith) (omega arith),
           enters-after h now view_is pulls capacity s j pass given c may a t made accepted room es pushed,
         )
     by a made false tested pushed = (

@@ -7,11 +7,11 @@ ghost use Rattle.folder_core.specs.Steps.{is_accepted, is_recordable, step};
 ghost use Rattle.folder_core.specs.declared.answer.Answer.TheVariants.{Begun};
 ghost use Rattle.folder_core.specs.declared.change.Change.TheVariants.{Forget, IndexFull, IndexMore, ScanFound, ScanGone, BeginPull, EnterCommit, Finish, GiveUp, Abort};
 ghost use Rattle.folder_calls.specs.Calls.{GivesBack, begin_value, enter_value, index_value, scan_value};
-ghost use Rattle.folder_calls.specs.Journals.{Appends, IsHistory, answered, end, appended, new_history};
+ghost use Rattle.folder_calls.specs.RecordedFolders.{Appends, IsHistory, answered, end, appended, new_history};
 
 use crate::{
-    BeginAnswer, Commit, EnterAllocError, EnterRefusal, Entry, HistoryFull, ScanRefusal, Ticket,
-    replays,
+    BeginAnswer, EnterAllocError, EnterRefusal, Entry, HistoryFull, PullCommit, PullTicket,
+    ScanRefusal, replays,
 };
 use bep_messages::{Copied, Items};
 use folder_core::{
@@ -29,7 +29,7 @@ use sync_version::{Moment, Version};
 /// `HistoryFull` if there is no room for its entry and for those that end the pulls that are then open. The room for the
 /// entry that ends a pull is kept while the pull is open, so that ending it does not allocate.
 #[derive(Drop)]
-pub struct Journal<C: FolderCore> {
+pub struct RecordedFolder<C: FolderCore> {
     core: C,
     opening: PlainFolder,
     entries: Vec<Entry>,
@@ -39,10 +39,10 @@ pub struct Journal<C: FolderCore> {
     pulls: u64,
 }
 
-impl<C: FolderCore> Model for Journal<C> {
+impl<C: FolderCore> Model for RecordedFolder<C> {
     ghost use Rattle.std.specs.Prelude.{vec_capacity};
     ghost use Rattle.folder_calls.specs.declared.history.History.{History};
-    ghost use Rattle.folder_calls.specs.Journals.{IsJournal};
+    ghost use Rattle.folder_calls.specs.RecordedFolders.{IsRecordedFolder};
 
     ghost Value = { History };
 
@@ -57,7 +57,7 @@ impl<C: FolderCore> Model for Journal<C> {
       passes = j.passes;
     } };
 
-    ghost invariant = { λ j. IsJournal (C.state j.core) j.pulls (vec_capacity j.entries)
+    ghost invariant = { λ j. IsRecordedFolder (C.state j.core) j.pulls (vec_capacity j.entries)
         (record {
           opening = j.opening;
           entries = j.entries.items;
@@ -66,20 +66,20 @@ impl<C: FolderCore> Model for Journal<C> {
         }) };
 }
 
-impl<C: FolderCore> Journal<C> {
+impl<C: FolderCore> RecordedFolder<C> {
     /// The folder with an empty history. Returns `Err` with the folder only if its copy could not be allocated. O(n) time and
     /// memory for n records, which share their memory.
-    pub fn open(alloc: Global, core: C, limit: u64, passes: u64) -> Result<Journal<C>, C>
+    pub fn open(alloc: Global, core: C, limit: u64, passes: u64) -> Result<RecordedFolder<C>, C>
         requires pulls { len (C.state core).pulls ≡ 0 }
         requires passes { passes ≤ 2 ^ 32 }
-        ensures ok { IfOk result (λ journal. journal ≡ new_history (C.state core) limit passes) }
+        ensures ok { IfOk result (λ recorded. recorded ≡ new_history (C.state core) limit passes) }
         ensures err { IfErr result (λ back. C.state back ≡ C.state core) }
     {
         let _ = core.me();
         let Ok(opening) = core.plain_copy() else {
             return Err(core);
         };
-        Ok(Journal {
+        Ok(RecordedFolder {
             core,
             opening,
             entries: Vec::new(alloc),
@@ -94,7 +94,7 @@ impl<C: FolderCore> Journal<C> {
         ensures core { C.state result ≡ end self }
         ensures history { IsHistory self }
     {
-        let Journal {
+        let RecordedFolder {
             core,
             opening: _,
             entries: _,
@@ -320,8 +320,8 @@ impl<C: FolderCore> Journal<C> {
     pub fn enter_commit(
         &mut self,
         pass: u64,
-        ticket: Ticket,
-    ) -> Result<Result<Commit, EnterRefusal>, EnterAllocError>
+        ticket: PullTicket,
+    ) -> Result<Result<PullCommit, EnterRefusal>, EnterAllocError>
         requires pass { (1 ≤ pass) × (pass ≤ self.old.passes) }
         ensures appends { Appends self.old pass (EnterCommit ticket)
             (answered enter_value result) self.new }
@@ -346,13 +346,18 @@ impl<C: FolderCore> Journal<C> {
             Ok(None) => return Ok(Err(EnterRefusal::HistoryFull(ticket))),
             Err(AllocError) => return Err(EnterAllocError(ticket)),
         };
-        let Ticket { inner, info } = ticket;
+        let PullTicket { inner, info } = ticket;
         let entered = self.core.enter_commit(inner);
         append_enter(&mut self.entries, pass, change, copy, info, entered)
     }
 
     /// [`FolderCore::finish`] for a pass. Does not allocate; the history keeps what was assembled.
-    pub fn finish(&mut self, pass: u64, commit: Commit, assembled: Assembled) -> Result<u64, Stray>
+    pub fn finish(
+        &mut self,
+        pass: u64,
+        commit: PullCommit,
+        assembled: Assembled,
+    ) -> Result<u64, Stray>
         requires pass { (1 ≤ pass) × (pass ≤ self.old.passes) }
         requires assembled { assembled ≡ commit.target }
         ensures appends { Appends self.old pass (Finish commit assembled)
@@ -360,7 +365,7 @@ impl<C: FolderCore> Journal<C> {
         ensures assembled { IsAssembled assembled }
         ensures history { IsHistory self.new }
     {
-        let Commit { inner, info } = commit;
+        let PullCommit { inner, info } = commit;
         let sequence = self.core.finish(inner, &assembled)?;
         self.pulls -= 1;
         append(
@@ -376,13 +381,13 @@ impl<C: FolderCore> Journal<C> {
     }
 
     /// [`FolderCore::give_up`] for a pass. Does not allocate.
-    pub fn give_up(&mut self, pass: u64, ticket: Ticket) -> bool
+    pub fn give_up(&mut self, pass: u64, ticket: PullTicket) -> bool
         requires pass { (1 ≤ pass) × (pass ≤ self.old.passes) }
         ensures appends { Appends self.old pass (GiveUp ticket)
             (Some (close_answer result)) self.new }
         ensures history { IsHistory self.new }
     {
-        let Ticket { inner, info } = ticket;
+        let PullTicket { inner, info } = ticket;
         let is_closed = self.core.give_up(inner);
         if is_closed {
             self.pulls -= 1;
@@ -397,13 +402,13 @@ impl<C: FolderCore> Journal<C> {
     }
 
     /// [`FolderCore::abort`] for a pass. Does not allocate.
-    pub fn abort(&mut self, pass: u64, commit: Commit) -> bool
+    pub fn abort(&mut self, pass: u64, commit: PullCommit) -> bool
         requires pass { (1 ≤ pass) × (pass ≤ self.old.passes) }
         ensures appends { Appends self.old pass (Abort commit) (Some (close_answer result))
             self.new }
         ensures history { IsHistory self.new }
     {
-        let Commit { inner, info } = commit;
+        let PullCommit { inner, info } = commit;
         let is_closed = self.core.abort(inner);
         if is_closed {
             self.pulls -= 1;
@@ -519,7 +524,7 @@ fn begin<C: FolderCore>(
                 let _ = core.give_up(inner);
                 return Err(AllocError);
             };
-            Ok((BeginAnswer::Begun(Ticket { inner, info }), Some(copy)))
+            Ok((BeginAnswer::Begun(PullTicket { inner, info }), Some(copy)))
         }
         folder_core::BeginAnswer::NotNeeded => Ok((BeginAnswer::NotNeeded, None)),
         folder_core::BeginAnswer::Busy => Ok((BeginAnswer::Busy, None)),
@@ -595,7 +600,7 @@ fn append_enter(
     copy: PullInfo,
     info: PullInfo,
     entered: Result<folder_core::Commit, folder_core::EnterFault>,
-) -> Result<Result<Commit, EnterRefusal>, EnterAllocError>
+) -> Result<Result<PullCommit, EnterRefusal>, EnterAllocError>
     requires room { IfSome (enter_answer entered)
         (λ a. is_accepted a ≡ true → length entries.old.items < vec_capacity entries.old) }
     requires same { IfOk entered (λ commit. (commit ≡ copy) × (commit ≡ info)) }
@@ -610,20 +615,20 @@ fn append_enter(
     Ok(Err(match entered {
         Ok(inner) => {
             append(entries, pass, change, Answer::Entered(copy));
-            return Ok(Ok(Commit { inner, info }));
+            return Ok(Ok(PullCommit { inner, info }));
         }
         Err(folder_core::EnterFault::Stray) => EnterRefusal::Stray,
         Err(folder_core::EnterFault::LocalMoved(inner)) => {
-            EnterRefusal::LocalMoved(Ticket { inner, info })
+            EnterRefusal::LocalMoved(PullTicket { inner, info })
         }
         Err(folder_core::EnterFault::Superseded(inner)) => {
-            EnterRefusal::Superseded(Ticket { inner, info })
+            EnterRefusal::Superseded(PullTicket { inner, info })
         }
         Err(folder_core::EnterFault::SequenceFull(inner)) => {
-            EnterRefusal::SequenceFull(Ticket { inner, info })
+            EnterRefusal::SequenceFull(PullTicket { inner, info })
         }
         Err(folder_core::EnterFault::OutOfMemory(inner)) => {
-            return Err(EnterAllocError(Ticket { inner, info }));
+            return Err(EnterAllocError(PullTicket { inner, info }));
         }
     }))
 }

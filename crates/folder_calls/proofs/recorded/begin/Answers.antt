@@ -2,8 +2,8 @@ use Rattle.std.proofs.Common.{subst}
 use Rattle.std.specs.Prelude.{Ok}
 use Rattle.folder_core.specs.Calls.{Changes, begin_answer}
 use Rattle.folder_core.specs.declared.change.Change.TheVariants.{BeginPull}
-use Rattle.folder_calls.proofs.JournalPulls.{given-back}
-use Rattle.folder_calls.proofs.journal.begin.Goals as goal
+use Rattle.folder_calls.proofs.RecordedPulls.{given-back}
+use Rattle.folder_calls.proofs.recorded.begin.Goals as goal
 
 pub returns-in_default-clause-change : goal.returns-in_default-clause-change
 returns-in_default-clause-change g c =

@@ -48,8 +48,8 @@ appended es pass change None = es
 appended es pass change (Some answer) =
     if is_accepted answer then es ++ (record { pass = pass; change = change; answer = answer }) ∷ [] else es
 
--- the journal keeps this folder, in the state after the history, with so many open pulls, and has room for the entries that end them
-pub record IsJournal (state : FolderState) (pulls capacity : ℕ) (h : History) : Type 0 where
+-- the recorded keeps this folder, in the state after the history, with so many open pulls, and has room for the entries that end them
+pub record IsRecordedFolder (state : FolderState) (pulls capacity : ℕ) (h : History) : Type 0 where
   pub history : IsHistory h
   pub state_is : state ≡ end h
   pub pulls_is : pulls ≡ len (end h).pulls
