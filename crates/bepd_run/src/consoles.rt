@@ -5,8 +5,8 @@ use crate::asked::{Inlets, Reading, Socket, Ways, read_of, take_all};
 use crate::failure::RunFailure;
 use crate::files::StateFiles;
 use crate::nodes::{NextNode, Outside, run_nodes};
-use crate::ready::Ready;
-use crate::run::Place;
+use crate::ready::ReadyRun;
+use crate::run::RunPlace;
 use crossbeam_channel::Receiver;
 use node_asks::{Asked, AskedLines, Asker, Replies};
 use node_commands::CommandLines;
@@ -33,8 +33,8 @@ pub(crate) struct Doors<'d> {
 pub(crate) fn run_ready<'a, R, T, I, O>(
     rt: &R,
     alloc: Global,
-    place: &Place<'a, T>,
-    ready: Ready<'a, R>,
+    place: &RunPlace<'a, T>,
+    ready: ReadyRun<'a, R>,
     doors: Doors<'_>,
     input: &mut I,
     output: O,
@@ -60,8 +60,8 @@ where
 fn run_by<'a, R, T, I, O>(
     rt: &R,
     alloc: Global,
-    place: &Place<'a, T>,
-    ready: Ready<'a, R>,
+    place: &RunPlace<'a, T>,
+    ready: ReadyRun<'a, R>,
     doors: Doors<'_>,
     input: Reading<'_, '_, '_, R, I>,
     output: O,
@@ -79,7 +79,7 @@ where
     I: Read + Send,
     O: Write + Drop + Send,
 {
-    let Ready {
+    let ReadyRun {
         node,
         journal,
         plans,
@@ -180,7 +180,7 @@ struct Begun<'a, T, R> {
 fn run_with<'a, R, T, I, L, O>(
     rt: &R,
     alloc: Global,
-    place: &Place<'a, T>,
+    place: &RunPlace<'a, T>,
     begun: Begun<'a, T, R>,
     doors: (&Socket, &Desk),
     input: Reading<'_, '_, '_, R, I>,

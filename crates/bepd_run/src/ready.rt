@@ -26,13 +26,13 @@ const IN_DOUBT: u64 = 3;
 
 /// What a run has before its threads begin.
 #[derive(Drop)]
-pub(crate) struct Ready<'a, R> {
+pub(crate) struct ReadyRun<'a, R> {
     pub(crate) node: NextNode,
     pub(crate) journal: StateJournal<'a, R>,
     pub(crate) plans: Vec<FolderPlans>,
 }
 
-impl<'a, R> Ready<'a, R> {
+impl<'a, R> ReadyRun<'a, R> {
     /// By what the last run left. Notes what is to be told of the folders. Fails by the state file, the addresses and the folders, in this order.
     pub(crate) fn new<T>(
         rt: &'a R,
@@ -41,7 +41,7 @@ impl<'a, R> Ready<'a, R> {
         config: &Config,
         paths: &'a StatePaths<'a>,
         notes: &mut Vec<Text>,
-    ) -> Result<Ready<'a, R>, RunFailure>
+    ) -> Result<ReadyRun<'a, R>, RunFailure>
     where
         R: Clock
             + Net<Listener = TcpListener, Stream = TcpStream>
@@ -122,7 +122,7 @@ fn settled<'a, R: StateFiles, T: Stores>(
     paths: &'a StatePaths<'a>,
     node: NextNode,
     last: LastRun,
-) -> Result<Ready<'a, R>, RunFailure> {
+) -> Result<ReadyRun<'a, R>, RunFailure> {
     let LastRun {
         state,
         mut plans,
@@ -141,7 +141,7 @@ fn settled<'a, R: StateFiles, T: Stores>(
             StateJournal::anew(rt, alloc, config.device, paths, &state, plans.as_slice())?
         }
     };
-    Ok(Ready {
+    Ok(ReadyRun {
         node,
         journal,
         plans,

@@ -15,7 +15,7 @@ use crate::page::keep_page;
 use crate::paths::require_apart;
 use crate::placing::placed_config;
 use crate::readiness::{Patience, Turns};
-use crate::ready::Ready;
+use crate::ready::ReadyRun;
 use bep_messages::Text;
 use node_config::{Config, UnknownKey, read_config, unknown_keys};
 use node_context::{Log, LogStyle, ProgressStyle, write_log};
@@ -145,7 +145,7 @@ where
     let answers = Channel::new(rt, alloc, output.as_raw_fd(), Patience::Short)?;
     let inlets = Inlets::new(alloc)?;
     let mut notes = Vec::new(alloc);
-    let ready = Ready::new(rt, alloc, stores, &config, &paths, &mut notes)?;
+    let ready = ReadyRun::new(rt, alloc, stores, &config, &paths, &mut notes)?;
     let log = match how.progress {
         Some(progress) => {
             let is_verbose = how.is_verbose;
@@ -160,7 +160,7 @@ where
         None => Log::quiet(alloc),
     };
     tell_begun(rt, &log, path, &ready.node);
-    let place = Place {
+    let place = RunPlace {
         config: &config,
         stores,
         log: &log,
@@ -200,7 +200,7 @@ where
 
 /// What a run is told, and where it works.
 #[derive(Drop)]
-pub(crate) struct Place<'a, T> {
+pub(crate) struct RunPlace<'a, T> {
     pub(crate) config: &'a Config,
     pub(crate) stores: &'a T,
     pub(crate) log: &'a Log,
@@ -219,8 +219,8 @@ struct Outward<'a> {
 fn answer_ready<'a, R, T, I, O>(
     rt: &R,
     alloc: Global,
-    place: &Place<'a, T>,
-    ready: Ready<'a, R>,
+    place: &RunPlace<'a, T>,
+    ready: ReadyRun<'a, R>,
     input: &mut I,
     outward: Outward<'_>,
     output: &mut O,
@@ -258,8 +258,8 @@ where
 fn run_with_page<'a, R, T, I, O>(
     rt: &R,
     alloc: Global,
-    place: &Place<'a, T>,
-    ready: Ready<'a, R>,
+    place: &RunPlace<'a, T>,
+    ready: ReadyRun<'a, R>,
     doors: Doors<'_>,
     input: &mut I,
     output: O,

@@ -11,7 +11,7 @@ use folder_core::FolderCore;
 use folder_db::IndexedFolder;
 use folder_look::Looking;
 use node_config::{
-    Config, ConfigFault, FolderConfig, FolderNumber, NumberRule, PeerConfig, Place, Problem,
+    Config, ConfigFault, FolderConfig, FolderNumber, NumberRule, PeerConfig, Problem, TablePlace,
 };
 use node_files::Stores;
 use node_folder::FolderSettings;
@@ -80,7 +80,7 @@ fn folder_of(
 fn out_of_range(place: usize, number: FolderNumber) -> RunFailure {
     let NumberRule { key, range, .. } = number.rule();
     RunFailure::Config(ConfigFault::BadKey {
-        place: Place::Folder(place.saturating_add(1)),
+        place: TablePlace::Folder(place.saturating_add(1)),
         key,
         problem: Problem::OutOfRange {
             low: range.low,

@@ -15,9 +15,9 @@ use Rattle.folder_core.specs.Plain.{Rises, filed}
 use Rattle.folder_core.specs.PlainReads.{is_from}
 use Rattle.folder_core.proofs.ListTests.{alike_bytes, same_bytes}
 use Rattle.folder_core.proofs.Orders.{keys_total}
-use Rattle.folder_index.specs.declared.kept.Kept.{Kept}
-use Rattle.folder_index.specs.declared.kept.Kept.TheVariants.{Vacant, Emptied, One, Many}
-use Rattle.folder_index.specs.Kept.{entries_kept, is_alone, is_one_from, name_of_first}
+use Rattle.folder_index.specs.declared.name_entries.NameEntries.{NameEntries}
+use Rattle.folder_index.specs.declared.name_entries.NameEntries.TheVariants.{Vacant, Emptied, One, Many}
+use Rattle.folder_index.specs.NameEntries.{entries_kept, is_alone, is_one_from, name_of_first}
 use Rattle.folder_index.proofs.Counted.{none_after}
 
 pub named_filed : (n : Name) (es : List Entry) → list_all (λ e. bytes_eq e.record.name n) es ≡ list_all (is_of n) (map filed es)
@@ -79,7 +79,7 @@ name_stays n d (e ∷ f ∷ es) alone up named =
       | false ↦ λ other. refl
     ] refl
 
-pub exchanged_any : (d : Identity) (r : FileRecord) (k : Kept) → is_one_from d k ≡ true → list_all (λ e. bytes_eq e.record.name r.name) (entries_kept k) ≡ true → map filed (record { device = d; «record» = r } ∷ []) ≡ put key_cmp (key r.name d) r (map filed (entries_kept k))
+pub exchanged_any : (d : Identity) (r : FileRecord) (k : NameEntries) → is_one_from d k ≡ true → list_all (λ e. bytes_eq e.record.name r.name) (entries_kept k) ≡ true → map filed (record { device = d; «record» = r } ∷ []) ≡ put key_cmp (key r.name d) r (map filed (entries_kept k))
 exchanged_any d r (Vacant n es) own named = absurd (true≢false (sym own))
 exchanged_any d r (Emptied l es) own named = absurd (true≢false (sym own))
 exchanged_any d r (One e) own named = exchanged d r e own named

@@ -19,7 +19,7 @@ use Rattle.folder_core.specs.PlainPulls.{best_in}
 use Rattle.folder_core.specs.PlainReads.{is_from, needed_of}
 use Rattle.folder_index.specs.declared.group.Group.{Group}
 use Rattle.folder_index.specs.Indexes.{IndexState, Names}
-use Rattle.folder_index.specs.Kept.{entries_kept, is_one_from, name_kept, room_kept}
+use Rattle.folder_index.specs.NameEntries.{entries_kept, is_one_from, name_kept, room_kept}
 use Rattle.folder_index.specs.declared.totals.Totals.{Totals}
 
 -- the records of the name, by device

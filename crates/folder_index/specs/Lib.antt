@@ -9,5 +9,5 @@ pub mod Latest
 pub mod Devices
 pub mod Locals
 pub mod Chunks
-pub mod Kept
+pub mod NameEntries
 pub mod Noted

@@ -11,7 +11,7 @@ ghost use Rattle.folder_index.specs.Groups.{HasRoom, HasSpare, IsChanged, IsGrou
 
 use crate::best::{devices_with, is_needed_over, place_of_best};
 use crate::entries::record_from;
-use crate::kept::Kept;
+use crate::name_entries::NameEntries;
 use crate::{Best, Totals};
 use bep_messages::Items;
 use folder_core::Announcement;
@@ -26,7 +26,7 @@ const NOWHERE: u32 = u32::MAX;
 /// 64 bytes, beside the list of a name of which several devices announce something.
 #[derive(Debug, Drop)]
 pub(crate) struct Group {
-    pub(crate) kept: Kept,
+    pub(crate) kept: NameEntries,
     // Where among the entries the best is.
     pub(crate) best_place: u32,
     pub(crate) is_needed: bool,
@@ -43,7 +43,7 @@ impl Group {
         ensures promised { result.is_promised ≡ false }
     {
         Group {
-            kept: Kept::Vacant(name, Vec::new(alloc)),
+            kept: NameEntries::Vacant(name, Vec::new(alloc)),
             best_place: NOWHERE,
             is_needed: false,
             is_promised: false,
@@ -58,7 +58,7 @@ impl Group {
         ensures promised { result.is_promised ≡ false }
     {
         Group {
-            kept: Kept::Emptied(announced, Vec::new(alloc)),
+            kept: NameEntries::Emptied(announced, Vec::new(alloc)),
             best_place: NOWHERE,
             is_needed: false,
             is_promised: false,

@@ -34,8 +34,8 @@ use Rattle.node_config.specs.declared.folder_numbers.FolderNumber.{FolderNumber}
 use Rattle.node_config.specs.declared.folder_numbers.FolderNumber.TheVariants.{HistoryLimit, MaxConflicts, Rescan, Look, TrashDays}
 use Rattle.node_config.specs.declared.key.Key.{Key}
 use Rattle.node_config.specs.declared.key.Key.TheVariants.{Name, State, Status, Folder as FolderKey, Peer as PeerKey, Id, Path, Mode, Folders, Dial as DialKey, Listen as ListenKey}
-use Rattle.node_config.specs.declared.key.Place.{Place}
-use Rattle.node_config.specs.declared.key.Place.TheVariants.{Node, Folder, Peer}
+use Rattle.node_config.specs.declared.key.TablePlace.{TablePlace}
+use Rattle.node_config.specs.declared.key.TablePlace.TheVariants.{Node, Folder, Peer}
 use Rattle.node_config.specs.declared.key.Problem.TheVariants.{NotStrings, NotMode}
 use Rattle.node_config.proofs.AddressLemmas.{same_socket}
 use Rattle.node_config.proofs.Steps.{both, value_of, passed, tested, some_where, none_passes, differs}
@@ -54,7 +54,7 @@ default_in Rescan = (omega (arith, ints), omega (arith, ints))
 default_in Look = (omega (arith, ints), omega (arith, ints))
 default_in TrashDays = (omega (arith, ints), omega (arith, ints))
 
-number_found : (place : Place) (number : FolderNumber) (n : ℤ) (o : Option Data) → number_or_default place number o ≡ Ok n → IsIn (range_of number) n
+number_found : (place : TablePlace) (number : FolderNumber) (n : ℤ) (o : Option Data) → number_or_default place number o ≡ Ok n → IsIn (range_of number) n
 number_found place number n None h =
     let same : (range_of number).default ≡ n = cc h in
     subst (IsIn (range_of number)) same (default_in number)
@@ -89,7 +89,7 @@ not_empty : (id : List ℕ) → (length id == 0) ≡ false → id ≢ []
 not_empty [] h = cc h
 not_empty (x ∷ xs) h = λ e. cc e
 
-id_found : (earlier : List FolderConfig) (place : Place) (text id : List ℕ) → checked_id earlier place text ≡ Ok id → (id ≢ []) × (list_any (has_id id) earlier ≡ false)
+id_found : (earlier : List FolderConfig) (place : TablePlace) (text id : List ℕ) → checked_id earlier place text ≡ Ok id → (id ≢ []) × (list_any (has_id id) earlier ≡ false)
 id_found earlier place text id h =
     let (some, rest) = passed (length text == 0) _ _ id h in
     let (new, last) = passed (list_any (has_id text) earlier) _ _ id rest in
@@ -100,7 +100,7 @@ id_found earlier place text id h =
 abbrev AreIn : Numbers → Type 0
 AreIn n = IsIn (range_of HistoryLimit) (pos n.history_limit) × IsIn (range_of MaxConflicts) n.max_conflicts × IsIn (range_of Rescan) (pos n.rescan) × IsIn (range_of Look) n.look
 
-numbers_found : (table : Members) (place : Place) (numbers : Numbers) → numbers_of table place ≡ Ok numbers → AreIn numbers
+numbers_found : (table : Members) (place : TablePlace) (numbers : Numbers) → numbers_of table place ≡ Ok numbers → AreIn numbers
 numbers_found table place numbers h =
     let (limit, l, h1) = both (number_at table place HistoryLimit) _ numbers h in
     let (most, m, h2) = both (number_at table place MaxConflicts) _ numbers h1 in
@@ -115,7 +115,7 @@ numbers_found table place numbers h =
     subst AreIn same (limit_kept limit a, b, rescan_kept seconds c, d)
 
 -- a path that was found is not empty
-path_found : (table : Members) (place : Place) (key : Key) (path : List ℕ) → path_at table place key ≡ Ok path → path ≢ []
+path_found : (table : Members) (place : TablePlace) (key : Key) (path : List ℕ) → path_at table place key ≡ Ok path → path ≢ []
 path_found table place key path h =
     let (text, x, h1) = both (text_at table place key) _ path h in
     let (some, rest) = passed (length text == 0) _ _ path h1 in
@@ -123,7 +123,7 @@ path_found table place key path h =
     let same : text ≡ path = cc last in
     subst (λ (t : List ℕ). t ≢ []) same (not_empty text some)
 
-id_at_found : (earlier : List FolderConfig) (table : Members) (place : Place) (id : List ℕ) → id_at earlier table place ≡ Ok id → (id ≢ []) × (list_any (has_id id) earlier ≡ false)
+id_at_found : (earlier : List FolderConfig) (table : Members) (place : TablePlace) (id : List ℕ) → id_at earlier table place ≡ Ok id → (id ≢ []) × (list_any (has_id id) earlier ≡ false)
 id_at_found earlier table place id h =
     let (text, x, rest) = both (text_at table place Id) _ id h in
     id_found earlier place text id rest
@@ -151,11 +151,11 @@ modes : (o : Option (List ℕ)) → IfSome (mode_of_text o) IsMode
 modes None = tt
 modes (Some text) = if_some (mode_of text) (mode_is text)
 
-mode_of_value : (place : Place) (o : Option ℕ) (mode : Option ℕ) → (ok_or o (BadKey place Mode NotMode) >>= λ found. Ok (Some found)) ≡ Ok mode → o ≡ mode
+mode_of_value : (place : TablePlace) (o : Option ℕ) (mode : Option ℕ) → (ok_or o (BadKey place Mode NotMode) >>= λ found. Ok (Some found)) ≡ Ok mode → o ≡ mode
 mode_of_value place None mode h = cc h
 mode_of_value place (Some found) mode h = cc h
 
-mode_found : (place : Place) (o : Option Data) (mode : Option ℕ) → mode_or_none place o ≡ Ok mode → IfSome mode IsMode
+mode_found : (place : TablePlace) (o : Option Data) (mode : Option ℕ) → mode_or_none place o ≡ Ok mode → IfSome mode IsMode
 mode_found place None mode h =
     let same : None ≡ mode = cc h in
     subst (λ (m : Option ℕ). IfSome m IsMode) same tt
@@ -166,7 +166,7 @@ mode_found place (Some value) mode h =
 abbrev AreRules : FileRules → Type 0
 AreRules files = IsIn (range_of TrashDays) (pos files.trash_days) × IfSome files.mode IsMode
 
-files_found : (table : Members) (place : Place) (files : FileRules) → files_of table place ≡ Ok files → AreRules files
+files_found : (table : Members) (place : TablePlace) (files : FileRules) → files_of table place ≡ Ok files → AreRules files
 files_found table place files h =
     let (days, t, h1) = both (number_at table place TrashDays) _ files h in
     let (mode, o, h2) = both (mode_at table place) _ files h1 in
@@ -220,14 +220,14 @@ folders_at_found document folders h =
 
 -- peers
 
-place_found : (folders : List FolderConfig) (place : Place) (entry index : ℕ) (value : Data) → place_of folders place entry value ≡ Ok index → index < length folders
+place_found : (folders : List FolderConfig) (place : TablePlace) (entry index : ℕ) (value : Data) → place_of folders place entry value ≡ Ok index → index < length folders
 place_found folders place entry index value h =
     let (id, t, rest) = both (ok_or (as_str value) (BadKey place Folders NotStrings)) _ index h in
     let found : position (has_id id) folders ≡ Some index = value_of (position (has_id id) folders) _ index rest in
     let (test, same) = some_where (nat_lt (position_or_len (has_id id) folders) (length folders)) (position_or_len (has_id id) folders) index found in
     subst (λ (k : ℕ). k < length folders) same (ltb-true _ _ test)
 
-places_found : (folders : List FolderConfig) (place : Place) (earlier : List ℕ) (values : Items) (places : List ℕ) → places_after folders place earlier values ≡ Ok places → All (λ k. k < length folders) earlier → All (λ k. k < length folders) places
+places_found : (folders : List FolderConfig) (place : TablePlace) (earlier : List ℕ) (values : Items) (places : List ℕ) → places_after folders place earlier values ≡ Ok places → All (λ k. k < length folders) earlier → All (λ k. k < length folders) places
 places_found folders place earlier no_items places h e =
     let same : earlier ≡ places = cc h in
     subst (λ (ks : List ℕ). All (λ k. k < length folders) ks) same e
@@ -235,7 +235,7 @@ places_found folders place earlier (item value values) places h e =
     let (index, one, rest) = both (place_of folders place (length earlier + 1) value) (λ index. places_after folders place (earlier ++ index ∷ []) values) places h in
     places_found folders place (earlier ++ index ∷ []) values places rest (All-push (λ k. k < length folders) earlier index e (place_found folders place (length earlier + 1) index value one))
 
-places_at_found : (folders : List FolderConfig) (table : Members) (place : Place) (places : List ℕ) → places_at folders table place ≡ Ok places → All (λ k. k < length folders) places
+places_at_found : (folders : List FolderConfig) (table : Members) (place : TablePlace) (places : List ℕ) → places_at folders table place ≡ Ok places → All (λ k. k < length folders) places
 places_at_found folders table place places h =
     let (values, v, rest) = both (array_at table place Folders) (places_after folders place []) places h in
     places_found folders place [] values places rest (All-nil (λ k. k < length folders))
@@ -244,7 +244,7 @@ neither : (a b : Bool) → (a || b) ≡ false → (a ≡ false) × (b ≡ false)
 neither true b h = cc h
 neither false b h = (refl, h)
 
-device_found : (me : List ℕ) (earlier : List PeerConfig) (place : Place) (identity device : List ℕ) → checked_device me earlier place identity ≡ Ok device → is_short_id_taken me earlier (short_id device) ≡ false
+device_found : (me : List ℕ) (earlier : List PeerConfig) (place : TablePlace) (identity device : List ℕ) → checked_device me earlier place identity ≡ Ok device → is_short_id_taken me earlier (short_id device) ≡ false
 device_found me earlier place identity device h =
     let (new, rest) = passed (is_taken me earlier identity) _ _ device h in
     let (short, last) = passed (is_short_id_taken me earlier (short_id identity)) _ _ device rest in
@@ -264,7 +264,7 @@ listens_there (Listen t) one text e same =
     let there : t ≡ one = cc e in
     (bytes_eq-Decides (socket_text t) (socket_text text)).1 (ap socket_text there ∙ same)
 
-listen_found : (earlier : List PeerConfig) (place : Place) (text : List ℕ) (address : PeerAddress) → checked_listen earlier place text ≡ Ok address → IsApart earlier address
+listen_found : (earlier : List PeerConfig) (place : TablePlace) (text : List ℕ) (address : PeerAddress) → checked_listen earlier place text ≡ Ok address → IsApart earlier address
 listen_found earlier place text address h =
     let (none, last) = passed (list_any (λ peer. listens_at text peer.address) earlier) _ _ address h in
     λ k d inside one other there here same.
@@ -280,7 +280,7 @@ apart_by : (one other : PeerConfig) → ((text text' : List ℕ) → one.address
     → (text : List ℕ) → one.address ≡ Listen text → other.address ≢ Listen text
 apart_by one other apart text there here = apart text text there here refl
 
-address_found : (earlier : List PeerConfig) (place : Place) (dial listen : Option Data) (address : PeerAddress) → address_of earlier place dial listen ≡ Ok address → IsApart earlier address
+address_found : (earlier : List PeerConfig) (place : TablePlace) (dial listen : Option Data) (address : PeerAddress) → address_of earlier place dial listen ≡ Ok address → IsApart earlier address
 address_found earlier place None None address h = cc h
 address_found earlier place (Some dial) None address h =
     let (text, t, last) = both (text_of place DialKey dial) (λ text. Ok (Dial text)) address h in

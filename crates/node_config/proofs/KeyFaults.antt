@@ -18,7 +18,7 @@ use Rattle.node_config.specs.declared.fault.ConfigFault.TheVariants.{NotToml, Ba
 use Rattle.node_config.specs.declared.folder_numbers.FolderNumber.{FolderNumber}
 use Rattle.node_config.specs.declared.key.Key.{Key}
 use Rattle.node_config.specs.declared.key.Key.TheVariants.{Dial as DialKey, Listen as ListenKey, Mode}
-use Rattle.node_config.specs.declared.key.Place.{Place}
+use Rattle.node_config.specs.declared.key.TablePlace.{TablePlace}
 use Rattle.node_config.specs.declared.key.Problem.{Problem}
 use Rattle.node_config.specs.declared.key.Problem.TheVariants.{NotMode}
 
@@ -31,7 +31,7 @@ IsOfKey OutOfMemory = ⊥
 abbrev pub FailsAtKey : {A : Type 0} → Result A ConfigFault → Type 0
 FailsAtKey r = IfErr r IsOfKey
 
-or_fails : {A : Type 0} (o : Option A) (place : Place) (key : Key) (problem : Problem) → FailsAtKey (ok_or o (BadKey place key problem))
+or_fails : {A : Type 0} (o : Option A) (place : TablePlace) (key : Key) (problem : Problem) → FailsAtKey (ok_or o (BadKey place key problem))
 or_fails None place key problem = tt
 or_fails (Some x) place key problem = tt
 
@@ -43,54 +43,54 @@ cond_fails : {A : Type 0} (b : Bool) (x y : Result A ConfigFault) → FailsAtKey
 cond_fails true x y h g = h
 cond_fails false x y h g = g
 
-text_fails : (table : Members) (place : Place) (key : Key) → FailsAtKey (text_at table place key)
+text_fails : (table : Members) (place : TablePlace) (key : Key) → FailsAtKey (text_at table place key)
 text_fails table place key = search (or_fails, then_fails)
 
-default_fails : (place : Place) (number : FolderNumber) (o : Option Data) → FailsAtKey (number_or_default place number o)
+default_fails : (place : TablePlace) (number : FolderNumber) (o : Option Data) → FailsAtKey (number_or_default place number o)
 default_fails place number None = tt
 default_fails place number (Some value) = search (or_fails, then_fails, cond_fails)
 
-checked_id_fails : (earlier : List FolderConfig) (place : Place) (id : List ℕ) → FailsAtKey (checked_id earlier place id)
+checked_id_fails : (earlier : List FolderConfig) (place : TablePlace) (id : List ℕ) → FailsAtKey (checked_id earlier place id)
 checked_id_fails earlier place id = search cond_fails
 
-id_fails : (earlier : List FolderConfig) (table : Members) (place : Place) → FailsAtKey (id_at earlier table place)
+id_fails : (earlier : List FolderConfig) (table : Members) (place : TablePlace) → FailsAtKey (id_at earlier table place)
 id_fails earlier table place = search (then_fails, text_fails, checked_id_fails)
 
-path_fails : (table : Members) (place : Place) (key : Key) → FailsAtKey (path_at table place key)
+path_fails : (table : Members) (place : TablePlace) (key : Key) → FailsAtKey (path_at table place key)
 path_fails table place key = search (then_fails, text_fails, cond_fails)
 
-path_if_there_fails : (place : Place) (key : Key) (o : Option Data) → FailsAtKey (path_if_there place key o)
+path_if_there_fails : (place : TablePlace) (key : Key) (o : Option Data) → FailsAtKey (path_if_there place key o)
 path_if_there_fails place key None = tt
 path_if_there_fails place key (Some value) = search (or_fails, then_fails, cond_fails)
 
-optional_path_fails : (table : Members) (place : Place) (key : Key) → FailsAtKey (optional_path_at table place key)
+optional_path_fails : (table : Members) (place : TablePlace) (key : Key) → FailsAtKey (optional_path_at table place key)
 optional_path_fails table place key = path_if_there_fails place key (get_member (key_name key) table)
 
-mode_or_none_fails : (place : Place) (o : Option Data) → FailsAtKey (mode_or_none place o)
+mode_or_none_fails : (place : TablePlace) (o : Option Data) → FailsAtKey (mode_or_none place o)
 mode_or_none_fails place None = tt
 mode_or_none_fails place (Some value) = then_fails (ok_or (mode_of_text (as_str value)) (BadKey place Mode NotMode)) _ (or_fails _ place Mode NotMode) (λ mode. tt)
 
-mode_fails : (table : Members) (place : Place) → FailsAtKey (mode_at table place)
+mode_fails : (table : Members) (place : TablePlace) → FailsAtKey (mode_at table place)
 mode_fails table place = mode_or_none_fails place (get_member (key_name Mode) table)
 
-number_fails : (table : Members) (place : Place) (number : FolderNumber) → FailsAtKey (number_at table place number)
+number_fails : (table : Members) (place : TablePlace) (number : FolderNumber) → FailsAtKey (number_at table place number)
 number_fails table place number = default_fails place number _
 
-or_no_device_fails : (place : Place) (r : Result (List ℕ) DeviceFault) → FailsAtKey (or_no_device place r)
+or_no_device_fails : (place : TablePlace) (r : Result (List ℕ) DeviceFault) → FailsAtKey (or_no_device place r)
 or_no_device_fails place (Ok device) = tt
 or_no_device_fails place (Err fault) = tt
 
-pub device_fails : (table : Members) (place : Place) → FailsAtKey (device_at table place)
+pub device_fails : (table : Members) (place : TablePlace) → FailsAtKey (device_at table place)
 device_fails table place = search (or_no_device_fails, then_fails, text_fails)
 
 tables_fail : (key : Key) (o : Option Data) → FailsAtKey (tables_of key o)
 tables_fail key None = tt
 tables_fail key (Some value) = or_fails (as_array value) _ _ _
 
-numbers_fail : (table : Members) (place : Place) → FailsAtKey (numbers_of table place)
+numbers_fail : (table : Members) (place : TablePlace) → FailsAtKey (numbers_of table place)
 numbers_fail table place = search (then_fails, number_fails)
 
-files_fail : (table : Members) (place : Place) → FailsAtKey (files_of table place)
+files_fail : (table : Members) (place : TablePlace) → FailsAtKey (files_of table place)
 files_fail table place = search (then_fails, number_fails, mode_fails)
 
 folder_fails : (earlier : List FolderConfig) (value : Data) → FailsAtKey (folder_of earlier value)
@@ -100,26 +100,26 @@ folders_fail : (earlier : List FolderConfig) (values : Items) → FailsAtKey (fo
 folders_fail earlier no_items = tt
 folders_fail earlier (item value values) = then_fails (folder_of earlier value) (λ folder. folders_after (earlier ++ folder ∷ []) values) (folder_fails earlier value) (λ folder. folders_fail (earlier ++ folder ∷ []) values)
 
-checked_device_fails : (me : List ℕ) (earlier : List PeerConfig) (place : Place) (device : List ℕ) → FailsAtKey (checked_device me earlier place device)
+checked_device_fails : (me : List ℕ) (earlier : List PeerConfig) (place : TablePlace) (device : List ℕ) → FailsAtKey (checked_device me earlier place device)
 checked_device_fails me earlier place device = search cond_fails
 
-place_fails : (folders : List FolderConfig) (place : Place) (entry : ℕ) (value : Data) → FailsAtKey (place_of folders place entry value)
+place_fails : (folders : List FolderConfig) (place : TablePlace) (entry : ℕ) (value : Data) → FailsAtKey (place_of folders place entry value)
 place_fails folders place entry value = search (or_fails, then_fails)
 
-places_fail : (folders : List FolderConfig) (place : Place) (earlier : List ℕ) (values : Items) → FailsAtKey (places_after folders place earlier values)
+places_fail : (folders : List FolderConfig) (place : TablePlace) (earlier : List ℕ) (values : Items) → FailsAtKey (places_after folders place earlier values)
 places_fail folders place earlier no_items = tt
 places_fail folders place earlier (item value values) = then_fails (place_of folders place (length earlier + 1) value) (λ index. places_after folders place (earlier ++ index ∷ []) values) (place_fails folders place (length earlier + 1) value) (λ index. places_fail folders place (earlier ++ index ∷ []) values)
 
-places_at_fails : (folders : List FolderConfig) (table : Members) (place : Place) → FailsAtKey (places_at folders table place)
+places_at_fails : (folders : List FolderConfig) (table : Members) (place : TablePlace) → FailsAtKey (places_at folders table place)
 places_at_fails folders table place = search (or_fails, then_fails, places_fail)
 
-address_fails : (earlier : List PeerConfig) (place : Place) (dial listen : Option Data) → FailsAtKey (address_of earlier place dial listen)
+address_fails : (earlier : List PeerConfig) (place : TablePlace) (dial listen : Option Data) → FailsAtKey (address_of earlier place dial listen)
 address_fails earlier place None None = tt
 address_fails earlier place (Some dial) None = search (or_fails, then_fails)
 address_fails earlier place None (Some listen) = search (or_fails, then_fails, cond_fails)
 address_fails earlier place (Some dial) (Some listen) = tt
 
-address_at_fails : (earlier : List PeerConfig) (table : Members) (place : Place) → FailsAtKey (address_at earlier table place)
+address_at_fails : (earlier : List PeerConfig) (table : Members) (place : TablePlace) → FailsAtKey (address_at earlier table place)
 address_at_fails earlier table place = address_fails earlier place (get_member (key_name DialKey) table) (get_member (key_name ListenKey) table)
 
 peer_fails : (me : List ℕ) (folders : List FolderConfig) (earlier : List PeerConfig) (value : Data) → FailsAtKey (peer_of me folders earlier value)

@@ -15,7 +15,7 @@ use Rattle.node_config.specs.Peers.{peers_at}
 use Rattle.node_config.specs.Values.{Reads, device_at, text_at}
 use Rattle.node_config.specs.declared.config.FolderConfig.{FolderConfig}
 use Rattle.node_config.specs.declared.key.Key.TheVariants.{Name, State, Status}
-use Rattle.node_config.specs.declared.key.Place.TheVariants.{Node}
+use Rattle.node_config.specs.declared.key.TablePlace.TheVariants.{Node}
 use Rattle.node_config.specs.declared.config.Config.{Config}
 use Rattle.node_config.specs.declared.fault.ConfigFault.{ConfigFault}
 use Rattle.node_config.specs.declared.fault.ConfigFault.TheVariants.{NotToml, BadKey, OutOfMemory}

@@ -10,7 +10,7 @@ use Rattle.node_config.specs.declared.config.Config.{Config}
 use Rattle.node_config.specs.declared.fault.ConfigFault.{ConfigFault}
 use Rattle.node_config.specs.declared.fault.ConfigFault.TheVariants.{NotToml, BadKey, OutOfMemory}
 use Rattle.node_config.specs.declared.key.Key.TheVariants.{Name, State, Status}
-use Rattle.node_config.specs.declared.key.Place.TheVariants.{Node}
+use Rattle.node_config.specs.declared.key.TablePlace.TheVariants.{Node}
 
 -- the configuration of a document, or the first key at which it has none
 abbrev pub config_of : Members → Result Config ConfigFault

@@ -13,8 +13,8 @@ use Rattle.node_config.specs.declared.folder_numbers.FolderNumber.TheVariants.{H
 use Rattle.node_config.specs.declared.folders.FileRules.{FileRules}
 use Rattle.node_config.specs.declared.folders.Numbers.{Numbers}
 use Rattle.node_config.specs.declared.key.Key.TheVariants.{Folder as FolderKey, Id, Path}
-use Rattle.node_config.specs.declared.key.Place.{Place}
-use Rattle.node_config.specs.declared.key.Place.TheVariants.{Folder}
+use Rattle.node_config.specs.declared.key.TablePlace.{TablePlace}
+use Rattle.node_config.specs.declared.key.TablePlace.TheVariants.{Folder}
 use Rattle.node_config.specs.declared.key.Problem.TheVariants.{Empty, Repeats}
 
 -- the folder has this id
@@ -22,17 +22,17 @@ abbrev pub has_id : List ℕ → FolderConfig → Bool
 has_id id folder = bytes_eq folder.id id
 
 -- an id that is not empty, and not that of an earlier folder
-abbrev pub checked_id : List FolderConfig → Place → List ℕ → Result (List ℕ) ConfigFault
+abbrev pub checked_id : List FolderConfig → TablePlace → List ℕ → Result (List ℕ) ConfigFault
 checked_id earlier place id =
     if length id == 0 then Err (BadKey place Id Empty)
     else if list_any (has_id id) earlier then Err (BadKey place Id Repeats)
     else Ok id
 
-abbrev pub id_at : List FolderConfig → Members → Place → Result (List ℕ) ConfigFault
+abbrev pub id_at : List FolderConfig → Members → TablePlace → Result (List ℕ) ConfigFault
 id_at earlier table place = text_at table place Id >>= checked_id earlier place
 
 -- the numbers of a table
-abbrev pub numbers_of : Members → Place → Result Numbers ConfigFault
+abbrev pub numbers_of : Members → TablePlace → Result Numbers ConfigFault
 numbers_of table place = do
   history_limit ← number_at table place HistoryLimit
   max_conflicts ← number_at table place MaxConflicts
@@ -41,7 +41,7 @@ numbers_of table place = do
   Ok (record { history_limit = unsigned_abs history_limit; max_conflicts = max_conflicts; rescan = unsigned_abs rescan; look = look })
 
 -- what a table says of files that are replaced, and of new ones
-abbrev pub files_of : Members → Place → Result FileRules ConfigFault
+abbrev pub files_of : Members → TablePlace → Result FileRules ConfigFault
 files_of table place = do
   trash_days ← number_at table place TrashDays
   mode ← mode_at table place

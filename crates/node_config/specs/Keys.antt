@@ -2,8 +2,8 @@
 use Rattle.std.specs.Prelude.{ℕ, List, [], ◌∷◌, codes}
 use Rattle.node_config.specs.declared.key.Key.{Key}
 use Rattle.node_config.specs.declared.key.Key.TheVariants.{Device, Name, State, Status, Folder, Peer, Id, Path, HistoryLimit, MaxConflicts, Rescan, Look, TrashDays, Mode, Folders, Dial, Listen}
-use Rattle.node_config.specs.declared.key.Place.{Place}
-use Rattle.node_config.specs.declared.key.Place.TheVariants as place
+use Rattle.node_config.specs.declared.key.TablePlace.{TablePlace}
+use Rattle.node_config.specs.declared.key.TablePlace.TheVariants as place
 
 abbrev pub key_name : Key → List ℕ
 key_name Device = codes "device"
@@ -25,7 +25,7 @@ key_name Dial = codes "dial"
 key_name Listen = codes "listen"
 
 -- the keys of a table, in the order of the page that lists them
-abbrev pub keys_of : Place → List Key
+abbrev pub keys_of : TablePlace → List Key
 keys_of place.Node = Device ∷ Name ∷ State ∷ Status ∷ Folder ∷ Peer ∷ []
 keys_of (place.Folder number) = Id ∷ Path ∷ HistoryLimit ∷ MaxConflicts ∷ Rescan ∷ Look ∷ TrashDays ∷ Mode ∷ []
 keys_of (place.Peer number) = Device ∷ Folders ∷ Dial ∷ Listen ∷ []

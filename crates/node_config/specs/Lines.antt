@@ -6,13 +6,13 @@ use Rattle.node_config.specs.Keys.{key_name}
 use Rattle.node_config.specs.declared.fault.ConfigFault.{ConfigFault}
 use Rattle.node_config.specs.declared.fault.ConfigFault.TheVariants.{NotToml, BadKey, OutOfMemory}
 use Rattle.node_config.specs.declared.key.Key.{Key}
-use Rattle.node_config.specs.declared.key.Place.{Place}
-use Rattle.node_config.specs.declared.key.Place.TheVariants.{Node, Folder, Peer}
+use Rattle.node_config.specs.declared.key.TablePlace.{TablePlace}
+use Rattle.node_config.specs.declared.key.TablePlace.TheVariants.{Node, Folder, Peer}
 use Rattle.node_config.specs.declared.key.Problem.{Problem}
 use Rattle.node_config.specs.declared.key.Problem.TheVariants.{Absent, NotString, NotInteger, NotLook, NotMode, NotTables, NotStrings, NotDevice, NotDeviceCharacter, Mistyped, OutOfRange, Empty, BeginsWithTilde, Repeats, SameDevice, SameShortId, UnknownFolder, BothAddresses, NoAddress, Inside}
 use Rattle.node_config.specs.declared.unknown.UnknownKey.{UnknownKey}
 
-abbrev pub place_text : Place → List ℕ
+abbrev pub place_text : TablePlace → List ℕ
 place_text Node = []
 place_text (Folder number) = codes "folder " ++ (decimal number ++ codes ": ")
 place_text (Peer number) = codes "peer " ++ (decimal number ++ codes ": ")

@@ -7,7 +7,7 @@ use Rattle.node_config.specs.Values.{◌>>=◌}
 use Rattle.node_config.specs.declared.fault.ConfigFault.{ConfigFault}
 use Rattle.node_config.specs.declared.fault.ConfigFault.TheVariants.{BadKey}
 use Rattle.node_config.specs.declared.key.Key.TheVariants.{Mode}
-use Rattle.node_config.specs.declared.key.Place.{Place}
+use Rattle.node_config.specs.declared.key.TablePlace.{TablePlace}
 use Rattle.node_config.specs.declared.key.Problem.TheVariants.{NotMode}
 
 -- the byte is a digit from this one up to 7
@@ -28,11 +28,11 @@ mode_of_text None = None
 mode_of_text (Some text) = mode_of text
 
 -- the mode that is the value of its key, or none where there is none
-abbrev pub mode_or_none : Place → Option Data → Result (Option ℕ) ConfigFault
+abbrev pub mode_or_none : TablePlace → Option Data → Result (Option ℕ) ConfigFault
 mode_or_none place None = Ok None
 mode_or_none place (Some value) = ok_or (mode_of_text (as_str value)) (BadKey place Mode NotMode) >>= λ mode. Ok (Some mode)
 
-abbrev pub mode_at : Members → Place → Result (Option ℕ) ConfigFault
+abbrev pub mode_at : Members → TablePlace → Result (Option ℕ) ConfigFault
 mode_at table place = mode_or_none place (get_member (key_name Mode) table)
 
 -- the owner may read and write, and there are no other bits than those of permissions

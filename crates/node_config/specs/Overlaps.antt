@@ -4,7 +4,7 @@ use Rattle.std.specs.List.{position, starts_with}
 use Rattle.node_config.specs.declared.fault.ConfigFault.{ConfigFault}
 use Rattle.node_config.specs.declared.fault.ConfigFault.TheVariants.{BadKey}
 use Rattle.node_config.specs.declared.key.Key.TheVariants.{Path, State, Status}
-use Rattle.node_config.specs.declared.key.Place.TheVariants.{Folder, Node}
+use Rattle.node_config.specs.declared.key.TablePlace.TheVariants.{Folder, Node}
 use Rattle.node_config.specs.declared.key.Problem.TheVariants.{Inside as IsInside}
 use Rattle.node_config.specs.declared.overlap.Overlap.{Overlap}
 use Rattle.node_config.specs.declared.overlap.Overlap.TheVariants.{Inside, StateIn}

@@ -15,8 +15,8 @@ use Rattle.node_config.specs.declared.config.PeerAddress.TheVariants.{Dial, List
 use Rattle.node_config.specs.declared.fault.ConfigFault.{ConfigFault}
 use Rattle.node_config.specs.declared.fault.ConfigFault.TheVariants.{BadKey}
 use Rattle.node_config.specs.declared.key.Key.TheVariants.{Peer as PeerKey, Device, Folders, Dial as DialKey, Listen as ListenKey}
-use Rattle.node_config.specs.declared.key.Place.{Place}
-use Rattle.node_config.specs.declared.key.Place.TheVariants.{Peer}
+use Rattle.node_config.specs.declared.key.TablePlace.{TablePlace}
+use Rattle.node_config.specs.declared.key.TablePlace.TheVariants.{Peer}
 use Rattle.node_config.specs.declared.key.Problem.TheVariants.{NotStrings, Repeats, SameDevice, SameShortId, UnknownFolder, BothAddresses, NoAddress}
 
 -- this device or one of the peers has this identity
@@ -28,25 +28,25 @@ abbrev pub is_short_id_taken : List ℕ → List PeerConfig → ℕ → Bool
 is_short_id_taken me peers short = short_id me == short || list_any (λ peer. short_id peer.device == short) peers
 
 -- an identity that differs from that of this device and of each earlier peer, also in its first eight bytes
-abbrev pub checked_device : List ℕ → List PeerConfig → Place → List ℕ → Result (List ℕ) ConfigFault
+abbrev pub checked_device : List ℕ → List PeerConfig → TablePlace → List ℕ → Result (List ℕ) ConfigFault
 checked_device me earlier place device =
     if is_taken me earlier device then Err (BadKey place Device SameDevice)
     else if is_short_id_taken me earlier (short_id device) then Err (BadKey place Device SameShortId)
     else Ok device
 
 -- the place of the folder with an id, which is the value of this number in its array
-abbrev pub place_of : List FolderConfig → Place → ℕ → Data → Result ℕ ConfigFault
+abbrev pub place_of : List FolderConfig → TablePlace → ℕ → Data → Result ℕ ConfigFault
 place_of folders place entry value = do
   id ← ok_or (as_str value) (BadKey place Folders NotStrings)
   ok_or (position (has_id id) folders) (BadKey place Folders (UnknownFolder entry))
 
 -- the earlier places, and those of the values
-abbrev pub places_after : List FolderConfig → Place → List ℕ → Items → Result (List ℕ) ConfigFault
+abbrev pub places_after : List FolderConfig → TablePlace → List ℕ → Items → Result (List ℕ) ConfigFault
 places_after folders place earlier no_items = Ok earlier
 places_after folders place earlier (item value values) =
     place_of folders place (length earlier + 1) value >>= λ index. places_after folders place (earlier ++ index ∷ []) values
 
-abbrev pub places_at : List FolderConfig → Members → Place → Result (List ℕ) ConfigFault
+abbrev pub places_at : List FolderConfig → Members → TablePlace → Result (List ℕ) ConfigFault
 places_at folders table place = array_at table place Folders >>= places_after folders place []
 
 -- the peer is listened for at the socket that this text means
@@ -55,19 +55,19 @@ listens_at text (Dial dialled) = false
 listens_at text (Listen listened) = bytes_eq (socket_text listened) (socket_text text)
 
 -- an address at whose socket no earlier peer is listened for
-abbrev pub checked_listen : List PeerConfig → Place → List ℕ → Result PeerAddress ConfigFault
+abbrev pub checked_listen : List PeerConfig → TablePlace → List ℕ → Result PeerAddress ConfigFault
 checked_listen earlier place text =
     if list_any (λ peer. listens_at text peer.address) earlier then Err (BadKey place ListenKey Repeats)
     else Ok (Listen text)
 
 -- the address of `dial`, or of `listen`: one of them is there
-abbrev pub address_of : List PeerConfig → Place → Option Data → Option Data → Result PeerAddress ConfigFault
+abbrev pub address_of : List PeerConfig → TablePlace → Option Data → Option Data → Result PeerAddress ConfigFault
 address_of earlier place None None = Err (BadKey place DialKey NoAddress)
 address_of earlier place (Some dial) None = text_of place DialKey dial >>= λ text. Ok (Dial text)
 address_of earlier place None (Some listen) = text_of place ListenKey listen >>= checked_listen earlier place
 address_of earlier place (Some dial) (Some listen) = Err (BadKey place DialKey BothAddresses)
 
-abbrev pub address_at : List PeerConfig → Members → Place → Result PeerAddress ConfigFault
+abbrev pub address_at : List PeerConfig → Members → TablePlace → Result PeerAddress ConfigFault
 address_at earlier table place = address_of earlier place (get_member (key_name DialKey) table) (get_member (key_name ListenKey) table)
 
 -- the peer of a table, after the earlier ones

@@ -8,8 +8,8 @@ use Rattle.node_config.specs.Documents.{IsDocument}
 use Rattle.node_config.specs.Keys.{key_name, keys_of}
 use Rattle.node_config.specs.declared.key.Key.{Key}
 use Rattle.node_config.specs.declared.key.Key.TheVariants as key
-use Rattle.node_config.specs.declared.key.Place.{Place}
-use Rattle.node_config.specs.declared.key.Place.TheVariants.{Node, Folder, Peer}
+use Rattle.node_config.specs.declared.key.TablePlace.{TablePlace}
+use Rattle.node_config.specs.declared.key.TablePlace.TheVariants.{Node, Folder, Peer}
 use Rattle.node_config.specs.declared.unknown.Tables.{Tables}
 use Rattle.node_config.specs.declared.unknown.Tables.TheVariants.{Folders, Peers}
 use Rattle.node_config.specs.declared.unknown.UnknownKey.{UnknownKey}
@@ -28,24 +28,24 @@ or_else (Some key) other = Some key
 or_else None other = other
 
 -- the key of the table that is nearest to a text: the first to which one edit leads, and where there is none, the first to which two do
-abbrev pub near_key : Place → List ℕ → Option Key
+abbrev pub near_key : TablePlace → List ℕ → Option Key
 near_key place text = or_else (first_at 1 text (keys_of place)) (first_at 2 text (keys_of place))
 
 -- the text is a key of the table
-abbrev pub is_key : Place → List ℕ → Bool
+abbrev pub is_key : TablePlace → List ℕ → Bool
 is_key place text = list_any (λ key. bytes_eq (key_name key) text) (keys_of place)
 
-abbrev pub unknown_key : Place → List ℕ → UnknownKey
+abbrev pub unknown_key : TablePlace → List ℕ → UnknownKey
 unknown_key place text = record { place = place; key = text; near = near_key place text }
 
 -- those of a table, in its order
-abbrev pub unknown_in : Place → Members → List UnknownKey
+abbrev pub unknown_in : TablePlace → Members → List UnknownKey
 unknown_in place no_members = []
 unknown_in place (member text value members) =
     if is_key place text then unknown_in place members else unknown_key place text ∷ unknown_in place members
 
 -- those of a value that may be no table
-abbrev pub unknown_in_value : Place → Option Members → List UnknownKey
+abbrev pub unknown_in_value : TablePlace → Option Members → List UnknownKey
 unknown_in_value place None = []
 unknown_in_value place (Some members) = unknown_in place members
 
@@ -54,7 +54,7 @@ abbrev pub key_of : Tables → Key
 key_of Folders = key.Folder
 key_of Peers = key.Peer
 
-abbrev pub place_of : Tables → ℕ → Place
+abbrev pub place_of : Tables → ℕ → TablePlace
 place_of Folders number = Folder number
 place_of Peers number = Peer number
 

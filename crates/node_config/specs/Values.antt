@@ -12,8 +12,8 @@ use Rattle.node_config.specs.declared.fault.ConfigFault.TheVariants.{BadKey, Out
 use Rattle.node_config.specs.declared.folder_numbers.FolderNumber.{FolderNumber}
 use Rattle.node_config.specs.declared.key.Key.{Key}
 use Rattle.node_config.specs.declared.key.Key.TheVariants.{Device}
-use Rattle.node_config.specs.declared.key.Place.{Place}
-use Rattle.node_config.specs.declared.key.Place.TheVariants.{Node}
+use Rattle.node_config.specs.declared.key.TablePlace.{TablePlace}
+use Rattle.node_config.specs.declared.key.TablePlace.TheVariants.{Node}
 use Rattle.node_config.specs.declared.key.Problem.{Problem}
 use Rattle.node_config.specs.declared.key.Problem.TheVariants.{Absent, NotString, NotTables, NotStrings, NotDevice, NotDeviceCharacter, Mistyped, OutOfRange}
 
@@ -32,18 +32,18 @@ abbrev pub Reads : {A : Type 0} → Result A ConfigFault → Result A ConfigFaul
 Reads value result = MatchResult result (λ x. value ≡ Ok x) (λ fault. (fault ≡ OutOfMemory) ⊎ (value ≡ Err fault))
 
 -- the value of a required key
-abbrev pub required_at : Members → Place → Key → Result Data ConfigFault
+abbrev pub required_at : Members → TablePlace → Key → Result Data ConfigFault
 required_at table place key = ok_or (get_member (key_name key) table) (BadKey place key Absent)
 
 -- the string that is the value of a key
-abbrev pub text_of : Place → Key → Data → Result (List ℕ) ConfigFault
+abbrev pub text_of : TablePlace → Key → Data → Result (List ℕ) ConfigFault
 text_of place key value = ok_or (as_str value) (BadKey place key NotString)
 
-abbrev pub text_at : Members → Place → Key → Result (List ℕ) ConfigFault
+abbrev pub text_at : Members → TablePlace → Key → Result (List ℕ) ConfigFault
 text_at table place key = required_at table place key >>= text_of place key
 
 -- the array that is the value of a required key
-abbrev pub array_at : Members → Place → Key → Result Items ConfigFault
+abbrev pub array_at : Members → TablePlace → Key → Result Items ConfigFault
 array_at table place key = required_at table place key >>= λ value. ok_or (as_array value) (BadKey place key NotStrings)
 
 -- the value for which a word stands, or the integer where there is no word
@@ -55,17 +55,17 @@ abbrev pub integer_of : FolderNumber → Data → Option ℤ
 integer_of number value = word_or_integer number (as_str value) (as_integer value)
 
 -- the number that is the value of its key, if it is in the range
-abbrev pub number_of_value : Place → FolderNumber → Data → Result ℤ ConfigFault
+abbrev pub number_of_value : TablePlace → FolderNumber → Data → Result ℤ ConfigFault
 number_of_value place number value = do
   found ← ok_or (integer_of number value) (BadKey place (key_of number) (no_number number))
   if int_le (range_of number).low found && int_le found (range_of number).high then Ok found else Err (BadKey place (key_of number) (OutOfRange (range_of number).low (range_of number).high))
 
-abbrev pub number_or_default : Place → FolderNumber → Option Data → Result ℤ ConfigFault
+abbrev pub number_or_default : TablePlace → FolderNumber → Option Data → Result ℤ ConfigFault
 number_or_default place number None = Ok (range_of number).default
 number_or_default place number (Some value) = number_of_value place number value
 
 -- a number of a folder
-abbrev pub number_at : Members → Place → FolderNumber → Result ℤ ConfigFault
+abbrev pub number_at : Members → TablePlace → FolderNumber → Result ℤ ConfigFault
 number_at table place number = number_or_default place number (get_member (key_name (key_of number)) table)
 
 -- what is wrong with a text that is no identity
@@ -74,12 +74,12 @@ no_device Length = NotDevice
 no_device Character = NotDeviceCharacter
 no_device (Check group) = Mistyped group
 
-abbrev pub or_no_device : Place → Result (List ℕ) DeviceFault → Result (List ℕ) ConfigFault
+abbrev pub or_no_device : TablePlace → Result (List ℕ) DeviceFault → Result (List ℕ) ConfigFault
 or_no_device place (Ok device) = Ok device
 or_no_device place (Err fault) = Err (BadKey place Device (no_device fault))
 
 -- the identity of a device, in hexadecimal digits or as Syncthing shows it
-abbrev pub device_at : Members → Place → Result (List ℕ) ConfigFault
+abbrev pub device_at : Members → TablePlace → Result (List ℕ) ConfigFault
 device_at table place = text_at table place Device >>= λ text. or_no_device place (device_of text)
 
 -- the tables that are the value of a key, which may be absent

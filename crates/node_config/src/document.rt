@@ -8,7 +8,7 @@ ghost use Rattle.node_config.specs.Values.{Reads, device_at};
 use crate::config::Config;
 use crate::fault::ConfigFault;
 use crate::folders::read_folders;
-use crate::key::{Key, Place};
+use crate::key::{Key, TablePlace};
 use crate::path::{copied_path_at, optional_path_at};
 use crate::peers::read_peers;
 use crate::values::{copied_text_at, device_at};
@@ -48,12 +48,12 @@ pub fn read_config(alloc: Global, text: &[u8]) -> Result<Config, ConfigFault>
 /// The configuration of a document.
 fn read_document(alloc: Global, document: &Table) -> Result<Config, ConfigFault>
     ensures value { Reads (config_of (table_view document.now)) result }
-    ensures memory { IsErrOf result ConfigFault.OutOfMemory → IsOk (device_at (table_view document.now) Place.Node) }
+    ensures memory { IsErrOf result ConfigFault.OutOfMemory → IsOk (device_at (table_view document.now) TablePlace.Node) }
 {
-    let device = device_at(document, Place::Node)?;
-    let name = copied_text_at(alloc, document, Place::Node, Key::Name)?;
-    let state = copied_path_at(alloc, document, Place::Node, Key::State)?;
-    let status = optional_path_at(alloc, document, Place::Node, Key::Status)?;
+    let device = device_at(document, TablePlace::Node)?;
+    let name = copied_text_at(alloc, document, TablePlace::Node, Key::Name)?;
+    let state = copied_path_at(alloc, document, TablePlace::Node, Key::State)?;
+    let status = optional_path_at(alloc, document, TablePlace::Node, Key::Status)?;
     let folders = read_folders(alloc, document)?;
     let peers = read_peers(alloc, device, folders.as_slice(), document)?;
     Ok(Config {

@@ -3,7 +3,7 @@ ghost use Rattle.node_config.specs.Faults.{fault_name, number_of};
 ghost use Rattle.node_config.specs.Lines.{fault_text};
 ghost use Rattle.node_config.specs.declared.fault.ConfigFault.TheVariants.{OutOfMemory};
 
-use crate::key::{Key, Place, Problem};
+use crate::key::{Key, Problem, TablePlace};
 use std::alloc::AllocError;
 use std::fmt::{self, Display, Formatter};
 use thiserror::Error;
@@ -18,7 +18,7 @@ pub enum ConfigFault {
     },
     /// A key of a table of the document has no value that is allowed there.
     BadKey {
-        place: Place,
+        place: TablePlace,
         key: Key,
         problem: Problem,
     },

@@ -8,7 +8,7 @@ ghost use Rattle.node_config.specs.Values.{Finds, Reads};
 use crate::config::FolderConfig;
 use crate::fault::ConfigFault;
 use crate::folder_numbers::FolderNumber;
-use crate::key::{Key, Place, Problem};
+use crate::key::{Key, Problem, TablePlace};
 use crate::mode::mode_at;
 use crate::path::path_at;
 use crate::values::{number_at, table_of, text_at, value_at};
@@ -27,7 +27,7 @@ pub(crate) fn read_folders(
         None => Ok(Items::new(alloc)),
         Some(Value::Array(values)) => read_each(alloc, values),
         Some(_) => Err(ConfigFault::BadKey {
-            place: Place::Node,
+            place: TablePlace::Node,
             key: Key::Folder,
             problem: Problem::NotTables,
         }),
@@ -55,7 +55,7 @@ fn read_folder(
     ensures { Reads (folder_of earlier.now (view value.now)) result }
 {
     let table = table_of(value, Key::Folder)?;
-    let place = Place::Folder(earlier.len() + 1);
+    let place = TablePlace::Folder(earlier.len() + 1);
     let id = id_at(earlier, table, place)?;
     let path = path_at(table, place, Key::Path)?;
     let numbers = read_numbers(table, place)?;
@@ -82,7 +82,7 @@ struct Numbers {
 }
 
 /// The numbers of a table.
-fn read_numbers(table: &Table, place: Place) -> Result<Numbers, ConfigFault>
+fn read_numbers(table: &Table, place: TablePlace) -> Result<Numbers, ConfigFault>
     ensures { result ≡ numbers_of (table_view table.now) place }
 {
     let history_limit = number_at(table, place, FolderNumber::HistoryLimit)?;
@@ -105,7 +105,7 @@ struct FileRules {
 }
 
 /// What a table says of files that are replaced, and of new ones.
-fn read_files(table: &Table, place: Place) -> Result<FileRules, ConfigFault>
+fn read_files(table: &Table, place: TablePlace) -> Result<FileRules, ConfigFault>
     ensures { result ≡ files_of (table_view table.now) place }
 {
     let trash_days = number_at(table, place, FolderNumber::TrashDays)?;
@@ -120,7 +120,7 @@ fn read_files(table: &Table, place: Place) -> Result<FileRules, ConfigFault>
 fn id_at<'a>(
     earlier: &[FolderConfig],
     table: &'a Table,
-    place: Place,
+    place: TablePlace,
 ) -> Result<&'a str, ConfigFault>
     ensures { Finds (λ text. text.now) (id_at earlier.now (table_view table.now) place) result }
 {
@@ -130,7 +130,7 @@ fn id_at<'a>(
 /// An id that is not empty, and not that of an earlier folder.
 fn checked_id<'a>(
     earlier: &[FolderConfig],
-    place: Place,
+    place: TablePlace,
     id: &'a str,
 ) -> Result<&'a str, ConfigFault>
     ensures { Finds (λ text. text.now) (checked_id earlier.now place id.now) result }

@@ -63,7 +63,7 @@ impl Display for Key {
 
 /// A table of the document. Displayed, it is what a line on one of its keys begins with.
 #[derive(Clone, Copy, Debug, PartialEq, Eq)]
-pub enum Place {
+pub enum TablePlace {
     /// The document itself.
     Node,
     /// The `[[folder]]` of this number, counted from 1.
@@ -72,13 +72,13 @@ pub enum Place {
     Peer(usize),
 }
 
-impl Place {
+impl TablePlace {
     /// The keys of the table, in the order of the crate's page. O(1).
     pub fn keys(self) -> &'static [Key]
         ensures { result.now ≡ keys_of self }
     {
         match self {
-            Place::Node => &[
+            TablePlace::Node => &[
                 Key::Device,
                 Key::Name,
                 Key::State,
@@ -86,7 +86,7 @@ impl Place {
                 Key::Folder,
                 Key::Peer,
             ],
-            Place::Folder(_) => &[
+            TablePlace::Folder(_) => &[
                 Key::Id,
                 Key::Path,
                 Key::HistoryLimit,
@@ -96,19 +96,19 @@ impl Place {
                 Key::TrashDays,
                 Key::Mode,
             ],
-            Place::Peer(_) => &[Key::Device, Key::Folders, Key::Dial, Key::Listen],
+            TablePlace::Peer(_) => &[Key::Device, Key::Folders, Key::Dial, Key::Listen],
         }
     }
 }
 
-impl Display for Place {
+impl Display for TablePlace {
     ghost output = { λ place. Some (place_text place) };
 
     fn fmt<W: fmt::Write>(&self, f: &mut Formatter<W>) -> fmt::Result {
         match self {
-            Place::Node => Ok(()),
-            Place::Folder(number) => write!(f, "folder {number}: "),
-            Place::Peer(number) => write!(f, "peer {number}: "),
+            TablePlace::Node => Ok(()),
+            TablePlace::Folder(number) => write!(f, "folder {number}: "),
+            TablePlace::Peer(number) => write!(f, "peer {number}: "),
         }
     }
 }

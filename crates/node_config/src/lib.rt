@@ -41,7 +41,7 @@ pub use config::{Config, FolderConfig, PeerAddress, PeerConfig};
 pub use document::read_config;
 pub use fault::ConfigFault;
 pub use folder_numbers::{FolderNumber, NumberRange, NumberRule};
-pub use key::{Key, Place, Problem};
+pub use key::{Key, Problem, TablePlace};
 pub use overlap::{
     Overlap, check_page, check_paths, first_overlap, inner_paths_go_on_after_a_slash,
 };

@@ -5,12 +5,12 @@ ghost use Rattle.toml.specs.View.{table_view, view};
 ghost use Rattle.node_config.specs.Modes.{is_octal_from, mode_at, mode_of, mode_of_text, mode_or_none};
 
 use crate::fault::ConfigFault;
-use crate::key::{Key, Place, Problem};
+use crate::key::{Key, Problem, TablePlace};
 use crate::values::value_at;
 use toml::{Table, Value};
 
 /// The mode of a folder's table, if one is there.
-pub(crate) fn mode_at(table: &Table, place: Place) -> Result<Option<u32>, ConfigFault>
+pub(crate) fn mode_at(table: &Table, place: TablePlace) -> Result<Option<u32>, ConfigFault>
     ensures { result ≡ mode_at (table_view table.now) place }
 {
     let Some(value) = value_at(table, Key::Mode) else {

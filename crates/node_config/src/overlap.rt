@@ -4,7 +4,7 @@ ghost use Rattle.node_config.specs.Overlaps.{IsWithin, are_within, checked, faul
 ghost use Rattle.std.specs.List.{position};
 
 use crate::fault::ConfigFault;
-use crate::key::{Key, Place, Problem};
+use crate::key::{Key, Problem, TablePlace};
 use bep_messages::Text;
 
 /// Two paths of which one lies within the other. Folders are named by their numbers in the configuration, counted from 1.
@@ -39,7 +39,7 @@ pub fn check_page(folders: &[Text], page: &str) -> Result<(), ConfigFault>
 {
     match first_around(folders, page) {
         Some(place) => Err(ConfigFault::BadKey {
-            place: Place::Node,
+            place: TablePlace::Node,
             key: Key::Status,
             problem: Problem::Inside { folder: place + 1 },
         }),
@@ -53,12 +53,12 @@ fn fault_of(overlap: Overlap) -> ConfigFault
 {
     match overlap {
         Overlap::Inside(inner, folder) => ConfigFault::BadKey {
-            place: Place::Folder(inner),
+            place: TablePlace::Folder(inner),
             key: Key::Path,
             problem: Problem::Inside { folder },
         },
         Overlap::StateIn(folder) => ConfigFault::BadKey {
-            place: Place::Node,
+            place: TablePlace::Node,
             key: Key::State,
             problem: Problem::Inside { folder },
         },

@@ -5,14 +5,14 @@ ghost use Rattle.node_config.specs.Paths.{checked_path, is_of_home, optional_pat
 ghost use Rattle.node_config.specs.Values.{Finds, Reads};
 
 use crate::fault::ConfigFault;
-use crate::key::{Key, Place, Problem};
+use crate::key::{Key, Problem, TablePlace};
 use crate::values::{text_at, text_of, value_at};
 use bep_messages::Text;
 use std::alloc::Global;
 use toml::Table;
 
 /// The path of a required key.
-pub(crate) fn path_at(table: &Table, place: Place, key: Key) -> Result<&str, ConfigFault>
+pub(crate) fn path_at(table: &Table, place: TablePlace, key: Key) -> Result<&str, ConfigFault>
     ensures { Finds (λ text. text.now) (path_at (table_view table.now) place key) result }
 {
     checked_path(text_at(table, place, key)?, place, key)
@@ -22,7 +22,7 @@ pub(crate) fn path_at(table: &Table, place: Place, key: Key) -> Result<&str, Con
 pub(crate) fn copied_path_at(
     alloc: Global,
     table: &Table,
-    place: Place,
+    place: TablePlace,
     key: Key,
 ) -> Result<Text, ConfigFault>
     ensures { Reads (path_at (table_view table.now) place key) result }
@@ -34,7 +34,7 @@ pub(crate) fn copied_path_at(
 pub(crate) fn optional_path_at(
     alloc: Global,
     table: &Table,
-    place: Place,
+    place: TablePlace,
     key: Key,
 ) -> Result<Option<Text>, ConfigFault>
     ensures { Reads (optional_path_at (table_view table.now) place key) result }
@@ -47,7 +47,7 @@ pub(crate) fn optional_path_at(
 }
 
 /// A path that is not empty, and that is no shell's way to say the home directory.
-fn checked_path(path: &str, place: Place, key: Key) -> Result<&str, ConfigFault>
+fn checked_path(path: &str, place: TablePlace, key: Key) -> Result<&str, ConfigFault>
     ensures { Finds (λ text. text.now) (checked_path place key path.now) result }
 {
     if path.is_empty() {

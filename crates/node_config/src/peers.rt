@@ -10,7 +10,7 @@ ghost use Rattle.node_config.specs.Values.{Finds, Reads};
 use crate::address::is_same_socket;
 use crate::config::{FolderConfig, PeerAddress, PeerConfig};
 use crate::fault::ConfigFault;
-use crate::key::{Key, Place, Problem};
+use crate::key::{Key, Problem, TablePlace};
 use crate::values::{array_at, device_at, table_of, text_of, value_at};
 use bep_messages::{Items, Text};
 use std::alloc::Global;
@@ -30,7 +30,7 @@ pub(crate) fn read_peers(
         None => Ok(Items::new(alloc)),
         Some(Value::Array(values)) => read_each(alloc, me, folders, values),
         Some(_) => Err(ConfigFault::BadKey {
-            place: Place::Node,
+            place: TablePlace::Node,
             key: Key::Peer,
             problem: Problem::NotTables,
         }),
@@ -65,7 +65,7 @@ fn read_peer(
     ensures { Reads (peer_of me folders.now earlier.now (view value.now)) result }
 {
     let table = table_of(value, Key::Peer)?;
-    let place = Place::Peer(earlier.len() + 1);
+    let place = TablePlace::Peer(earlier.len() + 1);
     let device = checked_device(me, earlier, place, device_at(table, place)?)?;
     let folders = read_places(alloc, folders, table, place)?;
     let address = read_address(alloc, earlier, table, place)?;
@@ -80,7 +80,7 @@ fn read_peer(
 fn checked_device(
     me: DeviceId,
     earlier: &[PeerConfig],
-    place: Place,
+    place: TablePlace,
     device: DeviceId,
 ) -> Result<DeviceId, ConfigFault>
     ensures { result ≡ checked_device me earlier.now place device }
@@ -133,7 +133,7 @@ fn read_places(
     alloc: Global,
     folders: &[FolderConfig],
     table: &Table,
-    place: Place,
+    place: TablePlace,
 ) -> Result<Items<usize>, ConfigFault>
     ensures { Reads (places_at folders.now (table_view table.now) place) result }
 {
@@ -144,7 +144,7 @@ fn read_places(
 fn read_each_place(
     alloc: Global,
     folders: &[FolderConfig],
-    place: Place,
+    place: TablePlace,
     values: &[Value],
 ) -> Result<Items<usize>, ConfigFault>
     ensures { Reads (places_after folders.now place [] (items_view values.now)) result }
@@ -159,7 +159,7 @@ fn read_each_place(
 /// The place of the folder with this id, which is the value of this number in its array.
 fn place_of(
     folders: &[FolderConfig],
-    place: Place,
+    place: TablePlace,
     entry: usize,
     value: &Value,
 ) -> Result<usize, ConfigFault>
@@ -194,7 +194,7 @@ fn read_address(
     alloc: Global,
     earlier: &[PeerConfig],
     table: &Table,
-    place: Place,
+    place: TablePlace,
 ) -> Result<PeerAddress, ConfigFault>
     ensures { Reads (address_at earlier.now (table_view table.now) place) result }
 {
@@ -224,7 +224,7 @@ fn read_address(
 fn read_listen(
     alloc: Global,
     earlier: &[PeerConfig],
-    place: Place,
+    place: TablePlace,
     text: &str,
 ) -> Result<PeerAddress, ConfigFault>
     ensures { Reads (checked_listen earlier.now place text.now) result }

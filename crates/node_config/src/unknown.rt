@@ -10,7 +10,7 @@ ghost use Rattle.node_config.specs.Unknowns.{AreUnknownIn, edits_to, first_at, i
 
 use crate::document::toml_fault;
 use crate::fault::ConfigFault;
-use crate::key::{Key, Place};
+use crate::key::{Key, TablePlace};
 use crate::values::value_at;
 use bep_messages::Text;
 use std::alloc::{AllocError, Global};
@@ -24,7 +24,7 @@ use toml_writer::write_key;
 #[derive(Debug, Drop)]
 pub struct UnknownKey {
     /// The table that has it.
-    pub place: Place,
+    pub place: TablePlace,
     /// How the document writes it.
     pub key: Text,
     /// The key of the table that may have been meant: the first of those nearest to it, of which at most two characters are put in, left out or changed.
@@ -77,12 +77,12 @@ impl Tables {
     }
 
     /// The table of this number, counted from 1.
-    fn place(self, number: usize) -> Place
+    fn place(self, number: usize) -> TablePlace
         ensures { result ≡ place_of self number }
     {
         match self {
-            Tables::Folders => Place::Folder(number),
-            Tables::Peers => Place::Peer(number),
+            Tables::Folders => TablePlace::Folder(number),
+            Tables::Peers => TablePlace::Peer(number),
         }
     }
 }
@@ -112,7 +112,7 @@ fn unknown_in_document(alloc: Global, document: &Table) -> Result<Vec<UnknownKey
     ensures { IfOk result (λ keys. keys.items ≡ unknown_keys (table_view document.now)) }
 {
     let mut keys = Vec::new(alloc);
-    find_in(alloc, Place::Node, document, &mut keys)?;
+    find_in(alloc, TablePlace::Node, document, &mut keys)?;
     find_in_tables(alloc, Tables::Folders, document, &mut keys)?;
     find_in_tables(alloc, Tables::Peers, document, &mut keys)?;
     Ok(keys)
@@ -151,7 +151,7 @@ fn find_in_each(
 /// Appends those of a value, if it is a table.
 fn find_in_value(
     alloc: Global,
-    place: Place,
+    place: TablePlace,
     value: &Value,
     keys: &mut Vec<UnknownKey>,
 ) -> Result<(), AllocError>
@@ -166,7 +166,7 @@ fn find_in_value(
 /// Appends those of a table.
 fn find_in(
     alloc: Global,
-    place: Place,
+    place: TablePlace,
     table: &Table,
     keys: &mut Vec<UnknownKey>,
 ) -> Result<(), AllocError>
@@ -181,14 +181,14 @@ fn find_in(
 }
 
 /// Whether the text is a key of the table.
-fn is_key(place: Place, text: &str) -> bool
+fn is_key(place: TablePlace, text: &str) -> bool
     ensures { result ≡ is_key place text.now }
 {
     place.keys().iter().any(|key| key.name() == text)
 }
 
 /// What is told of a text that is no key of the table.
-fn unknown_key(alloc: Global, place: Place, text: &str) -> Result<UnknownKey, AllocError>
+fn unknown_key(alloc: Global, place: TablePlace, text: &str) -> Result<UnknownKey, AllocError>
     ensures { IfOk result (λ key. key ≡ unknown_key place text.now) }
 {
     Ok(UnknownKey {
@@ -199,7 +199,7 @@ fn unknown_key(alloc: Global, place: Place, text: &str) -> Result<UnknownKey, Al
 }
 
 /// The first key of the table to which one edit leads from a text, or else the first to which two do.
-fn near_key(alloc: Global, place: Place, text: &str) -> Result<Option<Key>, AllocError>
+fn near_key(alloc: Global, place: TablePlace, text: &str) -> Result<Option<Key>, AllocError>
     ensures { IfOk result (λ key. key ≡ near_key place text.now) }
 {
     match first_at(alloc, 1, text, place.keys())? {

@@ -8,7 +8,7 @@ ghost use Rattle.node_config.specs.Values.{Finds, Reads, array_at, device_at, in
 
 use crate::fault::ConfigFault;
 use crate::folder_numbers::{FolderNumber, NumberRange, NumberRule};
-use crate::key::{Key, Place, Problem};
+use crate::key::{Key, Problem, TablePlace};
 use bep_messages::Text;
 use device_text::{DeviceFault, read_device};
 use std::alloc::Global;
@@ -24,7 +24,7 @@ pub(crate) fn value_at(table: &Table, key: Key) -> Option<&Value>
 }
 
 /// The value of a required key.
-fn required_at(table: &Table, place: Place, key: Key) -> Result<&Value, ConfigFault>
+fn required_at(table: &Table, place: TablePlace, key: Key) -> Result<&Value, ConfigFault>
     ensures { Finds (λ value. view value.now) (required_at (table_view table.now) place key) result }
 {
     match value_at(table, key) {
@@ -38,7 +38,7 @@ fn required_at(table: &Table, place: Place, key: Key) -> Result<&Value, ConfigFa
 }
 
 /// The string that is the value of a key.
-pub(crate) fn text_of(value: &Value, place: Place, key: Key) -> Result<&str, ConfigFault>
+pub(crate) fn text_of(value: &Value, place: TablePlace, key: Key) -> Result<&str, ConfigFault>
     ensures { Finds (λ text. text.now) (text_of place key (view value.now)) result }
 {
     match value.as_str() {
@@ -52,7 +52,7 @@ pub(crate) fn text_of(value: &Value, place: Place, key: Key) -> Result<&str, Con
 }
 
 /// The string of a required key.
-pub(crate) fn text_at(table: &Table, place: Place, key: Key) -> Result<&str, ConfigFault>
+pub(crate) fn text_at(table: &Table, place: TablePlace, key: Key) -> Result<&str, ConfigFault>
     ensures { Finds (λ text. text.now) (text_at (table_view table.now) place key) result }
 {
     text_of(required_at(table, place, key)?, place, key)
@@ -62,7 +62,7 @@ pub(crate) fn text_at(table: &Table, place: Place, key: Key) -> Result<&str, Con
 pub(crate) fn copied_text_at(
     alloc: Global,
     table: &Table,
-    place: Place,
+    place: TablePlace,
     key: Key,
 ) -> Result<Text, ConfigFault>
     ensures { Reads (text_at (table_view table.now) place key) result }
@@ -71,7 +71,7 @@ pub(crate) fn copied_text_at(
 }
 
 /// The array of a required key.
-pub(crate) fn array_at(table: &Table, place: Place, key: Key) -> Result<&Array, ConfigFault>
+pub(crate) fn array_at(table: &Table, place: TablePlace, key: Key) -> Result<&Array, ConfigFault>
     ensures { Finds (λ values. array_view values.now) (array_at (table_view table.now) place key) result }
 {
     match required_at(table, place, key)?.as_array() {
@@ -95,7 +95,11 @@ fn integer_of(value: &Value, number: FolderNumber) -> Option<i64>
 }
 
 /// The number that is the value of its key, if it is in the range.
-fn number_of_value(value: &Value, place: Place, number: FolderNumber) -> Result<i64, ConfigFault>
+fn number_of_value(
+    value: &Value,
+    place: TablePlace,
+    number: FolderNumber,
+) -> Result<i64, ConfigFault>
     ensures value { result ≡ number_of_value place number (view value.now) }
     ensures range { IfOk result (IsIn (range_of number)) }
 {
@@ -122,7 +126,7 @@ fn number_of_value(value: &Value, place: Place, number: FolderNumber) -> Result<
 /// A number of a folder, or its default where the key is absent.
 pub(crate) fn number_at(
     table: &Table,
-    place: Place,
+    place: TablePlace,
     number: FolderNumber,
 ) -> Result<i64, ConfigFault>
     ensures value { result ≡ number_at (table_view table.now) place number }
@@ -136,7 +140,7 @@ pub(crate) fn number_at(
 }
 
 /// The identity of a required `device`.
-pub(crate) fn device_at(table: &Table, place: Place) -> Result<DeviceId, ConfigFault>
+pub(crate) fn device_at(table: &Table, place: TablePlace) -> Result<DeviceId, ConfigFault>
     ensures { result ≡ device_at (table_view table.now) place }
 {
     let text = text_at(table, place, Key::Device)?;
@@ -168,7 +172,7 @@ pub(crate) fn table_of(value: &Value, key: Key) -> Result<&Table, ConfigFault>
     match value.as_table() {
         Some(table) => Ok(table),
         None => Err(ConfigFault::BadKey {
-            place: Place::Node,
+            place: TablePlace::Node,
             key,
             problem: Problem::NotTables,
         }),

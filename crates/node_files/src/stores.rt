@@ -110,12 +110,12 @@ struct Known {
     // Those that these have.
     taken: Vec<Taken>,
     // How the files of some are kept.
-    kept: Vec<Kept>,
+    kept: Vec<PathHabits>,
 }
 
 // How the files of the folder at a path are kept.
 #[derive(Drop)]
-struct Kept {
+struct PathHabits {
     path: String,
     habits: Habits,
 }
@@ -200,7 +200,7 @@ impl<'a, R: Files<File = File> + Clock + Sync + Wait> Stores for Disks<'a, R> {
             }
         }
         let path = String::from_str(self.alloc, path)?;
-        known.kept.push(Kept { path, habits })?;
+        known.kept.push(PathHabits { path, habits })?;
         Ok(())
     }
 

@@ -9,12 +9,12 @@ use sync_names::SafeName;
 #[derive(Drop)]
 pub struct Notes {
     alloc: Global,
-    kept: Mutex<Kept>,
+    kept: Mutex<LockedNotes>,
 }
 
 // What stands under the lock.
 #[derive(Drop)]
-struct Kept {
+struct LockedNotes {
     noticed: Noticed,
     is_seen: bool,
 }
@@ -42,7 +42,7 @@ impl Notes {
     pub fn new(alloc: Global) -> Notes {
         Notes {
             alloc,
-            kept: Mutex::new(Kept {
+            kept: Mutex::new(LockedNotes {
                 noticed: Noticed::none(alloc),
                 is_seen: false,
             }),

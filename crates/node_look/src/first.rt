@@ -1,7 +1,7 @@
 //! The names that are scanned first after a start: those that may have changed while nobody looked.
 use crate::look::{Look, safe_name};
 use crate::recorded::may_be;
-use crate::restless::Ready;
+use crate::restless::DueName;
 use folder_calls::FolderCalls;
 use std::alloc::AllocError;
 
@@ -12,7 +12,7 @@ const PART: u64 = 8;
 pub(crate) fn first_names<W: FolderCalls>(
     look: &Look,
     calls: &mut W,
-) -> Result<Vec<Ready>, AllocError> {
+) -> Result<Vec<DueName>, AllocError> {
     let mut first = Vec::new(look.alloc);
     let (mut bytes, mut all) = (0u64, 0u64);
     for (directory, seen) in look.directories.iter() {
@@ -33,7 +33,7 @@ pub(crate) fn first_names<W: FolderCalls>(
             };
             if !is_same {
                 bytes = bytes.saturating_add(facts.size);
-                first.push(Ready::now(name, Some(facts)))?;
+                first.push(DueName::now(name, Some(facts)))?;
             }
         }
     }

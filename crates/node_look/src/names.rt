@@ -2,7 +2,7 @@
 use crate::finder::Finder;
 use crate::known::Known;
 use crate::look::Change;
-use crate::restless::{Ready, RestlessNames};
+use crate::restless::{DueName, RestlessNames};
 use node_context::Host;
 use node_files::Marked;
 use std::alloc::{AllocError, Global};
@@ -46,7 +46,7 @@ impl Names {
     }
 
     /// These could not be recorded, and are scanned again later, also as they are.
-    pub(crate) fn add_left(&mut self, left: Vec<Ready>, now: u64) -> Result<(), AllocError> {
+    pub(crate) fn add_left(&mut self, left: Vec<DueName>, now: u64) -> Result<(), AllocError> {
         for one in &left {
             self.known.forget(&one.name);
         }
@@ -59,12 +59,12 @@ impl Names {
         &mut self,
         finder: &mut Finder<R, S, G>,
         now: u64,
-    ) -> Result<Vec<Ready>, AllocError> {
+    ) -> Result<Vec<DueName>, AllocError> {
         let mut ready = self.restless.settle(finder, now)?;
         ready.retain(|one| !self.known.has(&one.name, one.facts));
         for name in replace(&mut self.asked, Vec::new(self.alloc)) {
             let facts = finder.at(&name).unwrap_or(None);
-            ready.push(Ready::now(name, facts))?;
+            ready.push(DueName::now(name, facts))?;
         }
         for one in ready.iter() {
             self.known.put(one.name.copy()?, one.facts)?;

@@ -26,7 +26,7 @@ struct Restless {
 
 /// A name that is to be scanned now.
 #[derive(Drop)]
-pub(crate) struct Ready {
+pub(crate) struct DueName {
     pub(crate) name: SafeName,
     pub(crate) facts: Option<Facts>,
     pub(crate) pause: u64,
@@ -63,7 +63,7 @@ impl RestlessNames {
     }
 
     /// Adds names that could not be recorded, to be scanned again after twice the time.
-    pub(crate) fn add_left(&mut self, left: Vec<Ready>, now: u64) -> Result<(), AllocError> {
+    pub(crate) fn add_left(&mut self, left: Vec<DueName>, now: u64) -> Result<(), AllocError> {
         if left.is_empty() {
             return Ok(());
         }
@@ -104,7 +104,7 @@ impl RestlessNames {
         &mut self,
         finder: &mut Finder<R, S, G>,
         now: u64,
-    ) -> Result<Vec<Ready>, AllocError> {
+    ) -> Result<Vec<DueName>, AllocError> {
         let mut ready = Vec::new(self.alloc);
         let names = replace(&mut self.names, Vec::new(self.alloc));
         for one in names {
@@ -134,8 +134,8 @@ impl RestlessNames {
 }
 
 impl Restless {
-    fn ready(self, facts: Option<Facts>) -> Ready {
-        Ready {
+    fn ready(self, facts: Option<Facts>) -> DueName {
+        DueName {
             name: self.name,
             facts,
             pause: self.pause,
@@ -144,10 +144,10 @@ impl Restless {
     }
 }
 
-impl Ready {
+impl DueName {
     /// A name that is to be scanned at once, with what is there.
-    pub(crate) fn now(name: SafeName, facts: Option<Facts>) -> Ready {
-        Ready {
+    pub(crate) fn now(name: SafeName, facts: Option<Facts>) -> DueName {
+        DueName {
             name,
             facts,
             pause: AGAIN,

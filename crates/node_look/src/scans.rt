@@ -1,5 +1,5 @@
 //! The scans of names that a look told.
-use crate::restless::Ready;
+use crate::restless::DueName;
 use file_store::{FileStore, Gate, StoreRefusal};
 use folder_calls::FolderCalls;
 use folder_core::ScanAnswer;
@@ -23,7 +23,7 @@ const NAMES_A_THREAD: usize = 64;
 #[derive(Drop)]
 pub struct Looker<'x, S, W> {
     pub(crate) worker: FolderWorker<'x, S, W>,
-    ready: Vec<Ready>,
+    ready: Vec<DueName>,
     sum: ScanSum,
 }
 
@@ -50,8 +50,8 @@ const NOTHING: ScanSum = ScanSum {
 pub(crate) fn scan_ready<'x, R, S, W, G>(
     cx: &Context<'x, R, G>,
     lookers: &mut [Looker<'x, S, W>],
-    ready: Vec<Ready>,
-) -> Result<Vec<Ready>, AllocError>
+    ready: Vec<DueName>,
+) -> Result<Vec<DueName>, AllocError>
 where
     R: Host,
     S: FileStore + Marked + Drop + Send,
@@ -82,7 +82,7 @@ fn moment_for<R: Host, S, W, G>(cx: &Context<R, G>, lookers: &[Looker<S, W>]) ->
 }
 
 // Gives each the next of the names, as many to each.
-fn share_out<S, W>(lookers: &mut [Looker<S, W>], ready: Vec<Ready>) -> Result<(), AllocError> {
+fn share_out<S, W>(lookers: &mut [Looker<S, W>], ready: Vec<DueName>) -> Result<(), AllocError> {
     let share = ready.len() / lookers.len().max(1) + 1;
     let mut place = 0usize;
     for one in ready {
@@ -154,7 +154,7 @@ fn count(sum: &mut ScanSum, scanned: &Result<Scanned, StoreRefusal>) {
 fn gather<R: Host, S, W, G>(
     cx: &Context<R, G>,
     lookers: &mut [Looker<S, W>],
-) -> Result<Vec<Ready>, AllocError> {
+) -> Result<Vec<DueName>, AllocError> {
     let mut left = Vec::new(cx.alloc);
     let mut all = NOTHING;
     for looker in lookers.iter_mut() {

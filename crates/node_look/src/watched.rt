@@ -4,7 +4,7 @@ use crate::first::first_names;
 use crate::known::know_placed;
 use crate::look::{Found, Look};
 use crate::names::Names;
-use crate::restless::Ready;
+use crate::restless::DueName;
 use crate::scans::{Looker, scan_ready};
 use file_store::{FileStore, Gate};
 use folder_calls::FolderCalls;
@@ -189,8 +189,8 @@ where
 fn scan_if_there<'x, R, S, W, G>(
     cx: &Context<'x, R, G>,
     lookers: &mut [Looker<'x, S, W>],
-    ready: Vec<Ready>,
-) -> Result<Vec<Ready>, AllocError>
+    ready: Vec<DueName>,
+) -> Result<Vec<DueName>, AllocError>
 where
     R: Host,
     S: FileStore + Marked + Drop + Send,
@@ -221,7 +221,7 @@ fn look_again<'x, R, S, W, G>(
     folder: &mut WatchedFolder<'x, S, W>,
     placed: Vec<SafeName>,
     now: u64,
-) -> Result<Vec<Ready>, AllocError>
+) -> Result<Vec<DueName>, AllocError>
 where
     R: Host,
     S: FileStore + Marked,
@@ -315,7 +315,7 @@ fn settle<R: Host, S: Marked, W: FolderCalls, G>(
     names: &mut Names,
     placed: Vec<SafeName>,
     now: u64,
-) -> Result<Vec<Ready>, AllocError> {
+) -> Result<Vec<DueName>, AllocError> {
     let mut finder = Finder::new(cx, store, path);
     know_placed(&mut names.known, &mut finder, calls, placed)?;
     names.settle(&mut finder, now)

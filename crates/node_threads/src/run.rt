@@ -8,7 +8,7 @@ use crate::callers::{Callers, each_caller, work_callers};
 use crate::folders::{Opened, StartFolder, close_all, open_all, rooms_for};
 use crate::peers::{Listeners, NodePeer, end_at_stop};
 use crate::saver::{Saver, saved_first};
-use crate::threads::{Kept, Work, work_and_save};
+use crate::threads::{IndexIds, Work, work_and_save};
 use crate::workers::{Files, FolderFiles, Node};
 use file_store::Gate;
 use folder_core::FolderCore;
@@ -139,7 +139,7 @@ fn saved_of<R: Wait, C: FolderCore + Drop>(
 // What the threads leave.
 #[derive(Drop)]
 struct Left {
-    kept: Kept,
+    kept: IndexIds,
     answered: io::Result<CommandsEnd>,
 }
 
@@ -240,7 +240,7 @@ fn run_threads<'x, R, G, F, C, J, L, O>(
     saver: &mut Saver<'_, J>,
     callers: &mut Callers<Member<'x, C, R>>,
     answering: &mut [Answering<'_, L, O>],
-) -> Result<Kept, NodeFault>
+) -> Result<IndexIds, NodeFault>
 where
     R: Host,
     G: Gate + Sync,
@@ -255,7 +255,7 @@ where
     let (files, node) = (work.files, work.node);
     let (kept, ()) = join(
         cx.rt,
-        || -> Result<Kept, NodeFault>
+        || -> Result<IndexIds, NodeFault>
             requires { IsSync R.row × IsSync G.row × IsSync F.row × IsSend J.row × IsSync C.row × IsSend C.row × IsSend F.Store.row }
         {
             work_and_save(

@@ -24,7 +24,7 @@ use std::alloc::{AllocError, Global};
 use std::thread::{for_each_mut, join, map_vec};
 
 /// For each peer, the numbers of its indexes that are kept.
-pub(crate) type Kept = Vec<Vec<u64>>;
+pub(crate) type IndexIds = Vec<Vec<u64>>;
 
 /// What a node works with: its folders' files, and what it is told.
 #[derive(Drop)]
@@ -41,7 +41,7 @@ pub(crate) fn work_and_save<'x, R, G, F, J, C>(
     workers: &mut [Member<'x, C, R>],
     saver: &mut Saver<'_, J>,
     savers: &mut [Member<'x, C, R>],
-) -> Result<Kept, NodeFault>
+) -> Result<IndexIds, NodeFault>
 where
     R: Host,
     G: Gate + Sync,
@@ -73,7 +73,7 @@ fn work_by_members<'x, R, G, F, C>(
     node: Node<'x>,
     reaches: &'x [Reach],
     callers: &mut [Member<'x, C, R>],
-) -> Result<Kept, NodeFault>
+) -> Result<IndexIds, NodeFault>
 where
     R: Host,
     G: Gate + Sync,
@@ -105,7 +105,7 @@ fn work_by<'x, R, G, F, W>(
     node: Node<'x>,
     reaches: &'x [Reach],
     callers: &mut [W],
-) -> Result<Kept, NodeFault>
+) -> Result<IndexIds, NodeFault>
 where
     R: Host,
     G: Gate + Sync,
@@ -201,7 +201,7 @@ where
 fn kept_of<S: Drop, W: Drop>(
     alloc: Global,
     left: Vec<LinkFolders<S, W>>,
-) -> Result<Kept, AllocError>
+) -> Result<IndexIds, AllocError>
     ensures { IfOk result (λ all. map (λ kept. kept.items) all.items ≡ map (λ folders. kept_numbers folders.read.items) left.items) }
 {
     let mut all = Vec::with_capacity(alloc, left.len())?;

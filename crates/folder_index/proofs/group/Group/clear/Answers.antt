@@ -3,7 +3,7 @@ use Rattle.std.proofs.lemmas.List.Filters.{length-filter_both}
 use Rattle.std.specs.Prelude.{not}
 use Rattle.folder_core.specs.declared.announcement.Announcement.{Announcement as Entry}
 use Rattle.folder_core.specs.PlainReads.{is_from}
-use Rattle.folder_index.specs.Kept.{entries_kept, name_kept, room_kept}
+use Rattle.folder_index.specs.NameEntries.{entries_kept, name_kept, room_kept}
 use Rattle.folder_index.proofs.Grouped.{group_cleared}
 use Rattle.folder_index.proofs.group.Group.clear.Goals as goal
 

@@ -1,7 +1,7 @@
 use Rattle.std.proofs.Common.{List, length, map, arith, sym, ap, ◌∙◌}
 use Rattle.folder_core.specs.declared.announcement.Announcement.{Announcement as Entry}
 use Rattle.folder_core.specs.Plain.{filed}
-use Rattle.folder_index.specs.Kept.{entries_kept, name_kept, room_kept}
+use Rattle.folder_index.specs.NameEntries.{entries_kept, name_kept, room_kept}
 use Rattle.folder_index.proofs.Grouped.{group_set}
 use Rattle.std.proofs.lemmas.Bool.{true≢false}
 use Rattle.folder_index.proofs.group.Group.set.Goals as goal

@@ -4,7 +4,7 @@ ghost use Rattle.std.specs.FinMap.{put};
 ghost use Rattle.folder_core.specs.Announced.{key, key_cmp};
 ghost use Rattle.folder_core.specs.Plain.{Rises, filed};
 ghost use Rattle.folder_core.specs.PlainReads.{is_from};
-ghost use Rattle.folder_index.specs.Kept.{AreNamed, entries_kept, is_alone, is_one, is_one_from, name_kept, name_of_first, room_kept, room_of, room_of_none};
+ghost use Rattle.folder_index.specs.NameEntries.{AreNamed, entries_kept, is_alone, is_one, is_one_from, name_kept, name_of_first, room_kept, room_of, room_of_none};
 
 use crate::entries::{put, remove_from};
 use folder_core::Announcement;
@@ -20,23 +20,23 @@ const MAX_RECORDS: usize = u32::MAX as usize;
 /// The records of one name, by device. One record is kept in place, and so most names need no list. Where there are none, the
 /// name is kept, or the last record for its name.
 #[derive(Debug, Drop)]
-pub(crate) enum Kept {
+pub(crate) enum NameEntries {
     Vacant(SafeName, Vec<Announcement>),
     Emptied(Record, Vec<Announcement>),
     One(Announcement),
     Many(Vec<Announcement>),
 }
 
-impl Kept {
+impl NameEntries {
     /// The name. O(1).
     pub(crate) fn name(&self) -> &str
         ensures { result.now ≡ name_kept self.now }
     {
         match self {
-            Kept::Vacant(name, _) => name.as_str(),
-            Kept::Emptied(last, _) => last.name().as_str(),
-            Kept::One(entry) => entry.record.name().as_str(),
-            Kept::Many(entries) => match entries.first() {
+            NameEntries::Vacant(name, _) => name.as_str(),
+            NameEntries::Emptied(last, _) => last.name().as_str(),
+            NameEntries::One(entry) => entry.record.name().as_str(),
+            NameEntries::Many(entries) => match entries.first() {
                 Some(entry) => entry.record.name().as_str(),
                 None => "",
             },
@@ -48,10 +48,10 @@ impl Kept {
         ensures { result.now ≡ entries_kept self.now }
     {
         match self {
-            Kept::Vacant(_, entries) => entries.as_slice(),
-            Kept::Emptied(_, entries) => entries.as_slice(),
-            Kept::One(entry) => slice::from_ref(entry),
-            Kept::Many(entries) => entries.as_slice(),
+            NameEntries::Vacant(_, entries) => entries.as_slice(),
+            NameEntries::Emptied(_, entries) => entries.as_slice(),
+            NameEntries::One(entry) => slice::from_ref(entry),
+            NameEntries::Many(entries) => entries.as_slice(),
         }
     }
 
@@ -60,10 +60,10 @@ impl Kept {
         ensures { result ≡ room_kept self.now }
     {
         match self {
-            Kept::Vacant(_, entries) => room_of_none(entries),
-            Kept::Emptied(_, entries) => room_of_none(entries),
-            Kept::One(_) => 0,
-            Kept::Many(entries) => room_of(entries),
+            NameEntries::Vacant(_, entries) => room_of_none(entries),
+            NameEntries::Emptied(_, entries) => room_of_none(entries),
+            NameEntries::One(_) => 0,
+            NameEntries::Many(entries) => room_of(entries),
         }
     }
 
@@ -72,7 +72,7 @@ impl Kept {
         ensures { result ≡ is_one_from device self.now }
     {
         match self {
-            Kept::One(entry) => entry.device == device,
+            NameEntries::One(entry) => entry.device == device,
             _ => false,
         }
     }
@@ -90,10 +90,10 @@ impl Kept {
             return Ok(());
         }
         match self {
-            Kept::Vacant(_, entries) => grow(entries, more),
-            Kept::Emptied(_, entries) => grow(entries, more),
-            Kept::One(_) => self.spread(alloc, more),
-            Kept::Many(entries) => grow(entries, more),
+            NameEntries::Vacant(_, entries) => grow(entries, more),
+            NameEntries::Emptied(_, entries) => grow(entries, more),
+            NameEntries::One(_) => self.spread(alloc, more),
+            NameEntries::Many(entries) => grow(entries, more),
         }
     }
 
@@ -108,10 +108,10 @@ impl Kept {
     {
         let mut entries = Vec::new(alloc);
         grow(&mut entries, more.checked_add(1).ok_or(AllocError)?)?;
-        match replace(self, Kept::Many(Vec::new(alloc))) {
-            Kept::One(entry) => {
+        match replace(self, NameEntries::Many(Vec::new(alloc))) {
+            NameEntries::One(entry) => {
                 entries.push_reserved(entry);
-                *self = Kept::Many(entries);
+                *self = NameEntries::Many(entries);
             }
             _ => unreachable!(),
         }
@@ -130,10 +130,10 @@ impl Kept {
         ensures short { length (entries_kept self.new) < 2 ^ 32 }
     {
         match self {
-            Kept::Vacant(_, entries) => *self = begun(entries, device, announced),
-            Kept::Emptied(_, entries) => *self = begun(entries, device, announced),
-            Kept::One(_) => unreachable!(),
-            Kept::Many(entries) => put(entries, device, announced),
+            NameEntries::Vacant(_, entries) => *self = begun(entries, device, announced),
+            NameEntries::Emptied(_, entries) => *self = begun(entries, device, announced),
+            NameEntries::One(_) => unreachable!(),
+            NameEntries::Many(entries) => put(entries, device, announced),
         }
     }
 
@@ -146,7 +146,7 @@ impl Kept {
         ensures name { name_kept self.new ≡ announced.name }
         ensures short { length (entries_kept self.new) < 2 ^ 32 }
     {
-        *self = Kept::One(Announcement {
+        *self = NameEntries::One(Announcement {
             device,
             record: announced,
         });
@@ -194,14 +194,14 @@ impl Kept {
         ensures room { room_kept self.old ≤ room_kept self.new }
     {
         match self {
-            Kept::Vacant(_, entries) => remove_from(entries, device),
-            Kept::Emptied(_, entries) => remove_from(entries, device),
-            Kept::One(entry) => {
+            NameEntries::Vacant(_, entries) => remove_from(entries, device),
+            NameEntries::Emptied(_, entries) => remove_from(entries, device),
+            NameEntries::One(entry) => {
                 if entry.device == device {
                     self.empty(alloc);
                 }
             }
-            Kept::Many(entries) => {
+            NameEntries::Many(entries) => {
                 if is_alone(entries.as_slice(), device) {
                     self.empty(alloc);
                 } else {
@@ -218,11 +218,17 @@ impl Kept {
         ensures name { name_kept self.new ≡ name_kept self.old }
         ensures room { room_kept self.old ≤ room_kept self.new }
     {
-        match replace(self, Kept::Many(Vec::new(alloc))) {
-            Kept::Vacant(name, entries) => *self = Kept::Vacant(name, cleared(entries)),
-            Kept::Emptied(last, entries) => *self = Kept::Emptied(last, cleared(entries)),
-            Kept::One(entry) => *self = Kept::Emptied(entry.record, Vec::new(alloc)),
-            Kept::Many(entries) => *self = emptied(entries),
+        match replace(self, NameEntries::Many(Vec::new(alloc))) {
+            NameEntries::Vacant(name, entries) => *self = NameEntries::Vacant(
+                name,
+                cleared(entries),
+            ),
+            NameEntries::Emptied(last, entries) => *self = NameEntries::Emptied(
+                last,
+                cleared(entries),
+            ),
+            NameEntries::One(entry) => *self = NameEntries::Emptied(entry.record, Vec::new(alloc)),
+            NameEntries::Many(entries) => *self = emptied(entries),
         }
     }
 }
@@ -264,7 +270,7 @@ fn grow(entries: &mut Vec<Announcement>, more: usize) -> Result<(), AllocError>
 }
 
 /// What is kept once a device's record is put into the list of a name that had none.
-fn begun(entries: &mut Vec<Announcement>, device: DeviceId, announced: Record) -> Kept
+fn begun(entries: &mut Vec<Announcement>, device: DeviceId, announced: Record) -> NameEntries
     requires rises { Rises entries.old.items }
     requires named { AreNamed announced.name entries.old.items }
     requires fits { 1 ≤ room_of_none entries.old }
@@ -275,7 +281,7 @@ fn begun(entries: &mut Vec<Announcement>, device: DeviceId, announced: Record) -
     ensures short { length (entries_kept result) < 2 ^ 32 }
 {
     if entries.capacity() == 0 {
-        return Kept::One(Announcement {
+        return NameEntries::One(Announcement {
             device,
             record: announced,
         });
@@ -283,11 +289,11 @@ fn begun(entries: &mut Vec<Announcement>, device: DeviceId, announced: Record) -
     let alloc = *entries.allocator();
     let mut list = replace(entries, Vec::new(alloc));
     put(&mut list, device, announced);
-    Kept::Many(list)
+    NameEntries::Many(list)
 }
 
 /// What is kept once the only record of a list is taken away.
-fn emptied(entries: Vec<Announcement>) -> Kept
+fn emptied(entries: Vec<Announcement>) -> NameEntries
     requires { vec_len entries ≡ 1 }
     ensures taken { entries_kept result ≡ [] }
     ensures name { name_kept result ≡ name_of_first entries.items }
@@ -295,7 +301,7 @@ fn emptied(entries: Vec<Announcement>) -> Kept
 {
     let mut entries = entries;
     match entries.pop() {
-        Some(entry) => Kept::Emptied(entry.record, entries),
+        Some(entry) => NameEntries::Emptied(entry.record, entries),
         None => unreachable!(),
     }
 }

@@ -1,7 +1,7 @@
 use Rattle.std.proofs.Common.{subst}
-use Rattle.folder_index.specs.Kept.{AreNamed, entries_kept}
+use Rattle.folder_index.specs.NameEntries.{AreNamed, entries_kept}
 use Rattle.folder_index.proofs.Keeping.{name_put}
-use Rattle.folder_index.proofs.kept.Kept.put.Goals as goal
+use Rattle.folder_index.proofs.name_entries.NameEntries.put.Goals as goal
 
 pub returns-in-Many-clause-name : goal.returns-in-Many-clause-name
 returns-in-Many-clause-name c =

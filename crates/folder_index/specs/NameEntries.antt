@@ -6,11 +6,11 @@ use Rattle.sync_record.specs.Devices.{Identity}
 use Rattle.sync_record.specs.Records.{Name}
 use Rattle.folder_core.specs.declared.announcement.Announcement.{Announcement as Entry}
 use Rattle.folder_core.specs.PlainReads.{is_from}
-use Rattle.folder_index.specs.declared.kept.Kept.{Kept}
-use Rattle.folder_index.specs.declared.kept.Kept.TheVariants.{Vacant, Emptied, One, Many}
+use Rattle.folder_index.specs.declared.name_entries.NameEntries.{NameEntries}
+use Rattle.folder_index.specs.declared.name_entries.NameEntries.TheVariants.{Vacant, Emptied, One, Many}
 
 -- the records, by device
-abbrev pub entries_kept : Kept → List Entry
+abbrev pub entries_kept : NameEntries → List Entry
 entries_kept (Vacant n es) = es.items
 entries_kept (Emptied r es) = es.items
 entries_kept (One e) = e ∷ []
@@ -21,7 +21,7 @@ name_of_first [] = []
 name_of_first (e ∷ es) = e.record.name
 
 -- the name
-abbrev pub name_kept : Kept → Name
+abbrev pub name_kept : NameEntries → Name
 name_kept (Vacant n es) = n
 name_kept (Emptied r es) = r.name
 name_kept (One e) = e.record.name
@@ -36,7 +36,7 @@ abbrev pub room_of_none : Vec Entry Global → ℕ
 room_of_none es = if vec_capacity es == 0 then 1 else room_of es
 
 -- how many more fit without allocating
-abbrev pub room_kept : Kept → ℕ
+abbrev pub room_kept : NameEntries → ℕ
 room_kept (Vacant n es) = room_of_none es
 room_kept (Emptied r es) = room_of_none es
 room_kept (One e) = 0
@@ -53,14 +53,14 @@ is_alone d (e ∷ []) = is_from d e
 is_alone d (e ∷ f ∷ es) = false
 
 -- there is one record, in no list
-abbrev pub is_one : Kept → Bool
+abbrev pub is_one : NameEntries → Bool
 is_one (Vacant n es) = false
 is_one (Emptied r es) = false
 is_one (One e) = true
 is_one (Many es) = false
 
 -- and it is the device's
-abbrev pub is_one_from : Identity → Kept → Bool
+abbrev pub is_one_from : Identity → NameEntries → Bool
 is_one_from d (Vacant n es) = false
 is_one_from d (Emptied r es) = false
 is_one_from d (One e) = is_from d e

@@ -1,8 +1,8 @@
 use Rattle.std.proofs.Common.{sym, ap, subst, ◌∙◌}
 use Rattle.folder_core.specs.Plain.{Rises}
-use Rattle.folder_index.specs.Kept.{AreNamed, entries_kept, is_alone, name_kept, name_of_first}
+use Rattle.folder_index.specs.NameEntries.{AreNamed, entries_kept, is_alone, name_kept, name_of_first}
 use Rattle.folder_index.proofs.Keeping.{name_stays}
-use Rattle.folder_index.proofs.kept.Kept.remove.Goals as goal
+use Rattle.folder_index.proofs.name_entries.NameEntries.remove.Goals as goal
 
 pub returns-else-is_alone-clause-name : goal.returns-else-is_alone-clause-name
 returns-else-is_alone-clause-name c =

@@ -3,7 +3,7 @@ use Rattle.std.specs.FinMap.{put}
 use Rattle.folder_core.specs.Announced.{key, key_cmp}
 use Rattle.folder_core.specs.Plain.{filed}
 use Rattle.folder_index.proofs.Keeping.{name_put}
-use Rattle.folder_index.proofs.kept.begun.Goals as goal
+use Rattle.folder_index.proofs.name_entries.begun.Goals as goal
 
 pub returns-clause-name : goal.returns-clause-name
 returns-clause-name c =
