@@ -1,5 +1,0 @@
-use Rattle.journal_laws.proofs.Joins.{saved-have}
-use Rattle.journal_laws.proofs.appended.appended_pages_are_in_the_journal.Goals as goal
-
-pub returns : goal.returns
-returns g c = λ f frames_of first last told pages grows had saves. saved-have g.J.FrameJournal.appends frames_of grows f first told had pages last saves

@@ -1,5 +1,0 @@
-use Rattle.node_laws.proofs.Begins.{first-asked}
-use Rattle.node_laws.proofs.pulls.a_pull_first_asks_to_begin.Goals as goal
-
-pub returns : goal.returns
-returns g c = λ most moment n source before after result old new h. first-asked most moment n _ _ _ _ _ result old _ new _ h

@@ -1,0 +1,53 @@
+//! What is left by one run, and taken over by the next with the same configuration.
+ghost use Rattle.std.specs.Prelude.{◌≡◌, ◌<◌, ◌⊎◌, ℕ, Contains, List, Some, false, length, map, slice_get};
+ghost use Rattle.std.specs.FinMap.{get};
+ghost use Rattle.folder_core.specs.Announced.{key};
+ghost use Rattle.folder_core.specs.States.{FolderState};
+ghost use Rattle.node_config.specs.declared.config.Config.{Config};
+ghost use Rattle.node_config.specs.declared.config.PeerConfig.{PeerConfig};
+ghost use Rattle.node_resume.specs.Resumed.{Resumed, resumed_all};
+ghost use Rattle.node_resume.specs.Shares.{shares_of};
+ghost use Rattle.node_resume.specs.declared.shares.Share.{Share};
+ghost use Rattle.node_state.specs.declared.state.State.{State};
+ghost use Rattle.sync_record.specs.Devices.{Identity};
+ghost use Rattle.sync_record.specs.Records.{Name};
+ghost use Rattle.proof_node.specs.Takeovers.{HaveOwnDevices, HaveOwnIds, IsSharedWith, state_left};
+
+/// Where no two folders have one id, and nothing may be missing, the next run has the index numbers that it left, and in the place of each
+/// folder its device, its last sequence and its records: its own, and those of the devices with which it is shared.
+///
+/// False where what is left and what is taken over don't fit each other, as where one goes by ids and the other by places.
+pub fn folders_come_back()
+    ensures index_ids { (config : Config) (index_ids : List ℕ) (shares : List (List Share)) (records : List FolderState)
+        (kept : List (List ℕ)) (new : ℕ) →
+        length index_ids ≡ length config.folders → length records ≡ length config.folders → HaveOwnIds config.folders →
+        map (λ r. r.index_id) (resumed_all config (state_left config index_ids shares records kept) new false) ≡ index_ids }
+    ensures records { (config : Config) (index_ids : List ℕ) (shares : List (List Share)) (records : List FolderState)
+        (kept : List (List ℕ)) (new place : ℕ) (s : FolderState) (r : Resumed) (n : Name) (d : Identity) →
+        length index_ids ≡ length config.folders → length records ≡ length config.folders → HaveOwnIds config.folders →
+        slice_get records place ≡ Some s →
+        slice_get (resumed_all config (state_left config index_ids shares records kept) new false) place ≡ Some r →
+        (d ≡ s.me) ⊎ IsSharedWith config place d →
+        get r.folder.announced (key n d) ≡ get s.announced (key n d) }
+    ensures rest { (config : Config) (index_ids : List ℕ) (shares : List (List Share)) (records : List FolderState)
+        (kept : List (List ℕ)) (new place : ℕ) (s : FolderState) (r : Resumed) →
+        length index_ids ≡ length config.folders → length records ≡ length config.folders → HaveOwnIds config.folders →
+        slice_get records place ≡ Some s →
+        slice_get (resumed_all config (state_left config index_ids shares records kept) new false) place ≡ Some r →
+        (r.folder.me ≡ s.me) × (r.folder.last ≡ s.last) }
+{}
+
+/// Where also no two peers are one device, and the run that ended had a number for each of its shares of a peer, the next run has for each of
+/// them that number.
+///
+/// False where a number is left under another device or in another folder than it is looked for.
+pub fn kept_numbers_come_back()
+    ensures { (config : Config) (old : State) (index_ids : List ℕ) (shares : List (List Share)) (records : List FolderState)
+        (kept : List (List ℕ)) (i : ℕ) (peer : PeerConfig) (numbers : List ℕ) →
+        length index_ids ≡ length config.folders → length records ≡ length config.folders → HaveOwnIds config.folders →
+        HaveOwnDevices config.peers → slice_get config.peers i ≡ Some peer →
+        ((place : ℕ) → Contains peer.folders place → place < length config.folders) →
+        slice_get shares i ≡ Some (shares_of config old peer) → slice_get kept i ≡ Some numbers →
+        length numbers ≡ length (shares_of config old peer) →
+        map (λ s. s.kept_index_id) (shares_of config (state_left config index_ids shares records kept) peer) ≡ numbers }
+{}
