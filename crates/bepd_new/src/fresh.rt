@@ -16,6 +16,8 @@ const FOLDER: &str = "\
 name = \"device\"
 # Where what was recorded is kept between two runs.
 state = STATE
+# A page for a browser that says how all is. Where it is left out, there is none.
+#status = \"/home/me/bepd.html\"
 
 # A folder that is kept alike with peers; as many as you like. Its id is the same on all devices.
 #[[folder]]

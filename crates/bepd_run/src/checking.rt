@@ -61,13 +61,14 @@ where
         Err(fault) => return Err(config_failure(alloc, text, fault)),
     };
     let config = placed_config(alloc, path, read_config(alloc, text)?)?;
-    check_read(rt, alloc, text, &told, &config, output)
+    check_read(rt, alloc, path, text, &told, &config, output)
 }
 
 // The same of what was read: as the text has it, and as a run takes it.
 fn check_read<R, O>(
     rt: &R,
     alloc: Global,
+    path: &str,
     text: &[u8],
     told: &Config,
     config: &Config,
@@ -80,7 +81,7 @@ where
         + UnixSockets,
     O: Write,
 {
-    require_apart(rt, alloc, config)?;
+    require_apart(rt, alloc, path, config)?;
     require_addresses(alloc, config)?;
     tell(alloc, told, output)?;
     tell_unknown_keys(alloc, text, output)?;
@@ -101,6 +102,9 @@ fn tell<O: Write>(alloc: Global, config: &Config, output: &mut O) -> Result<(), 
     writeln!(output, "device {device} {shown}")?;
     writeln!(output, "name {:?}", config.name.as_str())?;
     writeln!(output, "state {:?}", config.state.as_str())?;
+    if let Some(page) = &config.status {
+        writeln!(output, "status {:?}", page.as_str())?;
+    }
     for folder in config.folders.as_slice() {
         tell_folder(folder, output)?;
     }

@@ -25,8 +25,13 @@ pub(crate) fn read_config_file<R: Files>(
     }
 }
 
-// The first bytes of a file, so many at most.
-fn read_front<R: Files>(rt: &R, alloc: Global, path: &str, most: u64) -> io::Result<Vec<u8>> {
+/// The first bytes of a file, so many at most.
+pub(crate) fn read_front<R: Files>(
+    rt: &R,
+    alloc: Global,
+    path: &str,
+    most: u64,
+) -> io::Result<Vec<u8>> {
     let mut bytes = Vec::new(alloc);
     File::open(rt, path)?.take(most).read_to_end(&mut bytes)?;
     Ok(bytes)

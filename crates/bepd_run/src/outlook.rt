@@ -52,6 +52,7 @@ where
         writeln!(output, "{about}")?;
     }
     let known = known_state(rt, alloc, config, output)?;
+    tell_page(rt, alloc, config, output)?;
     with_known(rt, alloc, config, known, output)
 }
 
@@ -80,6 +81,25 @@ fn known_state<R: Files<File = File> + StateFiles, O: Write>(
         Ok(last) => Ok(Known::Last(last)),
         Err(failure) => Ok(Known::Stop(at_state(alloc, path, failure))),
     }
+}
+
+// Tells where the page can't be made.
+fn tell_page<R: Files<File = File>, O: Write>(
+    rt: &R,
+    alloc: Global,
+    config: &Config,
+    output: &mut O,
+) -> Result<(), RunFailure> {
+    let Some(page) = &config.status else {
+        return Ok(());
+    };
+    let directory = directory_of(page.as_str());
+    if !is_directory(rt, directory) {
+        writeln!(output, "status: {directory}: no directory is there")?;
+    } else if !can_be_written(rt, alloc, directory)? {
+        writeln!(output, "status: {directory}: can't be written")?;
+    }
+    Ok(())
 }
 
 // Looks at the addresses and the folders, with what is known of the state. Returns why a run would end, if it would.

@@ -3,7 +3,8 @@ use crate::files::StateFiles;
 use bep_messages::Text;
 use node_asks::{Answer, AskFault, ask, question, socket_path};
 use node_config::Config;
-use node_context::{Event, Log};
+use node_context::{Event, Log, moment};
+use node_status::push_ended_page;
 use std::alloc::{AllocError, Global};
 use std::io;
 use std::net::{Net, TcpListener, TcpStream};
@@ -17,7 +18,7 @@ const PAUSE: u64 = 1_000;
 const MOST_PAUSES: u64 = 60;
 
 /// Keeps the page of a configuration, if it has one, until there are no more events: it is replaced whole, at most once a second, where something happened, and each
-/// minute. That it can't be made is told, once until it can be.
+/// minute. That it can't be made is told, once until it can be. The last one says that the run has ended.
 pub(crate) fn keep_page<R>(rt: &R, alloc: Global, config: &Config, log: &Log)
 where
     R: Clock + Net<Listener = TcpListener, Stream = TcpStream> + StateFiles + Wait,
@@ -28,6 +29,8 @@ where
     let (mut seen, mut pauses, mut is_told) = (0, MOST_PAUSES, false);
     for _ in rt.forever() {
         if log.pause_for(rt, Duration::from_millis(PAUSE)) {
+            // (that it can't be made was told, or nobody is there any more to whom it could be)
+            let _ = put_ended(rt, alloc, config, path);
             return;
         }
         pauses = pauses.saturating_add(1);
@@ -108,9 +111,28 @@ where
     }
 }
 
+// Puts the page of a run that has ended in place of the last one.
+fn put_ended<R: Clock + StateFiles>(
+    rt: &R,
+    alloc: Global,
+    config: &Config,
+    path: &Text,
+) -> Result<(), NoPage> {
+    let device = hex::encode(alloc, config.device.bytes())?;
+    let (name, now) = (config.name.as_str(), moment(rt).seconds());
+    let mut page = String::new(alloc);
+    push_ended_page(&mut page, name, device.as_str(), now)?;
+    put(rt, alloc, path.as_str(), page.as_str())
+}
+
+/// Under which path a page is made, before it takes the place of the one before. Fails only if out of memory.
+pub(crate) fn new_page_path(alloc: Global, path: &str) -> Result<String, AllocError> {
+    format!(in alloc; "{path}.new")
+}
+
 // Puts a page at its path, in place of the one before.
 fn put<R: StateFiles>(rt: &R, alloc: Global, path: &str, page: &str) -> Result<(), NoPage> {
-    let new = format!(in alloc; "{path}.new")?;
+    let new = new_page_path(alloc, path)?;
     rt.replace_file(new.as_str(), path, page.as_bytes())
         .map_err(NoPage::Said)
 }

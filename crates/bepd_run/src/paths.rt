@@ -1,15 +1,23 @@
-//! Whether a folder of a configuration lies within another one, or the state or the page within a folder.
+//! Whether a folder of a configuration lies within another one, or the state or the page within a folder, or the page would take the place of another file.
 use crate::failure::RunFailure;
+use crate::files::read_front;
+use crate::page::new_page_path;
 use bep_messages::Text;
-use node_config::{Config, check_page, check_paths};
+use node_config::{Config, ConfigFault, Key, Problem, TablePlace, check_page, check_paths};
+use node_status::begins_as_page;
 use std::alloc::{AllocError, Global};
 use std::fs::Files;
 use std::io::ErrorKind;
 
-/// Fails where a folder lies within another one, or the state or the page within a folder, by their canonical paths.
+/// How many bytes of a file show whether it is a page.
+const FRONT_BYTES: u64 = 1_024;
+
+/// Fails where a folder lies within another one, or the state or the page within a folder, by their canonical paths; and where the page would take the place of the
+/// configuration at this path, of the state, or of another file that is no page.
 pub(crate) fn require_apart<R: Files>(
     rt: &R,
     alloc: Global,
+    path: &str,
     config: &Config,
 ) -> Result<(), RunFailure> {
     let mut folders = Vec::new(alloc);
@@ -21,8 +29,34 @@ pub(crate) fn require_apart<R: Files>(
     let Some(page) = &config.status else {
         return Ok(());
     };
+    let path = canonical(rt, alloc, path)?;
     let page = canonical(rt, alloc, page.as_str())?;
-    Ok(check_page(folders.as_slice(), page.as_str())?)
+    let new = new_page_path(alloc, page.as_str())?;
+    for made in [page.as_str(), new.as_str()] {
+        check_page(folders.as_slice(), path.as_str(), state.as_str(), made)?;
+    }
+    require_page(rt, alloc, page.as_str())
+}
+
+// Fails where a file is at the path that isn't empty and doesn't begin as a page does.
+fn require_page<R: Files>(rt: &R, alloc: Global, path: &str) -> Result<(), RunFailure> {
+    match read_front(rt, alloc, path, FRONT_BYTES) {
+        Ok(front) if front.is_empty() || begins_as_page(front.as_slice()) => Ok(()),
+        Err(error) => match error.kind() {
+            ErrorKind::NotFound | ErrorKind::NotADirectory => Ok(()),
+            ErrorKind::OutOfMemory => Err(RunFailure::OutOfMemory),
+            _ => Err(other_file()),
+        },
+        Ok(_) => Err(other_file()),
+    }
+}
+
+fn other_file() -> RunFailure {
+    RunFailure::Config(ConfigFault::BadKey {
+        place: TablePlace::Node,
+        key: Key::Status,
+        problem: Problem::OtherFile,
+    })
 }
 
 // The canonical path. Of one at which nothing is, as while a disk is away, it is that of the nearest directory above it, and then the rest.

@@ -326,7 +326,7 @@ fn config_at<R: Files>(rt: &R, alloc: Global, path: &str) -> Result<Configured, 
         Ok(config) => placed_config(alloc, path, config)?,
         Err(fault) => return Err(config_failure(alloc, text.as_slice(), fault)),
     };
-    require_apart(rt, alloc, &config)?;
+    require_apart(rt, alloc, path, &config)?;
     let unknown = unknown_keys(alloc, text.as_slice())?;
     Ok(Configured { config, unknown })
 }

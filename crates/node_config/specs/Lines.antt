@@ -9,7 +9,7 @@ use Rattle.node_config.specs.declared.key.Key.{Key}
 use Rattle.node_config.specs.declared.key.TablePlace.{TablePlace}
 use Rattle.node_config.specs.declared.key.TablePlace.TheVariants.{Node, Folder, Peer}
 use Rattle.node_config.specs.declared.key.Problem.{Problem}
-use Rattle.node_config.specs.declared.key.Problem.TheVariants.{Absent, NotString, NotInteger, NotLook, NotMode, NotTables, NotStrings, NotDevice, NotDeviceCharacter, Mistyped, OutOfRange, Empty, BeginsWithTilde, Repeats, SameDevice, SameShortId, UnknownFolder, BothAddresses, NoAddress, Inside}
+use Rattle.node_config.specs.declared.key.Problem.TheVariants.{Absent, NotString, NotInteger, NotLook, NotMode, NotTables, NotStrings, NotDevice, NotDeviceCharacter, Mistyped, OutOfRange, Empty, BeginsWithTilde, Repeats, SameDevice, SameShortId, UnknownFolder, BothAddresses, NoAddress, Inside, OfConfig, OfState, OtherFile}
 use Rattle.node_config.specs.declared.unknown.UnknownKey.{UnknownKey}
 
 abbrev pub place_text : TablePlace → List ℕ
@@ -38,6 +38,9 @@ problem_text (UnknownFolder entry) = codes "has as number " ++ (decimal entry ++
 problem_text BothAddresses = codes "and listen are both given"
 problem_text NoAddress = codes "and listen are both absent"
 problem_text (Inside folder) = codes "is that of folder " ++ (decimal folder ++ codes ", or inside of it")
+problem_text OfConfig = codes "is that of the configuration: give it another path"
+problem_text OfState = codes "is that of the state, or of a file beside it: give it another path"
+problem_text OtherFile = codes "is that of another file: remove it, or give another path"
 
 abbrev pub fault_text : ConfigFault → List ℕ
 fault_text (NotToml line) = codes "line " ++ (decimal line ++ codes ": not TOML")

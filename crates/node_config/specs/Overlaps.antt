@@ -1,11 +1,12 @@
 -- Which paths of a configuration lie within others (own rule). Paths are canonical: absolute, without links, `.`, `..` and a slash at the end.
-use Rattle.std.specs.Prelude.{◌≡◌, ◌⊎◌, ℕ, ◌+◌, Bool, false, ◌||◌, ◌&&◌, List, [], ◌∷◌, ◌++◌, length, bytes_eq, nat_eq, codes, get_or, Option, Some, None, Result, Ok, Err, if◌then◌else◌, slice_get, ◌==◌}
+use Rattle.std.specs.Prelude.{◌≡◌, ◌⊎◌, ℕ, ◌+◌, Bool, true, false, ◌||◌, ◌&&◌, List, [], ◌∷◌, ◌++◌, length, bytes_eq, nat_eq, codes, get_or, Option, Some, None, Result, Ok, Err, if◌then◌else◌, slice_get, ◌==◌}
 use Rattle.std.specs.List.{position, starts_with}
 use Rattle.node_config.specs.declared.fault.ConfigFault.{ConfigFault}
 use Rattle.node_config.specs.declared.fault.ConfigFault.TheVariants.{BadKey}
 use Rattle.node_config.specs.declared.key.Key.TheVariants.{Path, State, Status}
 use Rattle.node_config.specs.declared.key.TablePlace.TheVariants.{Folder, Node}
-use Rattle.node_config.specs.declared.key.Problem.TheVariants.{Inside as IsInside}
+use Rattle.node_config.specs.declared.key.Problem.{Problem}
+use Rattle.node_config.specs.declared.key.Problem.TheVariants.{Inside as IsInside, OfConfig, OfState}
 use Rattle.node_config.specs.declared.overlap.Overlap.{Overlap}
 use Rattle.node_config.specs.declared.overlap.Overlap.TheVariants.{Inside, StateIn}
 
@@ -69,7 +70,31 @@ abbrev pub checked : Option Overlap → Result (Unit {0}) ConfigFault
 checked None = Ok tt
 checked (Some overlap) = Err (fault_of overlap)
 
--- a page lies within the folder at a place, if there is one
-abbrev pub page_checked : Option ℕ → Result (Unit {0}) ConfigFault
+-- there is a dot
+abbrev pub is_dot : Option ℕ → Bool
+is_dot None = false
+is_dot (Some byte) = byte == 46
+
+-- the path is that of the state, or of a file beside it: it goes on after it with a dot
+abbrev pub is_beside : List ℕ → List ℕ → Bool
+is_beside path state = bytes_eq path state || (starts_with nat_eq path state && is_dot (slice_get path (length state)))
+
+-- a page would take the place of the configuration, of the state, or of a file beside that
+abbrev pub place_problem : Bool → Bool → Option Problem
+place_problem true _ = Some OfConfig
+place_problem false true = Some OfState
+place_problem false false = None
+
+-- or it lies within the folder at a place, if there is one
+abbrev pub within_problem : Option ℕ → Option Problem → Option Problem
+within_problem None other = other
+within_problem (Some place) other = Some (IsInside (place + 1))
+
+-- what is wrong with the path of a page
+abbrev pub page_problem : List (List ℕ) → List ℕ → List ℕ → List ℕ → Option Problem
+page_problem folders config state page =
+    within_problem (position (is_within page) folders) (place_problem (bytes_eq page config) (is_beside page state))
+
+abbrev pub page_checked : Option Problem → Result (Unit {0}) ConfigFault
 page_checked None = Ok tt
-page_checked (Some place) = Err (BadKey Node Status (IsInside (place + 1)))
+page_checked (Some problem) = Err (BadKey Node Status problem)

@@ -156,6 +156,12 @@ pub enum Problem {
     NoAddress,
     /// It is the path of the folder of this number, counted from 1, or one inside of it.
     Inside { folder: usize },
+    /// It is the path of the configuration.
+    OfConfig,
+    /// It is the path of the state, or of a file that is kept beside it.
+    OfState,
+    /// At its path is a file that isn't what belongs there.
+    OtherFile,
 }
 
 impl Display for Problem {
@@ -196,6 +202,13 @@ impl Display for Problem {
             Problem::BothAddresses => f.write_str("and listen are both given"),
             Problem::NoAddress => f.write_str("and listen are both absent"),
             Problem::Inside { folder } => write!(f, "is that of folder {folder}, or inside of it"),
+            Problem::OfConfig => f.write_str("is that of the configuration: give it another path"),
+            Problem::OfState => f.write_str(
+                "is that of the state, or of a file beside it: give it another path",
+            ),
+            Problem::OtherFile => f.write_str(
+                "is that of another file: remove it, or give another path",
+            ),
         }
     }
 }

@@ -1,6 +1,6 @@
 //! Folders and a state of which one lies within another.
 ghost use Rattle.std.specs.Prelude.{◌≡◌, ◌↔◌, ℕ, List, [], true};
-ghost use Rattle.node_config.specs.Overlaps.{IsWithin, are_within, checked, fault_of, first_nested, first_overlap, is_within, overlap_of, page_checked, state_in, stem, with_earlier};
+ghost use Rattle.node_config.specs.Overlaps.{IsWithin, are_within, checked, fault_of, first_nested, first_overlap, is_beside, is_within, overlap_of, page_checked, page_problem, state_in, stem, with_earlier};
 ghost use Rattle.std.specs.List.{position};
 
 use crate::fault::ConfigFault;
@@ -32,19 +32,47 @@ pub fn check_paths(folders: &[Text], state: &str) -> Result<(), ConfigFault>
     }
 }
 
-/// Fails if the page that is kept of how all is lies within a folder or is one: it would be kept alike too, and change for ever. The paths are canonical. O(n) for n
-/// folders.
-pub fn check_page(folders: &[Text], page: &str) -> Result<(), ConfigFault>
-    ensures { result ≡ page_checked (position (is_within page.now) folders.now) }
+/// Fails if the page that is kept of how all is lies within a folder or is one: it would be kept alike too, and change for ever; and if it is the configuration, the
+/// state, or a file beside that, whose place it would take. The paths are canonical. O(n) for n folders.
+pub fn check_page(
+    folders: &[Text],
+    config: &str,
+    state: &str,
+    page: &str,
+) -> Result<(), ConfigFault>
+    ensures { result ≡ page_checked (page_problem folders.now config.now state.now page.now) }
 {
-    match first_around(folders, page) {
-        Some(place) => Err(ConfigFault::BadKey {
+    match page_problem(folders, config, state, page) {
+        Some(problem) => Err(ConfigFault::BadKey {
             place: TablePlace::Node,
             key: Key::Status,
-            problem: Problem::Inside { folder: place + 1 },
+            problem,
         }),
         None => Ok(()),
     }
+}
+
+/// What is wrong with the path of a page, if something is.
+fn page_problem(folders: &[Text], config: &str, state: &str, page: &str) -> Option<Problem>
+    ensures { result ≡ page_problem folders.now config.now state.now page.now }
+{
+    match first_around(folders, page) {
+        Some(place) => Some(Problem::Inside { folder: place + 1 }),
+        None if page == config => Some(Problem::OfConfig),
+        None if is_beside(page, state) => Some(Problem::OfState),
+        None => None,
+    }
+}
+
+/// Whether the path is that of the state, or goes on after it with a dot, as those of the files do that are kept beside it.
+fn is_beside(path: &str, state: &str) -> bool
+    ensures { result ≡ is_beside path.now state.now }
+{
+    if path == state {
+        return true;
+    }
+    let (path, state) = (path.as_bytes(), state.as_bytes());
+    path.starts_with(state) && path.get(state.len()) == Some(&b'.')
 }
 
 /// How it is said: the path that lies within the other is wrong.

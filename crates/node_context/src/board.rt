@@ -227,9 +227,10 @@ impl FolderBoard {
 
     fn telling_pull(&mut self, now: u64, event: &PullEvent, is_verbose: bool) -> Telling {
         match event {
-            PullEvent::Begun(_) => Telling::Far {
-                begins: self.doing.pulled == 0 && self.doing.came == 0,
-            },
+            PullEvent::Begun(_) if self.doing.pulled == 0 && self.doing.came == 0 => {
+                Telling::Far { begins: true }
+            }
+            PullEvent::Begun(_) => Telling::Nothing,
             PullEvent::At(_) | PullEvent::Came(_) => Telling::Far { begins: false },
             PullEvent::Received(_, _) => line_if(is_verbose),
             PullEvent::Pulled(_, _) if is_verbose => Telling::Line,

@@ -23,7 +23,8 @@ pub(crate) fn push_scan_event(
 ) -> io::Result<()> {
     match event {
         ScanEvent::Keeping(path, count) => {
-            write!(line, "folder {folder}: {count} names recorded, in ")?;
+            let names = if *count == 1 { "name" } else { "names" };
+            write!(line, "folder {folder}: {count} {names} recorded, in ")?;
             Ok(push_text(line, path)?)
         }
         ScanEvent::Recorded(name) => push_named(line, "recorded", folder, name),
@@ -55,7 +56,7 @@ pub(crate) fn push_scan_event(
         ScanEvent::Away(path) => {
             write!(line, "away {folder}: ")?;
             push_text(line, path)?;
-            Ok(line.extend_from_slice(b" isn't there, or has no .stfolder")?)
+            Ok(line.extend_from_slice(b" isn't there, has no .stfolder, or is another one")?)
         }
         ScanEvent::InUse => write!(line, "away {folder}: another run has it"),
         ScanEvent::Back => write!(line, "back {folder}"),
@@ -203,7 +204,7 @@ fn push_named(line: &mut Vec<u8>, word: &str, folder: &str, name: &SafeName) -> 
 fn advice(why: PullFailure) -> &'static str {
     match why {
         PullFailure::LocalChanged =>
-            "; the file changed here: it is pulled once the folder was scanned",
+            "; what is here changed: it is pulled once the folder was scanned, or once what scans leave out is moved away",
         PullFailure::ConflictNameTaken => "; rename it, or what has the name of its conflict copy",
         PullFailure::NotEmpty =>
             "; the directory is to go, but something is left in it: move that away",

@@ -16,7 +16,7 @@ pub use ends::{GivesUp, WorkerEnds};
 pub use folder::{FolderSettings, FolderWorker, NodeFolder};
 pub use left_over::{is_left_over, is_recorded};
 pub use notes::{Notes, Noticed};
-pub use presence::{Presence, look_at_folder, release};
+pub use presence::{Presence, is_there, look_at_folder, release};
 pub use scan_times::ScanTimes;
 pub use scanner::{ScannedFolder, run_scanner, scan_due, scan_folder};
 pub use schedule::{FolderScan, ScanOutcome, ScanSchedule, spread};

@@ -1,7 +1,7 @@
 //! Whether a folder is there, and what is recorded of it with it.
 ghost use Rattle.std.specs.Prelude.{◌≡◌, ◌↔◌, ◌≢◌, IsTrue};
 ghost use Rattle.node_files.specs.declared.marked.Whereabouts.TheVariants.{Unknown};
-ghost use Rattle.node_folder.specs.Held.{is_lost};
+ghost use Rattle.node_folder.specs.Held.{is_back, is_lost};
 
 use crate::folder::{FolderWorker, NodeFolder};
 use file_store::{FileStore, Stat};
@@ -14,6 +14,9 @@ use std::time::Clock;
 
 /// How many names must be recorded of a folder for it to wait where none of them is there. Where it is doubted one is enough.
 const MIN_NAMES: u64 = 10;
+
+/// One that waits is back once one name of so many is missing at most.
+const NAMES_A_MISSING: u64 = 10;
 
 /// How many records are read at once.
 const PAGE_RECORDS: usize = 64;
@@ -107,8 +110,25 @@ pub fn release<R: Clock + Wait, G>(cx: &Context<R, G>, folder: &NodeFolder) {
     }
 }
 
+/// Whether the folder is there, for a pull: one that came while nobody looked at it is looked at now. O(n) for n recorded names then, and else O(1).
+pub fn is_there<R, S, W, G>(cx: &Context<R, G>, worker: &mut FolderWorker<S, W>) -> bool
+where
+    R: Clock + Wait,
+    S: FileStore + Marked,
+    W: FolderCalls,
+{
+    match worker.look(cx.rt) {
+        Whereabouts::There => true,
+        // (one that waits is looked at now and then, by who scans it)
+        Whereabouts::Held if !worker.folder.presence.is_held(cx.rt) => {
+            look_at_folder(cx, worker) == Whereabouts::There
+        }
+        _ => false,
+    }
+}
+
 /// Where the folder is now, which is told where it is news. One of whose names that are recorded none is there is held, where there are ten or more of them at the
-/// start, or any where it came back or nobody says whose its marker is: that is told too, and so is its end. O(n) for n such names, and else O(1).
+/// start, or any where it came back or nobody says whose its marker is: that is told too, and so is its end, once nine of ten are there. O(n) for n such names, and else O(1).
 pub fn look_at_folder<R, S, W, G>(
     cx: &Context<R, G>,
     worker: &mut FolderWorker<S, W>,
@@ -134,6 +154,9 @@ where
     if found != Whereabouts::There || folder.presence.is_checked(cx.rt) {
         return found;
     }
+    if folder.presence.is_held(cx.rt) {
+        return look_at_held(cx, worker);
+    }
     let is_doubted = folder.presence.is_doubted(cx.rt);
     match names_lost(worker) {
         Ok(count) if !is_lost(count, is_doubted) => {
@@ -147,6 +170,23 @@ where
             }
             Whereabouts::Held
         }
+        Err(AllocError) => Whereabouts::Unknown,
+    }
+}
+
+// Where a folder is that waits: there, once its names are. One after another they may come back, as while a backup is read: what isn't there yet isn't gone.
+fn look_at_held<R, S, W, G>(cx: &Context<R, G>, worker: &mut FolderWorker<S, W>) -> Whereabouts
+where
+    R: Clock + Wait,
+    S: FileStore,
+    W: FolderCalls,
+{
+    match are_back(worker) {
+        Ok(true) => {
+            release(cx, worker.folder);
+            Whereabouts::There
+        }
+        Ok(false) => Whereabouts::Held,
         Err(AllocError) => Whereabouts::Unknown,
     }
 }
@@ -170,6 +210,39 @@ fn is_lost(count: u64, is_doubted: bool) -> bool
     } else {
         count >= MIN_NAMES
     }
+}
+
+// Whether a folder that waits is back, of whose names so many are missing, of so many.
+fn is_back(missing: u64, all: u64) -> bool
+    ensures { result ≡ is_back missing all }
+{
+    missing <= all / NAMES_A_MISSING
+}
+
+// Whether nearly all of the files and directories are there that are recorded. Reads on until too many are missing.
+fn are_back<S: FileStore, W: FolderCalls>(
+    worker: &mut FolderWorker<S, W>,
+) -> Result<bool, AllocError> {
+    let FolderWorker { store, calls, .. } = worker;
+    let counts = calls.counts().value;
+    let all = counts.files.saturating_add(counts.directories);
+    let (mut missing, mut after) = (0u64, 0u64);
+    for _ in 0..u64::MAX {
+        let page = calls.local_since(after, PAGE_RECORDS)?.value;
+        let Some(last) = page.as_slice().last() else {
+            break;
+        };
+        after = last.sequence();
+        for record in page.as_slice() {
+            if !record.is_deleted() && matches!(store.stat(record.name()), Ok(Stat::Missing)) {
+                missing = missing.saturating_add(1);
+            }
+        }
+        if !is_back(missing, all) {
+            return Ok(false);
+        }
+    }
+    Ok(true)
 }
 
 // How many files and directories are recorded, where none of them is there; 0 where one is, or may be.

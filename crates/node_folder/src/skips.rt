@@ -67,6 +67,48 @@ impl Skips {
         Ok((noted, last.len().saturating_sub(most) as u64))
     }
 
+    /// Takes why a look left out a name, which is told where it was not left out so before; or that it left out nothing there. Where memory for the name runs out, all stays
+    /// as it was. O(n) for n names.
+    pub fn note<R: Clock + Wait, G>(
+        &self,
+        cx: &Context<R, G>,
+        folder: &str,
+        name: &SafeName,
+        why: Option<SkipWhy>,
+    ) {
+        let mut last = self.last.lock(cx.rt);
+        let place = last.binary_search_by(|it| it.name.as_str().cmp(name.as_str()));
+        let Some(why) = why else {
+            if let Ok(place) = place {
+                let _again = last.remove(place);
+            }
+            return;
+        };
+        if self.put(&mut last, place, name, why) {
+            cx.tell(&Event::Scan(folder, ScanEvent::Skipped(name.as_str(), why)));
+        }
+    }
+
+    // Puts a name at its place among those that are left out. Returns whether that is news.
+    fn put(
+        &self,
+        last: &mut Vec<Skip>,
+        place: Result<usize, usize>,
+        name: &SafeName,
+        why: SkipWhy,
+    ) -> bool {
+        match place {
+            Ok(place) => match last.get_mut(place) {
+                Some(skip) => replace(&mut skip.why, why) != why,
+                None => false,
+            },
+            Err(place) => match String::from_str(self.alloc, name.as_str()) {
+                Ok(name) => last.insert(place, Skip { name, why }).is_ok(),
+                Err(AllocError) => false,
+            },
+        }
+    }
+
     /// Takes what a scan of the folder left out, and tells the names that were not left out before, or for another reason. Where the scan did not
     /// come to its end, or memory for the names ran out, all stays as it was. O(n log n) for n names.
     pub fn take<R: Clock + Wait, G, S: Marked>(

@@ -3,8 +3,8 @@ use crate::restless::DueName;
 use file_store::{FileStore, Gate, StoreRefusal};
 use folder_calls::FolderCalls;
 use folder_core::ScanAnswer;
-use node_context::{Context, Event, Host, ScanEvent};
-use node_files::Marked;
+use node_context::{Context, Event, Host, ScanEvent, SkipWhy};
+use node_files::{Marked, Whereabouts};
 use node_folder::{FolderWorker, is_left_over, is_recorded};
 use std::alloc::{AllocError, Global};
 use std::mem::replace;
@@ -98,7 +98,7 @@ fn share_out<S, W>(lookers: &mut [Looker<S, W>], ready: Vec<DueName>) -> Result<
 fn scan_share<'x, R, S, W, G>(cx: &Context<'x, R, G>, looker: &mut Looker<'x, S, W>, moment: Moment)
 where
     R: Host,
-    S: FileStore,
+    S: FileStore + Marked,
     W: FolderCalls,
     G: Gate,
 {
@@ -109,8 +109,25 @@ where
         }
         let scanned = scan_one(cx, worker, &one.name, moment);
         one.is_left = is_left_over(&scanned);
+        if !one.is_left {
+            note_skip(cx, worker, &one.name, SkipWhy::of(&scanned));
+        }
         count(sum, &scanned);
     }
+}
+
+// Notes why a name was left out, if it was. (What a folder that went away or a node that stops comes to says nothing of the name.)
+fn note_skip<R: Host, S: Marked, W, G>(
+    cx: &Context<R, G>,
+    worker: &mut FolderWorker<S, W>,
+    name: &SafeName,
+    why: Option<SkipWhy>,
+) {
+    if why.is_some() && (cx.is_stopping() || worker.store.look() != Whereabouts::There) {
+        return;
+    }
+    let folder = worker.folder;
+    folder.skips.note(cx, folder.id(), name, why);
 }
 
 // Scans a name. That a change of it was recorded is told.

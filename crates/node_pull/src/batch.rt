@@ -140,9 +140,19 @@ where
         };
         tell_answer(cx, id, wanted, answer, said);
     }
-    let needed = puller.worker.calls.counts().value.needed;
-    cx.tell(&Event::Pull(id, PullEvent::At(needed)));
+    if !is_failure(answer) {
+        let needed = puller.worker.calls.counts().value.needed;
+        cx.tell(&Event::Pull(id, PullEvent::At(needed)));
+    }
     Ok(())
+}
+
+// Whether a name that was pulled so is needed as before.
+fn is_failure(answer: PullAnswer) -> bool {
+    matches!(
+        answer,
+        PullAnswer::Failed(_) | PullAnswer::Refused(_) | PullAnswer::Unsupported
+    )
 }
 
 // Tells who looks at the folder what a pull of a name did that is no change of anybody here, and what is to be scanned at once.

@@ -5,7 +5,8 @@ use crate::turn::Turn;
 use file_store::{FileStore, Gate};
 use folder_calls::FolderCalls;
 use node_context::{Context, Host};
-use node_files::{Marked, Whereabouts};
+use node_files::Marked;
+use node_folder::is_there;
 use node_need::{PullOrder, Retries};
 use std::alloc::AllocError;
 use std::mem::replace;
@@ -61,7 +62,7 @@ where
         return Ok(());
     }
     let needed = needed_besides(cx, batch, puller)?;
-    if puller.worker.look(cx.rt) != Whereabouts::There {
+    if !is_there(cx, &mut puller.worker) {
         return Ok(());
     }
     pull_live(cx, batch, puller, needed.as_slice(), up.as_slice())

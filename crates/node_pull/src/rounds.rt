@@ -4,8 +4,8 @@ use crate::turn::Turn;
 use file_store::{FileStore, Gate};
 use folder_calls::FolderCalls;
 use node_context::{Context, Event, Host, PullEvent};
-use node_files::{Marked, Whereabouts};
-use node_folder::NodeFolder;
+use node_files::Marked;
+use node_folder::{NodeFolder, is_there};
 use node_need::{PullOrder, Retries, Wanted};
 use peer_asks::PeerBook;
 use std::alloc::{AllocError, Global};
@@ -187,7 +187,7 @@ fn order_of<R, S, W, G>(
 ) -> Result<Option<PullOrder>, AllocError>
 where
     R: Host,
-    S: Marked,
+    S: FileStore + Marked,
     W: FolderCalls,
 {
     let PulledFolder {
@@ -222,7 +222,7 @@ where
         *idle_at = Some(at);
         return Ok(None);
     }
-    if puller.worker.look(cx.rt) != Whereabouts::There {
+    if !is_there(cx, &mut puller.worker) {
         return Ok(None);
     }
     let calls = &mut puller.worker.calls;

@@ -4,7 +4,7 @@ use Rattle.std.specs.List.{list_any}
 use Rattle.node_status.specs.declared.rows.Mark.{Mark}
 use Rattle.node_status.specs.declared.rows.Mark.TheVariants.{Title, Heading, Good, Busy, Bad, Note, Trouble}
 use Rattle.node_status.specs.declared.rows.Summary.{Summary}
-use Rattle.node_status.specs.declared.rows.Summary.TheVariants.{Trouble as SomeTrouble, Working, Alone, Well}
+use Rattle.node_status.specs.declared.rows.Summary.TheVariants.{Trouble as SomeTrouble, Working, Alone, Partial, Well}
 use Rattle.node_status.specs.declared.status.FolderState.{FolderState}
 use Rattle.node_status.specs.declared.status.FolderState.TheVariants.{UpToDate, Behind, Failing, Scanning, Pulling, NoRoom, Away, InUse, Held}
 use Rattle.node_status.specs.declared.status.FolderStatus.{FolderStatus}
@@ -69,24 +69,34 @@ is_busy f = is_busy_mark (folder_mark f.state)
 abbrev pub is_there : PeerStatus → Bool
 is_there p = p.is_up
 
--- how all is: something can't go on by itself, or is under way, or no peer is there to say what is new, or all is well
+-- names of a folder are left out
+abbrev pub has_any : List Noted → Bool
+has_any [] = false
+has_any (n ∷ ns) = true
+
+abbrev pub leaves_out : FolderStatus → Bool
+leaves_out f = has_any f.left_out.items
+
+-- how all is: something can't go on by itself, or is under way, or no peer is there to say what is new, or all is well, but for what is left out
 abbrev pub summary_of : Status → Summary
 summary_of s =
     if is_some s.not_written || list_any is_bad s.folders.items then SomeTrouble
     else if list_any is_busy s.folders.items then Working
-    else if list_any is_there s.peers.items then Well
+    else if list_any is_there s.peers.items then (if list_any leaves_out s.folders.items then Partial else Well)
     else Alone
 
 abbrev pub summary_mark : Summary → Mark
 summary_mark SomeTrouble = Bad
 summary_mark Working = Busy
 summary_mark Alone = Busy
+summary_mark Partial = Good
 summary_mark Well = Good
 
 abbrev pub summary_text : Summary → List ℕ
 summary_text SomeTrouble = codes "something needs you: see below"
 summary_text Working = codes "under way"
 summary_text Alone = codes "as far as is known: no peer is connected"
+summary_text Partial = codes "all is well, but for the names that are left out below"
 summary_text Well = codes "all is well"
 
 abbrev pub summary_row : List ℕ → Summary → ShownRow
@@ -126,14 +136,29 @@ state_rows None = []
 state_rows (Some why) =
     words_row Trouble (codes "the state can't be written: " ++ why) ∷ words_row Trouble (codes "until it can be, nothing is put in place, and peers are told nothing") ∷ []
 
--- whose status it is, and of when
-abbrev pub title_row : Status → ShownRow
-title_row s = record {
+-- the name of a device, and a moment
+abbrev pub title_of : List ℕ → List ℕ → ℕ → ShownRow
+title_of name device when = record {
   mark = Title;
-  name = name_or_short (string_bytes s.name) (string_bytes s.device);
-  words = moment_text s.made ++ codes " UTC";
+  name = name_or_short name device;
+  words = moment_text when ++ codes " UTC";
   progress = None;
 }
+
+-- whose status it is, and of when
+abbrev pub title_row : Status → ShownRow
+title_row s = title_of (string_bytes s.name) (string_bytes s.device) s.made
+
+-- what is said once no run is there any more
+abbrev pub ended_text : List ℕ
+ended_text = codes "this run has ended: nothing is kept alike until the next one begins"
+
+abbrev pub ended_row : List ℕ → ShownRow
+ended_row name = record { mark = Bad; name = name; words = ended_text; progress = None }
+
+-- all of a run that has ended
+abbrev pub ended_rows : List ℕ → List ℕ → ℕ → List ShownRow
+ended_rows name device when = title_of name device when ∷ ended_row (codes "In short") ∷ []
 
 -- how much memory the program holds, if that is known
 abbrev pub memory_rows : Option ℕ → List ShownRow

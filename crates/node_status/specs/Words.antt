@@ -29,9 +29,9 @@ state_text Failing = codes "behind: names that can't be pulled stand below"
 state_text Scanning = codes "scanning"
 state_text Pulling = codes "pulling"
 state_text NoRoom = codes "stopped: the disk is full"
-state_text Away = codes "away: the directory isn't there, or has no .stfolder"
+state_text Away = codes "away: the directory isn't there, has no .stfolder, or is another one"
 state_text InUse = codes "stopped: another run has it"
-state_text Held = codes "held: none of the recorded names is there; `scan` says that they are gone, and all devices delete them"
+state_text Held = codes "held: recorded names are missing; `scan` says that they are gone, and all devices delete them"
 
 abbrev pub is_pulling : FolderState → Bool
 is_pulling Pulling = true
@@ -54,10 +54,17 @@ unfoldable pub folder_text : FolderStatus → List ℕ
 folder_text f =
     state_text f.state ++ after (codes " ") (option_map progress_text f.progress) ++ needed_text f.state f.needed ++ received_text f
 
+-- what a folder has is only known from its records, while it isn't there
+abbrev pub recorded_text : FolderState → List ℕ
+recorded_text Away = codes "recorded: "
+recorded_text InUse = codes "recorded: "
+recorded_text Held = codes "recorded: "
+recorded_text _ = []
+
 -- what a folder has
 abbrev pub holdings_text : FolderStatus → List ℕ
 holdings_text f =
-    count_text f.files (codes "file") (codes "files") ++ codes ", "
+    recorded_text f.state ++ count_text f.files (codes "file") (codes "files") ++ codes ", "
     ++ count_text f.directories (codes "directory") (codes "directories") ++ codes " in " ++ string_bytes f.path
 
 abbrev pub scanned_text : ℕ → Option ℕ → List ℕ

@@ -15,6 +15,6 @@ mod times;
 mod words;
 
 pub use document::json_of;
-pub use page::push_page;
+pub use page::{begins_as_page, push_ended_page, push_page};
 pub use screen::push_screen;
 pub use status::{FolderState, FolderStatus, Noted, PeerStatus, Progress, Status};

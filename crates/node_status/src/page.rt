@@ -1,10 +1,12 @@
 //! A status as a person reads it in a browser.
-ghost use Rattle.std.specs.Prelude.{◌≡◌, ◌++◌, IfOk, OnErr, OnOk, decimal, flat_map, string_bytes};
+ghost use Rattle.std.specs.Prelude.{◌≡◌, ◌++◌, IfOk, OnErr, OnOk, decimal, flat_map, nat_eq, string_bytes};
+ghost use Rattle.std.specs.List.{starts_with};
+ghost use Rattle.node_status.specs.declared.page.TheConstants.{HEAD};
 ghost use Rattle.node_status.specs.Page.{bar, element, head_html, row_html, marked_html, named_html, page_html, page_piece};
-ghost use Rattle.node_status.specs.Rows.{status_rows};
+ghost use Rattle.node_status.specs.Rows.{ended_rows, status_rows};
 
 use crate::numbers::percent;
-use crate::rows::{Mark, Row, rows_of};
+use crate::rows::{Mark, Row, ended_rows, rows_of};
 use crate::status::{Progress, Status};
 use html_text::push_escaped;
 use itoa::Buffer;
@@ -52,10 +54,41 @@ pub fn push_page(page: &mut String, status: &Status) -> Result<(), AllocError>
     page.push_str(text.as_str())
 }
 
+/// Whether a file with these bytes begins as each page does. O(1).
+pub fn begins_as_page(bytes: &[u8]) -> bool
+    ensures { result ≡ starts_with nat_eq bytes.now HEAD.now }
+{
+    bytes.starts_with(HEAD.as_bytes())
+}
+
 fn page_of(alloc: Global, status: &Status) -> Result<String, AllocError>
     ensures { IfOk result (λ text. string_bytes text ≡ page_html (status_rows status.now)) }
 {
     let rows = rows_of(alloc, status)?;
+    let mut text = String::new(alloc);
+    push_rows_in_page(&mut text, rows.as_slice())?;
+    Ok(text)
+}
+
+/// Appends the page of a run that has ended, in this second since 1970, of the device with this name and this identity in hexadecimal digits. Returns `Err` only if out
+/// of memory, and then the page is as it was.
+pub fn push_ended_page(
+    page: &mut String,
+    name: &str,
+    device: &str,
+    ended: u64,
+) -> Result<(), AllocError>
+    ensures ok { OnOk result (string_bytes page.new ≡ string_bytes page.old ++ page_html (ended_rows name.now device.now ended)) }
+    ensures err { OnErr result (string_bytes page.new ≡ string_bytes page.old) }
+{
+    let text = ended_page(*page.allocator(), name, device, ended)?;
+    page.push_str(text.as_str())
+}
+
+fn ended_page(alloc: Global, name: &str, device: &str, ended: u64) -> Result<String, AllocError>
+    ensures { IfOk result (λ text. string_bytes text ≡ page_html (ended_rows name.now device.now ended)) }
+{
+    let rows = ended_rows(alloc, name, device, ended)?;
     let mut text = String::new(alloc);
     push_rows_in_page(&mut text, rows.as_slice())?;
     Ok(text)

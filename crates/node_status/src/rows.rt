@@ -1,7 +1,8 @@
 //! What is shown of a status, as rows: the same for a terminal and for a browser.
-ghost use Rattle.std.specs.Prelude.{◌≡◌, ◌++◌, [], ◌∷◌, IfOk, OnOk, string_bytes, option_map, flat_map};
+ghost use Rattle.std.specs.Prelude.{◌≡◌, ◌++◌, [], ◌∷◌, IfOk, OnOk, string_bytes, option_map, flat_map, if◌then◌else◌};
 ghost use Rattle.std.specs.List.{list_any};
-ghost use Rattle.node_status.specs.Rows.{folder_row, folder_rows, folder_mark, heading, memory_rows, is_bad, is_busy, more_rows, name_of, name_or_short, node_rows, noted_rows, peer_row, peer_rows, state_rows, status_rows, is_there, summary_mark, summary_of, summary_row, summary_text, title_row, words_row};
+ghost use Rattle.node_status.specs.Rows.{ended_row, ended_rows, ended_text, folder_row, folder_rows, folder_mark, heading, memory_rows, is_bad, is_busy, leaves_out, more_rows, name_of, name_or_short, node_rows, noted_rows, peer_row, peer_rows, state_rows, status_rows, is_there, summary_mark, summary_of, summary_row, summary_text, title_of, title_row, words_row};
+ghost use Rattle.node_status.specs.declared.rows.Summary.TheVariants.{Partial, Well};
 ghost use Rattle.node_status.specs.Words.{holdings_text, noted_text, past_text, origin_text};
 
 use crate::numbers::{push_bytes, push_number};
@@ -41,6 +42,8 @@ pub enum Summary {
     Working,
     /// All is up to date, as far as is known: no peer is connected.
     Alone,
+    /// All is up to date, but names are left out.
+    Partial,
     /// All is up to date.
     Well,
 }
@@ -70,6 +73,35 @@ pub(crate) fn rows_of(alloc: Global, status: &Status) -> Result<Vec<Row>, AllocE
     let mut rows = Vec::new(alloc);
     push_status(&mut rows, status)?;
     Ok(rows)
+}
+
+/// The rows of a run of a device that ended then, in seconds since 1970.
+pub(crate) fn ended_rows(
+    alloc: Global,
+    name: &str,
+    device: &str,
+    ended: u64,
+) -> Result<Vec<Row>, AllocError>
+    ensures { IfOk result (λ rows. rows.items ≡ ended_rows name.now device.now ended) }
+{
+    let mut rows = Vec::new(alloc);
+    push_title_of(&mut rows, name, device, ended)?;
+    push_ended_row(&mut rows, "In short")?;
+    Ok(rows)
+}
+
+fn push_ended_row(rows: &mut Vec<Row>, name: &str) -> Result<(), AllocError>
+    ensures { OnOk result (rows.new.items ≡ rows.old.items ++ (ended_row name.now ∷ [])) }
+{
+    let name = String::from_str(*rows.allocator(), name)?;
+    let words = String::from_str(*rows.allocator(), ended_words())?;
+    push_row(rows, Mark::Bad, name, words, None)
+}
+
+fn ended_words() -> &'static str
+    ensures { result.now ≡ ended_text }
+{
+    "this run has ended: nothing is kept alike until the next one begins"
 }
 
 fn push_status(rows: &mut Vec<Row>, status: &Status) -> Result<(), AllocError>
@@ -159,13 +191,16 @@ fn push_memory_row(rows: &mut Vec<Row>, memory: Option<u64>) -> Result<(), Alloc
 fn push_title(rows: &mut Vec<Row>, status: &Status) -> Result<(), AllocError>
     ensures { OnOk result (rows.new.items ≡ rows.old.items ++ (title_row status.now ∷ [])) }
 {
-    let name = name_of(
-        *rows.allocator(),
-        status.name.as_str(),
-        status.device.as_str(),
-    )?;
+    let (name, device) = (status.name.as_str(), status.device.as_str());
+    push_title_of(rows, name, device, status.made)
+}
+
+fn push_title_of(rows: &mut Vec<Row>, name: &str, device: &str, when: u64) -> Result<(), AllocError>
+    ensures { OnOk result (rows.new.items ≡ rows.old.items ++ (title_of name.now device.now when ∷ [])) }
+{
+    let name = name_of(*rows.allocator(), name, device)?;
     let mut words = empty(rows);
-    push_moment(&mut words, status.made)?;
+    push_moment(&mut words, when)?;
     words.push_str(" UTC")?;
     push_row(rows, Mark::Title, name, words, None)
 }
@@ -197,6 +232,7 @@ fn summary_mark(summary: Summary) -> Mark
         Summary::Trouble => Mark::Bad,
         Summary::Working => Mark::Busy,
         Summary::Alone => Mark::Busy,
+        Summary::Partial => Mark::Good,
         Summary::Well => Mark::Good,
     }
 }
@@ -208,6 +244,7 @@ fn summary_words(summary: Summary) -> &'static str
         Summary::Trouble => "something needs you: see below",
         Summary::Working => "under way",
         Summary::Alone => "as far as is known: no peer is connected",
+        Summary::Partial => "all is well, but for the names that are left out below",
         Summary::Well => "all is well",
     }
 }
@@ -220,10 +257,34 @@ fn summary_of(status: &Status) -> Summary
     } else if has_busy(status.folders.as_slice()) {
         Summary::Working
     } else if has_peer(status.peers.as_slice()) {
-        Summary::Well
+        well(status.folders.as_slice())
     } else {
         Summary::Alone
     }
+}
+
+// All is up to date of these folders.
+fn well(folders: &[FolderStatus]) -> Summary
+    ensures { result ≡ (if list_any leaves_out folders.now then Partial else Well) }
+{
+    if has_left_out(folders) {
+        Summary::Partial
+    } else {
+        Summary::Well
+    }
+}
+
+fn has_left_out(folders: &[FolderStatus]) -> bool
+    ensures { result ≡ list_any leaves_out folders.now }
+{
+    folders.iter().any(|folder| leaves_out(folder))
+}
+
+// Whether names of a folder are left out.
+fn leaves_out(folder: &FolderStatus) -> bool
+    ensures { result ≡ leaves_out folder.now }
+{
+    !folder.left_out.is_empty()
 }
 
 fn has_peer(peers: &[PeerStatus]) -> bool

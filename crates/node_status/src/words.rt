@@ -2,7 +2,7 @@
 ghost use Rattle.std.specs.Prelude.{◌≡◌, ◌++◌, [], ◌∷◌, OnOk, codes, if◌then◌else◌, map, string_bytes, option_map};
 ghost use Rattle.node_status.specs.Numbers.{progress_text};
 ghost use Rattle.node_status.specs.Times.{time_text};
-ghost use Rattle.node_status.specs.Words.{after, bracketed, came_text, digit_or_mark, folder_text, history_text, holdings_text, in_brackets, is_pulling, looked_text, needed_text, noted_text, origin_text, past_text, peer_text, received_text, scanned_text, short_text, state_text, times_text, why_text};
+ghost use Rattle.node_status.specs.Words.{after, bracketed, came_text, digit_or_mark, folder_text, history_text, holdings_text, in_brackets, is_pulling, looked_text, needed_text, noted_text, origin_text, past_text, peer_text, received_text, recorded_text, scanned_text, short_text, state_text, times_text, why_text};
 
 use crate::numbers::{push_bytes, push_count, push_part, push_progress};
 use crate::status::{FolderState, FolderStatus, Noted, PeerStatus, Progress};
@@ -30,10 +30,10 @@ fn state_words(state: FolderState) -> &'static str
         FolderState::Scanning => "scanning",
         FolderState::Pulling => "pulling",
         FolderState::NoRoom => "stopped: the disk is full",
-        FolderState::Away => "away: the directory isn't there, or has no .stfolder",
+        FolderState::Away => "away: the directory isn't there, has no .stfolder, or is another one",
         FolderState::InUse => "stopped: another run has it",
         FolderState::Held => {
-            "held: none of the recorded names is there; `scan` says that they are gone, and all devices delete them"
+            "held: recorded names are missing; `scan` says that they are gone, and all devices delete them"
         }
     }
 }
@@ -91,11 +91,27 @@ fn push_came(text: &mut String, received: u64, rate: u64) -> Result<(), AllocErr
 pub(crate) fn push_holdings(text: &mut String, folder: &FolderStatus) -> Result<(), AllocError>
     ensures { OnOk result (string_bytes text.new ≡ string_bytes text.old ++ holdings_text folder.now) }
 {
+    text.push_str(recorded_words(folder.state))?;
     push_count(text, folder.files, "file", "files")?;
     text.push_str(", ")?;
     push_count(text, folder.directories, "directory", "directories")?;
     text.push_str(" in ")?;
     text.push_str(folder.path.as_str())
+}
+
+// What comes before what a folder has, where that is only known from its records.
+fn recorded_words(state: FolderState) -> &'static str
+    ensures { result.now ≡ recorded_text state }
+{
+    match state {
+        FolderState::Away | FolderState::InUse | FolderState::Held => "recorded: ",
+        FolderState::UpToDate
+        | FolderState::Behind
+        | FolderState::Failing
+        | FolderState::Scanning
+        | FolderState::Pulling
+        | FolderState::NoRoom => "",
+    }
 }
 
 /// Appends when a folder was scanned and looked at, and what its history takes.
