@@ -102,10 +102,13 @@ impl Skips {
                 Some(skip) => replace(&mut skip.why, why) != why,
                 None => false,
             },
-            Err(place) => match String::from_str(self.alloc, name.as_str()) {
-                Ok(name) => last.insert(place, Skip { name, why }).is_ok(),
-                Err(AllocError) => false,
-            },
+            Err(place) if place <= last.len() => {
+                match String::from_str(self.alloc, name.as_str()) {
+                    Ok(name) => last.insert(place, Skip { name, why }).is_ok(),
+                    Err(AllocError) => false,
+                }
+            }
+            Err(_) => false,
         }
     }
 

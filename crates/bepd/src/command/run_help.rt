@@ -85,7 +85,7 @@ Input: on standard input a command a line, with one space between words, or by
 
     scan F      the folder is scanned
     need F      its names of which a better version is announced
-    skipped F   the names that its last scan left out, and why
+    skipped F   the names that scans of it left out, and why
     best F      the best version of each name, where it is needed or recorded here
     local F     the records of this device
     conflicts F its conflict copies that are there
