@@ -1,4 +1,4 @@
-/* Preloaded into a program, behind tools/fast_clock.c: it waits FASTER times as short a time, on a futex, a socket, or asleep. */
+/* Preloaded into a program, behind tools/lib/fast_clock.c: it waits FASTER times as short a time, on a futex, a socket, or asleep. */
 #define _GNU_SOURCE
 #include <dlfcn.h>
 #include <linux/futex.h>

@@ -14,7 +14,7 @@ import time
 from bep import HELLO, Messages, config, field, rep
 from program import bepd
 
-ROOT = os.path.dirname(os.path.dirname(os.path.realpath(__file__)))
+ROOT = os.path.dirname(os.path.dirname(os.path.dirname(os.path.realpath(__file__))))
 PROGRAM = bepd()
 work = tempfile.mkdtemp(prefix="node-runs-")
 passed, failed = 0, 0
@@ -379,7 +379,7 @@ def built(name):
     if not compiler:
         return None
     if not os.path.exists(made):
-        subprocess.run([compiler, "-O1", "-shared", "-fPIC", "-o", made, f"{ROOT}/tools/{name}.c", "-ldl"], check=True)
+        subprocess.run([compiler, "-O1", "-shared", "-fPIC", "-o", made, f"{ROOT}/tools/lib/{name}.c", "-ldl"], check=True)
     return made
 
 

@@ -1,4 +1,4 @@
-"""A disk that can lose what has not reached it: built from the files of a directory, and from what tools/crash_calls.c noted of the calls that changed them.
+"""A disk that can lose what has not reached it: built from the files of a directory, and from what tools/lib/crash_calls.c noted of the calls that changed them.
 
 A file's bytes have reached the disk as of its last sync, a directory's names as of its own. What came after may be lost: wholly, or by a choice of a seed. Then of each
 write after the last sync each 512 bytes are there or not, and the file is as long as after any of these calls; of each directory the first of its calls are there, so and
@@ -172,7 +172,7 @@ class Disk:
                 directory.waiting.remove(found[number])
 
     def play(self, line):
-        """A line of tools/crash_calls.c."""
+        """A line of tools/lib/crash_calls.c."""
         words = [re.sub("%([0-9a-f]{2})", lambda it: chr(int(it[1], 16)), it) for it in line.split(" ")]
         time, kind, words = int(words[1]), words[2], words[3:]
         self.count += 1
