@@ -2,6 +2,7 @@
 use crate::failure::RunFailure;
 use crate::files::read_front;
 use crate::page::new_page_path;
+use crate::probing::is_no_file;
 use bep_messages::Text;
 use node_config::{Config, ConfigFault, Key, Problem, TablePlace, check_page, check_paths};
 use node_status::begins_as_page;
@@ -34,12 +35,17 @@ pub(crate) fn require_apart<R: Files>(
     let new = new_page_path(alloc, page.as_str())?;
     for made in [page.as_str(), new.as_str()] {
         check_page(folders.as_slice(), path.as_str(), state.as_str(), made)?;
+        require_page(rt, alloc, made)?;
     }
-    require_page(rt, alloc, page.as_str())
+    Ok(())
 }
 
-// Fails where a file is at the path that isn't empty and doesn't begin as a page does.
+// Fails where something is at the path that is no file, or a file that isn't empty and doesn't begin as a page does.
 fn require_page<R: Files>(rt: &R, alloc: Global, path: &str) -> Result<(), RunFailure> {
+    // (to open a pipe waits for who writes to it)
+    if is_no_file(rt, path) {
+        return Err(other_file());
+    }
     match read_front(rt, alloc, path, FRONT_BYTES) {
         Ok(front) if front.is_empty() || begins_as_page(front.as_slice()) => Ok(()),
         Err(error) => match error.kind() {

@@ -15,6 +15,14 @@ pub(crate) fn is_directory<R: Files>(rt: &R, path: &str) -> bool {
     }
 }
 
+/// Whether something else than a file is at the path, links followed.
+pub(crate) fn is_no_file<R: Files>(rt: &R, path: &str) -> bool {
+    match fs::metadata(rt, path) {
+        Ok(found) => !found.is_file(),
+        Err(_) => false,
+    }
+}
+
 /// Whether a file can be made in the directory. It is removed then.
 pub(crate) fn can_be_written<R: Files>(
     rt: &R,

@@ -50,7 +50,6 @@ after_scan (scan.Recorded name) now d = d
 after_scan (scan.Scanned sum) now d = d
 after_scan (scan.Ended sum) now d = d
 after_scan (scan.Skipped name why) now d = d
-after_scan (scan.SkippedMore count) now d = d
 after_scan (scan.Emptied count days) now d = d
 
 -- a round that begins

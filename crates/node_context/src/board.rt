@@ -3,7 +3,7 @@ use crate::doing::Doing;
 use crate::event::{Event, Heard, PeerEvent, PullEvent, ScanEvent};
 use crate::folder_line::push_failure;
 use crate::peer_line::{SILENT, push_front, push_why};
-use crate::tally::{Names, Sum, Tally};
+use crate::tally::{LeftOut, Names, Sum, Tally};
 use bep_messages::Text;
 use node_status::Noted;
 use std::alloc::{AllocError, Global};
@@ -42,8 +42,9 @@ pub struct FolderBoard {
     pub failed: Vec<Noted>,
     /// How many more there were.
     pub failed_more: u64,
-    // Which names that are recorded are told by name, and what was pulled that isn't told yet.
+    // Which names that are recorded are told by name, and what was left out and pulled that isn't told yet.
     recorded: Names,
+    left_out: LeftOut,
     tally: Tally,
 }
 
@@ -61,6 +62,8 @@ pub(crate) enum Telling {
     },
     /// How many names were pulled that were not told by name.
     Sum(Sum),
+    /// How many names were left out that were not told by name.
+    LeftOut(u64),
 }
 
 /// What was told of a peer.
@@ -152,8 +155,8 @@ impl Board {
         Ok(())
     }
 
-    /// What is told of an event of this second that was just taken, by name of each name that is pulled or recorded if that `is_verbose`. Of what memory ran out for
-    /// a line is written.
+    /// What is told of an event of this second that was just taken, by name of each name that is pulled, recorded or left out if that `is_verbose`. Of what memory
+    /// ran out for a line is written.
     pub(crate) fn telling(&mut self, now: u64, event: &Event, is_verbose: bool) -> Telling {
         match event {
             Event::Scan(id, event) => match self.folder_of(id) {
@@ -206,6 +209,7 @@ impl FolderBoard {
             failed: Vec::new(alloc),
             failed_more: 0,
             recorded: Names::none(),
+            left_out: LeftOut::none(),
             tally: Tally::none(),
         })
     }
@@ -215,7 +219,21 @@ impl FolderBoard {
             ScanEvent::At(at, _, bytes) => Telling::Far {
                 begins: *at == 0 && *bytes == 0,
             },
-            ScanEvent::Over(_) | ScanEvent::Looked => Telling::Nothing,
+            ScanEvent::Over(_) | ScanEvent::Looked => {
+                let (count, left_out) = self.left_out.settle();
+                self.left_out = left_out;
+                if count > 0 {
+                    Telling::LeftOut(count)
+                } else {
+                    Telling::Nothing
+                }
+            }
+            ScanEvent::Skipped(_, _) if is_verbose => Telling::Line,
+            ScanEvent::Skipped(_, _) => {
+                let (is_named, left_out) = self.left_out.take(now);
+                self.left_out = left_out;
+                line_if(is_named)
+            }
             ScanEvent::Recorded(_) => {
                 let (is_named, recorded) = self.recorded.take(now);
                 self.recorded = recorded;

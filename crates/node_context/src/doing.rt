@@ -104,7 +104,6 @@ impl Doing {
             | ScanEvent::Scanned(_)
             | ScanEvent::Ended(_)
             | ScanEvent::Skipped(_, _)
-            | ScanEvent::SkippedMore(_)
             | ScanEvent::Emptied(_, _) => {}
         }
         next

@@ -1,4 +1,7 @@
 //! The events of a node, and why a scan skips a name.
+ghost use Rattle.std.specs.Prelude.{◌≡◌, IsTrue, ◌↔◌};
+ghost use Rattle.node_context.specs.Skips.{IsToldBy, why_after};
+
 use crate::endpoint::Endpoint;
 use bep_messages::Text;
 use file_dir::SkipReason;
@@ -116,7 +119,7 @@ pub enum ScanEvent<'a> {
     Keeping(&'a str, u64),
     /// A change of this name was recorded.
     Recorded(&'a SafeName),
-    /// It was looked at for what changed. No line says so.
+    /// It was looked at for what changed. No line says so, but how many names were left out that were not told by name.
     Looked,
     /// A scan recorded changes, or left names out.
     Scanned(ScanSum),
@@ -124,12 +127,10 @@ pub enum ScanEvent<'a> {
     Ended(ScanSum),
     /// A scan of all names is at this one of so many, and has read so many bytes.
     At(u64, u64, u64),
-    /// A scan of all names is over; whether it came to its end. No line says so.
+    /// A scan of all names is over; whether it came to its end. A line is written as of a look.
     Over(bool),
     /// A scan left out this name, which was not so before.
     Skipped(&'a str, SkipWhy),
-    /// It left out so many more.
-    SkippedMore(u64),
     /// The folder isn't there, at this path, or has no marker.
     Away(&'a str),
     /// It is away: another run has it.
@@ -196,6 +197,25 @@ impl SkipWhy {
             Ok(Scanned::Changing) => Some(SkipWhy::Changing),
             Err(refusal) => Some(SkipWhy::Fault(*refusal)),
         }
+    }
+
+    /// Why a name is left out that was for this reason, once a scan of it alone came to this. A listing says of what isn't fit what it is, and that a name is too long,
+    /// which the scan of a name doesn't.
+    pub fn after_scan(self, found: Option<SkipWhy>) -> Option<SkipWhy>
+        ensures { result ≡ why_after self found }
+    {
+        match (self, found) {
+            (SkipWhy::Listing(SkipReason::TooLong), None) => Some(self),
+            (SkipWhy::Listing(_), Some(SkipWhy::Unfit)) => Some(self),
+            _ => found,
+        }
+    }
+
+    /// Whether nothing new is told by this reason where another one was told: it is the same, or says what it is that wasn't fit.
+    pub fn is_told_by(self, told: SkipWhy) -> bool
+        ensures { IsTrue result ↔ IsToldBy self told }
+    {
+        self == told || (told == SkipWhy::Unfit && matches!(self, SkipWhy::Listing(_)))
     }
 }
 

@@ -2,7 +2,7 @@
 use crate::VERSION;
 use crate::board::{Board, Telling};
 use crate::event::Event;
-use crate::folder_line::{push_pull_event, push_pulled_sum, push_scan_event};
+use crate::folder_line::{push_left_out, push_pull_event, push_pulled_sum, push_scan_event};
 use crate::peer_line::push_peer_event;
 use jiff::Timestamp;
 use record_lines::push_text;
@@ -22,6 +22,7 @@ pub(crate) fn push_line(
     }
     match (telling, event) {
         (Telling::Sum(sum), Event::Pull(folder, _)) => push_pulled_sum(line, folder, &sum)?,
+        (Telling::LeftOut(count), Event::Scan(folder, _)) => push_left_out(line, folder, count)?,
         _ => push_event(line, board, now, event)?,
     }
     line.push(b'\n')?;

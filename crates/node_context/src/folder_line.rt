@@ -49,10 +49,6 @@ pub(crate) fn push_scan_event(
         }
         ScanEvent::Over(_) | ScanEvent::Looked => Ok(()),
         ScanEvent::Skipped(name, why) => push_skipped(line, folder, name, *why),
-        ScanEvent::SkippedMore(count) => write!(
-            line,
-            "skipped {folder}: {count} more; the command `skipped {folder}` lists them"
-        ),
         ScanEvent::Away(path) => {
             write!(line, "away {folder}: ")?;
             push_text(line, path)?;
@@ -133,6 +129,14 @@ fn push_far(line: &mut Vec<u8>, board: &Board, now: u64, folder: &str) -> io::Re
             write!(line, ": {came} MB came, {rate} kB a second")
         }
     }
+}
+
+/// Appends how many names of the folder were left out that were not told by name.
+pub(crate) fn push_left_out(line: &mut Vec<u8>, folder: &str, count: u64) -> io::Result<()> {
+    write!(
+        line,
+        "skipped {folder}: {count} more; the command `skipped {folder}` lists them"
+    )
 }
 
 /// Appends how many names of the folder were pulled that were not told by name.

@@ -1,6 +1,6 @@
 //! Which names are told by name, and how many are told at once.
 ghost use Rattle.std.specs.Prelude.{◌≡◌};
-ghost use Rattle.node_context.specs.Tallies.{after_change, due_sum, is_named, named_before, no_sum, renewed, settled, tallied};
+ghost use Rattle.node_context.specs.Tallies.{after_change, due_sum, is_named, left_out, named_before, no_sum, renewed, settled, tallied};
 
 use crate::event::Change;
 
@@ -54,6 +54,45 @@ impl Names {
                 until,
             },
         )
+    }
+}
+
+/// Which names that were left out may be told by name, and how many were not.
+#[derive(Clone, Copy, Debug, PartialEq, Eq)]
+pub(crate) struct LeftOut {
+    names: Names,
+    more: u64,
+}
+
+impl LeftOut {
+    /// None was.
+    pub(crate) fn none() -> LeftOut
+        ensures { result ≡ record { names = named_before; more = 0 } }
+    {
+        LeftOut {
+            names: Names::none(),
+            more: 0,
+        }
+    }
+
+    /// A name was left out in this second: whether it is told by name, and what isn't told then.
+    pub(crate) fn take(self, now: u64) -> (bool, LeftOut)
+        ensures { result ≡ left_out self (is_named now self.names) }
+    {
+        let (is_named, names) = self.names.take(now);
+        let more = if is_named {
+            self.more
+        } else {
+            self.more.saturating_add(1)
+        };
+        (is_named, LeftOut { names, more })
+    }
+
+    /// How many were not told by name, which are told now.
+    pub(crate) fn settle(self) -> (u64, LeftOut)
+        ensures { result ≡ (self.more, record self { more = 0 }) }
+    {
+        (self.more, LeftOut { more: 0, ..self })
     }
 }
 

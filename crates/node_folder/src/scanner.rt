@@ -158,13 +158,13 @@ where
         seen: seen.count,
     };
     let is_whole = scan.outcome() == ScanOutcome::Whole;
-    cx.note(&Event::Scan(folder.id(), ScanEvent::Over(is_whole)));
     if is_told {
         tell_scan(cx, folder.id(), sum);
     }
     folder
         .skips
         .take(cx, folder.id(), store, seen.left_out, &sum);
+    cx.tell(&Event::Scan(folder.id(), ScanEvent::Over(is_whole)));
     scan
 }
 

@@ -7,14 +7,10 @@ use node_status::Noted;
 use record_lines::push_text;
 use std::alloc::{AllocError, Global};
 use std::io::{self, Write};
-use std::mem::replace;
 use std::sync::{Mutex, Wait};
 use std::time::Clock;
 use sync_names::SafeName;
 use sync_scan::{Progress, ScanSum, Scanned};
-
-/// How many names of a folder are told of one scan; of further ones it is told how many there are.
-const MOST_TOLD: u64 = 100;
 
 /// A name that a scan left out.
 #[derive(Drop)]
@@ -67,48 +63,40 @@ impl Skips {
         Ok((noted, last.len().saturating_sub(most) as u64))
     }
 
-    /// Takes why a look left out a name, which is told where it was not left out so before; or that it left out nothing there. Where memory for the name runs out, all stays
-    /// as it was. O(n) for n names.
+    /// Takes why a scan of a name alone left it out, which is told where it was not told so before; or that it did not. Where memory for the name runs out, all stays as it
+    /// was. O(n) for n names.
     pub fn note<R: Clock + Wait, G>(
         &self,
         cx: &Context<R, G>,
         folder: &str,
         name: &SafeName,
-        why: Option<SkipWhy>,
+        found: Option<SkipWhy>,
     ) {
         let mut last = self.last.lock(cx.rt);
-        let place = last.binary_search_by(|it| it.name.as_str().cmp(name.as_str()));
-        let Some(why) = why else {
-            if let Ok(place) = place {
-                let _again = last.remove(place);
-            }
-            return;
+        let news = match last.binary_search_by(|it| it.name.as_str().cmp(name.as_str())) {
+            Ok(place) => renew(&mut last, place, found),
+            Err(place) => self.insert(&mut last, place, name, found),
         };
-        if self.put(&mut last, place, name, why) {
+        if let Some(why) = news {
             cx.tell(&Event::Scan(folder, ScanEvent::Skipped(name.as_str(), why)));
         }
     }
 
-    // Puts a name at its place among those that are left out. Returns whether that is news.
-    fn put(
+    // Puts a name that is left out at its place among the others. Returns why, if it is.
+    fn insert(
         &self,
         last: &mut Vec<Skip>,
-        place: Result<usize, usize>,
+        place: usize,
         name: &SafeName,
-        why: SkipWhy,
-    ) -> bool {
-        match place {
-            Ok(place) => match last.get_mut(place) {
-                Some(skip) => replace(&mut skip.why, why) != why,
-                None => false,
-            },
-            Err(place) if place <= last.len() => {
-                match String::from_str(self.alloc, name.as_str()) {
-                    Ok(name) => last.insert(place, Skip { name, why }).is_ok(),
-                    Err(AllocError) => false,
-                }
-            }
-            Err(_) => false,
+        found: Option<SkipWhy>,
+    ) -> Option<SkipWhy> {
+        let why = found?;
+        if place > last.len() {
+            return None;
+        }
+        match String::from_str(self.alloc, name.as_str()) {
+            Ok(name) => last.insert(place, Skip { name, why }).ok().map(|()| why),
+            Err(AllocError) => None,
         }
     }
 
@@ -133,6 +121,24 @@ impl Skips {
         let mut last = self.last.lock(cx.rt);
         tell_new(cx, folder, last.as_slice(), new.as_slice());
         *last = new;
+    }
+}
+
+// Takes what a scan came to of the name at this place, which was left out. Returns why it is now, if that is news.
+fn renew(last: &mut Vec<Skip>, place: usize, found: Option<SkipWhy>) -> Option<SkipWhy> {
+    let skip = last.get_mut(place)?;
+    let known = skip.why;
+    match known.after_scan(found) {
+        Some(why) => {
+            skip.why = why;
+            if why == known { None } else { Some(why) }
+        }
+        None => {
+            if place < last.len() {
+                let _again = last.remove(place);
+            }
+            None
+        }
     }
 }
 
@@ -214,24 +220,17 @@ fn all_of(
 
 // Tells the new ones that are not among the old ones, which are in order.
 fn tell_new<R: Clock + Wait, G>(cx: &Context<R, G>, folder: &str, old: &[Skip], new: &[Skip]) {
-    let mut count = 0u64;
     for skip in new {
-        if !is_among(old, skip) {
-            count = count.saturating_add(1);
-            if count <= MOST_TOLD {
-                cx.tell(&Event::Scan(folder, ScanEvent::Skipped(skip.name.as_str(), skip.why)));
-            }
+        if !is_told(old, skip) {
+            cx.tell(&Event::Scan(folder, ScanEvent::Skipped(skip.name.as_str(), skip.why)));
         }
-    }
-    if count > MOST_TOLD {
-        cx.tell(&Event::Scan(folder, ScanEvent::SkippedMore(count - MOST_TOLD)));
     }
 }
 
-// Whether the name is among these, which are in order, for the same reason. O(log n).
-fn is_among(old: &[Skip], skip: &Skip) -> bool {
+// Whether that the name is left out was told, with those that were left out before, which are in order. O(log n).
+fn is_told(old: &[Skip], skip: &Skip) -> bool {
     match old.binary_search_by(|it| it.name.cmp(&skip.name)) {
-        Ok(at) => old[at].why == skip.why,
+        Ok(at) => skip.why.is_told_by(old[at].why),
         Err(_) => false,
     }
 }

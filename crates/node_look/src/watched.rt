@@ -129,7 +129,7 @@ where
         return Ok(());
     }
     look.take(found)?;
-    cx.note(&Event::Scan(settings.id.as_str(), ScanEvent::Looked));
+    cx.tell(&Event::Scan(settings.id.as_str(), ScanEvent::Looked));
     let now = milliseconds(cx.rt);
     let took = u32::try_from(now.saturating_sub(began)).unwrap_or(u32::MAX);
     *all_due = after(now, settings.looking.pause_of_all(look.len(), took));
@@ -271,7 +271,7 @@ where
         if worker.look(cx.rt) == Whereabouts::There {
             names.add(look.changes(found.as_slice())?, now)?;
             look.take(found)?;
-            cx.note(&Event::Scan(settings.id.as_str(), ScanEvent::Looked));
+            cx.tell(&Event::Scan(settings.id.as_str(), ScanEvent::Looked));
         }
         if is_all {
             names.known.clear();
