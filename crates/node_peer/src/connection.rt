@@ -5,7 +5,7 @@ use crate::told::own_config;
 use file_store::{FileStore, Gate};
 use node_context::{ConnectionId, Context, Event, Host, PeerEvent};
 use peer_conn::KeptCalls;
-use peer_link::{Line, LinkEnd, LinkFolders, run_link};
+use peer_link::{Line, LinkEnd, LinkFolders, Opening, Streams, run_link};
 use peer_reader::{ReaderStop, are_apart};
 use std::io::{self, Read, Write};
 use std::net::{Shutdown, TcpStream};
@@ -121,18 +121,22 @@ where
     let ended = run_link(
         cx.rt,
         cx.alloc,
-        peer.device,
-        &greeting.hello,
-        config,
+        Opening {
+            peer: peer.device,
+            hello: &greeting.hello,
+            config,
+        },
         folders,
         cx.gate,
         peer.book,
-        ListenedTo::new(cx, ends, begun.came.as_slice().chain(stream)),
-        AfterHello {
-            written: begun.written,
-            stream,
+        Streams {
+            reader: ListenedTo::new(cx, ends, begun.came.as_slice().chain(stream)),
+            writer: AfterHello {
+                written: begun.written,
+                stream,
+            },
+            line: &line,
         },
-        &line,
     );
     match ended {
         Ok(

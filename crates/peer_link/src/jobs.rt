@@ -185,6 +185,14 @@ where
     HasServed { seat, end, folders }
 }
 
+/// What those are given that put messages for the peer.
+#[derive(Drop)]
+pub(crate) struct PutJobs<S, W> {
+    pub(crate) indexing: IndexJob<W>,
+    pub(crate) serving: ServeJob<S, W>,
+    pub(crate) requesting: RequestJob,
+}
+
 #[derive(Drop)]
 pub(crate) struct RequestJob {
     pub(crate) requests: Receiver<Request>,
@@ -212,6 +220,14 @@ pub(crate) fn request<R: Clock + Wait>(rt: &R, start: &Start, job: RequestJob) -
     HasRequested { seat, end }
 }
 
+#[derive(Drop)]
+pub(crate) struct WriteJob<'a, O> {
+    pub(crate) hello: &'a Hello,
+    pub(crate) taker: Taker<Message>,
+    pub(crate) bell: Bell,
+    pub(crate) writer: O,
+}
+
 /// The taker and the stream, or why the writer stopped.
 pub(crate) type HasWritten<O> = Result<(Taker<Message>, O), WriterFault>;
 
@@ -220,21 +236,21 @@ pub(crate) fn write<R: Clock + Wait, O: Write + Drop, L: Line>(
     rt: &R,
     alloc: Global,
     start: &Start,
-    hello: &Hello,
-    taker: Taker<Message>,
-    bell: Bell,
-    writer: O,
+    job: WriteJob<O>,
     line: &L,
 ) -> HasWritten<O>
-    ensures { IfOk result (λ written. IsSameQueue taker written.0) }
+    ensures { IfOk result (λ written. IsSameQueue job.entry.taker written.0) }
 {
+    let WriteJob {
+        hello,
+        mut taker,
+        mut bell,
+        mut writer,
+    } = job;
     if !start.is_on(rt) {
         line.hang_up();
         return Err(WriterFault::Frame(WriteFault::OutOfMemory));
     }
-    let mut taker = taker;
-    let mut bell = bell;
-    let mut writer = writer;
     match run_writer(rt, alloc, hello, &mut taker, &mut bell, &mut writer) {
         Ok(()) => Ok((taker, writer)),
         Err(fault) => {

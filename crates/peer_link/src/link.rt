@@ -12,8 +12,8 @@ use crate::end::LinkEnd;
 use crate::folders::LinkFolders;
 use crate::inbox::LinkInbox;
 use crate::jobs::{
-    HasIndexed, HasRead, HasRequested, HasServed, HasWritten, IndexJob, ReadJob, RequestJob,
-    ServeJob, index, read, request, serve, write,
+    HasIndexed, HasRead, HasRequested, HasServed, HasWritten, IndexJob, PutJobs, ReadJob,
+    RequestJob, ServeJob, WriteJob, index, read, request, serve, write,
 };
 use crate::limits::QUEUE_MESSAGES;
 use crate::line::Line;
@@ -31,6 +31,28 @@ use std::thread::{Threads, join};
 use std::time::Clock;
 use sync_record::DeviceId;
 
+/// Who is there, and what it is told first.
+#[derive(Drop)]
+pub struct Opening<'a> {
+    /// The peer.
+    pub peer: DeviceId,
+    /// Of this device.
+    pub hello: &'a Hello,
+    /// Of this device.
+    pub config: ClusterConfig,
+}
+
+/// The streams of a connection, and what hangs it up.
+#[derive(Drop)]
+pub struct Streams<'a, I, O, L> {
+    /// Gives what the peer says.
+    pub reader: I,
+    /// Takes what it is told.
+    pub writer: O,
+    /// Hangs the connection up.
+    pub line: &'a L,
+}
+
 /// Runs a connection until its peer, either stream or a worker ends it, and returns how the workers ended. Five threads work on it: the
 /// reader makes the peer's changes, the server answers its Requests, the indexer tells it the folders, the requester puts the Requests of
 /// the book, and the writer writes what these put. The book begins and ends with the connection.
@@ -42,15 +64,11 @@ use sync_record::DeviceId;
 pub fn run_link<R, I, O, S, W, G, L>(
     rt: &R,
     alloc: Global,
-    peer: DeviceId,
-    hello: &Hello,
-    config: ClusterConfig,
+    opening: Opening,
     folders: LinkFolders<S, W>,
     gate: &G,
     book: &AskBook,
-    reader: I,
-    writer: O,
-    line: &L,
+    streams: Streams<I, O, L>,
 ) -> Result<LinkEnd<S, W>, LinkFolders<S, W>>
 where
     R: Clock + Sync + Threads + Wait,
@@ -60,15 +78,25 @@ where
     W: KeptCalls + Drop + Send,
     G: Gate + Sync,
     L: Line + Sync,
-    requires { All (IsApart W.view peer) folders.read.items }
-    ensures read { IfOk result (λ end. HasReadAll W.view W.folder peer (I.remaining reader) folders.read.items
-        end.reader end.folders.read.items) }
+    requires { All (IsApart W.view opening.peer) folders.read.items }
+    ensures read { IfOk result (λ end. HasReadAll W.view W.folder opening.entry.peer (I.remaining streams.entry.reader)
+        folders.read.items end.reader end.folders.read.items) }
     ensures indexed { IfOk result (λ end. AllZip (OnlySees W.folder W.view) folders.indexed.items
         end.folders.indexed.items) }
     ensures served { IfOk result (λ end. AllZip (Stays S.keeps S.tree W.folder W.view) folders.served.items
         end.folders.served.items) }
     ensures given_back { IfErr result (λ left. left ≡ folders) }
 {
+    let Opening {
+        peer,
+        hello,
+        config,
+    } = opening;
+    let Streams {
+        reader,
+        writer,
+        line,
+    } = streams;
     let Ok((indexer, server, requester, taker, bell)) = OutQueue::open::<Message>(
         alloc,
         QUEUE_MESSAGES,
@@ -98,40 +126,44 @@ where
         folders: folders.read,
         inbox,
     };
-    let indexing = IndexJob {
-        config,
-        configs,
-        folders: folders.indexed,
-        seat: indexer,
+    let putting = PutJobs {
+        indexing: IndexJob {
+            config,
+            configs,
+            folders: folders.indexed,
+            seat: indexer,
+        },
+        serving: ServeJob {
+            requests,
+            folders: folders.served,
+            seat: server,
+        },
+        requesting: RequestJob {
+            requests: asks,
+            seat: requester,
+        },
     };
-    let serving = ServeJob {
-        requests,
-        folders: folders.served,
-        seat: server,
-    };
-    let requesting = RequestJob {
-        requests: asks,
-        seat: requester,
+    let writing = WriteJob {
+        hello,
+        taker,
+        bell,
+        writer,
     };
     let (written, (has_read, (has_indexed, (has_served, has_requested)))) = join(
         rt,
         || -> HasWritten<O>
-            ensures { IfOk result (λ written. IsSameQueue taker written.0) }
-        { write(rt, alloc, &start, hello, taker, bell, writer, line) },
+            ensures { IfOk result (λ written. IsSameQueue writing.entry.taker written.0) }
+        { write(rt, alloc, &start, writing, line) },
         || -> Workers<S, W>
             requires { All (IsApart W.view reading.peer) reading.folders.items }
             ensures read { HasReadAll W.view W.folder reading.entry.peer (I.remaining reading.entry.reader)
                 reading.entry.folders.items result.0.end result.0.folders.items }
-            ensures indexer { IsSameEnded indexing.seat result.1.0.seat }
-            ensures server { IsSameEnded serving.seat result.1.1.0.seat }
-            ensures requester { IsSameEnded requesting.seat result.1.1.1.seat }
-            ensures indexed { AllZip (OnlySees W.folder W.view) indexing.folders.items result.1.0.folders.items }
-            ensures served { AllZip (Stays S.keeps S.tree W.folder W.view) serving.folders.items result.1.1.0.folders.items }
-        {
-            work(
-                rt, alloc, &start, reading, indexing, serving, requesting, gate, line,
-            )
-        },
+            ensures indexer { IsSameEnded putting.indexing.seat result.1.0.seat }
+            ensures server { IsSameEnded putting.serving.seat result.1.1.0.seat }
+            ensures requester { IsSameEnded putting.requesting.seat result.1.1.1.seat }
+            ensures indexed { AllZip (OnlySees W.folder W.view) putting.indexing.folders.items result.1.0.folders.items }
+            ensures served { AllZip (Stays S.keeps S.tree W.folder W.view) putting.serving.folders.items result.1.1.0.folders.items }
+        { work(rt, alloc, &start, reading, putting, gate, line) },
     );
     let written = finish(
         rt,
@@ -166,9 +198,7 @@ fn work<R, I, S, W, G, L>(
     alloc: Global,
     start: &Start,
     reading: ReadJob<R, I, W, L>,
-    indexing: IndexJob<W>,
-    serving: ServeJob<S, W>,
-    requesting: RequestJob,
+    putting: PutJobs<S, W>,
     gate: &G,
     line: &L,
 ) -> Workers<S, W>
@@ -182,11 +212,11 @@ where
     requires { All (IsApart W.view reading.peer) reading.folders.items }
     ensures read { HasReadAll W.view W.folder reading.entry.peer (I.remaining reading.entry.reader)
         reading.entry.folders.items result.0.end result.0.folders.items }
-    ensures indexer { IsSameEnded indexing.seat result.1.0.seat }
-    ensures server { IsSameEnded serving.seat result.1.1.0.seat }
-    ensures requester { IsSameEnded requesting.seat result.1.1.1.seat }
-    ensures indexed { AllZip (OnlySees W.folder W.view) indexing.folders.items result.1.0.folders.items }
-    ensures served { AllZip (Stays S.keeps S.tree W.folder W.view) serving.folders.items result.1.1.0.folders.items }
+    ensures indexer { IsSameEnded putting.indexing.seat result.1.0.seat }
+    ensures server { IsSameEnded putting.serving.seat result.1.1.0.seat }
+    ensures requester { IsSameEnded putting.requesting.seat result.1.1.1.seat }
+    ensures indexed { AllZip (OnlySees W.folder W.view) putting.indexing.folders.items result.1.0.folders.items }
+    ensures served { AllZip (Stays S.keeps S.tree W.folder W.view) putting.serving.folders.items result.1.1.0.folders.items }
 {
     join(
         rt,
@@ -196,12 +226,12 @@ where
                 reading.entry.folders.items result.end result.folders.items }
         { read(rt, alloc, start, reading, gate, line) },
         || -> Putters<S, W>
-            ensures indexer { IsSameEnded indexing.seat result.0.seat }
-            ensures server { IsSameEnded serving.seat result.1.0.seat }
-            ensures requester { IsSameEnded requesting.seat result.1.1.seat }
-            ensures indexed { AllZip (OnlySees W.folder W.view) indexing.folders.items result.0.folders.items }
-            ensures served { AllZip (Stays S.keeps S.tree W.folder W.view) serving.folders.items result.1.0.folders.items }
-        { put(rt, alloc, start, indexing, serving, requesting, gate, line) },
+            ensures indexer { IsSameEnded putting.indexing.seat result.0.seat }
+            ensures server { IsSameEnded putting.serving.seat result.1.0.seat }
+            ensures requester { IsSameEnded putting.requesting.seat result.1.1.seat }
+            ensures indexed { AllZip (OnlySees W.folder W.view) putting.indexing.folders.items result.0.folders.items }
+            ensures served { AllZip (Stays S.keeps S.tree W.folder W.view) putting.serving.folders.items result.1.0.folders.items }
+        { put(rt, alloc, start, putting, gate, line) },
     )
 }
 
@@ -210,9 +240,7 @@ fn put<R, S, W, G, L>(
     rt: &R,
     alloc: Global,
     start: &Start,
-    indexing: IndexJob<W>,
-    serving: ServeJob<S, W>,
-    requesting: RequestJob,
+    jobs: PutJobs<S, W>,
     gate: &G,
     line: &L,
 ) -> Putters<S, W>
@@ -222,12 +250,17 @@ where
     W: KeptCalls + Drop + Send,
     G: Gate + Sync,
     L: Line + Sync,
-    ensures indexer { IsSameEnded indexing.seat result.0.seat }
-    ensures server { IsSameEnded serving.seat result.1.0.seat }
-    ensures requester { IsSameEnded requesting.seat result.1.1.seat }
-    ensures indexed { AllZip (OnlySees W.folder W.view) indexing.folders.items result.0.folders.items }
-    ensures served { AllZip (Stays S.keeps S.tree W.folder W.view) serving.folders.items result.1.0.folders.items }
+    ensures indexer { IsSameEnded jobs.indexing.seat result.0.seat }
+    ensures server { IsSameEnded jobs.serving.seat result.1.0.seat }
+    ensures requester { IsSameEnded jobs.requesting.seat result.1.1.seat }
+    ensures indexed { AllZip (OnlySees W.folder W.view) jobs.indexing.folders.items result.0.folders.items }
+    ensures served { AllZip (Stays S.keeps S.tree W.folder W.view) jobs.serving.folders.items result.1.0.folders.items }
 {
+    let PutJobs {
+        indexing,
+        serving,
+        requesting,
+    } = jobs;
     join(
         rt,
         || -> HasIndexed<W>

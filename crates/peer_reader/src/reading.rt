@@ -23,6 +23,14 @@ use sync_version::Moment;
 /// How many bytes are read at once at most.
 const PIECE_BYTES: usize = 65_536;
 
+// Whose changes are made, and with what.
+#[derive(Drop)]
+struct Hearing<'a, G> {
+    alloc: Global,
+    peer: DeviceId,
+    gate: &'a G,
+}
+
 /// How a reader ended.
 #[derive(Debug, Drop)]
 pub struct ReaderEnd {
@@ -56,8 +64,9 @@ pub fn run_reader<R: Wait + ReaderClock, I: PeerStream, W: FolderCalls, G: Gate,
     ensures failed { HasFailed I.fails result.why reader.new }
     ensures timed { TimesOut (R.shows rt.now) (I.remaining reader.old) (I.remaining reader.new) result.why }
 {
+    let hearing = Hearing { alloc, peer, gate };
     let mut counts = ReaderCounts::new();
-    let why = match read_all(rt, alloc, reader, peer, folders, gate, inbox, &mut counts) {
+    let why = match read_all(rt, &hearing, reader, folders, inbox, &mut counts) {
         Ok(why) => why,
         Err(why) => why,
     };
@@ -67,46 +76,34 @@ pub fn run_reader<R: Wait + ReaderClock, I: PeerStream, W: FolderCalls, G: Gate,
 // Reads until there is a reason to end.
 fn read_all<R: Wait + ReaderClock, I: PeerStream, W: FolderCalls, G: Gate, B: Inbox>(
     rt: &R,
-    alloc: Global,
+    hearing: &Hearing<G>,
     reader: &mut I,
-    peer: DeviceId,
     folders: &mut [ReaderFolder<W>],
-    gate: &G,
     inbox: &mut B,
     counts: &mut ReaderCounts,
 ) -> Result<ReaderStop, ReaderStop>
-    requires apart { All (IsApart W.view peer) folders.old }
+    requires apart { All (IsApart W.view hearing.now.peer) folders.old }
     requires none { counts.old ≡ no_counts }
-    ensures ended { IfOk result (λ why. ReadsTo W.view W.folder peer (I.remaining reader.old) (I.remaining reader.new)
+    ensures ended { IfOk result (λ why. ReadsTo W.view W.folder hearing.now.peer (I.remaining reader.old) (I.remaining reader.new)
         folders.old why folders.new counts.new) }
-    ensures stopped { IfErr result (λ why. ReadsTo W.view W.folder peer (I.remaining reader.old) (I.remaining reader.new)
+    ensures stopped { IfErr result (λ why. ReadsTo W.view W.folder hearing.now.peer (I.remaining reader.old) (I.remaining reader.new)
         folders.old why folders.new counts.new) }
     ensures failed { IfOk result (λ why. HasFailed I.fails why reader.new) }
     ensures timed { IfOk result (TimesOut (R.shows rt.now) (I.remaining reader.old) (I.remaining reader.new)) }
     ensures untimed { IfErr result IsOfEvents }
 {
     changes_are_asked_in_order();
-    let mut bytes = make_buffer(alloc)?;
+    let mut bytes = make_buffer(hearing.alloc)?;
     let buffer = bytes.as_mut_slice();
     let mut moment = rt.moment_after(Moment::new(0).unwrap());
-    let mut session = Session::new(alloc, moment);
+    let mut session = Session::new(hearing.alloc, moment);
     for _ in rt.forever() {
         match reader.read_some(buffer) {
             Ok(0) => return Ok(ReaderStop::InputEnded),
             Ok(count) => {
                 moment = rt.moment_after(moment);
                 let piece = &buffer[..count];
-                hear_piece(
-                    alloc,
-                    &mut session,
-                    peer,
-                    folders,
-                    gate,
-                    inbox,
-                    counts,
-                    piece,
-                    moment,
-                )?;
+                hear_piece(hearing, &mut session, folders, inbox, counts, piece, moment)?;
             }
             Err(error) => {
                 let kind = error.kind();
@@ -141,25 +138,23 @@ fn is_for_now(kind: ErrorKind) -> bool
 
 // Opens the ids of Requests that went out, feeds the piece, and hears its events.
 fn hear_piece<W: FolderCalls, G: Gate, B: Inbox>(
-    alloc: Global,
+    hearing: &Hearing<G>,
     session: &mut Session,
-    peer: DeviceId,
     folders: &mut [ReaderFolder<W>],
-    gate: &G,
     inbox: &mut B,
     counts: &mut ReaderCounts,
     piece: &[u8],
     moment: Moment,
 ) -> Result<(), ReaderStop>
-    requires { All (IsApart W.view peer) folders.old }
-    ensures heard { OnOk result (HearsPiece W.view W.folder peer session.old folders.old counts.old piece.now
+    requires { All (IsApart W.view hearing.now.peer) folders.old }
+    ensures heard { OnOk result (HearsPiece W.view W.folder hearing.now.peer session.old folders.old counts.old piece.now
         moment session.new folders.new counts.new) }
-    ensures stopped { IfErr result (λ why. StopsInPiece W.view W.folder peer session.old folders.old counts.old
+    ensures stopped { IfErr result (λ why. StopsInPiece W.view W.folder hearing.now.peer session.old folders.old counts.old
         piece.now moment why folders.new counts.new) }
 {
     open_asks(session, inbox)?;
     let events = session.feed(piece, moment)?;
-    hear_all(alloc, peer, folders, gate, inbox, counts, events)
+    hear_all(hearing, folders, inbox, counts, events)
 }
 
 // Opens the ids of Requests that went out.
@@ -177,23 +172,28 @@ fn open_asks<B: Inbox>(session: &mut Session, inbox: &mut B) -> Result<(), Alloc
 
 // Hears events, one after another.
 fn hear_all<W: FolderCalls, G: Gate, B: Inbox>(
-    alloc: Global,
-    peer: DeviceId,
+    hearing: &Hearing<G>,
     folders: &mut [ReaderFolder<W>],
-    gate: &G,
     inbox: &mut B,
     counts: &mut ReaderCounts,
     events: Vec<Event>,
 ) -> Result<(), ReaderStop>
-    requires { All (IsApart W.view peer) folders.old }
-    ensures heard { OnOk result (HasHeardAll W.view W.folder peer events.items folders.old counts.old
+    requires { All (IsApart W.view hearing.now.peer) folders.old }
+    ensures heard { OnOk result (HasHeardAll W.view W.folder hearing.now.peer events.items folders.old counts.old
         folders.new counts.new) }
-    ensures stopped { IfErr result (λ why. StopsIn W.view W.folder peer events.items folders.old counts.old
+    ensures stopped { IfErr result (λ why. StopsIn W.view W.folder hearing.now.peer events.items folders.old counts.old
         why folders.new counts.new) }
 {
     changes_are_asked_in_order();
     for event in events {
-        let passed = hear(alloc, gate, peer, folders, counts, event)?;
+        let passed = hear(
+            hearing.alloc,
+            hearing.gate,
+            hearing.peer,
+            folders,
+            counts,
+            event,
+        )?;
         inbox.take(passed);
     }
     Ok(())

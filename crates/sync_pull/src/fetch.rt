@@ -16,13 +16,14 @@ ghost use Rattle.sync_pull.specs.Sources.{AsksOnly, HasNoBytes, HasNoSource, Lac
 ghost use Rattle.sync_pull.specs.declared.answer.Stop.TheVariants.{OutOfMemory};
 
 use crate::answer::Stop;
+use crate::pulling::Pulling;
 use crate::{BlockSource, PullFailure};
 use file_store::laws::bytes_written_are_read;
 use file_store::{FileStore, Gate, GatePlace, read_full};
 use folder_calls::FolderCalls;
 use folder_core::Best;
 use sha2::{Digest, Sha256};
-use std::alloc::{AllocError, Global};
+use std::alloc::AllocError;
 use std::thread::Threads;
 use sync_blocks::laws::{block_list_is_by_cuts, parts_make_the_block_list, tiling_is_tested};
 use sync_blocks::{Block, group_len, push_blocks};
@@ -34,9 +35,10 @@ use sync_record::{Assembled, Assembly, DeviceId, Put, Record};
 /// the next ones meanwhile.
 const MAX_GROUP_BYTES: u64 = 16_777_216;
 
-// Who is asked for the blocks of a name, and who asks.
+// A fetch of blocks: who pulls, of which name they are, which devices are asked for them, and which device asks.
 #[derive(Drop)]
-struct Others<'a> {
+struct Fetch<'a, R, G> {
+    pulling: &'a Pulling<'a, R, G>,
     name: &'a SafeName,
     devices: &'a [DeviceId],
     me: DeviceId,
@@ -49,6 +51,30 @@ struct Group {
     bytes: Vec<u8>,
     // For each how many of the devices need not be asked again.
     asked: Vec<usize>,
+}
+
+// A group whose bytes were hashed, and their block list, of blocks of this size.
+#[derive(Drop)]
+struct Hashed<'a> {
+    group: &'a Group,
+    blocks: &'a [Block],
+    block_size: u32,
+}
+
+// Bytes that were found for a block, with their digest, and how many of the devices need not be asked again if they are not the block's.
+#[derive(Drop)]
+struct Found<'a> {
+    bytes: &'a [u8],
+    digest: [u8; 32],
+    asked: usize,
+}
+
+// A file that is put together: what was put of it, and the buffers of its next group and block.
+#[derive(Drop)]
+struct Draft {
+    assembly: Assembly,
+    group: Group,
+    bytes: Vec<u8>,
 }
 
 // Reads the bytes at a place in a local file that has the block's digest, if the folder knows one. Returns whether the file has
@@ -83,24 +109,24 @@ fn read_place<S: FileStore, W: FolderCalls, G: Gate>(
 
 // Asks the devices for the bytes of a block, one after the other but never this device, until one gives as many as the block has.
 // Returns how many devices there are up to that one.
-fn ask_devices<B: BlockSource>(
+fn ask_devices<B: BlockSource, R, G>(
     source: &mut B,
-    from: &Others,
+    fetch: &Fetch<R, G>,
     block: &Block,
     bytes: &mut Vec<u8>,
 ) -> Result<Option<usize>, AllocError>
-    requires { (device : Identity) → device ≢ from.now.me → B.may_ask device }
-    ensures asks { IfOk result (λ _. AsksOnly B.gives from.now.name.now source.old source.new) }
-    ensures finds { IfOk result (Finds B.gives from.now.me from.now.name.now from.now.devices.now
+    requires { (device : Identity) → device ≢ fetch.now.me → B.may_ask device }
+    ensures asks { IfOk result (λ _. AsksOnly B.gives fetch.now.name.now source.old source.new) }
+    ensures finds { IfOk result (Finds B.gives fetch.now.me fetch.now.name.now fetch.now.devices.now
         source.new block.now bytes.new.items) }
 {
-    for i in 0..from.devices.len() {
-        let device = from.devices[i];
-        if device == from.me {
+    for i in 0..fetch.devices.len() {
+        let device = fetch.devices[i];
+        if device == fetch.me {
             continue;
         }
         bytes.clear();
-        if source.fetch(device, from.name, block, bytes)?
+        if source.fetch(device, fetch.name, block, bytes)?
             && bytes.len() as u64 == u64::from(block.size)
         {
             return Ok(Some(i + 1));
@@ -112,54 +138,52 @@ fn ask_devices<B: BlockSource>(
 // Finds bytes of a block, and leaves them in `bytes`: none of an empty block, else those of a local place or of a device. Whether they
 // have its digest is not tested yet. Returns how many of the devices need not be asked again: all of them for an empty block.
 #[tactic(auto, using(crate::proofs::MomentLemmas::still))]
-fn find_bytes<S: FileStore, W: FolderCalls, B: BlockSource, G: Gate>(
+fn find_bytes<S: FileStore, W: FolderCalls, B: BlockSource, R, G: Gate>(
     store: &mut S,
     calls: &mut W,
     source: &mut B,
-    gate: &G,
-    from: &Others,
+    fetch: &Fetch<R, G>,
     block: &Block,
     bytes: &mut Vec<u8>,
 ) -> Result<Option<usize>, Stop>
-    requires { (device : Identity) → device ≢ from.now.me → B.may_ask device }
+    requires { (device : Identity) → device ≢ fetch.now.me → B.may_ask device }
     ensures folder { W.folder calls.new ≡ W.folder calls.old }
     ensures sees { Sees (W.view calls.old) (W.view calls.new) }
     ensures counted { CountsStop ⊥ ⊥ result (S.fault_count store.old) (S.fault_count store.new) }
     ensures kept { S.keeps ≡ true → S.tree store.new ≡ S.tree store.old }
     ensures looks { LooksOnly S.gives store.old store.new }
-    ensures asks { IfOk result (λ _. AsksOnly B.gives from.now.name.now source.old source.new) }
-    ensures finds { IfOk result (Finds B.gives from.now.me from.now.name.now from.now.devices.now
+    ensures asks { IfOk result (λ _. AsksOnly B.gives fetch.now.name.now source.old source.new) }
+    ensures finds { IfOk result (Finds B.gives fetch.now.me fetch.now.name.now fetch.now.devices.now
         source.new block.now bytes.new.items) }
 {
     if block.size == 0 {
         bytes.clear();
-        return Ok(Some(from.devices.len()));
+        return Ok(Some(fetch.devices.len()));
     }
-    if read_place(store, calls, gate, block, bytes)? {
+    if read_place(store, calls, fetch.pulling.gate, block, bytes)? {
         return Ok(Some(0));
     }
-    Ok(ask_devices(source, from, block, bytes)?)
+    Ok(ask_devices(source, fetch, block, bytes)?)
 }
 
 // Finds bytes of the blocks, which become the group. Fails with `NoSource` if none gave as many bytes as a block has.
 #[tactic(auto, using(crate::proofs::MomentLemmas::still))]
-fn gather<S: FileStore, W: FolderCalls, B: BlockSource, G: Gate>(
+fn gather<S: FileStore, W: FolderCalls, B: BlockSource, R, G: Gate>(
     store: &mut S,
     calls: &mut W,
     source: &mut B,
-    gate: &G,
-    from: &Others,
+    fetch: &Fetch<R, G>,
     blocks: &[Block],
     group: &mut Group,
     bytes: &mut Vec<u8>,
 ) -> Result<(), Stop>
-    requires { (device : Identity) → device ≢ from.now.me → B.may_ask device }
+    requires { (device : Identity) → device ≢ fetch.now.me → B.may_ask device }
     ensures each { IfOk result (λ _. length group.new.asked.items ≡ length blocks.now) }
-    ensures found { IfOk result (λ _. AreFound (IsFound B.gives from.now.me from.now.name.now
-        from.now.devices.now source.new) blocks.now group.new.bytes.items group.new.asked.items) }
+    ensures found { IfOk result (λ _. AreFound (IsFound B.gives fetch.now.me fetch.now.name.now
+        fetch.now.devices.now source.new) blocks.now group.new.bytes.items group.new.asked.items) }
     ensures folder { W.folder calls.new ≡ W.folder calls.old }
     ensures sees { Sees (W.view calls.old) (W.view calls.new) }
-    ensures counted { CountsStop (Lacks B.gives from.now.me from.now.name.now from.now.devices.now source.new
+    ensures counted { CountsStop (Lacks B.gives fetch.now.me fetch.now.name.now fetch.now.devices.now source.new
         blocks.now) ⊥ result (S.fault_count store.old) (S.fault_count store.new) }
     ensures kept { S.keeps ≡ true → S.tree store.new ≡ S.tree store.old }
     ensures looks { LooksOnly S.gives store.old store.new }
@@ -168,10 +192,10 @@ fn gather<S: FileStore, W: FolderCalls, B: BlockSource, G: Gate>(
     group.asked.clear();
     for i in 0..blocks.len() {
         let block = &blocks[i];
-        let Some(asked) = find_bytes(store, calls, source, gate, from, block, bytes)? else {
+        let Some(asked) = find_bytes(store, calls, source, fetch, block, bytes)? else {
             return Err(Stop::Failed(PullFailure::NoSource));
         };
-        gate.at(GatePlace::Digest);
+        fetch.pulling.gate.at(GatePlace::Digest);
         group.bytes.extend_from_slice(bytes.as_slice())?;
         group.asked.extend_from_slice(&[asked])?;
     }
@@ -231,35 +255,34 @@ fn try_bytes<G: Gate>(gate: &G, assembly: &mut Assembly, index: usize, bytes: &[
 }
 
 // Asks the devices that were not asked yet for the bytes of a block, one after the other but never this device, until one gives them.
-fn try_devices<B: BlockSource, G: Gate>(
+fn try_devices<B: BlockSource, R, G: Gate>(
     source: &mut B,
-    gate: &G,
-    from: &Others,
+    fetch: &Fetch<R, G>,
     asked: usize,
     assembly: &mut Assembly,
     index: usize,
     bytes: &mut Vec<u8>,
 ) -> Result<bool, Stop>
     requires index { index < length assembly.old.target.blocks }
-    requires others { (device : Identity) → device ≢ from.now.me → B.may_ask device }
-    requires asked { IfSome (slice_get assembly.old.target.blocks index) (HasNoBytes B.gives from.now.me
-        from.now.name.now (take asked from.now.devices.now) source.old) }
+    requires others { (device : Identity) → device ≢ fetch.now.me → B.may_ask device }
+    requires asked { IfSome (slice_get assembly.old.target.blocks index) (HasNoBytes B.gives fetch.now.me
+        fetch.now.name.now (take asked fetch.now.devices.now) source.old) }
     ensures put { IfOk result (λ is_put. MatchBool is_put
         (IsPut index bytes.new.items assembly.old assembly.new) ((assembly.new ≡ assembly.old)
-        × IfSome (slice_get assembly.old.target.blocks index) (HasNoBytes B.gives from.now.me
-        from.now.name.now from.now.devices.now source.new))) }
-    ensures asks { IfOk result (λ _. AsksOnly B.gives from.now.name.now source.old source.new) }
+        × IfSome (slice_get assembly.old.target.blocks index) (HasNoBytes B.gives fetch.now.me
+        fetch.now.name.now fetch.now.devices.now source.new))) }
+    ensures asks { IfOk result (λ _. AsksOnly B.gives fetch.now.name.now source.old source.new) }
     ensures failed { IfErr result (λ stop. stop ≡ OutOfMemory) }
 {
     let block = assembly.target().blocks()[index];
-    for i in asked..from.devices.len() {
-        let other = from.devices[i];
-        if other == from.me {
+    for i in asked..fetch.devices.len() {
+        let other = fetch.devices[i];
+        if other == fetch.me {
             continue;
         }
         bytes.clear();
-        if source.fetch(other, from.name, &block, bytes)?
-            && try_bytes(gate, assembly, index, bytes.as_slice())
+        if source.fetch(other, fetch.name, &block, bytes)?
+            && try_bytes(fetch.pulling.gate, assembly, index, bytes.as_slice())
         {
             return Ok(true);
         }
@@ -270,204 +293,201 @@ fn try_devices<B: BlockSource, G: Gate>(
 // Puts bytes that were found, with their digest, as a block; or if they are not the block's, bytes of a device that was not asked yet. They
 // are written to the temporary file at the block's offset. Fails with `NoSource` if none gave them.
 #[tactic(auto, using(crate::proofs::MomentLemmas::still))]
-fn put_block<S: FileStore, B: BlockSource, G: Gate>(
+fn put_block<S: FileStore, B: BlockSource, R, G: Gate>(
     store: &mut S,
     source: &mut B,
-    gate: &G,
-    from: &Others,
+    fetch: &Fetch<R, G>,
     assembly: &mut Assembly,
     index: usize,
-    found: &[u8],
-    digest: &[u8; 32],
-    asked: usize,
+    found: &Found,
     bytes: &mut Vec<u8>,
 ) -> Result<(), Stop>
     requires index { index < length assembly.old.target.blocks }
-    requires digest { digest.now ≡ sha256 found.now }
-    requires others { (device : Identity) → device ≢ from.now.me → B.may_ask device }
-    requires found { IfSome (slice_get assembly.old.target.blocks index) (λ b. IsFound B.gives from.now.me
-        from.now.name.now from.now.devices.now source.old b found.now asked) }
+    requires digest { found.now.digest ≡ sha256 found.now.bytes.now }
+    requires others { (device : Identity) → device ≢ fetch.now.me → B.may_ask device }
+    requires found { IfSome (slice_get assembly.old.target.blocks index) (λ b. IsFound B.gives fetch.now.me
+        fetch.now.name.now fetch.now.devices.now source.old b found.now.bytes.now found.now.asked) }
     ensures put { IfOk result (λ _. IsPutOf index assembly.old assembly.new) }
-    ensures asks { IfOk result (λ _. AsksOnly B.gives from.now.name.now source.old source.new) }
+    ensures asks { IfOk result (λ _. AsksOnly B.gives fetch.now.name.now source.old source.new) }
     ensures written { S.keeps ≡ true → IfOk result (λ _. IfSome
         (slice_get assembly.old.target.blocks index)
-        (λ b. IsWritten index b from.now.name.now assembly.old assembly.new (S.tree store.old)
+        (λ b. IsWritten index b fetch.now.name.now assembly.old assembly.new (S.tree store.old)
         (S.tree store.new))) }
     ensures counted { CountsStop (IfSome (slice_get assembly.old.target.blocks index) (HasNoBytes B.gives
-        from.now.me from.now.name.now from.now.devices.now source.new)) ⊥ result
+        fetch.now.me fetch.now.name.now fetch.now.devices.now source.new)) ⊥ result
         (S.fault_count store.old) (S.fault_count store.new) }
     ensures temp { S.keeps ≡ true →
-        ChangesTemp (S.tree store.old) from.now.name.now (S.tree store.new) }
-    ensures calls { CallsOnly S.gives (IsOfTemp from.now.name.now) store.old store.new }
+        ChangesTemp (S.tree store.old) fetch.now.name.now (S.tree store.new) }
+    ensures calls { CallsOnly S.gives (IsOfTemp fetch.now.name.now) store.old store.new }
 {
     let offset = assembly.target().blocks()[index].offset;
-    if try_hashed(assembly, index, found, digest) {
-        store.write_at(from.name, offset, found)?;
+    if try_hashed(assembly, index, found.bytes, &found.digest) {
+        store.write_at(fetch.name, offset, found.bytes)?;
         return Ok(());
     }
-    if !try_devices(source, gate, from, asked, assembly, index, bytes)? {
+    if !try_devices(source, fetch, found.asked, assembly, index, bytes)? {
         return Err(Stop::Failed(PullFailure::NoSource));
     }
-    store.write_at(from.name, offset, bytes.as_slice())?;
+    store.write_at(fetch.name, offset, bytes.as_slice())?;
     Ok(())
 }
 
 // Puts the blocks of a group, which begins at block `start`, and writes them to the temporary file, which has those before.
 #[tactic(auto, using(crate::proofs::MomentLemmas::still))]
-fn put_group<S: FileStore, B: BlockSource, G: Gate>(
+fn put_group<S: FileStore, B: BlockSource, R, G: Gate>(
     store: &mut S,
     source: &mut B,
-    gate: &G,
-    from: &Others,
+    fetch: &Fetch<R, G>,
     assembly: &mut Assembly,
     start: usize,
-    group: &Group,
-    hashed: &[Block],
-    block_size: u32,
+    hashed: &Hashed,
     bytes: &mut Vec<u8>,
 ) -> Result<(), Stop>
     requires valid { IsTrue (is_valid assembly.old.target && is_live_file assembly.old.target) }
-    requires within { start + length group.now.asked.items ≤ length assembly.old.target.blocks }
-    requires fits { start + length group.now.asked.items < 2 ^ 64 }
-    requires some { 1 ≤ block_size }
-    requires hashed { hashed.now ≡ blocks_from 0 group.now.bytes.items block_size }
-    requires others { (device : Identity) → device ≢ from.now.me → B.may_ask device }
-    requires found { AreFound (IsFound B.gives from.now.me from.now.name.now from.now.devices.now source.old)
-        (drop start assembly.old.target.blocks) group.now.bytes.items group.now.asked.items }
+    requires within { start + length hashed.now.group.now.asked.items ≤ length assembly.old.target.blocks }
+    requires fits { start + length hashed.now.group.now.asked.items < 2 ^ 64 }
+    requires some { 1 ≤ hashed.now.block_size }
+    requires hashed { hashed.now.blocks.now
+        ≡ blocks_from 0 hashed.now.group.now.bytes.items hashed.now.block_size }
+    requires others { (device : Identity) → device ≢ fetch.now.me → B.may_ask device }
+    requires found { AreFound (IsFound B.gives fetch.now.me fetch.now.name.now fetch.now.devices.now source.old)
+        (drop start assembly.old.target.blocks) hashed.now.group.now.bytes.items
+        hashed.now.group.now.asked.items }
     requires put { ArePut start assembly.old }
     ensures target { IfOk result (λ _. assembly.new.target ≡ assembly.old.target) }
-    ensures put { IfOk result (λ _. ArePut (start + length group.now.asked.items) assembly.new) }
+    ensures put { IfOk result (λ _. ArePut (start + length hashed.now.group.now.asked.items) assembly.new) }
     ensures held { S.keeps ≡ true
-        → HoldsBlocks (take start assembly.old.target.blocks) from.now.name.now (S.tree store.old)
-        → IfOk result (λ _. HoldsBlocks (take (start + length group.now.asked.items) assembly.old.target.blocks)
-        from.now.name.now (S.tree store.new)) }
-    ensures counted { CountsStop (Lacks B.gives from.now.me from.now.name.now from.now.devices.now source.new
+        → HoldsBlocks (take start assembly.old.target.blocks) fetch.now.name.now (S.tree store.old)
+        → IfOk result (λ _. HoldsBlocks (take (start + length hashed.now.group.now.asked.items)
+        assembly.old.target.blocks) fetch.now.name.now (S.tree store.new)) }
+    ensures counted { CountsStop (Lacks B.gives fetch.now.me fetch.now.name.now fetch.now.devices.now source.new
         assembly.old.target.blocks) ⊥ result (S.fault_count store.old) (S.fault_count store.new) }
     ensures temp { S.keeps ≡ true →
-        ChangesTemp (S.tree store.old) from.now.name.now (S.tree store.new) }
-    ensures calls { CallsOnly S.gives (IsOfTemp from.now.name.now) store.old store.new }
+        ChangesTemp (S.tree store.old) fetch.now.name.now (S.tree store.new) }
+    ensures calls { CallsOnly S.gives (IsOfTemp fetch.now.name.now) store.old store.new }
 {
     tiling_is_tested();
     only_well_formed_files_have_blocks();
     bytes_written_are_read();
+    let group = hashed.group;
     let mut offset = 0;
     for i in 0..group.asked.len() {
         let size = assembly.target().blocks()[start + i].size as usize;
-        let found = &group.bytes[offset..offset + size];
-        let digest = digest_of(group.bytes.as_slice(), offset, found, hashed, block_size, i);
-        put_block(
-            store,
-            source,
-            gate,
-            from,
-            assembly,
-            start + i,
-            found,
-            &digest,
-            group.asked[i],
-            bytes,
-        )?;
+        let piece = &group.bytes[offset..offset + size];
+        let digest = digest_of(
+            group.bytes.as_slice(),
+            offset,
+            piece,
+            hashed.blocks,
+            hashed.block_size,
+            i,
+        );
+        let found = Found {
+            bytes: piece,
+            digest,
+            asked: group.asked[i],
+        };
+        put_block(store, source, fetch, assembly, start + i, &found, bytes)?;
         offset += size;
     }
     Ok(())
 }
 
 // Finds, hashes and puts so many blocks from block `start` on, and writes them to the temporary file, which has those before.
-fn fetch_group<S: FileStore, W: FolderCalls, B: BlockSource, G: Gate>(
-    rt: &(impl Threads + Sync),
-    alloc: Global,
+fn fetch_group<S: FileStore, W: FolderCalls, B: BlockSource, R: Threads + Sync, G: Gate>(
     store: &mut S,
     calls: &mut W,
     source: &mut B,
-    gate: &G,
-    from: &Others,
-    assembly: &mut Assembly,
+    fetch: &Fetch<R, G>,
+    draft: &mut Draft,
     start: usize,
     count: usize,
-    group: &mut Group,
-    bytes: &mut Vec<u8>,
 ) -> Result<(), Stop>
-    requires valid { IsTrue (is_valid assembly.old.target && is_live_file assembly.old.target) }
-    requires within { start + count ≤ length assembly.old.target.blocks }
-    requires others { (device : Identity) → device ≢ from.now.me → B.may_ask device }
-    requires put { ArePut start assembly.old }
+    requires valid { IsTrue (is_valid draft.old.assembly.target && is_live_file draft.old.assembly.target) }
+    requires within { start + count ≤ length draft.old.assembly.target.blocks }
+    requires others { (device : Identity) → device ≢ fetch.now.me → B.may_ask device }
+    requires put { ArePut start draft.old.assembly }
     ensures folder { W.folder calls.new ≡ W.folder calls.old }
     ensures sees { Sees (W.view calls.old) (W.view calls.new) }
-    ensures target { IfOk result (λ _. assembly.new.target ≡ assembly.old.target) }
-    ensures put { IfOk result (λ _. ArePut (start + count) assembly.new) }
+    ensures target { IfOk result (λ _. draft.new.assembly.target ≡ draft.old.assembly.target) }
+    ensures put { IfOk result (λ _. ArePut (start + count) draft.new.assembly) }
     ensures held { S.keeps ≡ true
-        → HoldsBlocks (take start assembly.old.target.blocks) from.now.name.now (S.tree store.old)
-        → IfOk result (λ _. HoldsBlocks (take (start + count) assembly.old.target.blocks) from.now.name.now
+        → HoldsBlocks (take start draft.old.assembly.target.blocks) fetch.now.name.now (S.tree store.old)
+        → IfOk result (λ _. HoldsBlocks (take (start + count) draft.old.assembly.target.blocks) fetch.now.name.now
         (S.tree store.new)) }
-    ensures counted { CountsStop (Lacks B.gives from.now.me from.now.name.now from.now.devices.now source.new
-        assembly.old.target.blocks) ⊥ result (S.fault_count store.old) (S.fault_count store.new) }
+    ensures counted { CountsStop (Lacks B.gives fetch.now.me fetch.now.name.now fetch.now.devices.now source.new
+        draft.old.assembly.target.blocks) ⊥ result (S.fault_count store.old) (S.fault_count store.new) }
     ensures temp { S.keeps ≡ true →
-        ChangesTemp (S.tree store.old) from.now.name.now (S.tree store.new) }
-    ensures calls { CallsOnly S.gives (IsOfTemp from.now.name.now) store.old store.new }
+        ChangesTemp (S.tree store.old) fetch.now.name.now (S.tree store.new) }
+    ensures calls { CallsOnly S.gives (IsOfTemp fetch.now.name.now) store.old store.new }
 {
-    let blocks = &assembly.target().blocks()[start..start + count];
-    gather(store, calls, source, gate, from, blocks, group, bytes)?;
-    let block_size = block_size_of(assembly.target());
-    let mut hashed = Vec::new(alloc);
+    let blocks = &draft.assembly.target().blocks()[start..start + count];
+    gather(
+        store,
+        calls,
+        source,
+        fetch,
+        blocks,
+        &mut draft.group,
+        &mut draft.bytes,
+    )?;
+    let pulling = fetch.pulling;
+    let block_size = block_size_of(draft.assembly.target());
+    let mut hashed = Vec::new(pulling.alloc);
     push_blocks(
-        rt,
-        alloc,
+        pulling.rt,
+        pulling.alloc,
         0,
-        group.bytes.as_slice(),
+        draft.group.bytes.as_slice(),
         block_size,
         &mut hashed,
     )?;
+    let hashed = Hashed {
+        group: &draft.group,
+        blocks: hashed.as_slice(),
+        block_size,
+    };
     put_group(
         store,
         source,
-        gate,
-        from,
-        assembly,
+        fetch,
+        &mut draft.assembly,
         start,
-        group,
-        hashed.as_slice(),
-        block_size,
-        bytes,
+        &hashed,
+        &mut draft.bytes,
     )
 }
 
 // Puts all blocks of a target and writes them to the temporary file, which is empty.
 #[tactic(auto, using(crate::proofs::MomentLemmas::still))]
-fn fetch_blocks<S: FileStore, W: FolderCalls, B: BlockSource, G: Gate>(
-    rt: &(impl Threads + Sync),
-    alloc: Global,
+fn fetch_blocks<S: FileStore, W: FolderCalls, B: BlockSource, R: Threads + Sync, G: Gate>(
     store: &mut S,
     calls: &mut W,
     source: &mut B,
-    gate: &G,
-    from: &Others,
-    assembly: &mut Assembly,
-    group: &mut Group,
-    bytes: &mut Vec<u8>,
+    fetch: &Fetch<R, G>,
+    draft: &mut Draft,
 ) -> Result<(), Stop>
-    requires valid { IsTrue (is_valid assembly.old.target && is_live_file assembly.old.target) }
-    requires others { (device : Identity) → device ≢ from.now.me → B.may_ask device }
-    requires none { ArePut 0 assembly.old }
+    requires valid { IsTrue (is_valid draft.old.assembly.target && is_live_file draft.old.assembly.target) }
+    requires others { (device : Identity) → device ≢ fetch.now.me → B.may_ask device }
+    requires none { ArePut 0 draft.old.assembly }
     ensures folder { W.folder calls.new ≡ W.folder calls.old }
     ensures sees { Sees (W.view calls.old) (W.view calls.new) }
-    ensures target { IfOk result (λ _. assembly.new.target ≡ assembly.old.target) }
-    ensures put { IfOk result (λ _. ArePut (length assembly.old.target.blocks) assembly.new) }
-    ensures held { S.keeps ≡ true → (S.tree store.old).temps from.now.name.now ≡ Some []
-        → IfOk result (λ _. HoldsBlocks assembly.old.target.blocks from.now.name.now (S.tree store.new)) }
-    ensures counted { CountsStop (Lacks B.gives from.now.me from.now.name.now from.now.devices.now source.new
-        assembly.old.target.blocks) ⊥ result (S.fault_count store.old) (S.fault_count store.new) }
+    ensures target { IfOk result (λ _. draft.new.assembly.target ≡ draft.old.assembly.target) }
+    ensures put { IfOk result (λ _. ArePut (length draft.old.assembly.target.blocks) draft.new.assembly) }
+    ensures held { S.keeps ≡ true → (S.tree store.old).temps fetch.now.name.now ≡ Some []
+        → IfOk result (λ _. HoldsBlocks draft.old.assembly.target.blocks fetch.now.name.now (S.tree store.new)) }
+    ensures counted { CountsStop (Lacks B.gives fetch.now.me fetch.now.name.now fetch.now.devices.now source.new
+        draft.old.assembly.target.blocks) ⊥ result (S.fault_count store.old) (S.fault_count store.new) }
     ensures temp { S.keeps ≡ true →
-        ChangesTemp (S.tree store.old) from.now.name.now (S.tree store.new) }
-    ensures calls { CallsOnly S.gives (IsOfTemp from.now.name.now) store.old store.new }
+        ChangesTemp (S.tree store.old) fetch.now.name.now (S.tree store.new) }
+    ensures calls { CallsOnly S.gives (IsOfTemp fetch.now.name.now) store.old store.new }
 {
-    let count = assembly.target().blocks().len();
-    let most = blocks_at_once(assembly.target());
+    let count = draft.assembly.target().blocks().len();
+    let most = blocks_at_once(draft.assembly.target());
     let mut done = 0;
     while done < count {
         let next = most.min(count - done);
-        fetch_group(
-            rt, alloc, store, calls, source, gate, from, assembly, done, next, group, bytes,
-        )?;
+        fetch_group(store, calls, source, fetch, draft, done, next)?;
         done += next;
     }
     Ok(())
@@ -480,13 +500,11 @@ fn fetch_blocks<S: FileStore, W: FolderCalls, B: BlockSource, G: Gate>(
 /// As many whole blocks as fit 16 MiB, and at least one, are found at once, and hashed in a few threads for each processor; one
 /// block is hashed in this thread.
 #[tactic(auto, using(crate::proofs::MomentLemmas::still))]
-pub(crate) fn fetch_file<S: FileStore, W: FolderCalls, B: BlockSource, G: Gate>(
-    rt: &(impl Threads + Sync),
-    alloc: Global,
+pub(crate) fn fetch_file<S: FileStore, W: FolderCalls, B: BlockSource, R: Threads + Sync, G: Gate>(
+    pulling: &Pulling<R, G>,
     store: &mut S,
     calls: &mut W,
     source: &mut B,
-    gate: &G,
     name: &SafeName,
     target: Record,
 ) -> Result<Assembled, Stop>
@@ -503,31 +521,29 @@ pub(crate) fn fetch_file<S: FileStore, W: FolderCalls, B: BlockSource, G: Gate>(
     ensures calls { CallsOnly S.gives (IsOfTemp name.now) store.old store.new }
 {
     store.make_temp(name)?;
-    let mut assembly = Assembly::new(alloc, target)?;
-    gate.at(GatePlace::FolderCall);
+    let assembly = Assembly::new(pulling.alloc, target)?;
+    pulling.gate.at(GatePlace::FolderCall);
     let best = calls.best(name)?.value;
     let devices = devices_of(&best);
     source.will_ask(devices, name, assembly.target().blocks());
     let me = calls.me();
-    let from = Others { name, devices, me };
-    let mut group = Group {
-        bytes: Vec::with_capacity(alloc, bytes_at_once(assembly.target()))?,
-        asked: Vec::new(alloc),
+    let fetch = Fetch {
+        pulling,
+        name,
+        devices,
+        me,
     };
-    let mut bytes = Vec::new(alloc);
-    fetch_blocks(
-        rt,
-        alloc,
-        store,
-        calls,
-        source,
-        gate,
-        &from,
-        &mut assembly,
-        &mut group,
-        &mut bytes,
-    )?;
-    match assembly.done() {
+    let group = Group {
+        bytes: Vec::with_capacity(pulling.alloc, bytes_at_once(assembly.target()))?,
+        asked: Vec::new(pulling.alloc),
+    };
+    let mut draft = Draft {
+        assembly,
+        group,
+        bytes: Vec::new(pulling.alloc),
+    };
+    fetch_blocks(store, calls, source, &fetch, &mut draft)?;
+    match draft.assembly.done() {
         Ok(file) => Ok(file),
         Err(_) => Err(Stop::Failed(PullFailure::NoSource)),
     }

@@ -16,6 +16,7 @@ mod max_conflicts;
 mod old_copies;
 mod plan;
 mod pull;
+mod pulling;
 mod replace;
 mod source;
 

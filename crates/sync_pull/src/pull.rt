@@ -22,6 +22,7 @@ use crate::commit_pull::{Prepared, commit_pull, drop_temp};
 use crate::ends::{answer_of, give_up};
 use crate::fetch::fetch_file;
 use crate::plan::plan_copy;
+use crate::pulling::Pulling;
 use crate::replace::CopyPlan;
 use crate::{BlockSource, MaxConflicts, PullAnswer, PullRefusal, remove_old_copies, room_for};
 use file_store::{FileStore, Gate, GatePlace};
@@ -37,13 +38,11 @@ use sync_version::Moment;
 
 // Puts a target together: a file from its blocks, in a new temporary file; there is nothing to put of a directory or a deletion.
 #[tactic(auto, using(crate::proofs::MomentLemmas::still))]
-fn assemble<S: FileStore, W: FolderCalls, B: BlockSource, G: Gate>(
-    rt: &(impl Threads + Sync),
-    alloc: Global,
+fn assemble<S: FileStore, W: FolderCalls, B: BlockSource, R: Threads + Sync, G: Gate>(
+    pulling: &Pulling<R, G>,
     store: &mut S,
     calls: &mut W,
     source: &mut B,
-    gate: &G,
     name: &SafeName,
     target: &Record,
 ) -> Result<Assembled, Stop>
@@ -70,7 +69,7 @@ fn assemble<S: FileStore, W: FolderCalls, B: BlockSource, G: Gate>(
             tiling_is_tested();
             only_well_formed_files_have_blocks();
             let file = target.copy()?;
-            fetch_file(rt, alloc, store, calls, source, gate, name, file)
+            fetch_file(pulling, store, calls, source, name, file)
         }
         Kind::Directory => Ok(Assembled::plain(target.copy()?)),
         // (no live target of a ticket is of another kind)
@@ -80,17 +79,13 @@ fn assemble<S: FileStore, W: FolderCalls, B: BlockSource, G: Gate>(
 
 // All that a pull needs before its commit is entered.
 #[tactic(auto, using(crate::proofs::MomentLemmas::still))]
-fn prepare<S: FileStore, W: FolderCalls, B: BlockSource, G: Gate>(
-    rt: &(impl Threads + Sync),
-    alloc: Global,
+fn prepare<S: FileStore, W: FolderCalls, B: BlockSource, R: Threads + Sync, G: Gate>(
+    pulling: &Pulling<R, G>,
     store: &mut S,
     calls: &mut W,
     source: &mut B,
-    gate: &G,
     name: &SafeName,
     ticket: &PullTicket,
-    moment: Moment,
-    max_conflicts: MaxConflicts,
 ) -> Result<(Prepared, CopyPlan), Stop>
     requires others { (device : Identity) → device ≢ (W.view calls.old).opening.me → B.may_ask device }
     requires target { IsPullable ticket.now.target }
@@ -98,8 +93,8 @@ fn prepare<S: FileStore, W: FolderCalls, B: BlockSource, G: Gate>(
     ensures sees { Sees (W.view calls.old) (W.view calls.new) }
     ensures target { IfOk result (λ made. made.0.assembled ≡ ticket.now.target) }
     ensures room { IfOk result (λ made. HasRoom ticket.now.base (length made.0.room.items)) }
-    ensures planned { IfOk result (λ made. IsPlanned max_conflicts moment name.now ticket.now.base
-        ticket.now.target made.1) }
+    ensures planned { IfOk result (λ made. IsPlanned pulling.now.max_conflicts pulling.now.moment name.now
+        ticket.now.base ticket.now.target made.1) }
     ensures of_file { IfOk result (λ made. IsOfFile made.1 ticket.now.base) }
     ensures ready { S.keeps ≡ true → IfOk result (λ _.
         IsReadyAs ticket.now.target.deleted ticket.now.target name.now (S.tree store.new)) }
@@ -111,9 +106,15 @@ fn prepare<S: FileStore, W: FolderCalls, B: BlockSource, G: Gate>(
         WritesTempAlone name.now (S.tree store.old) (S.tree store.new) }
     ensures calls { CallsOnly S.gives (IsOfTemp name.now) store.old store.new }
 {
-    let plan = plan_copy(name, ticket.base(), ticket.target(), moment, max_conflicts)?;
-    let room = room_for(alloc, ticket.base())?;
-    let assembled = assemble(rt, alloc, store, calls, source, gate, name, ticket.target())?;
+    let plan = plan_copy(
+        name,
+        ticket.base(),
+        ticket.target(),
+        pulling.moment,
+        pulling.max_conflicts,
+    )?;
+    let room = room_for(pulling.alloc, ticket.base())?;
+    let assembled = assemble(pulling, store, calls, source, name, ticket.target())?;
     Ok((Prepared { assembled, room }, plan))
 }
 
@@ -137,70 +138,62 @@ fn trim_copies<S: FileStore, G: Gate>(
 }
 
 // Ends a pull that was begun.
-fn pull_begun<S: FileStore, W: FolderCalls, B: BlockSource, G: Gate>(
-    rt: &(impl Threads + Sync),
-    alloc: Global,
+fn pull_begun<S: FileStore, W: FolderCalls, B: BlockSource, R: Threads + Sync, G: Gate>(
+    pulling: &Pulling<R, G>,
     store: &mut S,
     calls: &mut W,
     source: &mut B,
-    gate: &G,
     name: &SafeName,
     ticket: PullTicket,
-    moment: Moment,
-    max_conflicts: MaxConflicts,
 ) -> PullAnswer
     requires others { (device : Identity) → device ≢ (W.view calls.old).opening.me → B.may_ask device }
     requires target { IsPullable ticket.target }
     ensures folder { W.folder calls.new ≡ W.folder calls.old }
     ensures ends { Ends (W.view calls.old) ticket result (W.view calls.new) }
-    ensures done { S.keeps ≡ true → IfDone result (IsPulled max_conflicts moment name.now ticket
-        (S.tree store.old) (S.tree store.new)) }
+    ensures done { S.keeps ≡ true → IfDone result (IsPulled pulling.now.max_conflicts pulling.now.moment
+        name.now ticket (S.tree store.old) (S.tree store.new)) }
     ensures kept { S.keeps ≡ true →
         IsNameKept result name.now (S.tree store.old) (S.tree store.new) }
-    ensures saved { S.keeps ≡ true → is_copy_due max_conflicts ticket.base ticket.target ≡ true
-        → IsThereOrCopied name.now (copy_name name.now moment ticket.base) (S.tree store.old)
+    ensures saved { S.keeps ≡ true → is_copy_due pulling.now.max_conflicts ticket.base ticket.target ≡ true
+        → IsThereOrCopied name.now (copy_name name.now pulling.now.moment ticket.base) (S.tree store.old)
         (S.tree store.new) }
-    ensures reasons { FailsFor (PullFails max_conflicts moment name.now (S.keeps ≡ true)
+    ensures reasons { FailsFor (PullFails pulling.now.max_conflicts pulling.now.moment name.now (S.keeps ≡ true)
         (IsFaultCounted (S.fault_count store.old) (S.fault_count store.new))
         (HasNoSource B.gives name.now source.new (W.view calls.new) ticket.target (W.view calls.old)) ticket
         (S.tree store.old) (S.tree store.new)) result }
-    ensures left { S.keeps ≡ true → IsOldOrTarget max_conflicts moment name.now (IsRefused S.gives S.tree) ticket
-        (S.tree store.old) (S.tree store.new) }
+    ensures left { S.keeps ≡ true → IsOldOrTarget pulling.now.max_conflicts pulling.now.moment name.now
+        (IsRefused S.gives S.tree) ticket (S.tree store.old) (S.tree store.new) }
     ensures temporary { IfFile (standing_of (Some ticket.target))
         (IsTakenOrDropped result (S.keeps ≡ true → (S.tree store.new).temps name.now ≡ None)
         (IsDropped S.gives (S.keeps ≡ true) name.now (S.tree store.new).temps store.new))
         (S.keeps ≡ true → (S.tree store.new).temps ≡ (S.tree store.old).temps) }
-    ensures alone { S.keeps ≡ true → ChangesAndTrims max_conflicts moment name.now
+    ensures alone { S.keeps ≡ true → ChangesAndTrims pulling.now.max_conflicts pulling.now.moment name.now
         (IsRefused S.gives S.tree) ticket result (S.tree store.old) (S.tree store.new) }
     ensures entered { S.keeps ≡ true → IsEnteredFirst name.now ticket (W.view calls.old)
         (S.tree store.old) (W.view calls.new) (S.tree store.new) }
-    ensures free { S.keeps ≡ true → IsCopyFree (is_copy_due max_conflicts ticket.base ticket.target)
-        name.now (copy_name name.now moment ticket.base) (S.tree store.old) (S.tree store.new) }
-    ensures checks { EntersFirst S.gives (λ s v. (w : W) × G.shown gate.now S W s w × (W.view w ≡ v)) name.now ticket
-        (IsOfPull name.now (copy_name name.now moment ticket.base)) (IfDone result ⊥) (W.view calls.old)
-        store.old store.new }
+    ensures free { S.keeps ≡ true → IsCopyFree (is_copy_due pulling.now.max_conflicts ticket.base ticket.target)
+        name.now (copy_name name.now pulling.now.moment ticket.base) (S.tree store.old) (S.tree store.new) }
+    ensures checks { EntersFirst S.gives (λ s v. (w : W) × G.shown pulling.now.gate.now S W s w × (W.view w ≡ v))
+        name.now ticket (IsOfPull name.now (copy_name name.now pulling.now.moment ticket.base)) (IfDone result ⊥)
+        (W.view calls.old) store.old store.new }
 {
     conflict_names_are_of_copies();
-    match prepare(
-        rt,
-        alloc,
-        store,
-        calls,
-        source,
-        gate,
-        name,
-        &ticket,
-        moment,
-        max_conflicts,
-    ) {
+    match prepare(pulling, store, calls, source, name, &ticket) {
         Ok((ready, plan)) => {
-            let answer = commit_pull(store, calls, gate, name, ticket, ready, &plan);
-            trim_copies(store, gate, name, &plan, max_conflicts, answer);
+            let answer = commit_pull(store, calls, pulling.gate, name, ticket, ready, &plan);
+            trim_copies(
+                store,
+                pulling.gate,
+                name,
+                &plan,
+                pulling.max_conflicts,
+                answer,
+            );
             answer
         }
         Err(stop) => {
             drop_temp(store, name, ticket.target());
-            give_up(calls, gate, ticket, answer_of(stop))
+            give_up(calls, pulling.gate, ticket, answer_of(stop))
         }
     }
 }
@@ -249,18 +242,16 @@ pub fn pull_name<S: FileStore, W: FolderCalls, B: BlockSource, G: Gate>(
         Err(_) => return PullAnswer::Refused(PullRefusal::OutOfMemory),
     };
     match begun {
-        Ok(BeginAnswer::Begun(ticket)) => pull_begun(
-            rt,
-            alloc,
-            store,
-            calls,
-            source,
-            gate,
-            name,
-            ticket,
-            moment,
-            max_conflicts,
-        ),
+        Ok(BeginAnswer::Begun(ticket)) => {
+            let pulling = Pulling {
+                rt,
+                alloc,
+                gate,
+                moment,
+                max_conflicts,
+            };
+            pull_begun(&pulling, store, calls, source, name, ticket)
+        }
         Ok(BeginAnswer::NotNeeded) => PullAnswer::NotNeeded,
         Ok(BeginAnswer::Busy) => PullAnswer::Busy,
         Ok(BeginAnswer::Unsupported) => PullAnswer::Unsupported,

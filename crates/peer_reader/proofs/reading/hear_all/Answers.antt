@@ -6,11 +6,11 @@ use Rattle.peer_reader.proofs.ReadingLemmas.{heard_more, heard_no_event, opening
 use Rattle.peer_reader.proofs.reading.hear_all.Goals as goal
 
 pub loop-event-init : goal.loop-event-init
-loop-event-init g c = record { heard = heard_no_event g.W.FolderCalls.view g.W.FolderCalls.folder c.args.peer c.args.folders.now c.args.counts.now; divided = sym c.into_iter-event-iterator.ensures.into_iter_gives.0 }
+loop-event-init g c = record { heard = heard_no_event g.W.FolderCalls.view g.W.FolderCalls.folder c.args.hearing.now.peer c.args.folders.now c.args.counts.now; divided = sym c.into_iter-event-iterator.ensures.into_iter_gives.0 }
 
 pub hear-requires : goal.hear-requires
 hear-requires g c =
-    each_apart g.W.FolderCalls.view g.W.FolderCalls.folder (openings c.changes_are_asked_in_order.ensures.adds) c.args.peer 0 _ c.args.folders.now c.loop-event.folders
+    each_apart g.W.FolderCalls.view g.W.FolderCalls.folder (openings c.changes_are_asked_in_order.ensures.adds) c.args.hearing.now.peer 0 _ c.args.folders.now c.loop-event.folders
     c.loop-event.invariant.heard.asks c.requires
 
 pub returns-in_err-passed-clause-stopped : goal.returns-in_err-passed-clause-stopped
@@ -34,6 +34,6 @@ loop-event-preserved g c =
     record {
       divided = c.loop-event.invariant.divided ∙ ap (λ (l : List Event). c.loop-event.yielded ++ l) step ∙ sym (append_assoc c.loop-event.yielded (c.in-Some.event ∷ []) c.next.new.self.rest.items);
       heard =
-          heard_more g.W.FolderCalls.view g.W.FolderCalls.folder c.changes_are_asked_in_order.ensures.together c.args.peer c.loop-event.yielded c.in-Some.event c.args.folders.now c.loop-event.folders c.hear.new.folders
+          heard_more g.W.FolderCalls.view g.W.FolderCalls.folder c.changes_are_asked_in_order.ensures.together c.args.hearing.now.peer c.loop-event.yielded c.in-Some.event c.args.folders.now c.loop-event.folders c.hear.new.folders
           c.args.counts.now c.loop-event.counts c.hear.new.counts c.in_ok-passed.passed c.loop-event.invariant.heard c.in_ok-passed.ensures.heard;
     }

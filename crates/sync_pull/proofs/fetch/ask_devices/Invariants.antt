@@ -5,6 +5,6 @@ use Rattle.sync_pull.proofs.fetch.ask_devices.Given as goal
 
 abbrev pub invariant-loop-i : goal.invariant-loop-i
 invariant-loop-i g l = record {
-  asks : AsksOnly g.B.BlockSource.gives l.from.name.now l.initial.source l.source;
-  vain : AskedInVain g.B.BlockSource.gives l.from.me l.from.name.now l.block (take l.i l.from.devices.now) l.source;
+  asks : AsksOnly g.B.BlockSource.gives l.fetch.name.now l.initial.source l.source;
+  vain : AskedInVain g.B.BlockSource.gives l.fetch.me l.fetch.name.now l.block (take l.i l.fetch.devices.now) l.source;
 }

@@ -16,7 +16,7 @@ use Rattle.sync_pull.proofs.fetch.fetch_blocks.Goals as goal
 pub loop-done-preserved : goal.loop-done-preserved
 loop-done-preserved g c =
     let inv = c.loop-done.invariant in
-    let n = c.args.from.now.name.now in
+    let n = c.args.fetch.now.name.now in
     let done = c.loop-done.done in
     let next = c.min-next.result in
     let items = ap length (c.blocks-count.ensures ∙ ap (λ (r : FileRecord). r.blocks) c.target.ensures) in
@@ -39,30 +39,30 @@ loop-done-preserved g c =
 
 pub returns-clause-held : goal.returns-clause-held
 returns-clause-held g c = λ keeps empty.
-    let r = c.args.assembly.now.target in
+    let r = c.args.draft.now.assembly.target in
     let items = ap length (c.blocks-count.ensures ∙ ap (λ (r : FileRecord). r.blocks) c.target.ensures) in
     let test = c.loop-done-test.false in
     let all : length r.blocks ≤ c.loop-done.done = omega arith in
-    subst (λ bs. HoldsBlocks bs c.args.from.now.name.now (g.S.FileStore.tree c.loop-done.store)) (take_all c.loop-done.done r.blocks all)
+    subst (λ bs. HoldsBlocks bs c.args.fetch.now.name.now (g.S.FileStore.tree c.loop-done.store)) (take_all c.loop-done.done r.blocks all)
     (c.loop-done.invariant.held keeps empty)
 
 pub returns-clause-put : goal.returns-clause-put
 returns-clause-put g c =
-    let r = c.args.assembly.now.target in
+    let r = c.args.draft.now.assembly.target in
     let items = ap length (c.blocks-count.ensures ∙ ap (λ (r : FileRecord). r.blocks) c.target.ensures) in
     let test = c.loop-done-test.false in
     let within = c.loop-done.invariant.within in
     let all : c.loop-done.done ≡ length r.blocks = omega arith in
-    subst (λ k. ArePut k c.loop-done.assembly) all c.loop-done.invariant.put
+    subst (λ k. ArePut k c.loop-done.draft.assembly) all c.loop-done.invariant.put
 
 pub returns-in_err-fetch_group-clause-counted : goal.returns-in_err-fetch_group-clause-counted
 returns-in_err-fetch_group-clause-counted g c =
     let inv = c.loop-done.invariant in
     let stop = c.in_err-fetch_group.field-0.0 in
     let after = g.S.FileStore.fault_count c.fetch_group.new.store in
-    let lacks = λ (r : FileRecord). Lacks g.B.BlockSource.gives c.args.from.now.me c.args.from.now.name.now c.args.from.now.devices.now c.fetch_group.new.source r.blocks in
-    err-counts (lacks c.args.assembly.now.target) ⊥ c.from_residual.result stop _ after c.from_residual.ensures.1
-    (subst (λ k. StopCounts (lacks c.args.assembly.now.target) ⊥ stop k after) inv.counted
+    let lacks = λ (r : FileRecord). Lacks g.B.BlockSource.gives c.args.fetch.now.me c.args.fetch.now.name.now c.args.fetch.now.devices.now c.fetch_group.new.source r.blocks in
+    err-counts (lacks c.args.draft.now.assembly.target) ⊥ c.from_residual.result stop _ after c.from_residual.ensures.1
+    (subst (λ k. StopCounts (lacks c.args.draft.now.assembly.target) ⊥ stop k after) inv.counted
     (subst (λ r. StopCounts (lacks r) ⊥ stop (g.S.FileStore.fault_count c.loop-done.store) after) inv.target c.in_err-fetch_group.ensures.counted))
 
 pub returns-in_err-fetch_group-clause-calls : goal.returns-in_err-fetch_group-clause-calls

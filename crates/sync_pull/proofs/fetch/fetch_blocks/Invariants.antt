@@ -9,16 +9,16 @@ use Rattle.sync_pull.proofs.fetch.fetch_blocks.Given as goal
 
 abbrev pub invariant-loop-done : goal.invariant-loop-done
 invariant-loop-done g l = record {
-  target : l.assembly.target ≡ l.initial.assembly.target;
-  put : ArePut l.done l.assembly;
-  within : l.done ≤ length l.initial.assembly.target.blocks;
+  target : l.draft.assembly.target ≡ l.initial.draft.assembly.target;
+  put : ArePut l.done l.draft.assembly;
+  within : l.done ≤ length l.initial.draft.assembly.target.blocks;
   folder : g.W.FolderCalls.folder l.calls ≡ g.W.FolderCalls.folder l.initial.calls;
   sees : Sees (g.W.FolderCalls.view l.initial.calls) (g.W.FolderCalls.view l.calls);
-  held : g.S.FileStore.keeps ≡ true → (g.S.FileStore.tree l.initial.store).temps l.from.name.now ≡ Some []
-      → HoldsBlocks (take l.done l.initial.assembly.target.blocks) l.from.name.now (g.S.FileStore.tree l.store);
+  held : g.S.FileStore.keeps ≡ true → (g.S.FileStore.tree l.initial.store).temps l.fetch.name.now ≡ Some []
+      → HoldsBlocks (take l.done l.initial.draft.assembly.target.blocks) l.fetch.name.now (g.S.FileStore.tree l.store);
   counted : g.S.FileStore.fault_count l.store ≡ g.S.FileStore.fault_count l.initial.store;
-  temp : g.S.FileStore.keeps ≡ true → ChangesTemp (g.S.FileStore.tree l.initial.store) l.from.name.now (g.S.FileStore.tree l.store);
-  calls : CallsOnly g.S.FileStore.gives (IsOfTemp l.from.name.now) l.initial.store l.store;
+  temp : g.S.FileStore.keeps ≡ true → ChangesTemp (g.S.FileStore.tree l.initial.store) l.fetch.name.now (g.S.FileStore.tree l.store);
+  calls : CallsOnly g.S.FileStore.gives (IsOfTemp l.fetch.name.now) l.initial.store l.store;
 }
 
 abbrev pub decreases-loop-done : goal.decreases-loop-done

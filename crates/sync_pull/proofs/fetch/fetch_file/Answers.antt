@@ -85,7 +85,7 @@ pub returns-clause-counted : goal.returns-clause-counted
 returns-clause-counted g c =
     let target = c.in_ok-fetch_blocks.ensures.target in
     absurd (not-ok c.done.result _ c.in-Err.is (c.done.ensures.exactly.1
-    (put-all c.fetch_blocks.new.assembly (subst (λ (r : FileRecord). ArePut (length r.blocks) c.fetch_blocks.new.assembly) (sym target) c.in_ok-fetch_blocks.ensures.put))))
+    (put-all c.fetch_blocks.new.draft.assembly (subst (λ (r : FileRecord). ArePut (length r.blocks) c.fetch_blocks.new.draft.assembly) (sym target) c.in_ok-fetch_blocks.ensures.put))))
 
 pub returns-in_err-make_temp-clause-calls : goal.returns-in_err-make_temp-clause-calls
 returns-in_err-make_temp-clause-calls g c = called _ _ _ _ not_called refl c.make_temp.ensures.gives

@@ -9,7 +9,7 @@ abbrev pub invariant-loop-i : goal.invariant-loop-i
 invariant-loop-i g l = record {
   each : length l.group.asked.items ≡ l.i;
   within : l.i ≤ length l.blocks;
-  found : AreFound (IsFound g.B.BlockSource.gives l.from.me l.from.name.now l.from.devices.now l.source) (take l.i l.blocks) l.group.bytes.items l.group.asked.items;
+  found : AreFound (IsFound g.B.BlockSource.gives l.fetch.me l.fetch.name.now l.fetch.devices.now l.source) (take l.i l.blocks) l.group.bytes.items l.group.asked.items;
   folder : g.W.FolderCalls.folder l.calls ≡ g.W.FolderCalls.folder l.initial.calls;
   sees : Sees (g.W.FolderCalls.view l.initial.calls) (g.W.FolderCalls.view l.calls);
   counted : g.S.FileStore.fault_count l.store ≡ g.S.FileStore.fault_count l.initial.store;

@@ -17,13 +17,13 @@ use Rattle.sync_pull.proofs.fetch.put_group.Goals as goal
 abbrev none : Block
 none = record { offset = 0; size = 0; hash = [] }
 
-pub slice_bounds-found-end : goal.slice_bounds-found-end
-slice_bounds-found-end g c =
+pub slice_bounds-piece-end : goal.slice_bounds-piece-end
+slice_bounds-piece-end g c =
     let inv = c.loop-i.invariant in
     let room = c.requires.within in
     let test = c.loop-i-test.true in
     let same = c.blocks-in-loop-i.ensures ∙ ap (λ (r : FileRecord). r.blocks) (c.target.ensures ∙ inv.target) in
-    let here = found-here _ c.args.assembly.now.target.blocks c.blocks-in-loop-i.result.now c.args.group.now.bytes.items c.args.group.now.asked.items (c.args.start + c.loop-i.i) c.loop-i.i
+    let here = found-here _ c.args.assembly.now.target.blocks c.blocks-in-loop-i.result.now c.args.hashed.now.group.now.bytes.items c.args.hashed.now.group.now.asked.items (c.args.start + c.loop-i.i) c.loop-i.i
     c.loop-i.offset none same (omega arith) (omega arith) inv.bytes inv.found in
     let fits = here.0 in
     omega arith
@@ -34,53 +34,53 @@ put_block-requires-clause-found g c =
     let room = c.requires.within in
     let test = c.loop-i-test.true in
     let same = c.blocks-in-loop-i.ensures ∙ ap (λ (r : FileRecord). r.blocks) (c.target.ensures ∙ inv.target) in
-    let here = found-here _ c.args.assembly.now.target.blocks c.blocks-in-loop-i.result.now c.args.group.now.bytes.items c.args.group.now.asked.items (c.args.start + c.loop-i.i) c.loop-i.i
+    let here = found-here _ c.args.assembly.now.target.blocks c.blocks-in-loop-i.result.now c.args.hashed.now.group.now.bytes.items c.args.hashed.now.group.now.asked.items (c.args.start + c.loop-i.i) c.loop-i.i
     c.loop-i.offset none same (omega arith) (omega arith) inv.bytes inv.found in
     let place = c.args.start + c.loop-i.i in
     let own = get_or c.blocks-in-loop-i.result.now place none in
     let piece = take ((c.loop-i.offset + own.size) - c.loop-i.offset) (drop c.loop-i.offset c.deref.result.now) in
-    let bytes : piece ≡ take own.size (drop c.loop-i.offset c.args.group.now.bytes.items) =
+    let bytes : piece ≡ take own.size (drop c.loop-i.offset c.args.hashed.now.group.now.bytes.items) =
     ap (λ k. take k (drop c.loop-i.offset c.deref.result.now)) (omega arith) ∙ ap (λ l. take own.size (drop c.loop-i.offset l)) c.deref.ensures.value in
-    let asked : c.index.result.now ≡ get_or c.args.group.now.asked.items c.loop-i.i 0 = get_or_read c.args.group.now.asked.items c.loop-i.i c.index.result.now (omega arith) c.index.ensures 0 in
-    let found : (b : Block) → List ℕ → ℕ → Type 0 = IsFound g.B.BlockSource.gives c.args.from.now.me c.args.from.now.name.now c.args.from.now.devices.now c.loop-i.source in
+    let asked : c.index.result.now ≡ get_or c.args.hashed.now.group.now.asked.items c.loop-i.i 0 = get_or_read c.args.hashed.now.group.now.asked.items c.loop-i.i c.index.result.now (omega arith) c.index.ensures 0 in
+    let found : (b : Block) → List ℕ → ℕ → Type 0 = IsFound g.B.BlockSource.gives c.args.fetch.now.me c.args.fetch.now.name.now c.args.fetch.now.devices.now c.loop-i.source in
     subst (λ (a : FileRecord). IfSome (slice_get a.blocks place) (λ b. found b piece c.index.result.now)) (sym inv.target)
     (of-place (λ b. found b piece c.index.result.now) c.args.assembly.now.target.blocks c.blocks-in-loop-i.result.now place none same (omega arith)
-    (subst (λ k. found own piece k) (sym asked) (subst (λ l. found own l (get_or c.args.group.now.asked.items c.loop-i.i 0)) (sym bytes) here.1)))
+    (subst (λ k. found own piece k) (sym asked) (subst (λ l. found own l (get_or c.args.hashed.now.group.now.asked.items c.loop-i.i 0)) (sym bytes) here.1)))
 
 pub returns-in_err-put_block-clause-counted : goal.returns-in_err-put_block-clause-counted
 returns-in_err-put_block-clause-counted g c =
     let inv = c.loop-i.invariant in
     let room = c.requires.within in
     let test = c.loop-i-test.true in
-    let lacks = Lacks g.B.BlockSource.gives c.args.from.now.me c.args.from.now.name.now c.args.from.now.devices.now c.put_block.new.source c.args.assembly.now.target.blocks in
+    let lacks = Lacks g.B.BlockSource.gives c.args.fetch.now.me c.args.fetch.now.name.now c.args.fetch.now.devices.now c.put_block.new.source c.args.assembly.now.target.blocks in
     let after = g.S.FileStore.fault_count c.put_block.new.store in
     err-counts lacks ⊥ c.from_residual.result c.in_err-put_block.field-0.0 _ after c.from_residual.ensures.1
     (subst (λ k. StopCounts lacks ⊥ c.in_err-put_block.field-0.0 k after) inv.counted
     (stop-source _ lacks ⊥
-    (λ h. lacks-at g.B.BlockSource.gives c.args.from.now.me c.args.from.now.name.now c.args.from.now.devices.now c.put_block.new.source c.args.assembly.now.target.blocks (c.args.start + c.loop-i.i) (omega arith)
-    (subst (λ (a : FileRecord). IfSome (slice_get a.blocks (c.args.start + c.loop-i.i)) (HasNoBytes g.B.BlockSource.gives c.args.from.now.me c.args.from.now.name.now c.args.from.now.devices.now c.put_block.new.source)) inv.target h))
+    (λ h. lacks-at g.B.BlockSource.gives c.args.fetch.now.me c.args.fetch.now.name.now c.args.fetch.now.devices.now c.put_block.new.source c.args.assembly.now.target.blocks (c.args.start + c.loop-i.i) (omega arith)
+    (subst (λ (a : FileRecord). IfSome (slice_get a.blocks (c.args.start + c.loop-i.i)) (HasNoBytes g.B.BlockSource.gives c.args.fetch.now.me c.args.fetch.now.name.now c.args.fetch.now.devices.now c.put_block.new.source)) inv.target h))
     c.in_err-put_block.field-0.0 (g.S.FileStore.fault_count c.loop-i.store) after c.in_err-put_block.ensures.counted))
 
 pub loop-i-preserved : goal.loop-i-preserved
 loop-i-preserved g c =
     let inv = c.loop-i.invariant in
-    let n = c.args.from.now.name.now in
+    let n = c.args.fetch.now.name.now in
     let r = c.args.assembly.now.target in
     let test = c.loop-i-test.true in
     let room = c.requires.within in
     let place = c.args.start + c.loop-i.i in
     let next : place + 1 ≡ c.args.start + (c.loop-i.i + 1) = omega arith in
     let same = c.blocks-in-loop-i.ensures ∙ ap (λ (r : FileRecord). r.blocks) (c.target.ensures ∙ inv.target) in
-    let here = found-here (IsFound g.B.BlockSource.gives c.args.from.now.me n c.args.from.now.devices.now c.loop-i.source) r.blocks c.blocks-in-loop-i.result.now c.args.group.now.bytes.items c.args.group.now.asked.items place c.loop-i.i
+    let here = found-here (IsFound g.B.BlockSource.gives c.args.fetch.now.me n c.args.fetch.now.devices.now c.loop-i.source) r.blocks c.blocks-in-loop-i.result.now c.args.hashed.now.group.now.bytes.items c.args.hashed.now.group.now.asked.items place c.loop-i.i
     c.loop-i.offset none same (omega arith) (omega arith) inv.bytes inv.found in
     let within : place < length r.blocks = omega arith in
     record {
       target = ap (λ (a : Assembling). a.target) c.in_ok-put_block.ensures.put.1.placed ∙ inv.target;
       within = omega arith;
       bytes = here.0;
-      found = subst (λ k. AreFound (IsFound g.B.BlockSource.gives c.args.from.now.me n c.args.from.now.devices.now c.put_block.new.source) (drop k r.blocks)
-          (drop (c.loop-i.offset + (get_or c.blocks-in-loop-i.result.now place none).size) c.args.group.now.bytes.items) (drop (c.loop-i.i + 1) c.args.group.now.asked.items)) next
-          (found-as _ _ (found-on g.B.BlockSource.gives n c.args.from.now.me c.args.from.now.devices.now c.loop-i.source c.put_block.new.source c.in_ok-put_block.ensures.asks) _ _ _ here.2);
+      found = subst (λ k. AreFound (IsFound g.B.BlockSource.gives c.args.fetch.now.me n c.args.fetch.now.devices.now c.put_block.new.source) (drop k r.blocks)
+          (drop (c.loop-i.offset + (get_or c.blocks-in-loop-i.result.now place none).size) c.args.hashed.now.group.now.bytes.items) (drop (c.loop-i.i + 1) c.args.hashed.now.group.now.asked.items)) next
+          (found-as _ _ (found-on g.B.BlockSource.gives n c.args.fetch.now.me c.args.fetch.now.devices.now c.loop-i.source c.put_block.new.source c.in_ok-put_block.ensures.asks) _ _ _ here.2);
       put = subst (λ k. ArePut k c.put_block.new.assembly) next
           (put-next c.loop-i.assembly c.put_block.new.assembly place inv.put (subst (λ (a : FileRecord). place < length a.blocks) (sym inv.target) within) c.in_ok-put_block.ensures.put.1.placed);
       held = λ keeps before.
@@ -95,8 +95,8 @@ loop-i-preserved g c =
 pub returns-clause-held : goal.returns-clause-held
 returns-clause-held g c = λ keeps before.
     let test = c.loop-i-test.false in
-    let all : c.loop-i.i ≡ length c.args.group.now.asked.items = omega arith in
-    subst (λ k. HoldsBlocks (take (c.args.start + k) c.args.assembly.now.target.blocks) c.args.from.now.name.now (g.S.FileStore.tree c.loop-i.store)) all
+    let all : c.loop-i.i ≡ length c.args.hashed.now.group.now.asked.items = omega arith in
+    subst (λ k. HoldsBlocks (take (c.args.start + k) c.args.assembly.now.target.blocks) c.args.fetch.now.name.now (g.S.FileStore.tree c.loop-i.store)) all
     (c.loop-i.invariant.held keeps before)
 
 pub returns-in_err-put_block-clause-calls : goal.returns-in_err-put_block-clause-calls

@@ -9,14 +9,14 @@ use Rattle.sync_pull.proofs.fetch.put_group.Given as goal
 abbrev pub invariant-loop-i : goal.invariant-loop-i
 invariant-loop-i g l = record {
   target : l.assembly.target ≡ l.initial.assembly.target;
-  within : l.i ≤ length l.group.asked.items;
-  bytes : l.offset ≤ length l.group.bytes.items;
-  found : AreFound (IsFound g.B.BlockSource.gives l.from.me l.from.name.now l.from.devices.now l.source) (drop (l.start + l.i) l.initial.assembly.target.blocks)
-      (drop l.offset l.group.bytes.items) (drop l.i l.group.asked.items);
+  within : l.i ≤ length l.hashed.group.now.asked.items;
+  bytes : l.offset ≤ length l.hashed.group.now.bytes.items;
+  found : AreFound (IsFound g.B.BlockSource.gives l.fetch.me l.fetch.name.now l.fetch.devices.now l.source) (drop (l.start + l.i) l.initial.assembly.target.blocks)
+      (drop l.offset l.hashed.group.now.bytes.items) (drop l.i l.hashed.group.now.asked.items);
   put : ArePut (l.start + l.i) l.assembly;
-  held : g.S.FileStore.keeps ≡ true → HoldsBlocks (take l.start l.initial.assembly.target.blocks) l.from.name.now (g.S.FileStore.tree l.initial.store)
-      → HoldsBlocks (take (l.start + l.i) l.initial.assembly.target.blocks) l.from.name.now (g.S.FileStore.tree l.store);
+  held : g.S.FileStore.keeps ≡ true → HoldsBlocks (take l.start l.initial.assembly.target.blocks) l.fetch.name.now (g.S.FileStore.tree l.initial.store)
+      → HoldsBlocks (take (l.start + l.i) l.initial.assembly.target.blocks) l.fetch.name.now (g.S.FileStore.tree l.store);
   counted : g.S.FileStore.fault_count l.store ≡ g.S.FileStore.fault_count l.initial.store;
-  temp : g.S.FileStore.keeps ≡ true → ChangesTemp (g.S.FileStore.tree l.initial.store) l.from.name.now (g.S.FileStore.tree l.store);
-  calls : CallsOnly g.S.FileStore.gives (IsOfTemp l.from.name.now) l.initial.store l.store;
+  temp : g.S.FileStore.keeps ≡ true → ChangesTemp (g.S.FileStore.tree l.initial.store) l.fetch.name.now (g.S.FileStore.tree l.store);
+  calls : CallsOnly g.S.FileStore.gives (IsOfTemp l.fetch.name.now) l.initial.store l.store;
 }

@@ -19,13 +19,13 @@ pub loop-i-preserved-then-eq : goal.loop-i-preserved-then-eq
 loop-i-preserved-then-eq g c = record {
   same = c.loop-i.invariant.same;
   asks = c.loop-i.invariant.asks;
-  none = no-bytes-me g.B.BlockSource.gives c.args.from.now.name.now c.args.from.now.me _ c.args.from.now.devices.now c.loop-i.i c.index-from-i.result _
+  none = no-bytes-me g.B.BlockSource.gives c.args.fetch.now.name.now c.args.fetch.now.me _ c.args.fetch.now.devices.now c.loop-i.i c.index-fetch-i.result _
       c.loop-i-test.true (sym c.eq.ensures ∙ c.if-eq.true) c.loop-i.invariant.none;
 }
 
 pub returns-then-try_bytes-clause-asks : goal.returns-then-try_bytes-clause-asks
 returns-then-try_bytes-clause-asks g c =
-    asks-on g.B.BlockSource.gives c.args.from.now.name.now _ _ _ _ _ _ _ c.loop-i.invariant.asks c.in_ok-fetch.ensures.gives
+    asks-on g.B.BlockSource.gives c.args.fetch.now.name.now _ _ _ _ _ _ _ c.loop-i.invariant.asks c.in_ok-fetch.ensures.gives
 
 pub loop-i-preserved : goal.loop-i-preserved
 loop-i-preserved g c = record {
@@ -33,8 +33,8 @@ loop-i-preserved g c = record {
     | else-branch-via-then-branch+else-try_bytes w ↦ w.assembly-is ∙ w.if-try_bytes.ensures.same ∙ c.loop-i.invariant.same
     | else-branch-via-else-branch w ↦ w.assembly-is ∙ c.loop-i.invariant.same
   ];
-  asks = asks-on g.B.BlockSource.gives c.args.from.now.name.now _ _ _ _ _ _ _ c.loop-i.invariant.asks c.in_ok-fetch.ensures.gives;
-  none = no-bytes-next g.B.BlockSource.gives c.args.from.now.name.now c.args.from.now.me _ c.args.from.now.devices.now c.loop-i.i c.index-from-i.result c.in_ok-fetch.field-0
+  asks = asks-on g.B.BlockSource.gives c.args.fetch.now.name.now _ _ _ _ _ _ _ c.loop-i.invariant.asks c.in_ok-fetch.ensures.gives;
+  none = no-bytes-next g.B.BlockSource.gives c.args.fetch.now.name.now c.args.fetch.now.me _ c.args.fetch.now.devices.now c.loop-i.i c.index-fetch-i.result c.in_ok-fetch.field-0
       c.fetch.new.bytes.items _ _ c.loop-i-test.true c.loop-i.invariant.none c.in_ok-fetch.ensures.gives
       (elim c.else-branch.branch [
         | else-branch-via-then-branch+else-try_bytes w ↦
@@ -49,5 +49,5 @@ pub returns-clause-put : goal.returns-clause-put
 returns-clause-put g c = (
   c.loop-i.invariant.same,
   of-place _ c.args.assembly.now.target.blocks c.blocks-2.result.now c.args.index _ (c.blocks-2.ensures ∙ ap (λ (r : FileRecord). r.blocks) c.target.ensures) c.requires.index
-      (no-bytes-all g.B.BlockSource.gives c.args.from.now.name.now c.args.from.now.me _ c.args.from.now.devices.now c.loop-i.i _ (let h = c.loop-i-test in omega arith) c.loop-i.invariant.none),
+      (no-bytes-all g.B.BlockSource.gives c.args.fetch.now.name.now c.args.fetch.now.me _ c.args.fetch.now.devices.now c.loop-i.i _ (let h = c.loop-i-test in omega arith) c.loop-i.invariant.none),
 )

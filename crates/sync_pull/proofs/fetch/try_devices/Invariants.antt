@@ -6,6 +6,6 @@ use Rattle.sync_pull.proofs.fetch.try_devices.Given as goal
 abbrev pub invariant-loop-i : goal.invariant-loop-i
 invariant-loop-i g l = record {
   same : l.assembly ≡ l.initial.assembly;
-  asks : AsksOnly g.B.BlockSource.gives l.from.name.now l.initial.source l.source;
-  none : HasNoBytes g.B.BlockSource.gives l.from.me l.from.name.now (take l.i l.from.devices.now) l.source l.block;
+  asks : AsksOnly g.B.BlockSource.gives l.fetch.name.now l.initial.source l.source;
+  none : HasNoBytes g.B.BlockSource.gives l.fetch.me l.fetch.name.now (take l.i l.fetch.devices.now) l.source l.block;
 }

@@ -53,11 +53,11 @@ returns-in-Err-clause-reasons g c =
     let point = g.W.FolderCalls.view c.prepare.new.calls in
     let last = g.W.FolderCalls.view c.give_up.new.calls in
     let source = λ (v : CallerView). HasNoSource g.B.BlockSource.gives n c.prepare.new.source v t.target first in
-    let why = λ (v : CallerView). PullFails c.args.max_conflicts c.args.moment n keeps (IsFaultCounted before after) (source v) t old new in
+    let why = λ (v : CallerView). PullFails c.args.pulling.now.max_conflicts c.args.pulling.now.moment n keeps (IsFaultCounted before after) (source v) t old new in
     closing-fails (why point) (why last) point last (GiveUp t) c.in-Err.stop c.give_up.result
-    (λ gets f. sourceless-as c.args.max_conflicts c.args.moment n keeps (IsFaultCounted before after) (source point) (source last) t old new
+    (λ gets f. sourceless-as c.args.pulling.now.max_conflicts c.args.pulling.now.moment n keeps (IsFaultCounted before after) (source point) (source last) t old new
     (no-source-on g.B.BlockSource.gives n c.prepare.new.source point last t.target first (GiveUp t) gets) f)
-    (stops-before c.args.max_conflicts c.args.moment n keeps (source point) t old new before mid after c.in-Err.stop c.in-Err.ensures.counted c.drop_temp.ensures.counted)
+    (stops-before c.args.pulling.now.max_conflicts c.args.pulling.now.moment n keeps (source point) t old new before mid after c.in-Err.stop c.in-Err.ensures.counted c.drop_temp.ensures.counted)
     (subst (λ a. Closes (g.W.FolderCalls.view c.prepare.new.calls) (GiveUp t) a c.give_up.result (g.W.FolderCalls.view c.give_up.new.calls)) c.answer_of.ensures c.give_up.ensures.closes)
 
 pub returns-in-Err-clause-left : goal.returns-in-Err-clause-left
@@ -86,12 +86,12 @@ returns-in-Ok-clause-done g c = λ keeps.
     let mid = g.S.FileStore.tree c.prepare.new.store in
     let placed = g.S.FileStore.tree c.commit_pull-answer.new.store in
     let new = g.S.FileStore.tree c.trim_copies.new.store in
-    let stays = after-stay (IsRefused g.S.FileStore.gives g.S.FileStore.tree) c.args.max_conflicts c.args.moment n t.base t.target c.in-Ok.plan placed new c.conflict_names_are_of_copies.ensures.other
+    let stays = after-stay (IsRefused g.S.FileStore.gives g.S.FileStore.tree) c.args.pulling.now.max_conflicts c.args.pulling.now.moment n t.base t.target c.in-Ok.plan placed new c.conflict_names_are_of_copies.ensures.other
     c.in-Ok.ensures.planned c.commit_pull-answer.result (g.S.FileStore.keeps ≡ true) (c.trim_copies.new.store ≡ c.commit_pull-answer.new.store) keeps (ap g.S.FileStore.tree) c.trim_copies.ensures.trims in
-    done-through (IsReplaced t.base t.target c.in-Ok.plan n mid placed) (IsPulled c.args.max_conflicts c.args.moment n t old new)
+    done-through (IsReplaced t.base t.target c.in-Ok.plan n mid placed) (IsPulled c.args.pulling.now.max_conflicts c.args.pulling.now.moment n t old new)
     (λ replaced.
-    pulled-on c.args.max_conflicts c.args.moment n t old placed new stays
-    (pulled c.args.max_conflicts c.args.moment n t c.in-Ok.plan old mid placed (c.prepare.ensures.temp keeps).name (c.in-Ok.ensures.ready keeps) c.in-Ok.ensures.planned replaced))
+    pulled-on c.args.pulling.now.max_conflicts c.args.pulling.now.moment n t old placed new stays
+    (pulled c.args.pulling.now.max_conflicts c.args.pulling.now.moment n t c.in-Ok.plan old mid placed (c.prepare.ensures.temp keeps).name (c.in-Ok.ensures.ready keeps) c.in-Ok.ensures.planned replaced))
     c.commit_pull-answer.result (c.commit_pull-answer.ensures.done keeps)
 
 pub returns-in-Ok-clause-saved : goal.returns-in-Ok-clause-saved
@@ -102,10 +102,10 @@ returns-in-Ok-clause-saved g c = λ keeps due.
     let mid = g.S.FileStore.tree c.prepare.new.store in
     let placed = g.S.FileStore.tree c.commit_pull-answer.new.store in
     let new = g.S.FileStore.tree c.trim_copies.new.store in
-    let stays = after-stay (IsRefused g.S.FileStore.gives g.S.FileStore.tree) c.args.max_conflicts c.args.moment n t.base t.target c.in-Ok.plan placed new c.conflict_names_are_of_copies.ensures.other
+    let stays = after-stay (IsRefused g.S.FileStore.gives g.S.FileStore.tree) c.args.pulling.now.max_conflicts c.args.pulling.now.moment n t.base t.target c.in-Ok.plan placed new c.conflict_names_are_of_copies.ensures.other
     c.in-Ok.ensures.planned c.commit_pull-answer.result (g.S.FileStore.keeps ≡ true) (c.trim_copies.new.store ≡ c.commit_pull-answer.new.store) keeps (ap g.S.FileStore.tree) c.trim_copies.ensures.trims in
-    there-or-copied-on n (copy_name n c.args.moment t.base) old placed new stays
-    (saved-as c.args.max_conflicts c.args.moment n t.base t.target c.in-Ok.plan old mid placed c.in-Ok.ensures.planned (c.prepare.ensures.temp keeps).name (c.commit_pull-answer.ensures.saved keeps) due)
+    there-or-copied-on n (copy_name n c.args.pulling.now.moment t.base) old placed new stays
+    (saved-as c.args.pulling.now.max_conflicts c.args.pulling.now.moment n t.base t.target c.in-Ok.plan old mid placed c.in-Ok.ensures.planned (c.prepare.ensures.temp keeps).name (c.commit_pull-answer.ensures.saved keeps) due)
 
 pub returns-in-Ok-clause-reasons : goal.returns-in-Ok-clause-reasons
 returns-in-Ok-clause-reasons g c =
@@ -118,12 +118,12 @@ returns-in-Ok-clause-reasons g c =
     let new = c.trim_copies.new.store in
     let after = g.S.FileStore.fault_count placed in
     let sourceless = HasNoSource g.B.BlockSource.gives n c.prepare.new.source (g.W.FolderCalls.view c.commit_pull-answer.new.calls) t.target (g.W.FolderCalls.view c.args.calls.now) in
-    let why = λ (s : g.row.S.Denot). PullFails c.args.max_conflicts c.args.moment n keeps (IsFaultCounted (g.S.FileStore.fault_count c.args.store.now) (g.S.FileStore.fault_count s)) sourceless t old (g.S.FileStore.tree s) in
+    let why = λ (s : g.row.S.Denot). PullFails c.args.pulling.now.max_conflicts c.args.pulling.now.moment n keeps (IsFaultCounted (g.S.FileStore.fault_count c.args.store.now) (g.S.FileStore.fault_count s)) sourceless t old (g.S.FileStore.tree s) in
     undone-same (FailsFor (why placed)) (FailsFor (why new)) (new ≡ placed) (λ k done. tt) (λ still p failed. subst (λ s. FailsFor (why s) p) (sym still) failed) c.commit_pull-answer.result
     (after-undone c.in-Ok.plan c.commit_pull-answer.result _ (new ≡ placed) c.trim_copies.ensures.trims)
-    (subst (λ before. FailsFor (PullFails c.args.max_conflicts c.args.moment n keeps (IsFaultCounted before after) sourceless t old (g.S.FileStore.tree placed)) c.commit_pull-answer.result) c.in-Ok.ensures.counted
+    (subst (λ before. FailsFor (PullFails c.args.pulling.now.max_conflicts c.args.pulling.now.moment n keeps (IsFaultCounted before after) sourceless t old (g.S.FileStore.tree placed)) c.commit_pull-answer.result) c.in-Ok.ensures.counted
     (fails-weaker _ _
-    (pull-fails c.args.max_conflicts c.args.moment n keeps sourceless t old mid (g.S.FileStore.tree placed) (g.S.FileStore.fault_count c.prepare.new.store) after c.prepare.ensures.temp c.in-Ok.plan c.in-Ok.ensures.planned)
+    (pull-fails c.args.pulling.now.max_conflicts c.args.pulling.now.moment n keeps sourceless t old mid (g.S.FileStore.tree placed) (g.S.FileStore.fault_count c.prepare.new.store) after c.prepare.ensures.temp c.in-Ok.plan c.in-Ok.ensures.planned)
     c.commit_pull-answer.result c.commit_pull-answer.ensures.reasons))
 
 pub returns-in-Ok-clause-kept : goal.returns-in-Ok-clause-kept
@@ -144,10 +144,10 @@ returns-in-Ok-clause-left g c = λ keeps.
     let old = g.S.FileStore.tree c.args.store.now in
     let placed = g.S.FileStore.tree c.commit_pull-answer.new.store in
     let new = g.S.FileStore.tree c.trim_copies.new.store in
-    let stays = after-stay (IsRefused g.S.FileStore.gives g.S.FileStore.tree) c.args.max_conflicts c.args.moment n t.base t.target c.in-Ok.plan placed new c.conflict_names_are_of_copies.ensures.other
+    let stays = after-stay (IsRefused g.S.FileStore.gives g.S.FileStore.tree) c.args.pulling.now.max_conflicts c.args.pulling.now.moment n t.base t.target c.in-Ok.plan placed new c.conflict_names_are_of_copies.ensures.other
     c.in-Ok.ensures.planned c.commit_pull-answer.result (g.S.FileStore.keeps ≡ true) (c.trim_copies.new.store ≡ c.commit_pull-answer.new.store) keeps (ap g.S.FileStore.tree) c.trim_copies.ensures.trims in
-    old-or-target-on c.args.max_conflicts c.args.moment n (IsRefused g.S.FileStore.gives g.S.FileStore.tree) t old placed new stays.name
-    (left-pulled c.args.max_conflicts c.args.moment n (IsRefused g.S.FileStore.gives g.S.FileStore.tree) t c.in-Ok.plan old (g.S.FileStore.tree c.prepare.new.store) placed c.in-Ok.ensures.planned (c.prepare.ensures.temp keeps).name
+    old-or-target-on c.args.pulling.now.max_conflicts c.args.pulling.now.moment n (IsRefused g.S.FileStore.gives g.S.FileStore.tree) t old placed new stays.name
+    (left-pulled c.args.pulling.now.max_conflicts c.args.pulling.now.moment n (IsRefused g.S.FileStore.gives g.S.FileStore.tree) t c.in-Ok.plan old (g.S.FileStore.tree c.prepare.new.store) placed c.in-Ok.ensures.planned (c.prepare.ensures.temp keeps).name
     (c.in-Ok.ensures.ready keeps) (c.commit_pull-answer.ensures.left keeps))
 
 pub returns-in-Ok-clause-temporary : goal.returns-in-Ok-clause-temporary
@@ -159,7 +159,7 @@ returns-in-Ok-clause-temporary g c =
     let placed = c.commit_pull-answer.new.store in
     let new = c.trim_copies.new.store in
     let wanted = standing_of (Some t.target) in
-    let stays = λ (keeps : held). after-stay (IsRefused g.S.FileStore.gives g.S.FileStore.tree) c.args.max_conflicts c.args.moment n t.base t.target c.in-Ok.plan (g.S.FileStore.tree placed) (g.S.FileStore.tree new) c.conflict_names_are_of_copies.ensures.other
+    let stays = λ (keeps : held). after-stay (IsRefused g.S.FileStore.gives g.S.FileStore.tree) c.args.pulling.now.max_conflicts c.args.pulling.now.moment n t.base t.target c.in-Ok.plan (g.S.FileStore.tree placed) (g.S.FileStore.tree new) c.conflict_names_are_of_copies.ensures.other
     c.in-Ok.ensures.planned c.commit_pull-answer.result held (new ≡ placed) keeps (ap g.S.FileStore.tree) c.trim_copies.ensures.trims in
     let temporary = λ (s : g.row.S.Denot) (p : PullAnswer). IfFile wanted
     (IsTakenOrDropped p (held → (g.S.FileStore.tree s).temps n ≡ None) (IsDropped g.S.FileStore.gives held n (g.S.FileStore.tree s).temps s))
@@ -179,8 +179,8 @@ returns-in-Ok-clause-alone g c = λ keeps.
     let mid = g.S.FileStore.tree c.prepare.new.store in
     let placed = g.S.FileStore.tree c.commit_pull-answer.new.store in
     let new = g.S.FileStore.tree c.trim_copies.new.store in
-    changes-and-trims (IsRefused g.S.FileStore.gives g.S.FileStore.tree) c.args.max_conflicts c.args.moment n t c.in-Ok.plan c.commit_pull-answer.result old placed new
-    (both-alone c.args.max_conflicts c.args.moment n t.base t.target c.in-Ok.plan old mid placed c.in-Ok.ensures.planned (c.prepare.ensures.temp keeps) (c.commit_pull-answer.ensures.alone keeps))
+    changes-and-trims (IsRefused g.S.FileStore.gives g.S.FileStore.tree) c.args.pulling.now.max_conflicts c.args.pulling.now.moment n t c.in-Ok.plan c.commit_pull-answer.result old placed new
+    (both-alone c.args.pulling.now.max_conflicts c.args.pulling.now.moment n t.base t.target c.in-Ok.plan old mid placed c.in-Ok.ensures.planned (c.prepare.ensures.temp keeps) (c.commit_pull-answer.ensures.alone keeps))
     c.in-Ok.ensures.planned (g.S.FileStore.keeps ≡ true) (c.trim_copies.new.store ≡ c.commit_pull-answer.new.store) keeps (ap g.S.FileStore.tree) mid
     (done-through (IsReplaced t.base t.target c.in-Ok.plan n mid placed) _ (λ replaced. replaced.copied) c.commit_pull-answer.result (c.commit_pull-answer.ensures.done keeps)) c.trim_copies.ensures.trims
 
@@ -193,8 +193,8 @@ returns-in-Err-clause-alone g c = λ keeps.
     (subst (λ a. Closes (g.W.FolderCalls.view c.prepare.new.calls) (GiveUp t) a c.give_up.result (g.W.FolderCalls.view c.give_up.new.calls)) c.answer_of.ensures c.give_up.ensures.closes) in
     record {
       placed = new;
-      alone = dropped-alone n (copy_name n c.args.moment t.base) (g.S.FileStore.tree c.args.store.now) (g.S.FileStore.tree c.prepare.new.store) new (c.prepare.ensures.temp keeps) (c.drop_temp.ensures.temp keeps);
-      trimmed = undone-trims (is_copy_due c.args.max_conflicts t.base t.target) c.give_up.result _ (new ≡ new) refl undone;
+      alone = dropped-alone n (copy_name n c.args.pulling.now.moment t.base) (g.S.FileStore.tree c.args.store.now) (g.S.FileStore.tree c.prepare.new.store) new (c.prepare.ensures.temp keeps) (c.drop_temp.ensures.temp keeps);
+      trimmed = undone-trims (is_copy_due c.args.pulling.now.max_conflicts t.base t.target) c.give_up.result _ (new ≡ new) refl undone;
     }
 
 pub returns-in-Ok-clause-entered : goal.returns-in-Ok-clause-entered
@@ -204,7 +204,7 @@ returns-in-Ok-clause-entered g c = λ keeps.
     let old = g.S.FileStore.tree c.args.store.now in
     let placed = g.S.FileStore.tree c.commit_pull-answer.new.store in
     let new = g.S.FileStore.tree c.trim_copies.new.store in
-    let stays = after-stay (IsRefused g.S.FileStore.gives g.S.FileStore.tree) c.args.max_conflicts c.args.moment n t.base t.target c.in-Ok.plan placed new c.conflict_names_are_of_copies.ensures.other
+    let stays = after-stay (IsRefused g.S.FileStore.gives g.S.FileStore.tree) c.args.pulling.now.max_conflicts c.args.pulling.now.moment n t.base t.target c.in-Ok.plan placed new c.conflict_names_are_of_copies.ensures.other
     c.in-Ok.ensures.planned c.commit_pull-answer.result (g.S.FileStore.keeps ≡ true) (c.trim_copies.new.store ≡ c.commit_pull-answer.new.store) keeps (ap g.S.FileStore.tree) c.trim_copies.ensures.trims in
     let first = g.W.FolderCalls.view c.args.calls.now in
     let last = g.W.FolderCalls.view c.commit_pull-answer.new.calls in
@@ -223,28 +223,28 @@ returns-in-Ok-clause-free g c = λ keeps.
     let mid = g.S.FileStore.tree c.prepare.new.store in
     let placed = g.S.FileStore.tree c.commit_pull-answer.new.store in
     let new = g.S.FileStore.tree c.trim_copies.new.store in
-    let stays = after-stay (IsRefused g.S.FileStore.gives g.S.FileStore.tree) c.args.max_conflicts c.args.moment n t.base t.target c.in-Ok.plan placed new c.conflict_names_are_of_copies.ensures.other
+    let stays = after-stay (IsRefused g.S.FileStore.gives g.S.FileStore.tree) c.args.pulling.now.max_conflicts c.args.pulling.now.moment n t.base t.target c.in-Ok.plan placed new c.conflict_names_are_of_copies.ensures.other
     c.in-Ok.ensures.planned c.commit_pull-answer.result (g.S.FileStore.keeps ≡ true) (c.trim_copies.new.store ≡ c.commit_pull-answer.new.store) keeps (ap g.S.FileStore.tree) c.trim_copies.ensures.trims in
-    free-on (is_copy_due c.args.max_conflicts t.base t.target) n (copy_name n c.args.moment t.base) old placed new stays
-    (free-as c.args.max_conflicts c.args.moment n t.base t.target c.in-Ok.plan old mid placed c.in-Ok.ensures.planned (c.prepare.ensures.temp keeps) (c.commit_pull-answer.ensures.alone keeps) (c.commit_pull-answer.ensures.copy_alone keeps))
+    free-on (is_copy_due c.args.pulling.now.max_conflicts t.base t.target) n (copy_name n c.args.pulling.now.moment t.base) old placed new stays
+    (free-as c.args.pulling.now.max_conflicts c.args.pulling.now.moment n t.base t.target c.in-Ok.plan old mid placed c.in-Ok.ensures.planned (c.prepare.ensures.temp keeps) (c.commit_pull-answer.ensures.alone keeps) (c.commit_pull-answer.ensures.copy_alone keeps))
 
 pub returns-in-Err-clause-free : goal.returns-in-Err-clause-free
 returns-in-Err-clause-free g c = λ keeps.
     let t = c.args.ticket in
-    dropped-free (is_copy_due c.args.max_conflicts t.base t.target) c.args.name.now (copy_name c.args.name.now c.args.moment t.base) (g.S.FileStore.tree c.args.store.now) (g.S.FileStore.tree c.prepare.new.store) (g.S.FileStore.tree c.drop_temp.new.store)
+    dropped-free (is_copy_due c.args.pulling.now.max_conflicts t.base t.target) c.args.name.now (copy_name c.args.name.now c.args.pulling.now.moment t.base) (g.S.FileStore.tree c.args.store.now) (g.S.FileStore.tree c.prepare.new.store) (g.S.FileStore.tree c.drop_temp.new.store)
     (c.prepare.ensures.temp keeps) (c.drop_temp.ensures.temp keeps)
 
 pub returns-in-Ok-clause-checks : goal.returns-in-Ok-clause-checks
 returns-in-Ok-clause-checks g c =
     let n = c.args.name.now in
     let t = c.args.ticket in
-    let kind = IsOfPull n (copy_name n c.args.moment t.base) in
+    let kind = IsOfPull n (copy_name n c.args.pulling.now.moment t.base) in
     let gives = g.S.FileStore.gives in
     enters_on gives n _ t kind _ (g.W.FolderCalls.view c.args.calls.now) c.args.store.now c.commit_pull-answer.new.store c.trim_copies.new.store
     (enters_from gives n _ t kind _ _ (g.W.FolderCalls.view c.prepare.new.calls) c.args.store.now c.prepare.new.store c.commit_pull-answer.new.store c.prepare.ensures.sees c.prepare.ensures.calls
     (enters_wider gives n _ t (IsOfPlace n (copy_of c.in-Ok.plan)) kind _ (g.W.FolderCalls.view c.prepare.new.calls) c.prepare.new.store c.commit_pull-answer.new.store
-    (plan_pull c.args.max_conflicts c.args.moment n t.base t.target c.in-Ok.plan c.in-Ok.ensures.planned) c.commit_pull-answer.ensures.checks))
-    (c.trim_copies.ensures.calls (copy_name n c.args.moment t.base))
+    (plan_pull c.args.pulling.now.max_conflicts c.args.pulling.now.moment n t.base t.target c.in-Ok.plan c.in-Ok.ensures.planned) c.commit_pull-answer.ensures.checks))
+    (c.trim_copies.ensures.calls (copy_name n c.args.pulling.now.moment t.base))
     (still_undone c.commit_pull-answer.result (c.trim_copies.new.store ≡ c.commit_pull-answer.new.store)
     (after-undone c.in-Ok.plan c.commit_pull-answer.result _ (c.trim_copies.new.store ≡ c.commit_pull-answer.new.store) c.trim_copies.ensures.trims))
 
