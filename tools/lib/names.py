@@ -7,7 +7,7 @@ import re
 GONE = ("PeerFolder", "ServedFolder", "JournalPulls", "JournalSteps", "node_laws", "journal_laws", "sync_layers", "run_and_tell", "store_calls", "worker_calls", "reader_calls",
         "link_calls", "peer_node")
 # how many functions of a crate have more than seven parameters, and how many clauses of its public functions have more than two lines: both only fall
-PARAMETERS = {"sync_scan": 14, "sync_pull": 10, "bepd_pair": 5, "proof_layers": 5, "peer_link": 4, "peer_reader": 2}
+PARAMETERS = {"bepd_pair": 5, "proof_layers": 5, "sync_pull": 1}
 CLAUSES = {"folder_core": 113, "folder_calls": 42, "proof_node": 31, "index_sender": 17, "sync_pull": 12, "proof_journal": 11, "sync_scan": 11, "bep_messages": 8, "block_server": 5,
            "folder_shared": 5, "proof_layers": 5, "sync_record": 4, "device_text": 3, "sync_names": 3, "bep_wire": 2, "bepd": 2, "file_store": 2, "peer_reader": 2, "peer_server": 2,
            "sync_blocks": 2, "bep_frames": 1, "device_certificate": 1, "folder_look": 1, "node_journal": 1, "node_recover": 1, "node_resume": 1, "node_saver": 1, "peer_conn": 1}

@@ -6,7 +6,6 @@ ghost use Rattle.file_store.specs.Calls.{stat_of};
 ghost use Rattle.file_store.specs.Sequences.{LooksOnly, Since};
 ghost use Rattle.file_store.specs.Trees.{Tree, bytes_of};
 ghost use Rattle.folder_calls.specs.Shared.{CallerView, Sees};
-ghost use Rattle.sync_blocks.specs.Sizes.{block_size_for};
 ghost use Rattle.sync_record.specs.Records.{Name};
 ghost use Rattle.sync_scan.specs.Ahead.{AreSeen, HasBlocks, HasBytes, IsSeen, SightIs, cut_block};
 ghost use Rattle.sync_scan.specs.Looks.{MayFind, MayFindAt, ShownSince};
@@ -16,6 +15,7 @@ ghost use Rattle.sync_scan.specs.Told.{Fails, ReadsOther, ReadsWhole, Says};
 
 use crate::cuts::{Cut, hash_cuts, push_cuts};
 use crate::looking::recorded_block_size;
+use crate::scanning::Scanning;
 use file_store::{FileStore, Gate, GatePlace, Listed, Stat, StoreRefusal, read_full};
 use folder_calls::FolderCalls;
 use std::alloc::{AllocError, Global};
@@ -64,6 +64,13 @@ pub(crate) struct Seen {
     pub(crate) sight: Sight,
 }
 
+/// The turn of a name: what was seen of it, with the blocks of the files that were read then.
+#[derive(Debug, Drop)]
+pub(crate) struct Turn<'a> {
+    pub(crate) seen: Seen,
+    pub(crate) blocks: &'a [Block],
+}
+
 /// What was read ahead of the next names, with the blocks of their files.
 #[derive(Debug, Drop)]
 pub(crate) struct Ahead {
@@ -85,13 +92,20 @@ impl Ahead {
     }
 }
 
+// What was read of several files, one after the other from the front of a buffer.
+#[derive(Debug, Drop)]
+struct Batch {
+    // The cuts for their blocks.
+    cuts: Vec<Cut>,
+    // How many bytes of the buffer are theirs.
+    filled: usize,
+}
+
 /// What was seen of the first of these names, the others of which may have been seen too. Where none was seen, it reads ahead.
-pub(crate) fn next_seen<S: FileStore, W: FolderCalls, G: Gate>(
-    rt: &(impl Threads + Sync),
-    alloc: Global,
+pub(crate) fn next_seen<S: FileStore, W: FolderCalls, R: Threads + Sync, G: Gate>(
+    scanning: &Scanning<R, G>,
     store: &mut S,
     calls: &mut W,
-    gate: &G,
     entries: &[Listed],
     ahead: &mut Ahead,
     buffer: &mut Vec<u8>,
@@ -102,15 +116,15 @@ pub(crate) fn next_seen<S: FileStore, W: FolderCalls, G: Gate>(
         GoesOn first (W.view calls.old) → LooksOnly S.gives begun store.old → (IsTrue S.keeps → S.tree store.old ≡ tree) →
         map (λ e. e.name) entries.now ≡ n ∷ rest →
         AreSeen ahead.old first (W.view calls.old)
-        (MayFindAt S.gives (ShownSince S.gives (G.shown gate.now S W) W.view begun) (IsTrue S.keeps) tree) (Fails S.gives) (n ∷ rest) →
+        (MayFindAt S.gives (ShownSince S.gives (G.shown scanning.now.gate.now S W) W.view begun) (IsTrue S.keeps) tree) (Fails S.gives) (n ∷ rest) →
         IsSeen (HasBlocks ahead.new.blocks.items) first (W.view calls.new)
-        (MayFindAt S.gives (ShownSince S.gives (G.shown gate.now S W) W.view begun) (IsTrue S.keeps) tree) (Fails S.gives) n result
+        (MayFindAt S.gives (ShownSince S.gives (G.shown scanning.now.gate.now S W) W.view begun) (IsTrue S.keeps) tree) (Fails S.gives) n result
         × AreSeen ahead.new first (W.view calls.new)
-        (MayFindAt S.gives (ShownSince S.gives (G.shown gate.now S W) W.view begun) (IsTrue S.keeps) tree) (Fails S.gives) rest }
+        (MayFindAt S.gives (ShownSince S.gives (G.shown scanning.now.gate.now S W) W.view begun) (IsTrue S.keeps) tree) (Fails S.gives) rest }
     ensures looks { LooksOnly S.gives store.old store.new }
     ensures kept { S.keeps ≡ true → S.tree store.new ≡ S.tree store.old }
 {
-    fill_ahead(rt, alloc, store, calls, gate, entries, ahead, buffer);
+    fill_ahead(scanning, store, calls, entries, ahead, buffer);
     match ahead.seen.pop_front() {
         Some(seen) => seen,
         None => Seen {
@@ -122,12 +136,10 @@ pub(crate) fn next_seen<S: FileStore, W: FolderCalls, G: Gate>(
 
 // Reads ahead of these names, unless some of them were seen.
 #[tactic(auto, using(crate::proofs::LookLemmas::no_look))]
-fn fill_ahead<S: FileStore, W: FolderCalls, G: Gate>(
-    rt: &(impl Threads + Sync),
-    alloc: Global,
+fn fill_ahead<S: FileStore, W: FolderCalls, R: Threads + Sync, G: Gate>(
+    scanning: &Scanning<R, G>,
     store: &mut S,
     calls: &mut W,
-    gate: &G,
     entries: &[Listed],
     ahead: &mut Ahead,
     buffer: &mut Vec<u8>,
@@ -137,10 +149,10 @@ fn fill_ahead<S: FileStore, W: FolderCalls, G: Gate>(
     ensures seen { (first : CallerView) (begun : S) (tree : Tree) →
         GoesOn first (W.view calls.old) → LooksOnly S.gives begun store.old → (IsTrue S.keeps → S.tree store.old ≡ tree) →
         AreSeen ahead.old first (W.view calls.old)
-        (MayFindAt S.gives (ShownSince S.gives (G.shown gate.now S W) W.view begun) (IsTrue S.keeps) tree) (Fails S.gives)
+        (MayFindAt S.gives (ShownSince S.gives (G.shown scanning.now.gate.now S W) W.view begun) (IsTrue S.keeps) tree) (Fails S.gives)
         (map (λ e. e.name) entries.now) →
         AreSeen ahead.new first (W.view calls.new)
-        (MayFindAt S.gives (ShownSince S.gives (G.shown gate.now S W) W.view begun) (IsTrue S.keeps) tree) (Fails S.gives)
+        (MayFindAt S.gives (ShownSince S.gives (G.shown scanning.now.gate.now S W) W.view begun) (IsTrue S.keeps) tree) (Fails S.gives)
         (map (λ e. e.name) entries.now) }
     ensures looks { LooksOnly S.gives store.old store.new }
     ensures kept { S.keeps ≡ true → S.tree store.new ≡ S.tree store.old }
@@ -148,95 +160,82 @@ fn fill_ahead<S: FileStore, W: FolderCalls, G: Gate>(
     if !ahead.seen.is_empty() {
         return;
     }
-    *ahead = look_ahead(rt, alloc, store, calls, gate, entries, buffer);
+    *ahead = look_ahead(scanning, store, calls, entries, buffer);
 }
 
 /// Reads ahead of the changes of these names, and hashes their files side by side: up to 64 MiB of files of up to 8 MiB, and up
 /// to 256 names. What is out of memory is left for the turn of its name.
-pub(crate) fn look_ahead<S: FileStore, W: FolderCalls, G: Gate>(
-    rt: &(impl Threads + Sync),
-    alloc: Global,
+pub(crate) fn look_ahead<S: FileStore, W: FolderCalls, R: Threads + Sync, G: Gate>(
+    scanning: &Scanning<R, G>,
     store: &mut S,
     calls: &mut W,
-    gate: &G,
     entries: &[Listed],
     buffer: &mut Vec<u8>,
 ) -> Ahead
     ensures folder { W.folder calls.new ≡ W.folder calls.old }
     ensures sees { Sees (W.view calls.old) (W.view calls.new) }
     ensures seen { AreSeen result (W.view calls.old) (W.view calls.new)
-        (MayFindAt S.gives (ShownSince S.gives (G.shown gate.now S W) W.view store.old)
+        (MayFindAt S.gives (ShownSince S.gives (G.shown scanning.now.gate.now S W) W.view store.old)
         (IsTrue S.keeps) (S.tree store.old)) (Fails S.gives)
         (map (λ e. e.name) entries.now) }
     ensures looks { LooksOnly S.gives store.old store.new }
     ensures kept { S.keeps ≡ true → S.tree store.new ≡ S.tree store.old }
 {
-    let mut cuts = Vec::new(alloc);
-    let mut filled = 0;
-    let Ok(seen) = read_ahead(
-        alloc,
-        store,
-        calls,
-        gate,
-        entries,
-        buffer,
-        &mut cuts,
-        &mut filled,
-    ) else {
-        return Ahead::none(alloc);
+    let mut batch = Batch {
+        cuts: Vec::new(scanning.alloc),
+        filled: 0,
     };
-    match hash_read(rt, alloc, gate, &buffer[..filled], &cuts) {
+    let Ok(seen) = read_ahead(scanning, store, calls, entries, buffer, &mut batch) else {
+        return Ahead::none(scanning.alloc);
+    };
+    match hash_read(scanning, &buffer[..batch.filled], &batch.cuts) {
         Ok(blocks) => Ahead { seen, blocks },
-        Err(AllocError) => Ahead::none(alloc),
+        Err(AllocError) => Ahead::none(scanning.alloc),
     }
 }
 
 // The blocks that the cuts stand for, in order. Of no cut the gate is not passed.
-fn hash_read<G: Gate>(
-    rt: &(impl Threads + Sync),
-    alloc: Global,
-    gate: &G,
+fn hash_read<R: Threads + Sync, G: Gate>(
+    scanning: &Scanning<R, G>,
     bytes: &[u8],
     cuts: &[Cut],
 ) -> Result<Vec<Block>, AllocError>
     ensures { IfOk result (λ v. v.items ≡ map (cut_block bytes.now) cuts.now) }
 {
     if cuts.is_empty() {
-        return Ok(Vec::new(alloc));
+        return Ok(Vec::new(scanning.alloc));
     }
-    gate.at(GatePlace::Digest);
-    hash_cuts(rt, alloc, bytes, cuts)
+    scanning.gate.at(GatePlace::Digest);
+    hash_cuts(scanning.rt, scanning.alloc, bytes, cuts)
 }
 
 // Reads ahead of these names.
-fn read_ahead<S: FileStore, W: FolderCalls, G: Gate>(
-    alloc: Global,
+fn read_ahead<S: FileStore, W: FolderCalls, R: Threads + Sync, G: Gate>(
+    scanning: &Scanning<R, G>,
     store: &mut S,
     calls: &mut W,
-    gate: &G,
     entries: &[Listed],
     buffer: &mut Vec<u8>,
-    cuts: &mut Vec<Cut>,
-    filled: &mut usize,
+    batch: &mut Batch,
 ) -> Result<VecDeque<Seen>, AllocError>
-    requires empty { filled.old ≡ 0 }
+    requires empty { batch.old.filled ≡ 0 }
     ensures folder { W.folder calls.new ≡ W.folder calls.old }
     ensures sees { Sees (W.view calls.old) (W.view calls.new) }
-    ensures within { IfOk result (λ _. filled.new ≤ length buffer.new.items) }
-    ensures seen { IfOk result (λ seen. (k : ℕ) × AllZip (IsSeen (HasBytes (take filled.new buffer.new.items) cuts.new.items)
+    ensures within { IfOk result (λ _. batch.new.filled ≤ length buffer.new.items) }
+    ensures seen { IfOk result (λ seen. (k : ℕ) × AllZip (IsSeen (HasBytes (take batch.new.filled buffer.new.items) batch.new.cuts.items)
         (W.view calls.old) (W.view calls.new)
-        (MayFindAt S.gives (ShownSince S.gives (G.shown gate.now S W) W.view store.old)
+        (MayFindAt S.gives (ShownSince S.gives (G.shown scanning.now.gate.now S W) W.view store.old)
         (IsTrue S.keeps) (S.tree store.old)) (Fails S.gives))
         (take k (map (λ e. e.name) entries.now)) seen.items) }
     ensures looks { LooksOnly S.gives store.old store.new }
     ensures kept { S.keeps ≡ true → S.tree store.new ≡ S.tree store.old }
 {
-    let mut seen = VecDeque::with_capacity(alloc, MAX_NAMES)?;
+    let mut seen = VecDeque::with_capacity(scanning.alloc, MAX_NAMES)?;
     for entry in entries {
-        if seen.len() == MAX_NAMES || *filled > MAX_BYTES - MAX_PART {
+        if seen.len() == MAX_NAMES || batch.filled > MAX_BYTES - MAX_PART {
             return Ok(seen);
         }
-        let next = see(store, calls, gate, &entry.name, buffer, cuts, filled)?;
+        let next = see(store, calls, scanning.gate, &entry.name, buffer, batch)?;
         seen.push_back(next)?;
     }
     Ok(seen)
@@ -249,17 +248,16 @@ fn see<S: FileStore, W: FolderCalls, G: Gate>(
     gate: &G,
     name: &SafeName,
     buffer: &mut Vec<u8>,
-    cuts: &mut Vec<Cut>,
-    filled: &mut usize,
+    batch: &mut Batch,
 ) -> Result<Seen, AllocError>
-    requires within { filled.old ≤ length buffer.old.items }
-    requires room { filled.old ≤ 2 ^ 26 }
+    requires within { batch.old.filled ≤ length buffer.old.items }
+    requires room { batch.old.filled ≤ 2 ^ 26 }
     ensures folder { W.folder calls.new ≡ W.folder calls.old }
     ensures sees { Sees (W.view calls.old) (W.view calls.new) }
-    ensures within { IfOk result (λ _. filled.new ≤ length buffer.new.items) }
-    ensures bytes { IfOk result (λ _. IsPrefix (take filled.old buffer.old.items) (take filled.new buffer.new.items)) }
-    ensures cuts { IfOk result (λ _. IsPrefix cuts.old.items cuts.new.items) }
-    ensures seen { IfOk result (IsSeen (HasBytes (take filled.new buffer.new.items) cuts.new.items)
+    ensures within { IfOk result (λ _. batch.new.filled ≤ length buffer.new.items) }
+    ensures bytes { IfOk result (λ _. IsPrefix (take batch.old.filled buffer.old.items) (take batch.new.filled buffer.new.items)) }
+    ensures cuts { IfOk result (λ _. IsPrefix batch.old.cuts.items batch.new.cuts.items) }
+    ensures seen { IfOk result (IsSeen (HasBytes (take batch.new.filled buffer.new.items) batch.new.cuts.items)
         (W.view calls.old) (W.view calls.new)
         (MayFindAt S.gives (ShownSince S.gives (G.shown gate.now S W) W.view store.old)
         (IsTrue S.keeps) (S.tree store.old)) (Fails S.gives) name.now) }
@@ -269,7 +267,7 @@ fn see<S: FileStore, W: FolderCalls, G: Gate>(
     gate.at(GatePlace::FolderCall);
     let local = calls.local(name)?.value;
     gate.show(store, calls);
-    let sight = sight_of(store, gate, name, local.as_ref(), buffer, cuts, filled)?;
+    let sight = sight_of(store, gate, name, local.as_ref(), buffer, batch)?;
     Ok(Seen { local, sight })
 }
 
@@ -280,16 +278,15 @@ fn sight_of<S: FileStore, G: Gate>(
     name: &SafeName,
     local: Option<&Record>,
     buffer: &mut Vec<u8>,
-    cuts: &mut Vec<Cut>,
-    filled: &mut usize,
+    batch: &mut Batch,
 ) -> Result<Sight, AllocError>
-    requires within { filled.old ≤ length buffer.old.items }
-    requires room { filled.old ≤ 2 ^ 26 }
-    ensures within { IfOk result (λ _. filled.new ≤ length buffer.new.items) }
-    ensures bytes { IfOk result (λ _. IsPrefix (take filled.old buffer.old.items) (take filled.new buffer.new.items)) }
-    ensures cuts { IfOk result (λ _. IsPrefix cuts.old.items cuts.new.items) }
+    requires within { batch.old.filled ≤ length buffer.old.items }
+    requires room { batch.old.filled ≤ 2 ^ 26 }
+    ensures within { IfOk result (λ _. batch.new.filled ≤ length buffer.new.items) }
+    ensures bytes { IfOk result (λ _. IsPrefix (take batch.old.filled buffer.old.items) (take batch.new.filled buffer.new.items)) }
+    ensures cuts { IfOk result (λ _. IsPrefix batch.old.cuts.items batch.new.cuts.items) }
     ensures sight { (first : S) → LooksOnly S.gives first store.old →
-        IfOk result (SightIs (HasBytes (take filled.new buffer.new.items) cuts.new.items)
+        IfOk result (SightIs (HasBytes (take batch.new.filled buffer.new.items) batch.new.cuts.items)
         (MayFind (Since S.gives first) (IsTrue S.keeps) (S.tree store.old) name.now (option_copied local.entry))
         (Fails S.gives name.now)) }
     ensures looks { LooksOnly S.gives store.old store.new }
@@ -297,7 +294,7 @@ fn sight_of<S: FileStore, G: Gate>(
 {
     gate.at(GatePlace::StoreRead);
     match store.stat(name) {
-        Ok(stat) => sight_of_file(store, gate, name, local, stat, buffer, cuts, filled),
+        Ok(stat) => sight_of_file(store, gate, name, local, stat, buffer, batch),
         Err(refusal) => Ok(Sight::Failed(refusal)),
     }
 }
@@ -311,17 +308,16 @@ fn sight_of_file<S: FileStore, G: Gate>(
     local: Option<&Record>,
     stat: Stat,
     buffer: &mut Vec<u8>,
-    cuts: &mut Vec<Cut>,
-    filled: &mut usize,
+    batch: &mut Batch,
 ) -> Result<Sight, AllocError>
-    requires within { filled.old ≤ length buffer.old.items }
-    requires room { filled.old ≤ 2 ^ 26 }
-    ensures within { IfOk result (λ _. filled.new ≤ length buffer.new.items) }
-    ensures bytes { IfOk result (λ _. IsPrefix (take filled.old buffer.old.items) (take filled.new buffer.new.items)) }
-    ensures cuts { IfOk result (λ _. IsPrefix cuts.old.items cuts.new.items) }
+    requires within { batch.old.filled ≤ length buffer.old.items }
+    requires room { batch.old.filled ≤ 2 ^ 26 }
+    ensures within { IfOk result (λ _. batch.new.filled ≤ length buffer.new.items) }
+    ensures bytes { IfOk result (λ _. IsPrefix (take batch.old.filled buffer.old.items) (take batch.new.filled buffer.new.items)) }
+    ensures cuts { IfOk result (λ _. IsPrefix batch.old.cuts.items batch.new.cuts.items) }
     ensures sight { (first : S) → LooksOnly S.gives first store.old → Says (Since S.gives first) name.now stat →
         (IsTrue S.keeps → stat ≡ stat_of ((S.tree store.old).names name.now)) →
-        IfOk result (SightIs (HasBytes (take filled.new buffer.new.items) cuts.new.items)
+        IfOk result (SightIs (HasBytes (take batch.new.filled buffer.new.items) batch.new.cuts.items)
         (MayFind (Since S.gives first) (IsTrue S.keeps) (S.tree store.old) name.now (option_copied local.entry))
         (Fails S.gives name.now)) }
     ensures looks { LooksOnly S.gives store.old store.new }
@@ -337,17 +333,7 @@ fn sight_of_file<S: FileStore, G: Gate>(
     if recorded_block_size(local, size).unwrap_or(own) != own {
         return Ok(Sight::Later);
     }
-    read_part(
-        store,
-        gate,
-        name,
-        size as usize,
-        modified,
-        own,
-        buffer,
-        cuts,
-        filled,
-    )
+    read_part(store, gate, name, size as usize, modified, buffer, batch)
 }
 
 // Reads a file of this size.
@@ -358,21 +344,17 @@ fn read_part<S: FileStore, G: Gate>(
     name: &SafeName,
     size: usize,
     modified: Moment,
-    block_size: u32,
     buffer: &mut Vec<u8>,
-    cuts: &mut Vec<Cut>,
-    filled: &mut usize,
+    batch: &mut Batch,
 ) -> Result<Sight, AllocError>
-    requires own { block_size ≡ block_size_for size }
-    requires some { 1 ≤ block_size }
     requires small { size ≤ 2 ^ 23 }
-    requires within { filled.old ≤ length buffer.old.items }
-    requires room { filled.old ≤ 2 ^ 26 }
-    ensures within { IfOk result (λ _. filled.new ≤ length buffer.new.items) }
-    ensures bytes { IfOk result (λ _. IsPrefix (take filled.old buffer.old.items) (take filled.new buffer.new.items)) }
-    ensures cuts { IfOk result (λ _. IsPrefix cuts.old.items cuts.new.items) }
+    requires within { batch.old.filled ≤ length buffer.old.items }
+    requires room { batch.old.filled ≤ 2 ^ 26 }
+    ensures within { IfOk result (λ _. batch.new.filled ≤ length buffer.new.items) }
+    ensures bytes { IfOk result (λ _. IsPrefix (take batch.old.filled buffer.old.items) (take batch.new.filled buffer.new.items)) }
+    ensures cuts { IfOk result (λ _. IsPrefix batch.old.cuts.items batch.new.cuts.items) }
     ensures read { (first : S) → LooksOnly S.gives first store.old →
-        IfOk result (SightIs (λ part bytes. HasBytes (take filled.new buffer.new.items) cuts.new.items part bytes
+        IfOk result (SightIs (λ part bytes. HasBytes (take batch.new.filled buffer.new.items) batch.new.cuts.items part bytes
         × (part.size ≡ size) × (part.modified ≡ modified)
         × ReadsWhole (Since S.gives first) name.now bytes
         × (S.keeps ≡ true → bytes ≡ bytes_of ((S.tree store.old).names name.now)))
@@ -382,7 +364,7 @@ fn read_part<S: FileStore, G: Gate>(
     ensures looks { LooksOnly S.gives store.old store.new }
     ensures kept { S.keeps ≡ true → S.tree store.new ≡ S.tree store.old }
 {
-    let (start, first) = (*filled, cuts.len());
+    let (start, first) = (batch.filled, batch.cuts.len());
     let end = start + size;
     grow(buffer, end)?;
     match read_whole(store, gate, name, &mut buffer[start..end]) {
@@ -390,8 +372,9 @@ fn read_part<S: FileStore, G: Gate>(
         Ok(false) => return Ok(Sight::Changing),
         Err(refusal) => return Ok(Sight::Failed(refusal)),
     }
-    push_cuts(cuts, start, size, block_size)?;
-    *filled = end;
+    let block_size = block_size_for(size as u64);
+    push_cuts(&mut batch.cuts, start, size, block_size)?;
+    batch.filled = end;
     Ok(Sight::Read(Part {
         start,
         size,

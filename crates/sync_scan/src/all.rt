@@ -1,17 +1,18 @@
 //! The scan of all names.
-ghost use Rattle.std.specs.Prelude.{◌≡◌, [], IsTrue, List, None, Result, Some, false, map, true};
+ghost use Rattle.std.specs.Prelude.{◌≡◌, [], IsTrue, List, None, Some, false, map, true};
 ghost use Rattle.file_store.specs.Listings.{AreAscending, IsListing};
 ghost use Rattle.file_store.specs.Sequences.{LooksOnly};
 ghost use Rattle.file_store.specs.declared.node.Listing.{Listing};
 ghost use Rattle.sync_scan.specs.AllNames.{GoesOver, HasListed, ScansAll, ScansEach, ScansOne, Tried, UnlessBelow, is_below_any, sum_after};
 ghost use Rattle.sync_scan.specs.Looks.{MayFindAt, ShownSince};
 ghost use Rattle.sync_scan.specs.Told.{Fails};
-ghost use Rattle.sync_scan.specs.Stops.{IsFaultCounted, counted, empty_sum};
+ghost use Rattle.sync_scan.specs.Stops.{IsFaultCounted, empty_sum};
 ghost use Rattle.sync_scan.specs.declared.sum.ScanStop.TheVariants.{StoreFault};
 
-use crate::ahead::{Ahead, next_seen};
+use crate::ahead::{Ahead, Turn, next_seen};
 use crate::missing::missing_names;
 use crate::name::{scan_one, scan_seen};
+use crate::scanning::Scanning;
 use crate::sum::stop_by;
 use crate::{Progress, ScanStop, ScanSum, Scanned};
 use file_store::{FileStore, Gate, Listed, StoreRefusal, is_below};
@@ -52,15 +53,18 @@ pub fn scan_all<S: FileStore, W: FolderCalls, G: Gate, P: Progress>(
         Ok(listing) => listing,
         Err(refusal) => return ScanSum::new().stopped_by(stop_by(refusal)),
     };
-    let mut buffer = Vec::new(alloc);
-    let sum = scan_listed(
+    let scanning = Scanning {
         rt,
         alloc,
+        gate,
+        moment,
+    };
+    let mut buffer = Vec::new(alloc);
+    let sum = scan_listed(
+        &scanning,
         store,
         calls,
-        gate,
         &listing.entries,
-        moment,
         &mut buffer,
         progress,
     );
@@ -68,38 +72,37 @@ pub fn scan_all<S: FileStore, W: FolderCalls, G: Gate, P: Progress>(
         return sum;
     }
     match missing_names(alloc, calls, gate, &listing.entries) {
-        Ok(names) => scan_missing(
-            rt,
-            alloc,
-            store,
-            calls,
-            gate,
-            &names,
-            &listing.unread,
-            moment,
-            &mut buffer,
-            progress,
-            sum,
-        ),
+        Ok(names) => {
+            let missing = Missing {
+                names: &names,
+                unread: &listing.unread,
+            };
+            scan_missing(
+                &scanning,
+                store,
+                calls,
+                &missing,
+                &mut buffer,
+                progress,
+                sum,
+            )
+        }
         Err(AllocError) => sum.stopped_by(ScanStop::OutOfMemory),
     }
 }
 
 // Scans the listed names in their order, up to one that stops the scan.
-fn scan_listed<S: FileStore, W: FolderCalls, G: Gate, P: Progress>(
-    rt: &(impl Threads + Sync),
-    alloc: Global,
+fn scan_listed<S: FileStore, W: FolderCalls, R: Threads + Sync, G: Gate, P: Progress>(
+    scanning: &Scanning<R, G>,
     store: &mut S,
     calls: &mut W,
-    gate: &G,
     entries: &[Listed],
-    moment: Moment,
     buffer: &mut Vec<u8>,
     progress: &mut P,
 ) -> ScanSum
     ensures folder { W.folder calls.new ≡ W.folder calls.old }
-    ensures scans { (tried : List Tried) × ScansEach (W.view calls.old) (W.view calls.old) moment
-        (MayFindAt S.gives (ShownSince S.gives (G.shown gate.now S W) W.view store.old)
+    ensures scans { (tried : List Tried) × ScansEach (W.view calls.old) (W.view calls.old) scanning.now.moment
+        (MayFindAt S.gives (ShownSince S.gives (G.shown scanning.now.gate.now S W) W.view store.old)
         (IsTrue S.keeps) (S.tree store.old)) (Fails S.gives) tried (W.view calls.new)
         × GoesOver (map (λ e. e.name) entries.now) tried result.stopped
         × (result ≡ sum_after empty_sum tried) }
@@ -107,31 +110,21 @@ fn scan_listed<S: FileStore, W: FolderCalls, G: Gate, P: Progress>(
     ensures kept { S.keeps ≡ true → S.tree store.new ≡ S.tree store.old }
 {
     let mut sum = ScanSum::new();
-    let mut ahead = Ahead::none(alloc);
+    let mut ahead = Ahead::none(scanning.alloc);
     for (index, entry) in entries.iter().enumerate() {
         let seen = next_seen(
-            rt,
-            alloc,
+            scanning,
             store,
             calls,
-            gate,
             &entries[index..],
             &mut ahead,
             buffer,
         );
-        let came_to = scan_seen(
-            rt,
-            alloc,
-            store,
-            calls,
-            gate,
-            &entry.name,
+        let turn = Turn {
             seen,
-            &ahead.blocks,
-            moment,
-            buffer,
-            progress,
-        );
+            blocks: &ahead.blocks,
+        };
+        let came_to = scan_seen(scanning, store, calls, &entry.name, turn, buffer, progress);
         sum.count(&came_to);
         progress.came_to(&entry.name, &came_to);
         progress.scanned(index as u64 + 1, entries.len() as u64);
@@ -142,37 +135,47 @@ fn scan_listed<S: FileStore, W: FolderCalls, G: Gate, P: Progress>(
     sum
 }
 
+// The names that are not listed, and the directories that could not be read.
+#[derive(Debug, Drop)]
+struct Missing<'a> {
+    names: &'a [SafeName],
+    unread: &'a [SafeName],
+}
+
 // Scans the names that are not listed in their order, up to one that stops the scan. What stands below an unread directory is
 // skipped.
-fn scan_missing<S: FileStore, W: FolderCalls, G: Gate, P: Progress>(
-    rt: &(impl Threads + Sync),
-    alloc: Global,
+fn scan_missing<S: FileStore, W: FolderCalls, R: Threads + Sync, G: Gate, P: Progress>(
+    scanning: &Scanning<R, G>,
     store: &mut S,
     calls: &mut W,
-    gate: &G,
-    names: &[SafeName],
-    unread: &[SafeName],
-    moment: Moment,
+    missing: &Missing,
     buffer: &mut Vec<u8>,
     progress: &mut P,
     sum: ScanSum,
 ) -> ScanSum
     requires { sum.stopped ≡ None }
     ensures folder { W.folder calls.new ≡ W.folder calls.old }
-    ensures scans { (tried : List Tried) × ScansEach (W.view calls.old) (W.view calls.old) moment
-        (UnlessBelow unread.now (MayFindAt S.gives (ShownSince S.gives (G.shown gate.now S W) W.view store.old)
+    ensures scans { (tried : List Tried) × ScansEach (W.view calls.old) (W.view calls.old) scanning.now.moment
+        (UnlessBelow missing.now.unread.now (MayFindAt S.gives (ShownSince S.gives (G.shown scanning.now.gate.now S W) W.view store.old)
         (IsTrue S.keeps) (S.tree store.old)))
         (Fails S.gives) tried (W.view calls.new)
-        × GoesOver names.now tried result.stopped
+        × GoesOver missing.now.names.now tried result.stopped
         × (result ≡ sum_after sum tried) }
     ensures looks { LooksOnly S.gives store.old store.new }
     ensures kept { S.keeps ≡ true → S.tree store.new ≡ S.tree store.old }
 {
     let mut sum = sum;
-    for name in names {
-        scan_missing_name(
-            rt, alloc, store, calls, gate, name, unread, moment, buffer, progress, &mut sum,
+    for name in missing.names {
+        let scanned = scan_missing_name(
+            scanning,
+            store,
+            calls,
+            name,
+            missing.unread,
+            buffer,
+            progress,
         );
+        sum.count(&scanned);
         if sum.stopped.is_some() {
             return sum;
         }
@@ -180,66 +183,31 @@ fn scan_missing<S: FileStore, W: FolderCalls, G: Gate, P: Progress>(
     sum
 }
 
-// Scans a name that is not listed, unless it is below an unread directory, and counts what that came to.
+// Scans a name that is not listed, unless it is below an unread directory.
 #[tactic(auto, using(crate::proofs::LookLemmas::no_look))]
-fn scan_missing_name<S: FileStore, W: FolderCalls, G: Gate, P: Progress>(
-    rt: &(impl Threads + Sync),
-    alloc: Global,
+fn scan_missing_name<S: FileStore, W: FolderCalls, R: Threads + Sync, G: Gate, P: Progress>(
+    scanning: &Scanning<R, G>,
     store: &mut S,
     calls: &mut W,
-    gate: &G,
     name: &SafeName,
     unread: &[SafeName],
-    moment: Moment,
     buffer: &mut Vec<u8>,
     progress: &mut P,
-    sum: &mut ScanSum,
-)
+) -> Result<Scanned, StoreRefusal>
     ensures folder { W.folder calls.new ≡ W.folder calls.old }
-    ensures scans { (r : Result Scanned StoreRefusal) × ScansOne (W.view calls.old) (W.view calls.old) name.now moment
-        (UnlessBelow unread.now (MayFindAt S.gives (ShownSince S.gives (G.shown gate.now S W) W.view store.old)
+    ensures scans { ScansOne (W.view calls.old) (W.view calls.old) name.now scanning.now.moment
+        (UnlessBelow unread.now (MayFindAt S.gives (ShownSince S.gives (G.shown scanning.now.gate.now S W) W.view store.old)
         (IsTrue S.keeps) (S.tree store.old)) name.now)
-        (Fails S.gives name.now) r (W.view calls.new)
-        × (sum.new ≡ counted sum.old r) }
+        (Fails S.gives name.now) result (W.view calls.new) }
     ensures looks { LooksOnly S.gives store.old store.new }
     ensures kept { S.keeps ≡ true → S.tree store.new ≡ S.tree store.old }
 {
     if is_below_any(unread, name) {
-        sum.count(&Ok(Scanned::Skipped));
-        return;
+        return Ok(Scanned::Skipped);
     }
-    scan_next(
-        rt, alloc, store, calls, gate, name, moment, buffer, progress, sum,
-    );
-}
-
-// Scans a name, and counts what that came to.
-fn scan_next<S: FileStore, W: FolderCalls, G: Gate, P: Progress>(
-    rt: &(impl Threads + Sync),
-    alloc: Global,
-    store: &mut S,
-    calls: &mut W,
-    gate: &G,
-    name: &SafeName,
-    moment: Moment,
-    buffer: &mut Vec<u8>,
-    progress: &mut P,
-    sum: &mut ScanSum,
-)
-    ensures folder { W.folder calls.new ≡ W.folder calls.old }
-    ensures scans { (r : Result Scanned StoreRefusal) × ScansOne (W.view calls.old) (W.view calls.old) name.now moment
-        (MayFindAt S.gives (ShownSince S.gives (G.shown gate.now S W) W.view store.old)
-        (IsTrue S.keeps) (S.tree store.old) name.now)
-        (Fails S.gives name.now) r (W.view calls.new)
-        × (sum.new ≡ counted sum.old r) }
-    ensures looks { LooksOnly S.gives store.old store.new }
-    ensures kept { S.keeps ≡ true → S.tree store.new ≡ S.tree store.old }
-{
-    let scanned = scan_one(
-        rt, alloc, store, calls, gate, name, moment, buffer, progress,
-    );
-    sum.count(&scanned);
+    let scanned = scan_one(scanning, store, calls, name, buffer, progress);
     progress.came_to(name, &scanned);
+    scanned
 }
 
 // Whether the name is below one of the directories.

@@ -8,8 +8,9 @@ ghost use Rattle.sync_blocks.specs.BlockList.{block_list};
 ghost use Rattle.sync_scan.specs.Told.{Fails, ReadsOther, ReadsWhole};
 
 use crate::Progress;
+use crate::scanning::Scanning;
 use file_store::{FileStore, Gate, GatePlace, StoreRefusal, read_full};
-use std::alloc::{AllocError, Global};
+use std::alloc::AllocError;
 use std::thread::Threads;
 use sync_blocks::laws::{block_list_is_by_cuts, parts_make_the_block_list};
 use sync_blocks::{Block, group_len, push_blocks};
@@ -19,11 +20,9 @@ use sync_names::SafeName;
 ///
 /// The gate is passed once for the digests, and before each read of the store. The buffer grows to what is read at once.
 /// O(size) time; memory for the list.
-pub(crate) fn blocks_of_file<S: FileStore, G: Gate, P: Progress>(
-    rt: &(impl Threads + Sync),
-    alloc: Global,
+pub(crate) fn blocks_of_file<S: FileStore, R: Threads + Sync, G: Gate, P: Progress>(
+    scanning: &Scanning<R, G>,
     store: &mut S,
-    gate: &G,
     name: &SafeName,
     size: u64,
     block_size: u32,
@@ -48,8 +47,8 @@ pub(crate) fn blocks_of_file<S: FileStore, G: Gate, P: Progress>(
 {
     parts_make_the_block_list();
     block_list_is_by_cuts();
-    gate.at(GatePlace::Digest);
-    let mut blocks = Vec::new(alloc);
+    scanning.gate.at(GatePlace::Digest);
+    let mut blocks = Vec::new(scanning.alloc);
     let group = group_len(size, block_size);
     if buffer.len() < group {
         buffer.resize(group, 0)?;
@@ -59,14 +58,21 @@ pub(crate) fn blocks_of_file<S: FileStore, G: Gate, P: Progress>(
     while done < size {
         let next = group.min((size - done) as usize);
         let part = &mut bytes[..next];
-        if read_full(store, gate, name, done, part)? < next {
+        if read_full(store, scanning.gate, name, done, part)? < next {
             return Ok(None);
         }
-        push_blocks(rt, alloc, done, part, block_size, &mut blocks)?;
+        push_blocks(
+            scanning.rt,
+            scanning.alloc,
+            done,
+            part,
+            block_size,
+            &mut blocks,
+        )?;
         progress.hashed(next as u64);
         done += next as u64;
     }
-    if read_full(store, gate, name, size, &mut [0])? > 0 {
+    if read_full(store, scanning.gate, name, size, &mut [0])? > 0 {
         return Ok(None);
     }
     if size == 0 {

@@ -16,6 +16,7 @@ mod missing;
 mod name;
 mod progress;
 mod scanned;
+mod scanning;
 mod sum;
 
 pub use all::scan_all;

@@ -12,11 +12,12 @@ ghost use Rattle.sync_scan.specs.Told.{Fails, HasNoOtherParent, HasOtherParent, 
 ghost use Rattle.sync_scan.specs.Looks.{IsTold, LeadsTo, are_recorded, file_finding, look_of, look_of_file, recorded_block_size};
 
 use crate::hashing::blocks_of_file;
+use crate::scanning::Scanning;
 use crate::{Look, Progress};
 use bep_messages::Items;
 use file_store::{FileStore, Gate, GatePlace, Stat, StoreRefusal, parent_of};
 use folder_core::{Finding, FoundContent};
-use std::alloc::{AllocError, Global};
+use std::alloc::Global;
 use std::thread::Threads;
 use sync_blocks::{Block, block_size_for, is_block_size};
 use sync_names::{NameFault, SafeName};
@@ -31,11 +32,9 @@ pub const MAX_FILE_SIZE: u64 = 1 << 46;
 /// A file is read whole. It is cut by the block size of the local record, if that is of a live file of as many bytes, and only
 /// where the blocks then differ by that of new files. A name at which nothing is because something that is neither a directory nor
 /// a file is in a parent's place is skipped.
-pub(crate) fn look_at<S: FileStore, G: Gate, P: Progress>(
-    rt: &(impl Threads + Sync),
-    alloc: Global,
+pub(crate) fn look_at<S: FileStore, R: Threads + Sync, G: Gate, P: Progress>(
+    scanning: &Scanning<R, G>,
     store: &mut S,
-    gate: &G,
     name: &SafeName,
     local: Option<&Record>,
     buffer: &mut Vec<u8>,
@@ -51,10 +50,10 @@ pub(crate) fn look_at<S: FileStore, G: Gate, P: Progress>(
     ensures refusals { IfErr result IsPlain }
     ensures counted { S.fault_count store.new ≡ count_after result (S.fault_count store.old) }
 {
-    gate.at(GatePlace::StoreRead);
+    scanning.gate.at(GatePlace::StoreRead);
     match store.stat(name)? {
         Stat::Missing => {
-            if is_below_other(alloc, store, gate, name)? {
+            if is_below_other(scanning.alloc, store, scanning.gate, name)? {
                 Ok(Look::Skipped)
             } else {
                 Ok(Look::Gone)
@@ -65,45 +64,49 @@ pub(crate) fn look_at<S: FileStore, G: Gate, P: Progress>(
             modified_s: 0,
             modified_ns: 0,
         })),
-        Stat::File(size, modified) => look_at_file(
-            rt, alloc, store, gate, name, local, size, modified, buffer, progress,
-        ),
+        Stat::File(size, modified) => {
+            let file = FileStat { size, modified };
+            look_at_file(scanning, store, name, local, file, buffer, progress)
+        }
         Stat::Other => Ok(Look::Skipped),
     }
 }
 
-// A file of this size, unless it has too many bytes.
-fn look_at_file<S: FileStore, G: Gate, P: Progress>(
-    rt: &(impl Threads + Sync),
-    alloc: Global,
-    store: &mut S,
-    gate: &G,
-    name: &SafeName,
-    local: Option<&Record>,
+// What a store says of a file.
+#[derive(Clone, Copy, Debug, PartialEq, Eq)]
+struct FileStat {
     size: u64,
     modified: Moment,
+}
+
+// A file of which the store says this, unless it has too many bytes.
+fn look_at_file<S: FileStore, R: Threads + Sync, G: Gate, P: Progress>(
+    scanning: &Scanning<R, G>,
+    store: &mut S,
+    name: &SafeName,
+    local: Option<&Record>,
+    file: FileStat,
     buffer: &mut Vec<u8>,
     progress: &mut P,
 ) -> Result<Look, StoreRefusal>
-    ensures there { S.keeps ≡ true → length (bytes_of ((S.tree store.old).names name.now)) ≡ size →
+    ensures there { S.keeps ≡ true → length (bytes_of ((S.tree store.old).names name.now)) ≡ file.size →
         IfOk result (λ look. look ≡ look_of_file (option_copied local.entry)
-        (bytes_of ((S.tree store.old).names name.now)) modified) }
+        (bytes_of ((S.tree store.old).names name.now)) file.modified) }
     ensures told { (first : S) → LooksOnly S.gives first store.old →
-        IfOk result (LeadsTo (Since S.gives first) name.now (option_copied local.entry) (Stat.File size modified)) }
+        IfOk result (LeadsTo (Since S.gives first) name.now (option_copied local.entry) (Stat.File file.size file.modified)) }
     ensures looks { LooksOnly S.gives store.old store.new }
     ensures failed { IfErr result (Fails S.gives name.now) }
     ensures kept { S.keeps ≡ true → S.tree store.new ≡ S.tree store.old }
     ensures refusals { IfErr result IsPlain }
     ensures counted { S.fault_count store.new ≡ count_after result (S.fault_count store.old) }
 {
+    let FileStat { size, modified } = file;
     if size > MAX_FILE_SIZE {
         return Ok(Look::Skipped);
     }
     let own = block_size_for(size);
     if let Some(recorded) = recorded_block_size(local, size) {
-        let Some(blocks) = blocks_of_file(
-            rt, alloc, store, gate, name, size, recorded, buffer, progress,
-        )?
+        let Some(blocks) = blocks_of_file(scanning, store, name, size, recorded, buffer, progress)?
         else {
             return Ok(Look::Changing);
         };
@@ -111,8 +114,7 @@ fn look_at_file<S: FileStore, G: Gate, P: Progress>(
             return Ok(found_file(size, recorded, blocks, modified));
         }
     }
-    let Some(blocks) = blocks_of_file(rt, alloc, store, gate, name, size, own, buffer, progress)?
-    else {
+    let Some(blocks) = blocks_of_file(scanning, store, name, size, own, buffer, progress)? else {
         return Ok(Look::Changing);
     };
     Ok(found_file(size, own, blocks, modified))

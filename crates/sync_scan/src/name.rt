@@ -10,10 +10,11 @@ ghost use Rattle.sync_scan.specs.Looks.{MayFindAt, ShownFirst, ShownSince, file_
 ghost use Rattle.sync_scan.specs.Scans.{GoesOn, Scans};
 ghost use Rattle.sync_scan.specs.Told.{Fails};
 
-use crate::ahead::{Part, Seen, Sight};
+use crate::ahead::{Part, Seen, Sight, Turn};
 use crate::asking::{ask, version_of};
 use crate::cuts::blocks_in;
 use crate::looking::{found_file, look_at};
+use crate::scanning::Scanning;
 use crate::{Look, NoProgress, Progress, Scanned};
 use file_store::{FileStore, Gate, GatePlace, StoreRefusal};
 use folder_calls::FolderCalls;
@@ -49,34 +50,27 @@ pub fn scan_name<S: FileStore, W: FolderCalls, G: Gate>(
     ensures counted { S.fault_count store.new ≡ count_after result (S.fault_count store.old) }
 {
     let mut buffer = Vec::new(alloc);
-    scan_one(
+    let scanning = Scanning {
         rt,
         alloc,
-        store,
-        calls,
         gate,
-        name,
         moment,
-        &mut buffer,
-        &mut NoProgress,
-    )
+    };
+    scan_one(&scanning, store, calls, name, &mut buffer, &mut NoProgress)
 }
 
 /// As [`scan_name`], with a buffer for what is read, which grows to need, and with reports of what is hashed.
-pub(crate) fn scan_one<S: FileStore, W: FolderCalls, G: Gate, P: Progress>(
-    rt: &(impl Threads + Sync),
-    alloc: Global,
+pub(crate) fn scan_one<S: FileStore, W: FolderCalls, R: Threads + Sync, G: Gate, P: Progress>(
+    scanning: &Scanning<R, G>,
     store: &mut S,
     calls: &mut W,
-    gate: &G,
     name: &SafeName,
-    moment: Moment,
     buffer: &mut Vec<u8>,
     progress: &mut P,
 ) -> Result<Scanned, StoreRefusal>
     ensures folder { W.folder calls.new ≡ W.folder calls.old }
-    ensures scans { IfOk result (λ scanned. Scans (W.view calls.old) name.now moment
-        (MayFindAt S.gives (ShownFirst (G.shown gate.now S W) W.view store.old)
+    ensures scans { IfOk result (λ scanned. Scans (W.view calls.old) name.now scanning.now.moment
+        (MayFindAt S.gives (ShownFirst (G.shown scanning.now.gate.now S W) W.view store.old)
         (IsTrue S.keeps) (S.tree store.old) name.now) scanned (W.view calls.new)) }
     ensures looks { LooksOnly S.gives store.old store.new }
     ensures refused { IfErr result (λ _. Sees (W.view calls.old) (W.view calls.new)) }
@@ -86,68 +80,54 @@ pub(crate) fn scan_one<S: FileStore, W: FolderCalls, G: Gate, P: Progress>(
     ensures counted { S.fault_count store.new ≡ count_after result (S.fault_count store.old) }
 {
     block_list_tiles();
-    gate.at(GatePlace::FolderCall);
+    scanning.gate.at(GatePlace::FolderCall);
     let local = calls.local(name)?.value;
-    gate.show(store, calls);
-    let look = look_at(
-        rt,
-        alloc,
-        store,
-        gate,
-        name,
-        local.as_ref(),
-        buffer,
-        progress,
-    )?;
+    scanning.gate.show(store, calls);
+    let look = look_at(scanning, store, name, local.as_ref(), buffer, progress)?;
     let expected = version_of(local.as_ref());
-    Ok(ask(calls, gate, name, expected, look, moment)?)
+    Ok(ask(calls, scanning.gate, name, expected, look, scanning.moment)?)
 }
 
-/// As [`scan_one`], of a name that was seen ahead of its turn, with the blocks of the files that were read then.
+/// As [`scan_one`], of a name that was seen ahead of its turn.
 #[tactic(auto, using(crate::proofs::LookLemmas::no_look))]
-pub(crate) fn scan_seen<S: FileStore, W: FolderCalls, G: Gate, P: Progress>(
-    rt: &(impl Threads + Sync),
-    alloc: Global,
+pub(crate) fn scan_seen<S: FileStore, W: FolderCalls, R: Threads + Sync, G: Gate, P: Progress>(
+    scanning: &Scanning<R, G>,
     store: &mut S,
     calls: &mut W,
-    gate: &G,
     name: &SafeName,
-    seen: Seen,
-    blocks: &[Block],
-    moment: Moment,
+    turn: Turn,
     buffer: &mut Vec<u8>,
     progress: &mut P,
 ) -> Result<Scanned, StoreRefusal>
-    requires seen { (first : CallerView) × (begun : S) × IsSeen (HasBlocks blocks.now) first (W.view calls.old)
-        (MayFindAt S.gives (ShownSince S.gives (G.shown gate.now S W) W.view begun)
-        (IsTrue S.keeps) (S.tree store.old)) (Fails S.gives) name.now seen }
+    requires seen { (first : CallerView) × (begun : S) × IsSeen (HasBlocks turn.blocks.now) first (W.view calls.old)
+        (MayFindAt S.gives (ShownSince S.gives (G.shown scanning.now.gate.now S W) W.view begun)
+        (IsTrue S.keeps) (S.tree store.old)) (Fails S.gives) name.now turn.seen }
     ensures folder { W.folder calls.new ≡ W.folder calls.old }
     ensures scans { (first : CallerView) (begun : S) →
         GoesOn first (W.view calls.old) → LooksOnly S.gives begun store.old →
-        IsSeen (HasBlocks blocks.now) first (W.view calls.old)
-        (MayFindAt S.gives (ShownSince S.gives (G.shown gate.now S W) W.view begun)
-        (IsTrue S.keeps) (S.tree store.old)) (Fails S.gives) name.now seen →
-        ScansOne first (W.view calls.old) name.now moment
-        (MayFindAt S.gives (ShownSince S.gives (G.shown gate.now S W) W.view begun)
+        IsSeen (HasBlocks turn.entry.blocks.now) first (W.view calls.old)
+        (MayFindAt S.gives (ShownSince S.gives (G.shown scanning.now.gate.now S W) W.view begun)
+        (IsTrue S.keeps) (S.tree store.old)) (Fails S.gives) name.now turn.entry.seen →
+        ScansOne first (W.view calls.old) name.now scanning.now.moment
+        (MayFindAt S.gives (ShownSince S.gives (G.shown scanning.now.gate.now S W) W.view begun)
         (IsTrue S.keeps) (S.tree store.old) name.now) (Fails S.gives name.now)
         result (W.view calls.new) }
     ensures looks { LooksOnly S.gives store.old store.new }
     ensures kept { S.keeps ≡ true → S.tree store.new ≡ S.tree store.old }
 {
     block_list_tiles();
+    let Turn { seen, blocks } = turn;
     let Seen { local, sight } = seen;
     match sight {
         Sight::Read(part) => {
-            let look = read_look(alloc, blocks, part)?;
+            let look = read_look(scanning.alloc, blocks, part)?;
             progress.hashed(part.size as u64);
             let version = version_of(local.as_ref());
-            Ok(ask(calls, gate, name, version, look, moment)?)
+            Ok(ask(calls, scanning.gate, name, version, look, scanning.moment)?)
         }
         Sight::Changing => Ok(Scanned::Changing),
         Sight::Failed(refusal) => Err(refusal),
-        Sight::Later => scan_one(
-            rt, alloc, store, calls, gate, name, moment, buffer, progress,
-        ),
+        Sight::Later => scan_one(scanning, store, calls, name, buffer, progress),
     }
 }
 

@@ -17,12 +17,12 @@ returns-in-Ok-hash_read-clause-seen g c =
     let old = g.W.FolderCalls.view c.args.calls.now in
     let new = g.W.FolderCalls.view c.read_ahead.new.calls in
     let view = g.W.FolderCalls.view in
-    let shown = g.G.Gate.shown c.args.gate.now g.row.S.Denot g.row.W.Denot in
+    let shown = g.G.Gate.shown c.args.scanning.now.gate.now g.row.S.Denot g.row.W.Denot in
     let may = MayFindAt gives (ShownSince gives shown view c.args.store.now) (IsTrue g.S.FileStore.keeps) (g.S.FileStore.tree c.args.store.now) in
-    let known = take c.read_ahead.new.filled c.read_ahead.new.buffer.items in
-    let cuts = c.read_ahead.new.cuts.items in
+    let known = take c.read_ahead.new.batch.filled c.read_ahead.new.buffer.items in
+    let cuts = c.read_ahead.new.batch.cuts.items in
     let blocks = c.in-Ok-hash_read.blocks.items in
-    let is : blocks ≡ map (cut_block known) cuts = c.in-Ok-hash_read.ensures ∙ (λ t. map (cut_block (take c.read_ahead.new.filled (c.deref.ensures.value t))) (c.deref-2.ensures.value t)) in
+    let is : blocks ≡ map (cut_block known) cuts = c.in-Ok-hash_read.ensures ∙ (λ t. map (cut_block (take c.read_ahead.new.batch.filled (c.deref.ensures.value t))) (c.deref-2.ensures.value t)) in
     let all = c.in-Ok.ensures.seen in (
       all.0,
       all-weaker (IsSeen (HasBytes known cuts) old new may (Fails gives)) (IsSeen (HasBlocks blocks) old new may (Fails gives)) (take all.0 (map (λ (e : Listed). e.name) c.args.entries.now)) c.in-Ok.seen.items

@@ -11,7 +11,7 @@ pub returns-in-Some-clause-seen : goal.returns-in-Some-clause-seen
 returns-in-Some-clause-seen g c = λ first begun tree n rest goes looks same names seen.
     let gives = g.S.FileStore.gives in
     let view = g.W.FolderCalls.view in
-    let shown = g.G.Gate.shown c.args.gate.now g.row.S.Denot g.row.W.Denot in
+    let shown = g.G.Gate.shown c.args.scanning.now.gate.now g.row.S.Denot g.row.W.Denot in
     let may = MayFindAt gives (ShownSince gives shown view begun) (IsTrue g.S.FileStore.keeps) tree in
     let new = g.W.FolderCalls.view c.fill_ahead.new.calls in
     let ahead = c.fill_ahead.new.ahead in
@@ -24,7 +24,7 @@ pub returns-in-None-clause-seen : goal.returns-in-None-clause-seen
 returns-in-None-clause-seen g c = λ first begun tree n rest goes looks same names seen.
     let gives = g.S.FileStore.gives in
     let view = g.W.FolderCalls.view in
-    let shown = g.G.Gate.shown c.args.gate.now g.row.S.Denot g.row.W.Denot in
+    let shown = g.G.Gate.shown c.args.scanning.now.gate.now g.row.S.Denot g.row.W.Denot in
     let none : length c.pop_front.new.self.items ≡ 0 = omega (arith, c.in-None.ensures.cases.1) in (
       tt,
       are-none (record c.fill_ahead.new.ahead { seen = c.pop_front.new.self }) first (g.W.FolderCalls.view c.fill_ahead.new.calls) (MayFindAt gives (ShownSince gives shown view begun) (IsTrue g.S.FileStore.keeps) tree) (Fails gives) rest

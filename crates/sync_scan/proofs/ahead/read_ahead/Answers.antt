@@ -23,8 +23,8 @@ loop-entry-init g c = record {
   folder = refl;
   sees = sees-itself (g.W.FolderCalls.view c.args.calls.now);
   within = omega arith;
-  seen = subst (AllZip (IsSeen (HasBytes (take c.args.filled.now c.args.buffer.now.items) c.args.cuts.now.items) (g.W.FolderCalls.view c.args.calls.now) (g.W.FolderCalls.view c.args.calls.now)
-      (MayFindAt g.S.FileStore.gives (ShownSince g.S.FileStore.gives (g.G.Gate.shown c.args.gate.now g.row.S.Denot g.row.W.Denot) g.W.FolderCalls.view c.args.store.now) (IsTrue g.S.FileStore.keeps) (g.S.FileStore.tree c.args.store.now)) (Fails g.S.FileStore.gives)) []) (sym c.in_ok-seen.ensures.items) tt;
+  seen = subst (AllZip (IsSeen (HasBytes (take c.args.batch.now.filled c.args.buffer.now.items) c.args.batch.now.cuts.items) (g.W.FolderCalls.view c.args.calls.now) (g.W.FolderCalls.view c.args.calls.now)
+      (MayFindAt g.S.FileStore.gives (ShownSince g.S.FileStore.gives (g.G.Gate.shown c.args.scanning.now.gate.now g.row.S.Denot g.row.W.Denot) g.W.FolderCalls.view c.args.store.now) (IsTrue g.S.FileStore.keeps) (g.S.FileStore.tree c.args.store.now)) (Fails g.S.FileStore.gives)) []) (sym c.in_ok-seen.ensures.items) tt;
   looks = not_called;
   kept = λ k. refl;
 }
@@ -40,7 +40,7 @@ loop-entry-preserved g c =
     let tree = g.S.FileStore.tree c.args.store.now in
     let then = g.S.FileStore.tree c.loop-entry.store in
     let view = g.W.FolderCalls.view in
-    let shown = g.G.Gate.shown c.args.gate.now g.row.S.Denot g.row.W.Denot in
+    let shown = g.G.Gate.shown c.args.scanning.now.gate.now g.row.S.Denot g.row.W.Denot in
     let start = c.args.store.now in
     let mid = c.loop-entry.store in
     let may = MayFindAt gives (ShownSince gives shown view start) keeps tree in
@@ -51,10 +51,10 @@ loop-entry-preserved g c =
     let names = map name entries in
     let at = get_or-map name entries i x x.name c.loop-entry-test.true ∙ ap name (sym c.entry-item.is) in
     let more = take_more names i x.name (omega (arith, length-map entries name)) ∙ ap (λ y. take i names ++ y ∷ []) at in
-    let known = take c.loop-entry.filled c.loop-entry.buffer.items in
-    let known' = take c.see.new.filled c.see.new.buffer.items in
-    let cuts = c.loop-entry.cuts.items in
-    let cuts' = c.see.new.cuts.items in
+    let known = take c.loop-entry.batch.filled c.loop-entry.buffer.items in
+    let known' = take c.see.new.batch.filled c.see.new.buffer.items in
+    let cuts = c.loop-entry.batch.cuts.items in
+    let cuts' = c.see.new.batch.cuts.items in
     let R = IsSeen (HasBytes known' cuts') old new may fails in
     let on = sees-goes before new c.see.ensures.sees in
     record {

@@ -9,7 +9,7 @@ use Rattle.sync_scan.proofs.ahead.read_part.Goals as goal
 
 pub returns-in-Ok-false-clause-read : goal.returns-in-Ok-false-clause-read
 returns-in-Ok-false-clause-read g c = λ first looks e.
-    let f = c.args.filled.now in
+    let f = c.args.batch.now.filled in
     let size = c.args.size in
     let s = c.deref_mut.result.now in
     let same = ap length c.deref_mut.ensures.value in
@@ -21,7 +21,7 @@ returns-in-Ok-false-clause-read g c = λ first looks e.
 
 pub returns-in-Ok-false-clause-bytes : goal.returns-in-Ok-false-clause-bytes
 returns-in-Ok-false-clause-bytes g c =
-    let f = c.args.filled.now in
+    let f = c.args.batch.now.filled in
     let size = c.args.size in
     let s = c.deref_mut.result.now in
     let items = c.grow.new.buffer.items in
@@ -36,7 +36,7 @@ returns-in-Ok-false-clause-bytes g c =
 
 pub returns-in-Err-clause-bytes : goal.returns-in-Err-clause-bytes
 returns-in-Err-clause-bytes g c =
-    let f = c.args.filled.now in
+    let f = c.args.batch.now.filled in
     let size = c.args.size in
     let s = c.deref_mut.result.now in
     let items = c.grow.new.buffer.items in
@@ -51,7 +51,7 @@ returns-in-Err-clause-bytes g c =
 
 pub returns-clause-bytes : goal.returns-clause-bytes
 returns-clause-bytes g c =
-    let f = c.args.filled.now in
+    let f = c.args.batch.now.filled in
     let size = c.args.size in
     let s = c.deref_mut.result.now in
     let items = c.grow.new.buffer.items in
@@ -68,7 +68,7 @@ returns-clause-bytes g c =
 
 pub returns-clause-read : goal.returns-clause-read
 returns-clause-read g c = λ start looks.
-    let f = c.args.filled.now in
+    let f = c.args.batch.now.filled in
     let size = c.args.size in
     let s = c.deref_mut.result.now in
     let items = c.grow.new.buffer.items in
@@ -83,12 +83,12 @@ returns-clause-read g c = λ start looks.
     (f + size) (let e : f + size ≡ f + k = omega arith in e) in
     let own : Part = record { start = f; size = size; modified = c.args.modified; first = c.len-first.result } in
     let known : length (take f c.args.buffer.now.items) ≡ f = length-take-le f c.args.buffer.now.items c.requires.within in
-    let first : length c.args.cuts.now.items ≡ c.len-first.result = search rules in (
+    let first : length c.args.batch.now.cuts.items ≡ c.len-first.result = search rules in (
       part,
       sized,
       (
-        has-new (take f c.args.buffer.now.items) _ part c.args.cuts.now.items c.push_cuts.new.cuts.items own after known sized
-            (c.in_ok-push_cuts.ensures ∙ ap (λ b. c.args.cuts.now.items ++ file_cuts c.args.filled.now c.args.size b) c.requires.own) first,
+        has-new (take f c.args.buffer.now.items) _ part c.args.batch.now.cuts.items c.push_cuts.new.cuts.items own after known sized
+            (c.in_ok-push_cuts.ensures ∙ ap (λ b. c.args.batch.now.cuts.items ++ file_cuts c.args.batch.now.filled c.args.size b) c.block_size_for-block_size.ensures) first,
         refl,
         refl,
         c.in-Ok-true.ensures.read start looks (ap Ok c.in-Ok-true.field-0-test),

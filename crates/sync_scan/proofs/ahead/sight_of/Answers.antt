@@ -23,7 +23,7 @@ returns-in-Ok-clause-sight g c = λ first looks.
     let then = g.S.FileStore.tree c.stat.new.self in
     let n = c.args.name.now in
     let local = option_copied c.args.local in
-    let has = HasBytes (take c.sight_of_file.new.filled c.sight_of_file.new.buffer.items) c.sight_of_file.new.cuts.items in
+    let has = HasBytes (take c.sight_of_file.new.batch.filled c.sight_of_file.new.buffer.items) c.sight_of_file.new.batch.cuts.items in
     let same = λ (k : IsTrue g.S.FileStore.keeps). (c.in-Ok.ensures.stats k).kept in
     IfOk-then c.sight_of_file.result _ _
     (c.sight_of_file.ensures.sight first (called_on gives IsLook first c.args.store.now c.stat.new.self looks (called_once gives IsLook c.args.store.now c.stat.new.self (StatAt n) _ tt c.in-Ok.ensures.gives))

@@ -18,13 +18,13 @@ pub loop-index-init : goal.loop-index-init
 loop-index-init g c =
     let gives = g.S.FileStore.gives in
     let view = g.W.FolderCalls.view in
-    let shown = g.G.Gate.shown c.args.gate.now g.row.S.Denot g.row.W.Denot in
+    let shown = g.G.Gate.shown c.args.scanning.now.gate.now g.row.S.Denot g.row.W.Denot in
     let may = MayFindAt gives (ShownSince gives shown view c.args.store.now) (IsTrue g.S.FileStore.keeps) (g.S.FileStore.tree c.args.store.now) in
     let fails = Fails gives in
     let v = g.W.FolderCalls.view c.args.calls.now in
     record {
       folder = refl;
-      scans = subst (λ s. Goes v c.args.moment may fails [] empty_sum s v) (sym c.new-sum.ensures) (goes-nowhere v c.args.moment may fails empty_sum);
+      scans = subst (λ s. Goes v c.args.scanning.now.moment may fails [] empty_sum s v) (sym c.new-sum.ensures) (goes-nowhere v c.args.scanning.now.moment may fails empty_sum);
       ahead = are-none c.none-ahead.result v v may fails (map (λ (e : Listed). e.name) c.args.entries.now) c.none-ahead.ensures;
       stopped = ap (λ s. s.stopped) c.new-sum.ensures;
       looks = not_called;
@@ -43,7 +43,7 @@ scan_seen-came_to-requires-clause-seen g c κs within =
     let then = g.S.FileStore.tree c.loop-index.store in
     let later = g.S.FileStore.tree c.next_seen-seen.new.store in
     let view = g.W.FolderCalls.view in
-    let shown = g.G.Gate.shown c.args.gate.now g.row.S.Denot g.row.W.Denot in
+    let shown = g.G.Gate.shown c.args.scanning.now.gate.now g.row.S.Denot g.row.W.Denot in
     let start = c.args.store.now in
     let now = c.next_seen-seen.new.store in
     let since = ShownSince gives shown view start in
@@ -58,7 +58,7 @@ scan_seen-came_to-requires-clause-seen g c κs within =
     let names = map name entries in
     let at = get_or-map name entries i x x.name c.loop-index-test.true ∙ ap name (sym c.index-entries-index.is) in
     let rest = drop-cons names i x.name (omega (arith, length-map entries name)) ∙ ap (λ y. y ∷ drop (suc i) names) at in
-    let goes = each-goes c.loop-index.invariant.scans.0 c.args.moment may fails old old v c.loop-index.invariant.scans.1 in
+    let goes = each-goes c.loop-index.invariant.scans.0 c.args.scanning.now.moment may fails old old v c.loop-index.invariant.scans.1 in
     let kept = λ (k : IsTrue g.S.FileStore.keeps). c.next_seen-seen.ensures.kept k ∙ c.loop-index.invariant.kept k in
     let got = c.next_seen-seen.ensures.seen old start tree x.name (drop (suc i) names) goes looks c.loop-index.invariant.kept
     (ap (map name) (take_rest entries i) ∙ sym (drop-map name i entries) ∙ rest) (subst (AreSeen c.loop-index.ahead old v may fails) rest c.loop-index.invariant.ahead) in
@@ -77,7 +77,7 @@ returns-then-is_some-clause-scans g c =
     let then = g.S.FileStore.tree c.loop-index.store in
     let later = g.S.FileStore.tree c.next_seen-seen.new.store in
     let view = g.W.FolderCalls.view in
-    let shown = g.G.Gate.shown c.args.gate.now g.row.S.Denot g.row.W.Denot in
+    let shown = g.G.Gate.shown c.args.scanning.now.gate.now g.row.S.Denot g.row.W.Denot in
     let start = c.args.store.now in
     let now = c.next_seen-seen.new.store in
     let since = ShownSince gives shown view start in
@@ -92,7 +92,7 @@ returns-then-is_some-clause-scans g c =
     let names = map name entries in
     let at = get_or-map name entries i x x.name c.loop-index-test.true ∙ ap name (sym c.index-entries-index.is) in
     let rest = drop-cons names i x.name (omega (arith, length-map entries name)) ∙ ap (λ y. y ∷ drop (suc i) names) at in
-    let goes = each-goes c.loop-index.invariant.scans.0 c.args.moment may fails old old v c.loop-index.invariant.scans.1 in
+    let goes = each-goes c.loop-index.invariant.scans.0 c.args.scanning.now.moment may fails old old v c.loop-index.invariant.scans.1 in
     let kept = λ (k : IsTrue g.S.FileStore.keeps). c.next_seen-seen.ensures.kept k ∙ c.loop-index.invariant.kept k in
     let got = c.next_seen-seen.ensures.seen old start tree x.name (drop (suc i) names) goes looks c.loop-index.invariant.kept
     (ap (map name) (take_rest entries i) ∙ sym (drop-map name i entries) ∙ rest) (subst (AreSeen c.loop-index.ahead old v may fails) rest c.loop-index.invariant.ahead) in
@@ -100,11 +100,11 @@ returns-then-is_some-clause-scans g c =
     let new = g.W.FolderCalls.view c.scan_seen-came_to.new.calls in
     let on = called_on gives IsLook start c.loop-index.store now looks c.next_seen-seen.ensures.looks in
     let turned = c.scan_seen-came_to.ensures.scans old start (goes-then old v mid goes (sees-goes v mid c.next_seen-seen.ensures.sees)) on seen in
-    let next = turn-next old v mid new x.name c.args.moment may can fails c.loop-index.sum c.count.new.self c.scan_seen-came_to.result c.next_seen-seen.ensures.sees
+    let next = turn-next old v mid new x.name c.args.scanning.now.moment may can fails c.loop-index.sum c.count.new.self c.scan_seen-came_to.result c.next_seen-seen.ensures.sees
     (at-moved gives since since keeps later tree same kept) turned c.count.ensures in
     let whole = divided-at names i x.name (omega (arith, length-map entries name)) ∙ ap (λ y. take i names ++ y ∷ drop (suc i) names) at in
-    subst (λ ns. Ends old c.args.moment may fails ns empty_sum c.count.new.self new) (sym whole)
-    (ends _ _ _ c.args.moment may fails (take i names) x.name empty_sum c.loop-index.sum c.count.new.self c.loop-index.invariant.scans next
+    subst (λ ns. Ends old c.args.scanning.now.moment may fails ns empty_sum c.count.new.self new) (sym whole)
+    (ends _ _ _ c.args.scanning.now.moment may fails (take i names) x.name empty_sum c.loop-index.sum c.count.new.self c.loop-index.invariant.scans next
     c.loop-index.invariant.stopped (drop (suc i) names) (sym c.is_some.ensures ∙ c.if-is_some.true))
 
 pub loop-index-preserved : goal.loop-index-preserved
@@ -119,7 +119,7 @@ loop-index-preserved g c =
     let then = g.S.FileStore.tree c.loop-index.store in
     let later = g.S.FileStore.tree c.next_seen-seen.new.store in
     let view = g.W.FolderCalls.view in
-    let shown = g.G.Gate.shown c.args.gate.now g.row.S.Denot g.row.W.Denot in
+    let shown = g.G.Gate.shown c.args.scanning.now.gate.now g.row.S.Denot g.row.W.Denot in
     let start = c.args.store.now in
     let now = c.next_seen-seen.new.store in
     let since = ShownSince gives shown view start in
@@ -134,7 +134,7 @@ loop-index-preserved g c =
     let names = map name entries in
     let at = get_or-map name entries i x x.name c.loop-index-test.true ∙ ap name (sym c.index-entries-index.is) in
     let rest = drop-cons names i x.name (omega (arith, length-map entries name)) ∙ ap (λ y. y ∷ drop (suc i) names) at in
-    let goes = each-goes c.loop-index.invariant.scans.0 c.args.moment may fails old old v c.loop-index.invariant.scans.1 in
+    let goes = each-goes c.loop-index.invariant.scans.0 c.args.scanning.now.moment may fails old old v c.loop-index.invariant.scans.1 in
     let kept = λ (k : IsTrue g.S.FileStore.keeps). c.next_seen-seen.ensures.kept k ∙ c.loop-index.invariant.kept k in
     let got = c.next_seen-seen.ensures.seen old start tree x.name (drop (suc i) names) goes looks c.loop-index.invariant.kept
     (ap (map name) (take_rest entries i) ∙ sym (drop-map name i entries) ∙ rest) (subst (AreSeen c.loop-index.ahead old v may fails) rest c.loop-index.invariant.ahead) in
@@ -142,7 +142,7 @@ loop-index-preserved g c =
     let new = g.W.FolderCalls.view c.scan_seen-came_to.new.calls in
     let on = called_on gives IsLook start c.loop-index.store now looks c.next_seen-seen.ensures.looks in
     let turned = c.scan_seen-came_to.ensures.scans old start (goes-then old v mid goes (sees-goes v mid c.next_seen-seen.ensures.sees)) on seen in
-    let next = turn-next old v mid new x.name c.args.moment may can fails c.loop-index.sum c.count.new.self c.scan_seen-came_to.result c.next_seen-seen.ensures.sees
+    let next = turn-next old v mid new x.name c.args.scanning.now.moment may can fails c.loop-index.sum c.count.new.self c.scan_seen-came_to.result c.next_seen-seen.ensures.sees
     (at-moved gives since since keeps later tree same kept) turned c.count.ensures in
     let more = take_more names i x.name (omega (arith, length-map entries name)) ∙ ap (λ y. take i names ++ y ∷ []) at in
     let off : c.count.new.self.stopped ≡ None = is-none _ (sym c.is_some.ensures ∙ c.if-is_some.false) in
@@ -150,10 +150,10 @@ loop-index-preserved g c =
     let ahead = c.next_seen-seen.new.ahead in
     record {
       folder = c.scan_seen-came_to.ensures.folder ∙ c.next_seen-seen.ensures.folder ∙ c.loop-index.invariant.folder;
-      scans = subst (λ ns. Goes old c.args.moment may fails ns empty_sum c.count.new.self new) (sym more)
-          (goes-on _ _ _ c.args.moment may fails (take i names) x.name empty_sum c.loop-index.sum c.count.new.self c.loop-index.invariant.scans next c.loop-index.invariant.stopped off);
+      scans = subst (λ ns. Goes old c.args.scanning.now.moment may fails ns empty_sum c.count.new.self new) (sym more)
+          (goes-on _ _ _ c.args.scanning.now.moment may fails (take i names) x.name empty_sum c.loop-index.sum c.count.new.self c.loop-index.invariant.scans next c.loop-index.invariant.stopped off);
       ahead = subst (λ k. AreSeen ahead old new may fails (drop k names)) after
-          (are-on ahead old mid new may fails (drop (suc i) names) (one-goes old mid new x.name c.args.moment (can x.name) (fails x.name) c.scan_seen-came_to.result turned) got.1);
+          (are-on ahead old mid new may fails (drop (suc i) names) (one-goes old mid new x.name c.args.scanning.now.moment (can x.name) (fails x.name) c.scan_seen-came_to.result turned) got.1);
       stopped = off;
       looks = called_on gives IsLook start now c.scan_seen-came_to.new.store on c.scan_seen-came_to.ensures.looks;
       kept = λ k. c.scan_seen-came_to.ensures.kept k ∙ kept k;

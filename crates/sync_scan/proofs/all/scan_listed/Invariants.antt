@@ -12,9 +12,9 @@ abbrev pub invariant-loop-index : goal.invariant-loop-index
 invariant-loop-index g l = record {
   folder : g.W.FolderCalls.folder l.calls ≡ g.W.FolderCalls.folder l.initial.calls;
   scans : (tried : List Tried)
-      × ScansEach (g.W.FolderCalls.view l.initial.calls) (g.W.FolderCalls.view l.initial.calls) l.moment (MayFindAt g.S.FileStore.gives (ShownSince g.S.FileStore.gives (g.G.Gate.shown l.gate g.row.S.Denot g.row.W.Denot) g.W.FolderCalls.view l.initial.store) (IsTrue g.S.FileStore.keeps) (g.S.FileStore.tree l.initial.store)) (Fails g.S.FileStore.gives) tried (g.W.FolderCalls.view l.calls)
+      × ScansEach (g.W.FolderCalls.view l.initial.calls) (g.W.FolderCalls.view l.initial.calls) l.scanning.moment (MayFindAt g.S.FileStore.gives (ShownSince g.S.FileStore.gives (g.G.Gate.shown l.scanning.gate.now g.row.S.Denot g.row.W.Denot) g.W.FolderCalls.view l.initial.store) (IsTrue g.S.FileStore.keeps) (g.S.FileStore.tree l.initial.store)) (Fails g.S.FileStore.gives) tried (g.W.FolderCalls.view l.calls)
       × GoesOver (take l.index (map (λ e. e.name) l.entries)) tried None × (l.sum ≡ sum_after empty_sum tried);
-  ahead : AreSeen l.ahead (g.W.FolderCalls.view l.initial.calls) (g.W.FolderCalls.view l.calls) (MayFindAt g.S.FileStore.gives (ShownSince g.S.FileStore.gives (g.G.Gate.shown l.gate g.row.S.Denot g.row.W.Denot) g.W.FolderCalls.view l.initial.store) (IsTrue g.S.FileStore.keeps) (g.S.FileStore.tree l.initial.store)) (Fails g.S.FileStore.gives)
+  ahead : AreSeen l.ahead (g.W.FolderCalls.view l.initial.calls) (g.W.FolderCalls.view l.calls) (MayFindAt g.S.FileStore.gives (ShownSince g.S.FileStore.gives (g.G.Gate.shown l.scanning.gate.now g.row.S.Denot g.row.W.Denot) g.W.FolderCalls.view l.initial.store) (IsTrue g.S.FileStore.keeps) (g.S.FileStore.tree l.initial.store)) (Fails g.S.FileStore.gives)
       (drop l.index (map (λ e. e.name) l.entries));
   stopped : l.sum.stopped ≡ None;
   looks : LooksOnly g.S.FileStore.gives l.initial.store l.store;

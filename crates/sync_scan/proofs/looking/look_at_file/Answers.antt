@@ -19,13 +19,13 @@ returns-then-recorded-own-clause-there g c = λ keeps same.
     let recorded = c.in-Some.recorded in
     let blocks = c.in-Some-2.blocks.items in
     let read = rw c.in-Some-2.is at c.in_ok-blocks.ensures.read in
-    let is : recorded_block_size local c.args.size ≡ Some recorded = sym c.in-Some.ensures.value in
+    let is : recorded_block_size local c.args.file.size ≡ Some recorded = sym c.in-Some.ensures.value in
     let chosen : block_size_of local read.0 ≡ recorded = elim c.then-recorded-own.branch [
-      | then-recorded-own-via-then-recorded-own w ↦ size-of-own local read.0 c.args.size read.1 recorded blocks is read.2 (let own : recorded ≡ block_size_for c.args.size = search rules in own)
+      | then-recorded-own-via-then-recorded-own w ↦ size-of-own local read.0 c.args.file.size read.1 recorded blocks is read.2 (let own : recorded ≡ block_size_for c.args.file.size = search rules in own)
       | then-recorded-own-via-else-recorded-own+then-are_recorded w ↦
-          size-of-same local read.0 c.args.size read.1 recorded blocks is read.2 (let one : are_recorded local c.args.size blocks ≡ true = search rules in one)
+          size-of-same local read.0 c.args.file.size read.1 recorded blocks is read.2 (let one : are_recorded local c.args.file.size blocks ≡ true = search rules in one)
     ] in
-    file-there g.S.FileStore.gives c.args.name.now local c.args.size c.args.modified c.found_file.result (omega arith) read.0 read.0 recorded read.1 read.1 chosen
+    file-there g.S.FileStore.gives c.args.name.now local c.args.file.size c.args.file.modified c.found_file.result (omega arith) read.0 read.0 recorded read.1 read.1 chosen
     (c.found_file.ensures read.0 read.1 read.2) _ (read.3 keeps) (read.3 keeps)
 
 pub returns-then-recorded-own-clause-told : goal.returns-then-recorded-own-clause-told
@@ -34,13 +34,13 @@ returns-then-recorded-own-clause-told g c = λ first looks.
     let recorded = c.in-Some.recorded in
     let blocks = c.in-Some-2.blocks.items in
     let read = rw c.in-Some-2.is at c.in_ok-blocks.ensures.read in
-    let is : recorded_block_size local c.args.size ≡ Some recorded = sym c.in-Some.ensures.value in
+    let is : recorded_block_size local c.args.file.size ≡ Some recorded = sym c.in-Some.ensures.value in
     let chosen : block_size_of local read.0 ≡ recorded = elim c.then-recorded-own.branch [
-      | then-recorded-own-via-then-recorded-own w ↦ size-of-own local read.0 c.args.size read.1 recorded blocks is read.2 (let own : recorded ≡ block_size_for c.args.size = search rules in own)
+      | then-recorded-own-via-then-recorded-own w ↦ size-of-own local read.0 c.args.file.size read.1 recorded blocks is read.2 (let own : recorded ≡ block_size_for c.args.file.size = search rules in own)
       | then-recorded-own-via-else-recorded-own+then-are_recorded w ↦
-          size-of-same local read.0 c.args.size read.1 recorded blocks is read.2 (let one : are_recorded local c.args.size blocks ≡ true = search rules in one)
+          size-of-same local read.0 c.args.file.size read.1 recorded blocks is read.2 (let one : are_recorded local c.args.file.size blocks ≡ true = search rules in one)
     ] in
-    file-told (Since g.S.FileStore.gives first) c.args.name.now local c.args.size c.args.modified c.found_file.result (omega arith) read.0 read.0 recorded read.1 read.1 chosen
+    file-told (Since g.S.FileStore.gives first) c.args.name.now local c.args.file.size c.args.file.modified c.found_file.result (omega arith) read.0 read.0 recorded read.1 read.1 chosen
     (c.found_file.ensures read.0 read.1 read.2) (read.4 first looks) (read.4 first looks)
 
 pub returns-in_default-3-clause-told : goal.returns-in_default-3-clause-told
@@ -55,7 +55,7 @@ returns-in_default-3-clause-told g c = λ first looks.
 pub returns-clause-there : goal.returns-clause-there
 returns-clause-there g c = λ keeps same.
     let local = option_copied c.args.local in
-    let size = c.args.size in
+    let size = c.args.file.size in
     let own = c.block_size_for-own.result in
     let fits : size ≤ max_file_size = omega arith in
     let read = rw c.in-Some-3.is at c.in_ok-blocks-2.ensures.read in
@@ -65,13 +65,13 @@ returns-clause-there g c = λ keeps same.
           let other : are_recorded local size w.in-Some-2.blocks.items ≡ false = search rules in
           let chosen = size-of-other local first.0 size first.1 w.in-Some.recorded w.in-Some-2.blocks.items (sym w.in-Some.ensures.value) first.2 other ∙ sym c.block_size_for-own.ensures in
           let there = ap (λ t. bytes_of (t.names c.args.name.now)) (w.in_ok-blocks.ensures.kept keeps) in
-          file-there g.S.FileStore.gives c.args.name.now local size c.args.modified c.found_file-2.result fits first.0 read.0 own first.1 read.1 chosen
+          file-there g.S.FileStore.gives c.args.name.now local size c.args.file.modified c.found_file-2.result fits first.0 read.0 own first.1 read.1 chosen
           (c.found_file-2.ensures read.0 read.1 read.2) _ (first.3 keeps) (read.3 keeps ∙ ap (λ s. bytes_of ((g.S.FileStore.tree s).names c.args.name.now)) w.store-is ∙ there)
       | in_default w ↦
           let none : recorded_block_size local size ≡ None = search rules in
           let chosen = size-of-new local read.0 size read.1 none ∙ sym c.block_size_for-own.ensures in
           let there = read.3 keeps ∙ ap (λ s. bytes_of ((g.S.FileStore.tree s).names c.args.name.now)) w.store-is in
-          file-there g.S.FileStore.gives c.args.name.now local size c.args.modified c.found_file-2.result fits read.0 read.0 own read.1 read.1 chosen
+          file-there g.S.FileStore.gives c.args.name.now local size c.args.file.modified c.found_file-2.result fits read.0 read.0 own read.1 read.1 chosen
           (c.found_file-2.ensures read.0 read.1 read.2) _ there there
     ]
 
@@ -79,7 +79,7 @@ pub returns-clause-told : goal.returns-clause-told
 returns-clause-told g c = λ start looks.
     let gives = g.S.FileStore.gives in
     let local = option_copied c.args.local in
-    let size = c.args.size in
+    let size = c.args.file.size in
     let own = c.block_size_for-own.result in
     let read = rw c.in-Some-3.is at c.in_ok-blocks-2.ensures.read in
     let fits : size ≤ max_file_size = omega arith in
@@ -89,13 +89,13 @@ returns-clause-told g c = λ start looks.
           let other : are_recorded local size w.in-Some-2.blocks.items ≡ false = search rules in
           let chosen = size-of-other local first.0 size first.1 w.in-Some.recorded w.in-Some-2.blocks.items (sym w.in-Some.ensures.value) first.2 other ∙ sym c.block_size_for-own.ensures in
           let then = called_on gives IsLook start c.args.store.now _ looks (subst (LooksOnly gives c.args.store.now) (sym w.store-is) w.in_ok-blocks.ensures.looks) in
-          file-told (Since gives start) c.args.name.now local size c.args.modified c.found_file-2.result fits first.0 read.0 own first.1 read.1 chosen
+          file-told (Since gives start) c.args.name.now local size c.args.file.modified c.found_file-2.result fits first.0 read.0 own first.1 read.1 chosen
           (c.found_file-2.ensures read.0 read.1 read.2) (first.4 start looks) (read.4 start then)
       | in_default w ↦
           let none : recorded_block_size local size ≡ None = search rules in
           let chosen = size-of-new local read.0 size read.1 none ∙ sym c.block_size_for-own.ensures in
           let then = subst (LooksOnly gives start) (sym w.store-is) looks in
-          file-told (Since gives start) c.args.name.now local size c.args.modified c.found_file-2.result fits read.0 read.0 own read.1 read.1 chosen
+          file-told (Since gives start) c.args.name.now local size c.args.file.modified c.found_file-2.result fits read.0 read.0 own read.1 read.1 chosen
           (c.found_file-2.ensures read.0 read.1 read.2) (read.4 start then) (read.4 start then)
     ]
 

@@ -18,12 +18,12 @@ returns-clause-scans g c =
     let keeps = IsTrue g.S.FileStore.keeps in
     let n = c.args.name.now in
     let view = g.W.FolderCalls.view in
-    let shown = g.G.Gate.shown c.args.gate.now g.row.S.Denot g.row.W.Denot in
+    let shown = g.G.Gate.shown c.args.scanning.now.gate.now g.row.S.Denot g.row.W.Denot in
     let old = view c.args.calls.now in
     let new = view c.local.new.self in
     let look = c.in_ok-look.look in
     let read = c.as_ref.ensures.value ∙ read-local old new n c.in_ok-local.field-0 c.in_ok-local.ensures.reads in
-    scans _ _ n _ c.in_ok-local.ensures.reads _ c.args.moment (MayFindAt gives (ShownFirst shown view start) keeps tree n) look c.in_ok-ask.field-0 _
+    scans _ _ n _ c.in_ok-local.ensures.reads _ c.args.scanning.now.moment (MayFindAt gives (ShownFirst shown view start) keeps tree n) look c.in_ok-ask.field-0 _
     (c.version_of-expected.ensures ∙ ap (option_map (λ r. r.version)) c.as_ref-2.ensures.value) (
       start,
       (refl, (c.local.new.self, c.show.ensures.shown, refl)),
