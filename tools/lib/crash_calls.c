@@ -1,4 +1,4 @@
-/* Preloaded into a program by tools/crashes: numbers, over all threads and from 1 on, each call that changes the disk or waits for it, of regular files and directories
+/* Preloaded into a program by tools/runs/crashes: numbers, over all threads and from 1 on, each call that changes the disk or waits for it, of regular files and directories
    below the directories UNDER (`:` between them). Before the call with the number KILL_AT the program kills itself. Of those that wait for the disk the one with the
    number FAIL_AT, counted alone, fails with EIO and isn't made. One call is made at a time, and after it a line is added to the file CALLS, by one write, with a blank
    between its words, in which a byte that doesn't print, a blank and a `%` are `%` and two hexadecimal digits:
@@ -407,7 +407,7 @@ static int is_changed(const char *kind, int file, long which, long a, long b, lo
     return answer;
 }
 
-/* A call that the model of tools/crashes doesn't know. */
+/* A call that the model of tools/runs/crashes doesn't know. */
 static long is_other(const char *kind, int file, long which, long a, long b, long c, long d, long e, long f) {
     char path[LENGTH];
     ino_t ino;

@@ -1,4 +1,4 @@
-"""Nodes of which the disk is looked at, and a peer of theirs that has files: what tools/disk_runs and tools/trouble_runs share."""
+"""Nodes of which the disk is looked at, and a peer of theirs that has files: what tools/runs/disk_runs and tools/runs/trouble_runs share."""
 import contextlib
 import itertools
 import mmap

@@ -1,4 +1,4 @@
-"""What tools/rt_ci and tools/planted read alike: which function of a crate an edit changes."""
+"""What tools/rt_ci and tools/planted/proofs read alike: which function of a crate an edit changes."""
 import os
 import re
 from collections import namedtuple

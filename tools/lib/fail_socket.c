@@ -1,4 +1,4 @@
-/* Preloaded into a program by tools/node_runs: the file FAILING has two numbers of 64 bits, which the script changes while the program runs. The read or write of a
+/* Preloaded into a program by tools/runs/node_runs: the file FAILING has two numbers of 64 bits, which the script changes while the program runs. The read or write of a
    connection with the first number fails, as one that the other end has reset, counted from when it was set, and none where it is 0; the second number counts them
    meanwhile. Only that one call fails: what is done with the connection after it would succeed. */
 #define _GNU_SOURCE

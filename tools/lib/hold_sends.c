@@ -1,4 +1,4 @@
-/* Preloaded into a program by tools/wire_runs: what sends bytes over a socket adds a line with their number to the file SENDS first, and then waits while there is
+/* Preloaded into a program by tools/runs/wire_runs: what sends bytes over a socket adds a line with their number to the file SENDS first, and then waits while there is
    a file at the path HOLDING. */
 #define _GNU_SOURCE
 #include <dlfcn.h>

@@ -1,4 +1,4 @@
-"""Nodes of the program `bepd` on this machine, and what tools/node_runs and tools/peer_runs share besides."""
+"""Nodes of the program `bepd` on this machine, and what tools/runs/node_runs and tools/runs/peer_runs share besides."""
 import hashlib
 import os
 import random

@@ -1,4 +1,4 @@
-/* Preloaded into `bepd` by tools/bepd_refusals: lets the REFUSE-th allocation of the process fail (none where it
+/* Preloaded into `bepd` by tools/runs/bepd_refusals: lets the REFUSE-th allocation of the process fail (none where it
    is 0), or with a + behind the number that one and all after it, and keeps the number of allocations so far in the
    file COUNT. Of a program of several threads the order of allocations, and so which one fails, may differ from run to run. */
 #define _GNU_SOURCE

@@ -1,4 +1,4 @@
-/* Preloaded into a program by tools/peer_runs: the file REFUSING has four numbers of 64 bits, which the script changes while the program runs. The
+/* Preloaded into a program by tools/runs/peer_runs: the file REFUSING has four numbers of 64 bits, which the script changes while the program runs. The
    allocation of the first number fails, counted from when it was set, and none where it is 0; the second number counts them meanwhile. By the third and the fourth a thread
    can't be begun in the same way, as where there is no room for one. */
 #define _GNU_SOURCE

@@ -1,4 +1,4 @@
-"""What tools/wire_runs and tools/record_runs share: how rows are counted, records in the state of a node, and bytes of messages in hex digits."""
+"""What tools/runs/wire_runs and tools/runs/record_runs share: how rows are counted, records in the state of a node, and bytes of messages in hex digits."""
 import shutil
 import subprocess
 

@@ -1,4 +1,4 @@
-/* Preloaded into a program by tools/stream_runs: a read of a connection gives PIECE bytes at most. */
+/* Preloaded into a program by tools/runs/stream_runs: a read of a connection gives PIECE bytes at most. */
 #define _GNU_SOURCE
 #include <dlfcn.h>
 #include <stdlib.h>

@@ -1,4 +1,4 @@
-/* Preloaded into a program by tools/disk_runs: what is wrong with the disk that the folder UNDER is on. Each call of the system on that folder, or on what is below it,
+/* Preloaded into a program by tools/runs/disk_runs: what is wrong with the disk that the folder UNDER is on. Each call of the system on that folder, or on what is below it,
    adds a line to the file `calls` of the directory TROUBLES: `CALL PATH`, or `CALL PATH TO`. A path is the one from the folder on, which is `.` itself, whether the program
    names it so or by an open directory (`/proc/self/fd/N/NAME`). The file `lines` there has a line for each thing that is wrong from now on, and is read at each call:
        CALL END NUMBER          a call on a path with this end fails with this error
