@@ -162,11 +162,11 @@ class Disk(Played):
         with open(f"{path}.taken") as it:
             return it.read().splitlines()
 
-    def gate(self, line):
+    def latch(self, line):
         """The next such call waits; see `waits`."""
         if self.is_waiting():
             os.remove(f"{self.troubles}/here")
-        with open(f"{self.troubles}/gate", "w"):
+        with open(f"{self.troubles}/latch", "w"):
             pass
         if isinstance(line, int):
             self.numbers[3], self.numbers[2] = 0, line
@@ -184,7 +184,7 @@ class Disk(Played):
         finally:
             self.numbers[2] = 0
             self.trouble(*lines)
-            os.remove(f"{self.troubles}/gate")
+            os.remove(f"{self.troubles}/latch")
 
 
 class Peer(threading.Thread):

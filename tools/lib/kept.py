@@ -1,4 +1,4 @@
-"""What passed a gate, kept for this machine: for a toolchain whose `rt ci` keeps nothing itself.
+"""What passed CI, kept for this machine: for a toolchain whose `rt ci` keeps nothing itself.
 
 The store is ${XDG_CACHE_HOME:-~/.cache}/faldyghun; it may be removed at any time. Whoever can write to it is trusted.
 """
@@ -18,7 +18,7 @@ MOST_BYTES = 10_000_000_000
 
 
 def tell(text):
-    print(f"gate: {text}", file=sys.stderr, flush=True)
+    print(f"ci: {text}", file=sys.stderr, flush=True)
 
 
 def sum_of(*parts):
@@ -137,14 +137,14 @@ class Store:
                     pass
 
     def turn(self):
-        """Waits until no other run of the gate is judging, and returns what keeps others out until this run ends."""
+        """Waits until no other run of CI is judging, and returns what keeps others out until this run ends."""
         try:
             os.makedirs(STORE, exist_ok=True)
             held = open(f"{STORE}/lock", "w")
             try:
                 fcntl.flock(held, fcntl.LOCK_EX | fcntl.LOCK_NB)
             except BlockingIOError:
-                tell("another run of the gate is judging: this one waits, and takes what that one passes")
+                tell("another run of CI is judging: this one waits, and takes what that one passes")
                 fcntl.flock(held, fcntl.LOCK_EX)
             return held
         except OSError as error:

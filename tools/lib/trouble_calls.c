@@ -4,7 +4,7 @@
        CALL END NUMBER          a call on a path with this end fails with this error
        CALL END later NUMBER    so does each but the first one on an open file or directory
        CALL END short           it takes one byte
-       CALL END wait            it makes the file `here`, and waits while there is the file `gate`
+       CALL END wait            it makes the file `here`, and waits while there is the file `latch`
    The end `*` is that of every path. The file `numbers` there has four numbers of 64 bits, which the script changes while the program runs: the call with the first number fails with the error that is the
    second, counted from when it was set, and none where it is 0; the call with the third number waits; the fourth counts the calls. */
 #define _GNU_SOURCE
@@ -97,10 +97,10 @@ static int has_end(const char *path, const char *end) {
 static void wait_here(void) {
     int file = open_here("here", O_WRONLY | O_CREAT);
     struct timespec pause = {0, 500000};
-    char gate[LENGTH];
+    char latch[LENGTH];
     if (file >= 0) next_close(file);
-    snprintf(gate, sizeof gate, "%s/gate", troubles);
-    while (!access(gate, F_OK)) nanosleep(&pause, NULL);
+    snprintf(latch, sizeof latch, "%s/latch", troubles);
+    while (!access(latch, F_OK)) nanosleep(&pause, NULL);
 }
 
 /* What is wrong by a line: the number of an error, SHORT or 0. */
