@@ -6,6 +6,7 @@
 
 mod actions;
 mod command;
+mod context;
 mod files;
 mod indexes;
 mod input;

@@ -6,6 +6,7 @@ ghost use Rattle.bepd_pair.specs.Words.{Text};
 
 use crate::actions::act;
 use crate::command::{Action, Command, Side, command_of};
+use crate::context::Context;
 use crate::indexes::send_all;
 use crate::link::greet;
 use crate::output::{push_refused, push_sync};
@@ -144,15 +145,18 @@ impl Peers {
     ) -> Result<(), Refused>
         ensures { Follows (Command.At Side.A action.now) self.old result lines.old.items lines.new.items self.new }
     {
-        act(
+        let cx = Context {
             rt,
             alloc,
+            moment: self.moment,
+        };
+        act(
+            &cx,
             action,
             &mut self.a,
             &mut self.a_session,
             &mut self.b,
             &mut self.b_session,
-            self.moment,
             lines,
         )
     }
@@ -167,15 +171,18 @@ impl Peers {
     ) -> Result<(), Refused>
         ensures { Follows (Command.At Side.B action.now) self.old result lines.old.items lines.new.items self.new }
     {
-        act(
+        let cx = Context {
             rt,
             alloc,
+            moment: self.moment,
+        };
+        act(
+            &cx,
             action,
             &mut self.b,
             &mut self.b_session,
             &mut self.a,
             &mut self.a_session,
-            self.moment,
             lines,
         )
     }

@@ -4,44 +4,29 @@ ghost use Rattle.bepd_pair.specs.Lines.{pull_line};
 ghost use Rattle.bepd_pair.specs.Pulls.{PullsOne, PullsRound, PullsUnlessFull};
 ghost use Rattle.sync_pull.specs.declared.answer.PullAnswer.{PullAnswer as AnyAnswer};
 
+use crate::context::Context;
 use crate::link::Link;
 use crate::output::push_pull;
 use crate::peer::Peer;
 use crate::refused::Refused;
-use bep_session::Session;
 use file_store::OpenGate;
 use folder_calls::FolderCalls;
 use std::alloc::{AllocError, Global};
 use std::thread::Threads;
 use sync_names::SafeName;
 use sync_pull::{PullAnswer, pull_name};
-use sync_version::Moment;
 
-/// Pulls each needed name once, and prints what it came to.
+/// Pulls each needed name once, with blocks over the link, and prints what it came to.
 pub(crate) fn pull<R: Threads + Sync>(
-    rt: &R,
-    alloc: Global,
+    cx: &Context<'_, R>,
     peer: &mut Peer,
-    session: &mut Session,
-    other: &mut Peer,
-    other_session: &mut Session,
-    moment: Moment,
+    link: &mut Link<'_>,
     lines: &mut Vec<u8>,
 ) -> Result<(), Refused>
-    ensures { PullsUnlessFull moment peer.old result lines.old.items lines.new.items peer.new }
+    ensures { PullsUnlessFull cx.now.moment peer.old result lines.old.items lines.new.items peer.new }
 {
-    let names = round_of(alloc, peer)?;
-    Ok(pull_each(
-        rt,
-        alloc,
-        peer,
-        session,
-        other,
-        other_session,
-        names.as_slice(),
-        moment,
-        lines,
-    )?)
+    let names = round_of(cx.alloc, peer)?;
+    Ok(pull_each(cx, peer, link, names.as_slice(), lines)?)
 }
 
 /// The names that a round pulls: those with a live best, in byte order, and then those with a deleted one, in the reverse
@@ -72,82 +57,53 @@ fn round_of(alloc: Global, peer: &mut Peer) -> Result<Vec<SafeName>, AllocError>
 
 /// Pulls these names, one after another.
 fn pull_each<R: Threads + Sync>(
-    rt: &R,
-    alloc: Global,
+    cx: &Context<'_, R>,
     peer: &mut Peer,
-    session: &mut Session,
-    other: &mut Peer,
-    other_session: &mut Session,
+    link: &mut Link<'_>,
     names: &[SafeName],
-    moment: Moment,
     lines: &mut Vec<u8>,
 ) -> Result<(), AllocError>
     ensures others { peer.new ≡ record peer.old { store = peer.new.store; calls = peer.new.calls } }
-    ensures pulls { OnOk result (PullsRound moment names.now peer.old lines.old.items lines.new.items peer.new) }
+    ensures pulls { OnOk result (PullsRound cx.now.moment names.now peer.old lines.old.items lines.new.items peer.new) }
 {
     for name in names {
-        pull_one(
-            rt,
-            alloc,
-            peer,
-            session,
-            other,
-            other_session,
-            name,
-            moment,
-            lines,
-        )?;
+        pull_one(cx, peer, link, name, lines)?;
     }
     Ok(())
 }
 
 fn pull_one<R: Threads + Sync>(
-    rt: &R,
-    alloc: Global,
+    cx: &Context<'_, R>,
     peer: &mut Peer,
-    session: &mut Session,
-    other: &mut Peer,
-    other_session: &mut Session,
+    link: &mut Link<'_>,
     name: &SafeName,
-    moment: Moment,
     lines: &mut Vec<u8>,
 ) -> Result<(), AllocError>
     ensures others { peer.new ≡ record peer.old { store = peer.new.store; calls = peer.new.calls } }
-    ensures pulls { OnOk result ((answer : AnyAnswer) × PullsOne moment peer.old name.now answer peer.new
+    ensures pulls { OnOk result ((answer : AnyAnswer) × PullsOne cx.now.moment peer.old name.now answer peer.new
         × (lines.new.items ≡ lines.old.items ++ pull_line peer.old.side answer name.now)) }
 {
-    let answer = answer_of(rt, alloc, peer, session, other, other_session, name, moment);
+    let answer = answer_of(cx, peer, link, name);
     push_pull(lines, peer.side, answer, name)
 }
 
 fn answer_of<R: Threads + Sync>(
-    rt: &R,
-    alloc: Global,
+    cx: &Context<'_, R>,
     peer: &mut Peer,
-    session: &mut Session,
-    other: &mut Peer,
-    other_session: &mut Session,
+    link: &mut Link<'_>,
     name: &SafeName,
-    moment: Moment,
 ) -> PullAnswer
-    ensures { PullsOne moment peer.old name.now result peer.new }
+    ensures { PullsOne cx.now.moment peer.old name.now result peer.new }
 {
-    let mut link = Link {
-        alloc,
-        session,
-        other,
-        other_session,
-        moment,
-    };
     pull_name(
-        rt,
-        alloc,
+        cx.rt,
+        cx.alloc,
         &mut peer.store,
         &mut peer.calls,
-        &mut link,
+        link,
         &OpenGate,
         name,
-        moment,
+        cx.moment,
         peer.most,
     )
 }

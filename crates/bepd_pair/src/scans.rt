@@ -6,6 +6,7 @@ ghost use Rattle.bepd_pair.specs.Scans.{ScansPeer, TellsSum};
 ghost use Rattle.sync_scan.specs.declared.sum.ScanSum.{ScanSum as AnySum};
 
 use crate::command::Side;
+use crate::context::Context;
 use crate::output::{push_local, push_scan};
 use crate::peer::Peer;
 use crate::refused::Refused;
@@ -16,33 +17,30 @@ use std::alloc::{AllocError, Global};
 use std::thread::Threads;
 use sync_record::Record;
 use sync_scan::{NoProgress, ScanSum, scan_all};
-use sync_version::Moment;
 
 /// Scans all names, and prints the counts.
 pub(crate) fn scan<R: Threads + Sync>(
-    rt: &R,
-    alloc: Global,
+    cx: &Context<'_, R>,
     peer: &mut Peer,
-    moment: Moment,
     lines: &mut Vec<u8>,
 ) -> Result<(), Refused>
-    ensures { (sum : AnySum) × ScansPeer peer.old moment sum peer.new
+    ensures { (sum : AnySum) × ScansPeer peer.old cx.now.moment sum peer.new
         × TellsSum peer.old.side sum lines.old.items result lines.new.items }
 {
-    let sum = scan_peer(rt, alloc, peer, moment);
+    let sum = scan_peer(cx, peer);
     tell_sum(lines, peer.side, sum)
 }
 
-fn scan_peer<R: Threads + Sync>(rt: &R, alloc: Global, peer: &mut Peer, moment: Moment) -> ScanSum
-    ensures { ScansPeer peer.old moment result peer.new }
+fn scan_peer<R: Threads + Sync>(cx: &Context<'_, R>, peer: &mut Peer) -> ScanSum
+    ensures { ScansPeer peer.old cx.now.moment result peer.new }
 {
     scan_all(
-        rt,
-        alloc,
+        cx.rt,
+        cx.alloc,
         &mut peer.store,
         &mut peer.calls,
         &OpenGate,
-        moment,
+        cx.moment,
         &mut NoProgress,
     )
 }
