@@ -6,13 +6,12 @@ import re
 # names that had two meanings, or a second name for one thing, and are gone
 GONE = ("PeerFolder", "ServedFolder", "JournalPulls", "JournalSteps", "node_laws", "journal_laws", "sync_layers", "run_and_tell", "store_calls", "worker_calls", "reader_calls",
         "link_calls", "peer_node")
-# how many functions of a crate have more than seven parameters, and how many clauses of its public functions have more than two lines: both only fall
-PARAMETERS = {"bepd_pair": 5, "proof_layers": 5, "sync_pull": 1}
-CLAUSES = {"folder_core": 113, "folder_calls": 42, "proof_node": 31, "index_sender": 17, "sync_pull": 12, "proof_journal": 11, "sync_scan": 11, "bep_messages": 8, "block_server": 5,
-           "folder_shared": 5, "proof_layers": 5, "sync_record": 4, "device_text": 3, "sync_names": 3, "bep_wire": 2, "bepd": 2, "file_store": 2, "peer_reader": 2, "peer_server": 2,
-           "sync_blocks": 2, "bep_frames": 1, "device_certificate": 1, "folder_look": 1, "node_journal": 1, "node_recover": 1, "node_resume": 1, "node_saver": 1, "peer_conn": 1}
-# how many lines a crate's page begins with
-PAGE_LINES = {"node_config": 21}
+# the functions of a crate that have more than seven parameters: one whose form is fixed, and those of a proof
+PARAMETERS = {"proof_layers": 5, "sync_pull": 1}
+# how many columns a clause of a public function may have, but where a comment above it says why: two lines
+COLUMNS = 240
+# how many lines the page of a crate may have
+PAGE_LINES = 10
 
 FUNCTION = re.compile(r"\bfn \w+")
 PUBLIC = re.compile(r"\s*pub (?:unsafe )?fn \w+")
@@ -55,22 +54,23 @@ def parameters(text):
     return counts
 
 
-def clauses(lines):
-    """How many lines each clause of a public function has."""
-    counts, at = [], 0
+def long_clauses(lines):
+    """The lines at which clauses of public functions begin that are too long, with no comment above that says why."""
+    found, at = [], 0
     while at < len(lines):
         if PUBLIC.match(lines[at]):
             at += 1
             while at < len(lines) and not BODY.match(lines[at]):
                 if CLAUSE.match(lines[at]):
-                    text, begin = lines[at], at
-                    while text.count("{") > text.count("}") and at + 1 < len(lines):
+                    parts, begin = [lines[at].strip()], at
+                    while "".join(parts).count("{") > "".join(parts).count("}") and at + 1 < len(lines):
                         at += 1
-                        text += lines[at]
-                    counts.append(at - begin + 1)
+                        parts.append(lines[at].strip())
+                    if len(" ".join(parts)) > COLUMNS and not lines[begin - 1].strip().startswith("// "):
+                        found.append(begin + 1)
                 at += 1
         at += 1
-    return counts
+    return found
 
 
 def check(root, uses):
@@ -85,7 +85,7 @@ def check(root, uses):
     for crate in uses:
         if crate.startswith("proof_") == (crate in below):
             wrong.append(f"crates/{crate}: a crate begins with proof_ exactly if the program doesn't use it")
-        many = long = 0
+        many = 0
         for path in sorted(glob.glob(f"{glob.escape(root)}/crates/{crate}/*/**/*", recursive=True)):
             if not path.endswith((".rt", ".antt")) or f"/crates/{crate}/out/" in path:
                 continue
@@ -94,14 +94,15 @@ def check(root, uses):
             shown = os.path.relpath(path, root)
             for found in gone.findall(text):
                 wrong.append(f"{shown}: {found} is a name that is gone (docs/CHANGING.md, \"Names\")")
-            if path.endswith(".rt"):
-                many += sum(it > 7 for it in parameters(text))
-                long += sum(it > 2 for it in clauses(text.split("\n")))
-            if shown == f"crates/{crate}/src/lib.rt":
-                page = len(re.match(r"(?://!.*\n)*", text)[0].splitlines())
-                if page > PAGE_LINES.get(crate, 10):
-                    wrong.append(f"{shown}: its page has {page} lines, more than {PAGE_LINES.get(crate, 10)}")
-        for what, count, most in ("functions with more than seven parameters", many, PARAMETERS), ("public clauses of more than two lines", long, CLAUSES):
-            if count > most.get(crate, 0):
-                wrong.append(f"crates/{crate}: {count} {what}, more than {most.get(crate, 0)}")
-    return wrong, 4 * len(uses)
+            if not path.endswith(".rt"):
+                continue
+            many += sum(it > 7 for it in parameters(text))
+            wrong.extend(f"{shown}:{it}: a public clause of more than {COLUMNS} columns, and no comment above it that says why" for it in long_clauses(text.split("\n")))
+            page = len(re.match(r"(?://!.*\n)*", text)[0].splitlines())
+            if not page:
+                wrong.append(f"{shown}: its first line doesn't say what is in it (//!)")
+            if shown == f"crates/{crate}/src/lib.rt" and page > PAGE_LINES:
+                wrong.append(f"{shown}: its page has {page} lines, more than {PAGE_LINES}")
+        if many > PARAMETERS.get(crate, 0):
+            wrong.append(f"crates/{crate}: {many} functions with more than seven parameters, more than {PARAMETERS.get(crate, 0)}")
+    return wrong, 5 * len(uses)

@@ -1,3 +1,4 @@
+//! The message of a frame, decoded from its bytes by the type number of its header; one of an unknown type is not read.
 ghost use Rattle.std.specs.Prelude.{◌≡◌, ◌≢◌, Err, Ok};
 ghost use Rattle.bep_messages.specs.Values.{decoded};
 ghost use Rattle.bep_frames.specs.Carried.{carried};

@@ -1,3 +1,4 @@
+//! Why a frame is not read (bad magic, too long, compressed, a header or body that can't be decoded), or not written.
 ghost use Rattle.std.specs.Prelude.{◌≡◌, Some};
 ghost use Rattle.bep_frames.specs.Faults.{frame_fault_name, frame_fault_number, write_fault_name, write_fault_number};
 ghost use Rattle.bep_frames.specs.declared.fault.WriteFault.TheVariants.{OutOfMemory};

@@ -1,3 +1,4 @@
+//! The first frame of some bytes: magic bytes, length prefixes and header decoded; or how many bytes are missing.
 ghost use Rattle.std.specs.Prelude.{◌≡◌, Err, MatchResult};
 ghost use Rattle.bep_messages.specs.Protocol.{hello_table};
 ghost use Rattle.bep_frames.specs.Found.{Finds, Fails, IsCut16, Lacks16, TakesMemory16, TakesMemory32};

@@ -1,3 +1,4 @@
+//! What a frame holds: a Hello, or a message after a header; and the type number of each message.
 use bep_messages::{
     Close, ClusterConfig, DownloadProgress, Hello, Index, IndexUpdate, Ping, Request, Response,
 };

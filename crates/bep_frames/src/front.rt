@@ -1,3 +1,4 @@
+//! The frame of a Response up to its data, so that a block's bytes are written after it without a copy.
 ghost use Rattle.std.specs.Prelude.{◌≡◌, ◌+◌, ◌^◌, ◌<◌, ◌≤◌, ◌++◌, [], ◌∷◌, pos, length, IfOk, OnOk, OnErr, IsErrOf, vec_capacity};
 ghost use Rattle.std.specs.Int.{w32, to_be_bytes};
 ghost use Rattle.bep_messages.specs.Forms.{bytes_form, form};

@@ -1,3 +1,4 @@
+//! The reader that takes a byte stream in pieces of any length, and gives the frames in it as they become whole.
 ghost use Rattle.std.specs.Prelude.{◌≡◌, ◌≢◌, ◌+◌, ◌≤◌, [], None, length, drop, IsOk, OnOk, OnErr, true, false};
 ghost use Rattle.bep_frames.specs.State.{start, fed, Gives};
 

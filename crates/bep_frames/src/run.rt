@@ -1,3 +1,4 @@
+//! All frames of a stream that is given in pieces, up to its end or its first fault.
 ghost use Rattle.std.specs.Prelude.{◌≡◌, ◌≤◌, ℕ, List, [], length, IsOk, IfOk, OnOk};
 ghost use Rattle.std.specs.List.{flat_map};
 ghost use Rattle.bep_frames.specs.Stream.{stream};

@@ -1,3 +1,4 @@
+//! How long a message and a Hello may be in a frame, and the big-endian numbers of length prefixes.
 ghost use Rattle.std.specs.Prelude.{◌≡◌, length};
 ghost use Rattle.bep_frames.specs.Grammar.{number16, number32};
 

@@ -1,3 +1,4 @@
+//! Frames encoded: a Hello after its magic bytes, and any other message after its header and length, not compressed.
 ghost use Rattle.std.specs.Prelude.{◌≡◌, ◌+◌, ◌<◌, ◌≤◌, ◌++◌, pos, true, false, Ok, length, take, OnOk, OnErr, IsErrOf, vec_len, vec_capacity};
 ghost use Rattle.bep_messages.specs.Forms.{form};
 ghost use Rattle.bep_messages.specs.Protocol.{header_table, hello_table};

@@ -1,3 +1,4 @@
+//! The BlockInfo message, decoded and encoded: offset, size and SHA-256 hash of a block in a FileInfo's block list.
 ghost use Rattle.std.specs.Prelude.{◌≤◌, length, refl};
 ghost use Rattle.bep_messages.specs.Protocol.{block_info_table};
 ghost use Rattle.bep_messages.specs.Structs.{block_info_parts, block_info};

@@ -1,3 +1,4 @@
+//! The Close message, decoded and encoded: why the connection ends.
 ghost use Rattle.std.specs.Prelude.{◌≡◌, [], refl};
 ghost use Rattle.bep_messages.specs.Protocol.{close_table};
 ghost use Rattle.bep_messages.specs.Structs.{close_parts, close};

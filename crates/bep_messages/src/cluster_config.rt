@@ -1,3 +1,4 @@
+//! The ClusterConfig message, decoded and encoded: which folders the sender shares with which devices.
 ghost use Rattle.std.specs.Prelude.{◌≡◌, [], refl};
 ghost use Rattle.bep_messages.specs.Protocol.{cluster_config_table};
 ghost use Rattle.bep_messages.specs.Structs.{cluster_config_parts, cluster_config};

@@ -1,3 +1,4 @@
+//! The Counter message, decoded and encoded: one device's counter of a version vector.
 ghost use Rattle.std.specs.Prelude.{⊤, refl};
 ghost use Rattle.bep_messages.specs.Protocol.{counter_table};
 ghost use Rattle.bep_messages.specs.Structs.{counter_parts, counter};

@@ -1,3 +1,4 @@
+//! The Device message of a Folder, decoded and encoded: a device's identity, name, addresses, sequence and index id.
 ghost use Rattle.std.specs.Prelude.{◌≡◌, [], refl};
 ghost use Rattle.bep_messages.specs.Protocol.{device_table};
 ghost use Rattle.bep_messages.specs.Structs.{device_parts, device};

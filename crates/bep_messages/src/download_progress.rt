@@ -1,3 +1,4 @@
+//! The DownloadProgress message, whose fields are skipped when it is decoded.
 ghost use Rattle.std.specs.Prelude.{⊤, refl};
 ghost use Rattle.bep_messages.specs.Protocol.{download_progress_table};
 ghost use Rattle.bep_messages.specs.Structs.{download_progress_parts, download_progress};

@@ -1,3 +1,4 @@
+//! Why the bytes of a message are not decoded: they are no protobuf fields, a text isn't UTF-8, or out of memory.
 ghost use Rattle.std.specs.Prelude.{◌≡◌, Some};
 ghost use Rattle.bep_messages.specs.FaultNames.{message_fault_name, message_fault_number};
 ghost use Rattle.bep_messages.specs.declared.fault.MessageFault.TheVariants.{Wire, OutOfMemory};

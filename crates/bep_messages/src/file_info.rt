@@ -1,3 +1,4 @@
+//! The FileInfo message, decoded and encoded: a file's name, type, size, time, version vector, sequence and block list.
 ghost use Rattle.std.specs.Prelude.{◌≡◌, [], refl};
 ghost use Rattle.bep_messages.specs.Protocol.{file_info_table};
 ghost use Rattle.bep_messages.specs.Structs.{file_info_parts, file_info};

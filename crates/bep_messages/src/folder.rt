@@ -1,3 +1,4 @@
+//! The Folder message of a ClusterConfig, decoded and encoded: a folder's id, label, flags and devices.
 ghost use Rattle.std.specs.Prelude.{◌≡◌, [], refl};
 ghost use Rattle.bep_messages.specs.Protocol.{folder_table};
 ghost use Rattle.bep_messages.specs.Structs.{folder_parts, folder};

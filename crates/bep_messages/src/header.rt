@@ -1,3 +1,4 @@
+//! The Header before each message but the Hello, decoded and encoded: the message's type number and compression.
 ghost use Rattle.std.specs.Prelude.{⊤, refl};
 ghost use Rattle.bep_messages.specs.Protocol.{header_table};
 ghost use Rattle.bep_messages.specs.Structs.{header_parts, header};

@@ -1,3 +1,4 @@
+//! The Hello message, decoded and encoded: the device's name, and the client's name and version.
 ghost use Rattle.std.specs.Prelude.{◌≡◌, [], refl};
 ghost use Rattle.bep_messages.specs.Protocol.{hello_table};
 ghost use Rattle.bep_messages.specs.Structs.{hello_parts, hello};

@@ -1,3 +1,4 @@
+//! The Index message, decoded and encoded: the FileInfo of each file that the sender has of a folder.
 ghost use Rattle.std.specs.Prelude.{◌≡◌, [], refl};
 ghost use Rattle.bep_messages.specs.Protocol.{index_table};
 ghost use Rattle.bep_messages.specs.Structs.{index_parts, index};

@@ -1,3 +1,4 @@
+//! The IndexUpdate message, decoded and encoded: the FileInfo of each file of a folder that changed.
 ghost use Rattle.std.specs.Prelude.{◌≡◌, [], refl};
 ghost use Rattle.bep_messages.specs.Protocol.{index_update_table};
 ghost use Rattle.bep_messages.specs.Structs.{index_update_parts, index_update};

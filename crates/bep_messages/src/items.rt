@@ -1,3 +1,4 @@
+//! Lists of values, as repeated fields of messages have them; and copies that may run out of memory.
 ghost use Rattle.std.specs.Prelude.{◌≡◌, [], ◌∷◌, ◌++◌, IfOk, IsOk, OnOk, OnErr};
 
 use std::alloc::{AllocError, Global};

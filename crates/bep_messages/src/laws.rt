@@ -29,6 +29,7 @@ pub fn unknown_fields_change_nothing()
 
 /// Of a single value that occurs again the last occurrence counts: one before it changes nothing.
 pub fn last_one_wins()
+    // A single value `a` changes nothing where `b` comes later: the premises say that both are of one known field.
     ensures { (table : Table) (v : Values table) (front middle rest : List Item) (a b : Item) → rises 0 table ≡ true →
         is_single table a.number ≡ true → a.number ≡ b.number → is_known table b ≡ true →
         values table v (front ++ a ∷ (middle ++ b ∷ rest)) ≡ values table v (front ++ (middle ++ b ∷ rest)) }
@@ -49,6 +50,7 @@ pub fn which_fields_take_memory()
     ensures message_in_a_list { (number : ℕ) (inner rows : Table) (bytes : List ℕ) →
         ItemTakes (Messages number inner rows) (record { number = number; content = Bytes bytes }) →
         ElementTakes inner bytes }
+    // What comes behind a fault takes no memory: where some field takes some, one up to the faulty field `i` does.
     ensures after_a_fault { (table : Table) (front rest : List Item) (i : Item) → item_fault table i ≢ None →
         SomeTakes (ItemTakes table) (item_fault table) (front ++ i ∷ rest) →
         SomeTakes (ItemTakes table) (item_fault table) (front ++ i ∷ []) }

@@ -1,3 +1,4 @@
+//! The trait of all protobuf messages: decode, encode and merge, by a table of the message's fields.
 ghost use Rattle.std.specs.Prelude.{◌≡◌, ◌≢◌, ◌≤◌, ◌<◌, ◌+◌, ◌∷◌, [], true, None, Ok, Err, ◌++◌, length, OnOk, OnErr, IfErr, vec_len, vec_capacity};
 ghost use Rattle.bep_wire.specs.Content.{item_in};
 ghost use Rattle.bep_wire.specs.Fields.{fields};

@@ -42,6 +42,7 @@ pub fn list<M: ProtoMessage>(
 ) -> Result<(), MessageFault>
     requires start { field.start ≤ field.end }
     requires end { field.end ≤ length source.now }
+    // The field has no fault, and its message, if it has one, is put behind the list: both are of the same bytes.
     ensures ok { OnOk result ((bytes_fault (message_fault M.table) (content_in source.now field) ≡ None)
         × (map M.parts slot.new ≡ map M.parts slot.old
         ++ map (λ bytes. values M.table (empty M.table) (fields bytes).items)

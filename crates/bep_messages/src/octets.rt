@@ -1,3 +1,4 @@
+//! Bytes fields of messages: of any length, and short ones, such as a SHA-256 digest, kept without allocating.
 ghost use Rattle.std.specs.Prelude.{◌≡◌, ◌≤◌, [], length, IfOk, IsOk};
 ghost use Rattle.bep_messages.specs.declared.octets.TheConstants.{DIGEST_LEN};
 

@@ -1,3 +1,4 @@
+//! The Ping message, decoded and encoded, which has no fields: it keeps a connection alive.
 ghost use Rattle.std.specs.Prelude.{⊤, refl};
 ghost use Rattle.bep_messages.specs.Protocol.{ping_table};
 ghost use Rattle.bep_messages.specs.Structs.{ping_parts, ping};

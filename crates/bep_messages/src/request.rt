@@ -1,3 +1,4 @@
+//! The Request message, decoded and encoded: asks for a block by folder, name, offset, size and hash.
 ghost use Rattle.std.specs.Prelude.{◌≡◌, ◌≤◌, [], length, refl};
 ghost use Rattle.bep_messages.specs.Protocol.{request_table};
 ghost use Rattle.bep_messages.specs.Structs.{request_parts, request};

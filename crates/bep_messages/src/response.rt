@@ -1,3 +1,4 @@
+//! The Response message, decoded and encoded: the bytes that a Request asked for, or an error code.
 ghost use Rattle.std.specs.Prelude.{◌≡◌, [], refl};
 ghost use Rattle.bep_messages.specs.Protocol.{response_table};
 ghost use Rattle.bep_messages.specs.Structs.{response_parts, response};

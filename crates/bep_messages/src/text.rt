@@ -1,3 +1,4 @@
+//! String fields of messages: texts in UTF-8.
 ghost use Rattle.std.specs.Prelude.{◌≡◌, [], IfOk, IsOk, string_bytes};
 
 use crate::items::Copied;

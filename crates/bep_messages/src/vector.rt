@@ -1,3 +1,4 @@
+//! The Vector message, decoded and encoded: a file's version vector, as a list of Counters.
 ghost use Rattle.std.specs.Prelude.{◌≡◌, [], refl};
 ghost use Rattle.bep_messages.specs.Protocol.{vector_table};
 ghost use Rattle.bep_messages.specs.Structs.{vector_parts, vector};

@@ -1,3 +1,4 @@
+//! The writer that messages are encoded to: it appends fields, puts lengths before nested messages, and can undo all.
 ghost use Rattle.std.specs.Prelude.{◌≡◌, ◌≤◌, ◌<◌, ◌+◌, ◌-◌, ◌^◌, [], ◌++◌, length, take, drop, OnOk, OnErr, vec_capacity};
 ghost use Rattle.bep_wire.specs.Written.{number_field, bytes_field};
 ghost use Rattle.bep_messages.specs.Writing.{Writing, len};

@@ -1,3 +1,4 @@
+//! The state of a connection: which message is due or may come next, what event it gives, and which Requests are open.
 ghost use Rattle.std.specs.Prelude.{◌≡◌, ◌≢◌, [], IsTrue, if◌then◌else◌};
 ghost use Rattle.bep_session.specs.Events.{Outcome, after_response, after_message, after_message_at, may_begin, after_frame};
 

@@ -1,3 +1,4 @@
+//! What a peer's message means on its connection, as an event: Hello, ClusterConfig, Index, Request, Response, Close.
 use crate::fault::SessionFault;
 use bep_messages::{ClusterConfig, Hello, Index, IndexUpdate, Request, Response, Text};
 

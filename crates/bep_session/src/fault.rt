@@ -1,3 +1,4 @@
+//! Why a peer's stream breaks the protocol, and why no further Request can be asked now.
 ghost use Rattle.std.specs.Prelude.{◌≡◌, Some};
 ghost use Rattle.bep_session.specs.Faults.{ask_refusal_name, ask_refusal_number, session_fault, session_fault_name, session_fault_number};
 

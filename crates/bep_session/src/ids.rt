@@ -1,3 +1,4 @@
+//! The ids of the Requests that wait for their Response, 1,024 at most, and the least id that is free.
 ghost use Rattle.std.specs.Prelude.{◌≡◌, ◌≢◌, ℕ, pos, ◌+◌, ◌<◌, ◌≤◌, ◌↔◌, [], true, false, length, IfSome, IfNone, IsNone, OnOk, OnErr};
 ghost use Rattle.std.specs.Bool.{OnFalse};
 ghost use Rattle.bep_session.specs.Ids.{IsLeastFree, closed, is_open, is_positive, max_asks, opened};

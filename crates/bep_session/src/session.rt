@@ -1,3 +1,4 @@
+//! The state machine of a connection, without I/O: bytes received, messages said, Request ids, timeouts and Pings.
 ghost use Rattle.std.specs.Prelude.{◌≡◌, ◌≢◌, ℕ, pos, ◌≤◌, ◌<◌, ◌+◌, ◌++◌, ◌↔◌, [], None, false, true, length, vec_len, vec_capacity, if◌then◌else◌, IsErrOf, IsOk, IfOk, OnOk, OnErr};
 ghost use Rattle.bep_frames.specs.Grammar.{IsFrame, max_message_bytes};
 ghost use Rattle.bep_frames.specs.Written.{body_of, message_frame};

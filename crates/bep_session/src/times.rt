@@ -1,3 +1,4 @@
+//! When a Ping is due (nothing was sent for 90 seconds), and when a connection timed out (nothing came for 300).
 ghost use Rattle.std.specs.Prelude.{◌≡◌, ◌≤◌, ◌-◌, ◌↔◌, IsTrue};
 ghost use Rattle.bep_session.specs.Times.{ping_seconds, timeout_seconds};
 

@@ -1,3 +1,4 @@
+//! Why protobuf fields are not decoded: truncated bytes, a varint that is too long, a bad key, a group.
 ghost use Rattle.std.specs.Prelude.{◌≡◌, Some};
 ghost use Rattle.bep_wire.specs.FaultNames.{wire_fault_name, wire_fault_number, fields_fault_name, fields_fault_number};
 ghost use Rattle.bep_wire.specs.declared.fault.FieldsFault.TheVariants.{Wire, OutOfMemory};

@@ -1,3 +1,4 @@
+//! A protobuf field: its number, its wire type, and the place of its bytes; how long a varint is at most.
 /// The greatest field number (Protocol Buffers, language guide for proto3, "Assigning Field Numbers").
 pub const MAX_FIELD_NUMBER: u32 = 536_870_911;
 

@@ -1,3 +1,4 @@
+//! Protobuf fields decoded from bytes: varints, keys with field number and wire type, and length-delimited values.
 ghost use Rattle.std.specs.Prelude.{◌≡◌, ◌≤◌, ◌<◌, Ok, Err, None, Some, length, drop, slice_range, MatchResult, MatchOption, IfOk, IfErr, map};
 ghost use Rattle.bep_wire.specs.Content.{wire_of, item_in, content_in};
 ghost use Rattle.bep_wire.specs.Grammar.{NoField};

@@ -1,3 +1,4 @@
+//! Varints and length-delimited protobuf fields encoded, appended to a vector of bytes.
 ghost use Rattle.std.specs.Prelude.{◌≡◌, ◌+◌, ◌*◌, ◌<◌, ◌≤◌, ◌++◌, length, OnOk, OnErr, vec_len, vec_capacity};
 ghost use Rattle.bep_wire.specs.Written.{shortest, bytes_field};
 

@@ -1,4 +1,4 @@
-//! Where the commands of a run come from: its input, and the socket beside its state.
+//! Commands that a run takes: from its standard input, and from the Unix socket beside its state file.
 use crate::failure::RunFailure;
 use crate::files::StateFiles;
 use crossbeam_channel::{Receiver, Sender, bounded};

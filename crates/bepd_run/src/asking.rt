@@ -1,4 +1,4 @@
-//! How a command is asked of a run.
+//! `bepd ask` and `bepd status`: a command sent to a running node by its Unix socket, and the answer that is written.
 use crate::failure::RunFailure;
 use crate::files::read_config_file;
 use crate::lock::is_locked;

@@ -1,4 +1,4 @@
-//! How a run begins: its folders are made ready, and it is told what it does.
+//! The beginning of a run: new folders get a marker, old temporary files are removed, and what it does is logged.
 ghost use Rattle.std.specs.Prelude.{◌≡◌, ◌==◌, is_some, length};
 
 use crate::failure::RunFailure;

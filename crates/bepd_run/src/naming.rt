@@ -1,4 +1,4 @@
-//! What a failure is named by: a file, a folder or an address, and what is wrong with it.
+//! The error messages of a run's failures: which file, configuration key or address each is about, and why.
 ghost use Rattle.std.specs.Prelude.{◌≡◌, IfErr, IfOk};
 ghost use Rattle.std.specs.IoError.{error_kind};
 ghost use Rattle.bepd_run.specs.Addresses.{IsReadAs, IsRefused};

@@ -1,4 +1,4 @@
-//! What a run would meet at its start.
+//! What a check of a configuration tells: unknown keys, and what a run would meet at its state, addresses and folders.
 use crate::asked::LONG_PATH;
 use crate::begun::told_alone;
 use crate::failure::RunFailure;

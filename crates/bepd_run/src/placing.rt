@@ -1,4 +1,4 @@
-//! The paths of a configuration, as a run takes them.
+//! Relative paths of a configuration, resolved against the directory of the configuration file.
 ghost use Rattle.std.specs.Prelude.{◌≡◌, ◌++◌, IfOk, string_bytes};
 ghost use Rattle.bepd_run.specs.Placed.{directory_of, placed_path};
 

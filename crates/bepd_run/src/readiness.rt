@@ -1,4 +1,4 @@
-//! Writes that do not wait for long.
+//! Writes with a timeout, to a pipe or terminal whose reader may be slow or gone: they wait by poll, and give up.
 ghost use Rattle.std.specs.Prelude.{◌≡◌, ◌≤◌, IfOk};
 ghost use Rattle.std.specs.Io.{WritesAtMost};
 ghost use Rattle.std.specs.Io.KnownBytes.{WriteAppends};

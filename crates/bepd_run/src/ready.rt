@@ -1,4 +1,4 @@
-//! What a run has before its threads begin.
+//! What a run has before its threads start: the last state and journal loaded, its folders made ready, pulls settled.
 use crate::begun::{keep_all, make_ready, told_alone};
 use crate::failure::RunFailure;
 use crate::files::StateFiles;

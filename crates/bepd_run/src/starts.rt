@@ -1,4 +1,4 @@
-//! What a node begins with, by its configuration and its state.
+//! The folders and peers that a node starts with, made from its configuration and the state of the last run.
 ghost use Rattle.std.specs.Prelude.{◌≡◌, length, map, IfOk};
 ghost use Rattle.node_resume.specs.Resumed.{taken};
 ghost use Rattle.bepd_run.specs.Renumbered.{number_of, place_of, renumbered};

@@ -1,4 +1,4 @@
-//! The line of a failure.
+//! The error line of a failed run, written to standard error; it is given up after 4 seconds.
 ghost use Rattle.std.specs.Prelude.{◌++◌, OnOk, codes};
 ghost use Rattle.std.specs.Io.KnownBytes.{Appends};
 ghost use Rattle.bepd_run.specs.Failures.{run_failure_text};

@@ -1,3 +1,4 @@
+//! The Response to a peer's Request: its name, range and digest checked, and the block's bytes read from the store.
 ghost use Rattle.std.specs.Prelude.{◌≡◌, ◌⊎◌, IfErr, IfOk, IsOk, IsSome, true};
 ghost use Rattle.file_store.specs.Trees.{bytes_of};
 ghost use Rattle.folder_calls.specs.Shared.{Sees, now};
@@ -31,6 +32,7 @@ pub fn answer<S: FileStore, W: FolderCalls, G: Gate>(
     gate: &G,
     request: &Request,
 ) -> Result<Response, AllocError>
+    // One relation between the request, the folder's record, the file's bytes, the faults and the response.
     ensures serves { IfOk result (λ response. Serves S.keeps request.now
         (local (now (W.view calls.new)) request.now.name)
         (bytes_of ((S.tree store.old).names request.now.name)) (S.fault_count store.old) response

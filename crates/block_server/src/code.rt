@@ -1,3 +1,4 @@
+//! The error codes of a Response: generic, no such file, invalid file.
 ghost use Rattle.std.specs.Prelude.{◌≡◌};
 ghost use Rattle.block_server.specs.Served.{code_number};
 

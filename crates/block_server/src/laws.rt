@@ -19,6 +19,7 @@ pub fn bytes_are_those_that_were_asked_for()
     ensures id { (keeps : Bool) (q : Request) (r : Option FileRecord) (file : List ℕ)
         (faults : ℕ) (response : Response) (after : ℕ) →
         Serves keeps q r file faults response after → response.id ≡ q.id }
+    // One of two: code 0, and then all of this holds of the bytes; or another code, and no bytes.
     ensures code { (keeps : Bool) (q : Request) (r : Option FileRecord) (file : List ℕ)
         (faults : ℕ) (response : Response) (after : ℕ) →
         Serves keeps q r file faults response after →
@@ -31,6 +32,7 @@ pub fn bytes_are_those_that_were_asked_for()
 
 /// A fault of the store comes with code 1, and only where no test refuses the request.
 pub fn faults_are_answered_with_code_1()
+    // A fault was counted while the request was served: then no test refused it, and it got code 1.
     ensures { (keeps : Bool) (q : Request) (r : Option FileRecord) (file : List ℕ)
         (faults : ℕ) (response : Response) (after : ℕ) →
         Serves keeps q r file faults response after → after ≢ faults →
@@ -40,6 +42,7 @@ pub fn faults_are_answered_with_code_1()
 /// Of every store, whether it keeps what is written or not: bytes come with code 0 only, and are those that the store gave for this
 /// request, from the asked offset on and as many as were asked for.
 pub fn bytes_are_those_that_the_store_gave<S: FileStore>()
+    // Bytes of code 0 are the asked part that the store gave: name, offset and size are those of the request.
     ensures { (q : Request) (r : Option FileRecord) (old new : S) (response : Response) →
         ServesGiven S.gives q r old response new → response.code ≡ pos 0 →
         GivesPart S.gives q.name (natural q.offset) (natural q.size) old (Some response.payload) new }

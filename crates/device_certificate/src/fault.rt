@@ -1,3 +1,4 @@
+//! Why a PEM file gives no device ID: no certificate, several, one without its end, or bad Base64.
 use std::alloc::AllocError;
 use thiserror::Error;
 

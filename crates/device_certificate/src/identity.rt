@@ -1,3 +1,4 @@
+//! The device ID of a certificate: the SHA-256 of its DER form, which is decoded from the Base64 of a PEM file.
 ghost use Rattle.std.specs.Prelude.{◌≡◌, ℕ, List, ◌⊎◌, IfOk, IfErr, MatchOption, Ok, Err};
 ghost use Rattle.device_certificate.specs.Lines.{lines_left};
 ghost use Rattle.device_certificate.specs.Certificate.{HasCertificate, lines_after_begin, IsBase64Of, IsCertificate, IsCertificateIdentity, HasFault};

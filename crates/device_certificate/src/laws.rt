@@ -11,6 +11,7 @@ pub fn one_identity()
 
 /// What stands before the one begin and after the next end does not matter.
 pub fn stands_between()
+    // Three premises divide the text at its one begin and the next end; what is between decodes exactly to the bytes.
     ensures { (text der : List ℕ) (before body after : List (List ℕ)) →
         lines text ≡ before ++ begin_line ∷ (body ++ end_line ∷ after) →
         count_by (is_line begin_line) (before ++ (body ++ after)) ≡ 0 →

@@ -1,3 +1,4 @@
+//! The lines of a PEM file's text without blanks at their ends, and those between two given lines.
 ghost use Rattle.std.specs.Prelude.{◌≡◌, ◌∷◌, true, false, IfOk, MatchOption};
 ghost use Rattle.std.specs.List.{list_any, after_first, before_first, concat};
 ghost use Rattle.std.specs.Iterator.{YieldsFirstRef, item_count};

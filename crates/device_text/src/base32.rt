@@ -1,3 +1,4 @@
+//! The 256 bits of a device ID as base32 values of five bits, and back; the base32 character of a value.
 ghost use Rattle.std.specs.Prelude.{◌≡◌, ◌<◌, ◌≤◌, slice_index};
 ghost use Rattle.sync_names.specs.Base32.{base32_digit};
 ghost use Rattle.device_text.specs.Base32.{base32_values, identity_of, AreBase32};

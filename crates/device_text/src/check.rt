@@ -1,3 +1,4 @@
+//! The check character of a device ID's text: Luhn's algorithm mod 32, as Syncthing computes it.
 ghost use Rattle.std.specs.Prelude.{◌≡◌, ◌<◌, ◌≤◌, length};
 ghost use Rattle.device_text.specs.Base32.{AreBase32};
 ghost use Rattle.device_text.specs.Checks.{check_value};

@@ -1,3 +1,4 @@
+//! Why a text is no device ID: its length, a character, or a check character that doesn't fit.
 use thiserror::Error;
 
 /// Why a text is no device's identity. Displayed, it says what is wrong with it.

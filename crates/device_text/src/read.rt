@@ -1,3 +1,4 @@
+//! A device ID parsed from text: 64 hexadecimal digits, or Syncthing's base32 with check characters and dashes.
 ghost use Rattle.std.specs.Prelude.{◌≡◌, ◌≢◌, ℕ, ◌<◌, ◌↔◌, length, map, slice_index, IfOk, IfErr, MatchOption};
 ghost use Rattle.sync_names.specs.Base32.{base32_digit};
 ghost use Rattle.sync_record.specs.Devices.{Identity};

@@ -1,3 +1,4 @@
+//! A device ID written in Syncthing's form: base32, with check characters, and dashes between groups of seven.
 ghost use Rattle.std.specs.Prelude.{◌≡◌, ◌++◌, ◌<◌, length, map, IfOk, OnOk, string_bytes};
 ghost use Rattle.sync_names.specs.Base32.{base32_digit};
 ghost use Rattle.device_text.specs.Base32.{AreBase32};

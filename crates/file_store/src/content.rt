@@ -1,3 +1,4 @@
+//! The bytes of a file that a store keeps in memory, read and written at an offset.
 ghost use Rattle.std.specs.Prelude.{◌≡◌, ◌≢◌, ◌<◌, ◌≤◌, IfErr, ◌+◌, ◌-◌, ◌++◌, [], List, ℕ, min, take, drop, length, replicate, MatchResult};
 ghost use Rattle.file_store.specs.Contents.{overwritten};
 

@@ -1,3 +1,4 @@
+//! Gates, by which tests hold a worker just before it reads a store, hashes, or calls a folder.
 /// Where a worker's work passes its gate.
 #[derive(Clone, Copy, Debug, PartialEq, Eq)]
 pub enum GatePlace {

@@ -85,6 +85,7 @@ pub fn listings_are_exact()
 pub fn reads_give_the_file()
     ensures buffer { (old new : Tree) (n : Name) (offset k : ℕ) (before after : List ℕ) →
         Reads ⊤ old n offset before after (Ok k) new → after ≡ take k (drop offset (bytes_of (old.names n))) ++ drop k before }
+    // Exactly when a read gives nothing. The premises are on the buffer: its length stays, and it holds what is read.
     ensures none { (old new : Tree) (n : Name) (offset k : ℕ) (before after : List ℕ) →
         Reads ⊤ old n offset before after (Ok k) new → k ≤ length after → length after ≡ length before →
         (k ≡ 0) ↔ ((before ≡ []) ⊎ (length (bytes_of (old.names n)) ≤ offset)) }
@@ -94,8 +95,10 @@ pub fn reads_give_the_file()
 /// A failing store fails the call before which no calls are left, once: before the wrapped store is asked, which stays as it
 /// is, or after. All other calls are the wrapped store's.
 pub fn failing_stores_fail_one_call<S, V>()
+    // The call fails and the wrapped store stays as it is, where no calls are left and the failure is before the call.
     ensures before { (old new : FailingStore S) (result answer : Result V StoreRefusal) (done : S) → FailsOneOf old new result answer done →
         calls_left old ≡ Some 0 → failure_time old ≡ Before → (result ≡ Err StoreFault) × (wrapped new ≡ wrapped old) }
+    // The same for a failure after the call: then the wrapped store has done it.
     ensures after { (old new : FailingStore S) (result answer : Result V StoreRefusal) (done : S) → FailsOneOf old new result answer done →
         calls_left old ≡ Some 0 → failure_time old ≡ After → (result ≡ Err StoreFault) × (wrapped new ≡ done) }
     ensures other { (old new : FailingStore S) (result answer : Result V StoreRefusal) (done : S) → FailsOneOf old new result answer done →

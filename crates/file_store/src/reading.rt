@@ -1,3 +1,4 @@
+//! Bytes of a file read from a store at an offset, until the buffer is full or the file ends.
 ghost use Rattle.std.specs.Prelude.{◌≡◌, ◌+◌, ◌^◌, ◌<◌, ◌≤◌, IfErr, IfOk, drop, length, take, true};
 ghost use Rattle.file_store.specs.Refusals.{IsPlain, count_after};
 ghost use Rattle.file_store.specs.FullReads.{FillsAll};

@@ -1,3 +1,4 @@
+//! Why a store of files refuses a call: a fault, a directory that isn't empty, a bad parent, or out of memory.
 ghost use Rattle.std.specs.Prelude.{◌≡◌, Some};
 ghost use Rattle.file_store.specs.Refusals.{number_of, refusal_name};
 ghost use Rattle.file_store.specs.declared.refusal.StoreRefusal.TheVariants.{OutOfMemory};

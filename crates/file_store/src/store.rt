@@ -1,3 +1,4 @@
+//! The interface of a store of files: list, stat, read, temporary files and their commit, rename, remove, directories.
 ghost use Rattle.std.specs.Prelude.{◌≡◌, ◌≢◌, ℕ, ◌≤◌, Bool, true, length, IfOk, IfErr, Err, Result};
 ghost use Rattle.file_store.specs.declared.refusal.StoreRefusal.TheVariants.{StoreFault, NotEmpty, BadParent};
 ghost use Rattle.file_store.specs.declared.refusal.StoreRefusal.{StoreRefusal};

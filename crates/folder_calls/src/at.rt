@@ -1,3 +1,4 @@
+//! What a call of a folder returned, with how long the folder's history was then.
 /// What a call returned, and at which point of the history.
 #[derive(Debug, PartialEq, Eq, Drop)]
 pub struct At<T> {

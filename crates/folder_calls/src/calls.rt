@@ -1,3 +1,4 @@
+//! The interface by which workers call a folder: what scans find, peers' indexes, pulls, bests, needed names, blocks.
 ghost use Rattle.std.specs.Prelude.{◌≡◌, ◌≢◌, IfErr, IfOk, IsTrue, Some, map, option_copied, option_map};
 ghost use Rattle.folder_core.specs.Calls.{close_answer, finish_answer};
 ghost use Rattle.folder_core.specs.Reads.{Bests, Best as BestOf, CountAll, FindBlock, Known, Local, LocalSince, Need};

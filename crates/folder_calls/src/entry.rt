@@ -1,3 +1,4 @@
+//! An entry of a folder's history: an accepted change, who asked for it, and the answer.
 ghost use Rattle.std.specs.Prelude.{◌≡◌, [], false, IfOk, IsOk};
 ghost use Rattle.sync_record.specs.Devices.{Identity};
 ghost use Rattle.folder_core.specs.Calls.{copy_allocates};

@@ -1,3 +1,4 @@
+//! The history of a folder as contracts see it: the folder at its opening, and the accepted changes since then.
 use crate::Entry;
 use bep_messages::Items;
 use folder_core::PlainFolder;

@@ -1,3 +1,4 @@
+//! What a folder with one caller keeps, as contracts see it: the history, how much was seen, and a planned change.
 use crate::{History, Plan};
 
 /// What a [`Lone`](crate::Lone) keeps, as contracts see it; no value of it is made.

@@ -1,3 +1,4 @@
+//! A record of a name together with the device that announces it.
 use sync_record::{DeviceId, Record};
 
 /// What a device announces of a name.

@@ -1,3 +1,4 @@
+//! What a folder answers to a change: Recorded, Begun, Entered, Done, or why not (Busy, Moved, Superseded, ..).
 ghost use Rattle.std.specs.Prelude.{◌≡◌, IfErr, IfOk, IsTrue};
 ghost use Rattle.folder_core.specs.Calls.{copy_allocates};
 

@@ -1,3 +1,4 @@
+//! The best record of a name, which wins over other devices' records (the global version), and who has it.
 ghost use Rattle.std.specs.Prelude.{◌≡◌, IfOk};
 
 use bep_messages::Items;

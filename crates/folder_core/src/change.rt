@@ -1,3 +1,4 @@
+//! The changes of a folder: what a scan found, a peer's Index or IndexUpdate, a device forgotten, the steps of a pull.
 ghost use Rattle.std.specs.Prelude.{◌≡◌, ◌↔◌, [], IfOk, IsOk, IsTrue};
 ghost use Rattle.sync_record.specs.Devices.{Identity};
 ghost use Rattle.folder_core.specs.Steps.{MayChange};

@@ -1,3 +1,4 @@
+//! A copy of a version vector that may be absent.
 ghost use Rattle.std.specs.Prelude.{◌≡◌, IfOk, IsOk, None, option_copied};
 
 use std::alloc::AllocError;

@@ -1,3 +1,4 @@
+//! How many files, directories, deletions, needed names and open pulls a folder has, and its last sequence.
 /// How much a folder has.
 #[derive(Clone, Copy, Debug, PartialEq, Eq)]
 pub struct Counts {

@@ -1,3 +1,4 @@
+//! What a scan finds at a name: a directory, or a file's size and block list; and its time of modification.
 ghost use Rattle.std.specs.Prelude.{◌≡◌, ℕ, [], IfOk, IsOk};
 ghost use Rattle.folder_core.specs.Steps.{is_recordable};
 ghost use Rattle.folder_core.specs.declared.finding.FoundContent.TheVariants.{Directory, File};

@@ -1,3 +1,4 @@
+//! Where a block's bytes are in a local file: the file's name, the offset and the size.
 ghost use Rattle.std.specs.Prelude.{◌≡◌, IfOk};
 
 use std::alloc::AllocError;

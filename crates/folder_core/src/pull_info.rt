@@ -1,3 +1,4 @@
+//! The number, name, base and target record of an open pull, as its ticket or its commit has them.
 ghost use Rattle.std.specs.Prelude.{◌≡◌, IfOk};
 
 use std::alloc::AllocError;

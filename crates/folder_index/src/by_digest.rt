@@ -1,3 +1,4 @@
+//! Where blocks are, found by their SHA-256 digests: a set ordered by the first eight bytes of these.
 ghost use Rattle.std.specs.Prelude.{◌≡◌, OnErr, OnOk};
 ghost use Rattle.std.specs.FinSet.{empty};
 ghost use Rattle.folder_index.specs.Digests.{AreCandidates, HasNone, start_of, with_blocks, without_blocks};

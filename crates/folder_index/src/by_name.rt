@@ -1,3 +1,4 @@
+//! All devices' records by name, with the best of each name, and whether it is needed, kept up to date.
 ghost use Rattle.std.specs.Prelude.{◌&&◌, ◌≢◌, if◌then◌else◌, IsTrue, not, ◌≡◌, ◌+◌, ◌<◌, ◌≤◌, ◌^◌, ◌==◌, [], false, filter, IfOk, IsOk, None, OnErr, OnOk, map, option_copied, option_map, ◌++◌, ◌-◌, slice_get, take, vec_len};
 ghost use Rattle.std.specs.FinMap.{empty, entries, get};
 ghost use Rattle.std.specs.FinSet.{contains, empty as no_names};

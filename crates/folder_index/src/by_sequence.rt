@@ -1,3 +1,4 @@
+//! Records by sequence number, and the page of those that come after one, limited in records and blocks.
 ghost use Rattle.std.specs.Prelude.{◌≡◌, ◌↔◌, ◌<◌, ◌&&◌, ◌||◌, ◌++◌, ◌∷◌, [], ℕ, true, IfOk, IsOk, IsTrue, MatchOption, None, OnErr, OnOk, Some, filter, nat_le, nat_lt, option_copied};
 ghost use Rattle.sync_record.specs.Records.{FileRecord};
 ghost use Rattle.std.specs.FinMap.{empty, get, insert, remove, values};

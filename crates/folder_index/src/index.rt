@@ -1,3 +1,4 @@
+//! The index of a folder: all devices' records by name, this device's by sequence, and its blocks by digest.
 ghost use Rattle.std.specs.Prelude.{bytes_eq, ◌≡◌, ◌≢◌, ◌↔◌, [], IfOk, IsOk, IsTrue, None, OnErr, OnOk, Some, filter, map, option_copied, option_map, find, slice_get};
 ghost use Rattle.std.specs.FinMap.{empty, entries, get};
 ghost use Rattle.std.specs.FinSet.{contains, empty as no_names};

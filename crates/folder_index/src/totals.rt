@@ -1,3 +1,4 @@
+//! How many files, directories, deletions, needed names and other devices' records an index has.
 ghost use Rattle.std.specs.Prelude.{◌≡◌};
 
 /// How much an index has.

@@ -1,3 +1,4 @@
+//! A page of records as FileInfos, for an Index or IndexUpdate message.
 ghost use Rattle.std.specs.Prelude.{◌≡◌, [], All, IfOk, IsOk, None, map};
 ghost use Rattle.sync_names.specs.Refusal.{refusal};
 ghost use Rattle.sync_record.specs.Infos.{info_of, record_of};

@@ -24,6 +24,7 @@ use folder_core::laws::{index_full_replaces, index_more_adds, local_records_come
 pub fn pages_keep_up()
     ensures none { (start : Option ℤ) (v : CallerView) →
         KeepsUp (sending_from start).cursor [] (sending_from start) v }
+    // With one more page the pages keep up. The premises: they did before, the folder went on, and it gave the page.
     ensures next { (start : ℕ) (pages : List Page) (old new : Progress) (page : Page)
         (before after : CallerView) →
         KeepsUp start pages old before → GoesOn before after → IsLegalView after →
@@ -45,6 +46,7 @@ pub fn pages_keep_up()
 /// A page has local records alone, of its point, in rising sequence, at most 1,000: those of greater sequence than the cursor
 /// was, up to the cursor after it, and none of these is left out. The cursor is then the sequence of the last of them.
 pub fn pages_have_what_is_local()
+    // A record of a page is a local one, above the old cursor and up to the new one: all of the same record `r`.
     ensures only { (s : FolderState) (old new : Progress) (page : Page) (r : FileRecord) →
         IsFolder s → Gives s old page new → Contains (records_of page) r →
         (n : Name) × (local s n ≡ Some r) × (old.cursor < r.sequence)
@@ -71,6 +73,7 @@ pub fn nothing_is_left()
     ensures stays { (s : FolderState) (old new : Progress) → Gives s old Nothing new → new ≡ old }
     ensures end { (s : FolderState) (old new : Progress) (n : Name) (r : FileRecord) →
         IsFolder s → Gives s old Nothing new → local s n ≡ Some r → r.sequence ≤ new.cursor }
+    // Where `Nothing` is given, the pages laid over each other have every local record `r` above the start.
     ensures whole { (start : ℕ) (pages : List Page) (old new : Progress) (v : CallerView)
         (n : Name)
         (r : FileRecord) → IsFolder (now v) → KeepsUp start pages new v →
@@ -84,14 +87,17 @@ pub fn nothing_is_left()
 /// sequence than the cursor was, up to the cursor after it, none is left out. `Nothing` is given only where no local record that is kept
 /// has a greater sequence than the cursor, and records wait only where a local record is above that sequence.
 pub fn pages_have_what_is_kept()
+    // A record of a page of what is kept is like one of any page, and its sequence is not above `kept`: all of one `r`.
     ensures only { (kept : ℕ) (s : FolderState) (old new : Progress) (page : Page) (is_waiting : Bool) (r : FileRecord) →
         IsFolder s → GivesKept kept s old page is_waiting new → Contains (records_of page) r →
         (n : Name) × (local s n ≡ Some r) × (old.cursor < r.sequence) × (r.sequence ≤ new.cursor)
         × (r.sequence ≤ kept) }
+    // No local record between the old cursor and the new one is left out: three premises say which records these are.
     ensures all { (kept : ℕ) (s : FolderState) (old new : Progress) (page : Page) (is_waiting : Bool) (n : Name) (r : FileRecord) →
         IsFolder s → GivesKept kept s old page is_waiting new →
         local s n ≡ Some r → old.cursor < r.sequence → r.sequence ≤ new.cursor →
         Contains (records_of page) r }
+    // Where `Nothing` is given, no kept record is above the cursor: three premises say which records these are.
     ensures end { (kept : ℕ) (s : FolderState) (old new : Progress) (is_waiting : Bool) (n : Name) (r : FileRecord) →
         IsFolder s → GivesKept kept s old Nothing is_waiting new → local s n ≡ Some r → r.sequence ≤ kept →
         r.sequence ≤ new.cursor }

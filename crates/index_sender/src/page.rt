@@ -1,3 +1,4 @@
+//! What a peer is told next of this device's records: an Index, an IndexUpdate, or nothing.
 use bep_messages::Items;
 use sync_record::Record;
 

@@ -1,3 +1,4 @@
+//! How far a peer was told this device's index, and the next page of it: up to 1,000 records by rising sequence.
 ghost use Rattle.std.specs.Prelude.{◌≡◌, ◌<◌, ◌≤◌, ◌^◌, ◌++◌, ◌∷◌, [], IfErr, IfOk, List, length, take};
 ghost use Rattle.std.specs.Prelude.{ℕ};
 ghost use Rattle.folder_calls.specs.Shared.{CallerView, IsLegalView, Sees, now};

@@ -1,3 +1,4 @@
+//! A node's configuration as a value: its device, its state file, and each folder and peer with its settings.
 ghost use Rattle.std.specs.Prelude.{◌≡◌};
 ghost use Rattle.node_config.specs.FolderNumbers.{number_in};
 ghost use Rattle.node_config.specs.Rules.{IsFolder};

@@ -1,3 +1,24 @@
+//! A configuration read from its TOML document, and the table of its keys with the values that each may have.
+//!
+//! | Key | Value |
+//! |---|---|
+//! | `device` | the identity of this device: 64 hexadecimal digits, in either case, or as Syncthing shows it |
+//! | `name` | a string that peers see |
+//! | `state` | the path of the state file: not empty, not `~`, and not from `~/` on, which only a shell reads |
+//! | `status` | the path of a page that says how all is, with the same limits, or none where it is absent |
+//! | `[[folder]]` `id` | a string that is not empty, unlike that of each other folder |
+//! | `[[folder]]` `path` | the path of the folder, with those limits |
+//! | `[[folder]]` `history_limit` | 1 to 100,000,000, or 1,000,000 where it is absent |
+//! | `[[folder]]` `max_conflicts` | -1 to 1,000, or -1 where it is absent |
+//! | `[[folder]]` `rescan` | 0 to 31,536,000 seconds, or 86,400 where it is absent |
+//! | `[[folder]]` `look` | `"auto"` (or -1), `"off"` (or 0), or 1 to 86,400 seconds; `"auto"` where it is absent |
+//! | `[[folder]]` `trash_days` | 0 to 36,500 days for which what a peer's record replaces or deletes is kept in `.stversions`, or 0, not at all, where it is absent |
+//! | `[[folder]]` `mode` | the permission bits of new files: a string of three octal digits whose first is 6 or 7, as `"640"`; those that the system gives where it is absent |
+//! | `[[peer]]` `device` | as above, unlike that of each other device, also in its first 8 bytes |
+//! | `[[peer]]` `folders` | an array of the ids of folders above |
+//! | `[[peer]]` `dial` or `listen` | one of them: an address, or `unix:` and the path of a socket; no two peers have the same in `listen`, where `localhost` is 127.0.0.1 |
+//!
+//! All but `status`, the five numbers and `mode` are required. There may be no `[[folder]]` and no `[[peer]]`. Other keys are ignored; [`unknown_keys`](crate::unknown_keys) tells them.
 ghost use Rattle.std.specs.Prelude.{◌≡◌, ◌≤◌, ℕ, length, IfErr, IfOk, IsErrOf, IsOk};
 ghost use Rattle.toml.specs.Errors.{IsBlank, IsMemory, IsWithin, span_start};
 ghost use Rattle.toml.specs.View.{table_view};

@@ -1,3 +1,4 @@
+//! Why a configuration is refused: a line that isn't TOML, or a key with a bad value; as one line of text.
 ghost use Rattle.std.specs.Prelude.{◌≡◌, Some};
 ghost use Rattle.node_config.specs.Faults.{fault_name, number_of};
 ghost use Rattle.node_config.specs.Lines.{fault_text};

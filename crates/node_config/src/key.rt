@@ -1,3 +1,4 @@
+//! The keys and tables of a configuration, and what can be wrong with a key.
 ghost use Rattle.std.specs.Prelude.{◌≡◌, Some};
 ghost use Rattle.node_config.specs.Keys.{key_name, keys_of};
 ghost use Rattle.node_config.specs.Lines.{place_text, problem_text};

@@ -1,3 +1,4 @@
+//! Why a frame is not appended to a journal, and why a journal file is not read.
 ghost use Rattle.std.specs.Prelude.{◌≡◌};
 ghost use Rattle.node_journal.specs.declared.fault.WriteFault.TheVariants.{OutOfMemory as NoMemory};
 

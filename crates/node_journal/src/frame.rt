@@ -1,3 +1,4 @@
+//! A frame of the journal, decoded and encoded: parts of folders, whether a batch ends, a state file's digest.
 ghost use Rattle.std.specs.Prelude.{refl};
 ghost use Rattle.node_journal.specs.Tables.{frame_table};
 ghost use Rattle.node_journal.specs.Messages.{frame_parts, frame_of, frame_whole};

@@ -1,3 +1,4 @@
+//! The header of a journal file: its first line, the device, and the digest of the state file that it continues.
 ghost use Rattle.std.specs.Prelude.{◌≡◌, ◌++◌, ◌+◌, ◌<◌, length, take, OnOk, OnErr, vec_capacity, vec_len};
 ghost use Rattle.node_journal.specs.Format.{HasDigests, header_bytes, header_len};
 

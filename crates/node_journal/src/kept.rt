@@ -1,3 +1,4 @@
+//! The frames of a journal file that count, where they end, and whether what follows is torn (a kill) or broken.
 use crate::frame::Frame;
 use bep_messages::Items;
 

@@ -1,3 +1,4 @@
+//! What a journal's frame has of a folder, decoded and encoded: index id, last sequence, records, plans of pulls.
 ghost use Rattle.std.specs.Prelude.{refl};
 ghost use Rattle.node_journal.specs.Tables.{part_table};
 ghost use Rattle.node_journal.specs.Messages.{part_parts, part_of, part_whole};

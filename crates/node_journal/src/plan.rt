@@ -1,3 +1,4 @@
+//! The plan of a pull in a journal, decoded and encoded: the version that is replaced, and what is put in its place.
 ghost use Rattle.std.specs.Prelude.{refl};
 ghost use Rattle.node_journal.specs.Tables.{plan_table};
 ghost use Rattle.node_journal.specs.Messages.{plan_parts, plan_of, plan_whole};

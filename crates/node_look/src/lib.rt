@@ -1,4 +1,4 @@
-//! Who looks at a folder: it finds names that changed, without reading a file, and has them scanned once they are quiet.
+//! The worker that watches a folder for edits: it looks at file attributes alone, and has changed names scanned.
 //!
 //! What a look tells only says which names are scanned now. A scan reads what is there, and records nothing else, so a look that tells too much costs time,
 //! and one that tells too little leaves a change to the next scan of all.

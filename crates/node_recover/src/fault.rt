@@ -1,3 +1,4 @@
+//! Why records are not recovered from a state file and a journal, and why plans of pulls are not settled.
 ghost use Rattle.std.specs.Prelude.{◌≡◌};
 ghost use Rattle.node_recover.specs.declared.fault.RecoverFault.TheVariants.{OutOfMemory as NoMemory};
 

@@ -12,6 +12,7 @@ ghost use Rattle.node_recover.specs.Settled.{HasNews, is_open, settled};
 /// Frames may be cut in two anywhere: what is recovered by those behind, over the state that was recovered by those before, is what
 /// is recovered by all; a folder's plans are those of before, and then those behind.
 pub fn recovered_goes_on()
+    // The two recoveries are premises, the second from the state after the first; together they are one of all frames.
     ensures { (me : Identity) (state : Stored) (front rest : List Frame) (before behind : List Folder) →
         IsRecovery me state front before → IsRecovery me (state_after before) rest behind →
         IsRecovery me state (front ++ rest) (map (with_plans before) behind) }

@@ -1,3 +1,4 @@
+//! A pull of the last run that may have put its target in place: its base version and its target record.
 use sync_record::Record;
 use sync_version::Version;
 

@@ -1,3 +1,4 @@
+//! Why records are not saved to a journal: a frame was refused, records came without end, or out of memory.
 ghost use Rattle.std.specs.Prelude.{◌≡◌};
 ghost use Rattle.node_saver.specs.declared.fault.SaveFault.TheVariants.{OutOfMemory as NoMemory};
 

@@ -1,3 +1,4 @@
+//! The interface of a journal that frames are appended to: append, sync to the disk, take back, fold into less room.
 use crate::SaveFault;
 use node_journal::Frame;
 

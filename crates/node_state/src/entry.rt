@@ -1,3 +1,4 @@
+//! A device's record of a name in a state file, decoded and encoded.
 ghost use Rattle.std.specs.Prelude.{refl};
 ghost use Rattle.node_state.specs.Tables.{entry_table};
 ghost use Rattle.node_state.specs.Parts.{entry_parts, entry_of, entry_whole};

@@ -1,3 +1,4 @@
+//! Why bytes are not a state file: its first line, a message, a device, a name, records, or an id that is repeated.
 ghost use Rattle.std.specs.Prelude.{◌≡◌, Some};
 ghost use Rattle.node_state.specs.FaultNames.{state_fault_name, state_fault_number};
 ghost use Rattle.node_state.specs.declared.fault.StateFault.TheVariants.{BadState, OutOfMemory};

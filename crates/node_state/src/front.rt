@@ -1,3 +1,4 @@
+//! The id, index id and last sequence of a folder in a state file, decoded and encoded.
 ghost use Rattle.std.specs.Prelude.{refl};
 ghost use Rattle.node_state.specs.Reading.{front_table, front_parts, front_of};
 

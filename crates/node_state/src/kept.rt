@@ -1,3 +1,4 @@
+//! The index ids that are kept of a folder's peers, one at most of each peer.
 ghost use Rattle.std.specs.Prelude.{◌≡◌, map, IsTrue, OnErr, OnOk};
 ghost use Rattle.std.specs.FinMap.{empty, entries, insert, is_sorted, put};
 ghost use Rattle.sync_record.specs.Devices.{bytes_cmp};

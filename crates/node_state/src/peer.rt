@@ -1,3 +1,4 @@
+//! A peer's index id of a folder in a state file, decoded and encoded.
 ghost use Rattle.std.specs.Prelude.{refl};
 ghost use Rattle.node_state.specs.Tables.{peer_table};
 ghost use Rattle.node_state.specs.Parts.{peer_parts, peer_of, peer_whole};

@@ -1,3 +1,4 @@
+//! The bytes of a state file, version 1 or 2, decoded: folders with their records and the peers' index ids.
 ghost use Rattle.std.specs.Prelude.{◌≡◌, ◌≢◌, ◌++◌, [], None, bytes_eq, filter, length, map, AllPairs, IfErr, IfNone, IfOk, IfSome, List, ℕ};
 ghost use Rattle.std.specs.FinMap.{from_entries};
 ghost use Rattle.std.specs.List.{AllByRecursion, list_any};

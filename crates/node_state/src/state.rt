@@ -1,3 +1,4 @@
+//! What a node keeps from one run to the next, as a value: each folder's id, index id, records and peers' index ids.
 use crate::kept::KeptIndexes;
 use bep_messages::{Items, Text};
 use folder_core::PlainFolder;

@@ -1,3 +1,4 @@
+//! The bytes of a state file, version 2, encoded: folders with their records and the peers' index ids.
 ghost use Rattle.std.specs.Prelude.{◌≡◌, ◌≤◌, ◌<◌, ◌^◌, ◌+◌, ◌++◌, [], length, map, filter, pos, OnOk, OnErr, IfOk, IsOk, vec_capacity, vec_len};
 ghost use Rattle.std.specs.List.{AllByRecursion};
 ghost use Rattle.bep_messages.specs.Forms.{form, list_form, Fits, IsShort};

@@ -1,4 +1,4 @@
-//! A status as JSON, for programs.
+//! The status of a node as one JSON document, in one line, for programs.
 ghost use Rattle.std.specs.Prelude.{◌≡◌, IfOk, string_bytes};
 ghost use Rattle.json.specs.Lex.{tokens};
 ghost use Rattle.json.specs.Print.{print};

@@ -1,3 +1,4 @@
+//! Counts of Responses that bring no bytes: to an unknown id, late, of a wrong size, or with an error code.
 ghost use Rattle.std.specs.Prelude.{◌≡◌};
 ghost use Rattle.peer_asks.specs.Counts.{counted, no_counts};
 

@@ -1,3 +1,4 @@
+//! The interface that says which local records are saved: only these are told to a peer.
 use folder_calls::FolderCalls;
 
 /// Calls of a folder that say how far this device's records of it are kept. A peer is told of no other: a record that it was told, and that a kill takes

@@ -1,4 +1,4 @@
-//! A new queue.
+//! A new queue of the messages that wait to be written to a peer, with its three seats, its taker and its bell.
 ghost use Rattle.std.specs.Prelude.{◌≡◌, ◌<◌, [], IfOk};
 ghost use Rattle.peer_conn.specs.declared.known.SeatName.TheVariants.{Indexer, Server, Requester};
 ghost use Rattle.peer_conn.specs.Words.{IsNew, IsNewTaker};

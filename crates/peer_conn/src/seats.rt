@@ -1,4 +1,4 @@
-//! Puts.
+//! Messages put into the queue of what waits to be written to a peer, by the indexer, the server or the requester.
 ghost use Rattle.std.specs.Prelude.{◌≡◌, [], ◌∷◌, ◌++◌, OnOk, IfErr};
 ghost use Rattle.peer_conn.specs.Words.{put_of, IsSameSeat, IsEndOf, WasFull, message_of, IsFull, IsGone};
 

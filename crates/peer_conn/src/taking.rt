@@ -1,4 +1,4 @@
-//! Takes.
+//! Messages taken from the queue of what waits to be written to a peer, first in first out.
 ghost use Rattle.std.specs.Prelude.{◌≡◌, [], ◌∷◌, ◌++◌, IfSome, IfNone};
 ghost use Rattle.peer_conn.specs.declared.known.SeatName.TheVariants.{Indexer, Server, Requester};
 ghost use Rattle.peer_conn.specs.Rule.{account};

@@ -1,3 +1,4 @@
+//! The channels of a connection's workers: ClusterConfigs to the indexer, Requests to the server and the requester.
 use crate::limits::MAX_QUEUED_REQUESTS;
 use bep_messages::{ClusterConfig, Request};
 use bep_session::MAX_ASKS;

@@ -1,3 +1,4 @@
+//! How each worker of a connection ended: reader, indexer, server, requester and writer.
 use crate::folders::LinkFolders;
 use crate::told::ToldFolders;
 use peer_asks::RequesterEnd;

@@ -1,3 +1,4 @@
+//! The folders that are shared with a peer, for the reader, the server and the indexer of its connection.
 use peer_conn::IndexerFolder;
 use peer_reader::ReaderFolder;
 use peer_server::ServerFolder;

@@ -1,3 +1,4 @@
+//! How many messages wait to be written to a peer, how many of its Requests wait, and how long their names may be.
 /// How many messages the out-queue of a connection holds.
 pub const QUEUE_MESSAGES: usize = 4;
 

@@ -1,3 +1,4 @@
+//! What the reader of a connection counted: changes, records with unsafe names, messages for unshared folders.
 /// What a reader counted, each up to `u64::MAX`.
 #[derive(Clone, Copy, Debug, PartialEq, Eq)]
 pub struct ReaderCounts {

@@ -1,3 +1,4 @@
+//! A folder that is shared with a peer, as the reader of the connection has it.
 ghost use Rattle.std.specs.Prelude.{◌↔◌, All, IsTrue};
 ghost use Rattle.peer_reader.specs.Hears.{IsApart};
 

@@ -1,3 +1,4 @@
+//! The interface that the reader of a connection passes ClusterConfigs, Requests and Responses to.
 use crate::hearing::Passed;
 
 /// Where what a reader passes on goes: to the indexer, to the server, and to who asked.

@@ -1,3 +1,4 @@
+//! Why the reader of a connection ended: the end of the stream, an error, a Close, a protocol fault, a timeout, ..
 use bep_messages::Text;
 use bep_session::SessionFault;
 use std::alloc::AllocError;

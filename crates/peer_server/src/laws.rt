@@ -14,6 +14,7 @@ use folder_calls::FolderCalls;
 /// Of requests that were answered one after the other, each response is the right one for its request: where a folder is at the place
 /// that was asked for, that of this folder, between what it was at the start and what it came to at the end; else code 2.
 pub fn each_response_is_of_its_folder<S: FileStore, W: FolderCalls>()
+    // The response is that of the folder at the asked place. A premise each: requests, place, its start and its end.
     ensures shared { (old new : List (ServerFolder S W)) (front back : List (PeerRequest × Response))
         (asked : PeerRequest) (response : Response) (place : ℕ) (start end : ServerFolder S W) →
         AnswersEach S.keeps S.tree W.folder W.view S.fault_count S.gives old
@@ -22,6 +23,7 @@ pub fn each_response_is_of_its_folder<S: FileStore, W: FolderCalls>()
         slice_get new place ≡ Some end →
         IsAnswerOf S.keeps S.tree W.folder W.view S.fault_count S.gives start end asked.request
         response }
+    // No folder is at the asked place, or none was asked for: then it is code 2. The first premise is the same.
     ensures not_shared { (old new : List (ServerFolder S W))
         (front back : List (PeerRequest × Response)) (asked : PeerRequest) (response : Response) →
         AnswersEach S.keeps S.tree W.folder W.view S.fault_count S.gives old

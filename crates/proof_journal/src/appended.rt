@@ -25,6 +25,7 @@ use node_saver::FrameJournal;
 /// records are read again as they were.
 pub fn pages_of_a_start_are_updates()
     ensures none { AreUpdates [] }
+    // One more page keeps the pages updates: a premise each for the pages, the sender, the folder and the new records.
     ensures next { (start : ℕ) (pages : List Page) (old new : Progress) (page : Page)
         (before after : CallerView) →
         KeepsUp start pages old before → AreUpdates pages → old.owes_index ≡ false →
@@ -39,6 +40,7 @@ pub fn pages_of_a_start_are_updates()
 /// Pages that a sender with a start gives until nothing is left, behind those that were told before, are updates with these, and keep up with the folder, if their records
 /// are read again as they were. The sender owes no Index then either, so that the next pages follow in the same way.
 pub fn given_pages_are_updates()
+    // Three things hold of the told pages and their sender, and hold again with the pages that are given behind them.
     ensures { (start : ℕ) (told pages : List Page) (old new : Progress) (point first last : CallerView) →
         KeepsUp start told old point → AreUpdates told → old.owes_index ≡ false → GoesOn point first →
         AreGiven first old (pages ++ Nothing ∷ []) last new → AllByRecursion IsReadAgain (records_in pages) →
@@ -50,6 +52,8 @@ pub fn given_pages_are_updates()
 
 /// What `save_records` promises is a batch behind those before, where a journal is a list of frames: what is appended is its body, and the folder is as its caller then knows it.
 pub fn a_save_is_a_batch<J: FrameJournal>()
+    // A save appends one `body` of frames, and this is a batch. The premises say what the journal, the folder and the
+    // sender were before, and what was given and saved, in this order.
     ensures { (f : SavedFolder) (s : FolderState) (frames_of : J → List Frame) (before after : J) (told pages : List Page)
         (old new : Progress) (point first last : CallerView) →
         ((j k : J) (frame : Frame) → J.appends j frame k → frames_of k ≡ frames_of j ++ frame ∷ []) →
@@ -74,6 +78,7 @@ pub fn batches_may_have_other_frames()
 
 /// Where a journal is a list of frames to which each one is appended, pages that are saved stand in it behind those that stood there before.
 pub fn appended_pages_are_in_the_journal<J: FrameJournal>()
+    // Frames that have the told pages also have the saved ones after a save: the first premise says what to append is.
     ensures { (f : SavedFolder) (frames_of : J → List Frame) (first last : J) (told pages : List Page) →
         ((old new : J) (frame : Frame) → J.appends old frame new → frames_of new ≡ frames_of old ++ frame ∷ []) →
         HavePages f told (frames_of first) → Saves J.appends f first pages last →

@@ -18,6 +18,7 @@ use node_journal::laws::{a_cut_journal_keeps_what_was_synced, one_reading};
 /// that count has the own records and the last sequence that the folder had at the end of a batch: the last one that was synced, or a later one.
 /// Where none was synced, it may also be what the folder was before the first one.
 pub fn a_start_has_what_was_synced()
+    // What a start has is the folder after some first `m` batches, with all that were synced: both are of one `m`.
     ensures { (f : SavedFolder) (s t : FolderState) (synced more : List Batch) (n : ℕ) →
         AreBatches f s [] (synced ++ more) → length (all_frames synced) ≤ n →
         IsRecoveredBy f.id (up_to_whole (take n (all_frames (synced ++ more)))) s t →
@@ -29,10 +30,12 @@ pub fn a_start_has_what_was_synced()
 /// The same of bytes: a journal that is cut anywhere behind what was synced is read as a beginning of its frames, and what is recovered of what its
 /// device reads there is the folder as it was at the end of the last batch that was synced, or of a later one.
 pub fn a_cut_journal_has_what_was_synced()
+    // Cut behind what was synced, the bytes are read as a beginning of the frames, and this has all that were synced.
     ensures reads { (h : Header) (synced more : List Batch) (n : ℕ) →
         HasDigests h → AllByRecursion IsWritable (all_frames (synced ++ more)) →
         length (journal_bytes h (all_frames synced)) ≤ n →
         IsBeginning h (all_frames (synced ++ more)) (length (all_frames synced)) (take n (journal_bytes h (all_frames (synced ++ more)))) }
+    // The two before it in one, from bytes to folder: a premise for each step from what was saved to what is recovered.
     ensures has { (f : SavedFolder) (s t : FolderState) (h : Header) (synced more : List Batch) (n : ℕ) (read : Read) →
         AreBatches f s [] (synced ++ more) → HasDigests h → AllByRecursion IsWritable (all_frames (synced ++ more)) →
         length (journal_bytes h (all_frames synced)) ≤ n →

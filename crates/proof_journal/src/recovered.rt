@@ -18,6 +18,7 @@ use folder_calls::laws::local_records_go_on;
 /// last sequence. What is recovered from the state and these frames has then just the folder's own records, and its last sequence: no record
 /// that was told is lost, and no sequence is given again.
 pub fn saved_records_are_recovered()
+    // What is recovered is what the folder has. A premise for each step: opening, pages, frames, and their recovery.
     ensures { (f : SavedFolder) (s t : FolderState) (v : CallerView) (pages : List Page)
         (progress : Progress) (frames : List Frame) →
         IsLegalView v → SameOwn s v.opening → KeepsUp s.last pages progress v → HasAll (now v) progress.cursor →
@@ -30,6 +31,7 @@ pub fn saved_records_are_recovered()
 /// Where only the first of the frames are left, the own records of an earlier point are recovered, also while records are still to be appended:
 /// what the folder has otherwise came under a sequence above all that is recovered.
 pub fn cut_journals_have_an_earlier_point()
+    // The same steps without the frames in `lost`, and maybe without pages still to come: then it is an earlier point.
     ensures { (f : SavedFolder) (s t : FolderState) (v : CallerView) (pages : List Page)
         (progress : Progress) (frames lost : List Frame) →
         IsLegalView v → SameOwn s v.opening → KeepsUp s.last pages progress v →

@@ -62,6 +62,7 @@ pub fn carry<
 ) -> Result<PullAnswer, CarryFault>
     requires { (A.view one.old).opening.me ≢ (B.view other.old).opening.me }
     ensures kept { S.keeps ≡ true → S.tree one_store.new ≡ S.tree one_store.old }
+    // One relation between the two folders and the two stores, before and after, where the pull is done.
     ensures carries { S.keeps ≡ true → T.keeps ≡ true → IfOk result (λ answer. IfDone answer
         (Carries (A.view one.old).opening.me name.now (A.view one.old) (A.view one.new) (B.view other.old)
         (B.view other.new) ((S.tree one_store.new).names name.now)

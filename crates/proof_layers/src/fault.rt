@@ -1,3 +1,4 @@
+//! Why what is in one store is not carried to another: not scanned, a page too long, a store that failed, ..
 use bep_frames::WriteFault;
 use file_store::StoreRefusal;
 use std::alloc::{AllocError, AllocFailed};

@@ -29,6 +29,7 @@ use sync_record::laws::same_content_in_words;
 /// other what is at a name of another, both stores hold alike there: directories, nothing, or files of as many bytes, cut into the
 /// same blocks, of which each has the same SHA-256 digest on both sides.
 pub fn what_is_pulled_is_what_was_scanned<S: FileStore, W: FolderCalls, G: Gate>()
+    // Where a scan took the name, the local record says what is there. Long by what may be found, one premise.
     ensures scanned { (gate : G) (begun : S) (old new : CallerView) (n : Name) (moment : ℕ) (tree : Tree) (result : Scanned) →
         S.keeps ≡ true →
         Scans old n moment (MayFindAt S.gives (ShownFirst (G.shown gate S W) W.view begun) (IsTrue S.keeps) tree n) result new →
@@ -58,6 +59,7 @@ pub fn what_is_alike_is_the_same()
     ensures nothing { (other : Option Node) → AreAlike None other → other ≡ None }
     ensures directories { (other : Option Node) → AreAlike (Some Node.Directory) other →
         other ≡ Some Node.Directory }
+    // What is alike to a file is a file, of bytes `others`: how both are cut, and when they are the same, is of these.
     ensures files { (bytes : List ℕ) (modified : ℕ) (other : Option Node) →
         AreAlike (Some (Node.File bytes modified)) other →
         (others : List ℕ) × (later : ℕ) × (other ≡ Some (Node.File others later))

@@ -24,6 +24,7 @@ pub fn a_full_folder_has_all_passes<C: FolderCore + Drop>()
     ensures opening { (s : Folder C) (e : Full C) → IsFullOf s e → (view e.token).memo.opening ≡ opening_of s }
     ensures limit { (s : Folder C) (e : Full C) → IsFullOf s e → (view e.token).memo.limit ≡ limit_of s }
     ensures passes { (s : Folder C) (e : Full C) → IsFullOf s e → (view e.token).memo.passes ≡ 2 ^ 32 }
+    // The other direction of the five clauses before it: where all five hold, no pass is left. Each is one premise.
     ensures no_more { (s : Folder C) (e : Full C) → IsSeatAt (sends_on s.sender) e.token → (view e.token).state ≡ Idle →
         (view e.token).memo.opening ≡ opening_of s → (view e.token).memo.limit ≡ limit_of s →
         (view e.token).memo.passes ≡ 2 ^ 32 → IsFullOf s e }
@@ -34,6 +35,7 @@ pub fn a_full_folder_has_all_passes<C: FolderCore + Drop>()
 ///
 /// False of a definition that a call can meet which finds that passes are left.
 pub fn no_pass_is_left_of_a_full_folder<C: FolderCore + Drop>()
+    // The folder is under the lock, as `runs`, with all its passes given out: the three parts are of this one `runs`.
     ensures { (s : Folder C) (e : Full C) (items : List History) (views : List Known) (port : ℕ) →
         IsFullOf s e → RuleHolds items views → get_elem? views port ≡ some (view e.token) →
         (runs : Runs items views) × (2 ^ 32 ≤ runs.now.passes)

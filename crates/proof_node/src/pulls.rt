@@ -22,6 +22,7 @@ use sync_pull::BlockSource;
 ///
 /// False of a definition by which a pull may begin with anything else, or ask for more where it isn't begun.
 pub fn a_pull_first_asks_to_begin<S: FileStore, B: BlockSource>()
+    // One of three: out of memory before any call, nothing asked but the begin, or the begin got a ticket.
     ensures { (most : ℤ) (moment : ℕ) (n : Name) (source : B) (before after : S) (result : Result) (old new : CallerView) →
         Comes most moment n (S.keeps ≡ true) (IsFaultCounted (S.fault_count before) (S.fault_count after))
         (HasNoSource B.gives n source new) (IsDropped S.gives (S.keeps ≡ true) n (S.tree after).temps after)
@@ -35,6 +36,7 @@ pub fn a_pull_first_asks_to_begin<S: FileStore, B: BlockSource>()
 ///
 /// False of a definition by which a pull that was never begun may say that it failed or is done.
 pub fn a_pull_that_ends_had_begun<S: FileStore, B: BlockSource>()
+    // An answer that tells of a begun pull comes from one. `Comes`, all that a pull may do, is one premise.
     ensures { (most : ℤ) (moment : ℕ) (n : Name) (source : B) (before after : S) (result : Result) (old new : CallerView) →
         Comes most moment n (S.keeps ≡ true) (IsFaultCounted (S.fault_count before) (S.fault_count after))
         (HasNoSource B.gives n source new) (IsDropped S.gives (S.keeps ≡ true) n (S.tree after).temps after)
@@ -47,27 +49,32 @@ pub fn a_pull_that_ends_had_begun<S: FileStore, B: BlockSource>()
 ///
 /// False of a definition by which a refused pull may answer what it likes, or change the store.
 pub fn a_refused_pull_answers_its_begin<S: FileStore, B: BlockSource>()
+    // `NotNeeded` is what the begin got, and nothing was done. Its premise is `Comes`, with this one answer.
     ensures not_needed { (most : ℤ) (moment : ℕ) (n : Name) (source : B) (before after : S) (old new : CallerView) →
         Comes most moment n (S.keeps ≡ true) (IsFaultCounted (S.fault_count before) (S.fault_count after))
         (HasNoSource B.gives n source new) (IsDropped S.gives (S.keeps ≡ true) n (S.tree after).temps after)
         (IsRefused S.gives S.tree) NotNeeded old (S.tree before) new (S.tree after) →
         Gets old (BeginPull n) answer.NotNeeded new × (S.keeps ≡ true → S.tree after ≡ S.tree before) }
+    // The same for `Busy`: each of these five answers has its own clause, as each is got in its own way.
     ensures busy { (most : ℤ) (moment : ℕ) (n : Name) (source : B) (before after : S) (old new : CallerView) →
         Comes most moment n (S.keeps ≡ true) (IsFaultCounted (S.fault_count before) (S.fault_count after))
         (HasNoSource B.gives n source new) (IsDropped S.gives (S.keeps ≡ true) n (S.tree after).temps after)
         (IsRefused S.gives S.tree) Busy old (S.tree before) new (S.tree after) →
         Gets old (BeginPull n) answer.Busy new × (S.keeps ≡ true → S.tree after ≡ S.tree before) }
+    // The same for `Unsupported`.
     ensures unsupported { (most : ℤ) (moment : ℕ) (n : Name) (source : B) (before after : S) (old new : CallerView) →
         Comes most moment n (S.keeps ≡ true) (IsFaultCounted (S.fault_count before) (S.fault_count after))
         (HasNoSource B.gives n source new) (IsDropped S.gives (S.keeps ≡ true) n (S.tree after).temps after)
         (IsRefused S.gives S.tree) Unsupported old (S.tree before) new (S.tree after) →
         Gets old (BeginPull n) answer.Unsupported new × (S.keeps ≡ true → S.tree after ≡ S.tree before) }
+    // `HistoryFull` has two cases, so both are said: the begin got it and nothing was done, or the pull was begun.
     ensures history_full { (most : ℤ) (moment : ℕ) (n : Name) (source : B) (before after : S) (old new : CallerView) →
         Comes most moment n (S.keeps ≡ true) (IsFaultCounted (S.fault_count before) (S.fault_count after))
         (HasNoSource B.gives n source new) (IsDropped S.gives (S.keeps ≡ true) n (S.tree after).temps after)
         (IsRefused S.gives S.tree) (Refused HistoryFull) old (S.tree before) new (S.tree after) →
         (Gets old (BeginPull n) answer.HistoryFull new × (S.keeps ≡ true → S.tree after ≡ S.tree before))
         ⊎ HadBegun n old (Refused HistoryFull) new }
+    // Out of memory has two cases as well: no call was answered and nothing was done, or the pull was begun.
     ensures out_of_memory { (most : ℤ) (moment : ℕ) (n : Name) (source : B) (before after : S) (old new : CallerView) →
         Comes most moment n (S.keeps ≡ true) (IsFaultCounted (S.fault_count before) (S.fault_count after))
         (HasNoSource B.gives n source new) (IsDropped S.gives (S.keeps ≡ true) n (S.tree after).temps after)

@@ -18,6 +18,7 @@ ghost use Rattle.proof_node.specs.Takeovers.{IsSharedWith, IsStoredNowhere, IsSt
 pub fn a_run_begins_with_its_folders()
     ensures count { (config : Config) (state : State) (new : ℕ) (is_left : Bool) →
         length (resumed_all config state new is_left) ≡ length config.folders }
+    // A folder of which nothing is stored begins empty. The premises say which folder, and that its id isn't stored.
     ensures nothing_stored { (config : Config) (state : State) (new place : ℕ) (is_left : Bool) (c : FolderConfig) (r : Resumed) →
         IsTakenOver config state new is_left place c r → IsStoredNowhere c.id state.folders →
         r.folder ≡ empty_folder config.device }
@@ -44,15 +45,18 @@ pub fn stored_folders_keep_their_numbers()
 pub fn records_of_shared_devices_stay()
     ensures no_pulls { (config : Config) (state : State) (new place : ℕ) (is_left : Bool) (c : FolderConfig) (r : Resumed) →
         IsTakenOver config state new is_left place c r → r.folder.pulls ≡ empty }
+    // Each record that is there is of the folder's own device or of one it is shared with: a choice, so one clause.
     ensures no_others { (config : Config) (state : State) (new place : ℕ) (is_left : Bool) (c : FolderConfig) (r : Resumed)
         (n : Name) (d : Identity) (q : FileRecord) →
         IsTakenOver config state new is_left place c r → get r.folder.announced (key n d) ≡ Some q →
         (d ≡ r.folder.me) ⊎ IsSharedWith config place d }
+    // For these devices a name has the record that is stored, or none as there. A premise each for folder and device.
     ensures stay { (config : Config) (state : State) (new place : ℕ) (is_left : Bool) (c : FolderConfig) (r : Resumed)
         (f : StoredFolder) (n : Name) (d : Identity) →
         IsTakenOver config state new is_left place c r → IsStoredUnder c.id state.folders f →
         (d ≡ f.folder.me) ⊎ IsSharedWith config place d →
         get r.folder.announced (key n d) ≡ get f.folder.announced (key n d) }
+    // The two other parts of the stored folder that come back: its device and its last sequence.
     ensures rest { (config : Config) (state : State) (new place : ℕ) (is_left : Bool) (c : FolderConfig) (r : Resumed)
         (f : StoredFolder) →
         IsTakenOver config state new is_left place c r → IsStoredUnder c.id state.folders f →

@@ -18,10 +18,12 @@ ghost use Rattle.proof_node.specs.Takeovers.{HaveOwnDevices, HaveOwnIds, IsShare
 ///
 /// False where what is left and what is taken over don't fit each other, as where one goes by ids and the other by places.
 pub fn folders_come_back()
+    // The next run has the index numbers that were left, in order: what is left stands inside of what is taken over.
     ensures index_ids { (config : Config) (index_ids : List ℕ) (shares : List (List Share)) (records : List FolderState)
         (kept : List (List ℕ)) (new : ℕ) →
         length index_ids ≡ length config.folders → length records ≡ length config.folders → HaveOwnIds config.folders →
         map (λ r. r.index_id) (resumed_all config (state_left config index_ids shares records kept) new false) ≡ index_ids }
+    // A record comes back in its folder's place. A premise each: the place, what was and what is there, the device.
     ensures records { (config : Config) (index_ids : List ℕ) (shares : List (List Share)) (records : List FolderState)
         (kept : List (List ℕ)) (new place : ℕ) (s : FolderState) (r : Resumed) (n : Name) (d : Identity) →
         length index_ids ≡ length config.folders → length records ≡ length config.folders → HaveOwnIds config.folders →
@@ -29,6 +31,7 @@ pub fn folders_come_back()
         slice_get (resumed_all config (state_left config index_ids shares records kept) new false) place ≡ Some r →
         (d ≡ s.me) ⊎ IsSharedWith config place d →
         get r.folder.announced (key n d) ≡ get s.announced (key n d) }
+    // The folder's device and its last sequence come back, under the same premises but that of a record's device.
     ensures rest { (config : Config) (index_ids : List ℕ) (shares : List (List Share)) (records : List FolderState)
         (kept : List (List ℕ)) (new place : ℕ) (s : FolderState) (r : Resumed) →
         length index_ids ≡ length config.folders → length records ≡ length config.folders → HaveOwnIds config.folders →
@@ -42,6 +45,7 @@ pub fn folders_come_back()
 ///
 /// False where a number is left under another device or in another folder than it is looked for.
 pub fn kept_numbers_come_back()
+    // A peer's numbers come back as they were. The premises fit the lists of one run to each other, for one peer `i`.
     ensures { (config : Config) (old : State) (index_ids : List ℕ) (shares : List (List Share)) (records : List FolderState)
         (kept : List (List ℕ)) (i : ℕ) (peer : PeerConfig) (numbers : List ℕ) →
         length index_ids ≡ length config.folders → length records ≡ length config.folders → HaveOwnIds config.folders →

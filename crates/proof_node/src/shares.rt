@@ -18,6 +18,7 @@ ghost use Rattle.proof_node.specs.Takeovers.{IsStoredNowhere, IsStoredUnder};
 pub fn each_folder_is_shared_once()
     ensures each { (config : Config) (state : State) (peer : PeerConfig) (place : ℕ) →
         Contains (map (λ s. s.folder) (shares_of config state peer)) place ↔ Contains peer.folders place }
+    // Of two shares the first one's folder also stands first in the peer's list: `k` and `l` are those two places.
     ensures in_order { (config : Config) (state : State) (peer : PeerConfig) (i j : ℕ) (s t : Share) →
         i < j → slice_get (shares_of config state peer) i ≡ Some s → slice_get (shares_of config state peer) j ≡ Some t →
         (k : ℕ) × (l : ℕ) × IsFirstPlace peer.folders k s.folder × IsFirstPlace peer.folders l t.folder × (k < l) }
@@ -28,14 +29,17 @@ pub fn each_folder_is_shared_once()
 ///
 /// False of a definition that takes the number of another device, of another folder, or of a later one of the same id.
 pub fn the_stored_number_is_told()
+    // The number told is the stored one. A premise for each step to it: share, folder, what is stored, number.
     ensures stored { (config : Config) (state : State) (peer : PeerConfig) (i n : ℕ) (s : Share) (c : FolderConfig)
         (f : StoredFolder) →
         slice_get (shares_of config state peer) i ≡ Some s → slice_get config.folders s.folder ≡ Some c →
         IsStoredUnder c.id state.folders f → get f.peers peer.device ≡ Some n → s.kept_index_id ≡ n }
+    // The last step fails, as no number is stored of this peer: 0 is told.
     ensures none_kept { (config : Config) (state : State) (peer : PeerConfig) (i : ℕ) (s : Share) (c : FolderConfig)
         (f : StoredFolder) →
         slice_get (shares_of config state peer) i ≡ Some s → slice_get config.folders s.folder ≡ Some c →
         IsStoredUnder c.id state.folders f → get f.peers peer.device ≡ None → s.kept_index_id ≡ 0 }
+    // The step before it fails, as nothing is stored of the folder: 0 is told.
     ensures none_stored { (config : Config) (state : State) (peer : PeerConfig) (i : ℕ) (s : Share) (c : FolderConfig) →
         slice_get (shares_of config state peer) i ≡ Some s → slice_get config.folders s.folder ≡ Some c →
         IsStoredNowhere c.id state.folders → s.kept_index_id ≡ 0 }

@@ -1,3 +1,4 @@
+//! A block of a file: its offset, its size and its SHA-256 digest; and the one block of an empty file.
 use sha2::{Digest, Sha256};
 
 /// A run of a file's bytes (Block Exchange Protocol v1, "Fields of the BlockInfo message").

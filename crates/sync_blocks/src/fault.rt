@@ -1,3 +1,4 @@
+//! Why the block list of a file is not made: fewer or more bytes than expected, a failed read, out of memory.
 ghost use Rattle.std.specs.Prelude.{◌≡◌, Some};
 ghost use Rattle.sync_blocks.specs.Faults.{fault_name};
 ghost use Rattle.sync_blocks.specs.declared.fault.ReadFault.TheVariants.{OutOfMemory};

@@ -1,3 +1,4 @@
+//! Reads from a reader until the buffer is full or the reader ends; interrupted reads are tried again.
 ghost use Rattle.std.specs.Prelude.{◌≡◌, ◌<◌, ◌≤◌, take, length, IfErr, IfOk};
 ghost use Rattle.std.specs.Io.KnownBytes.{Consumes, IsAtEnd};
 ghost use Rattle.sync_blocks.specs.Reading.{TakesFront};

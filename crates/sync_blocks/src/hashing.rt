@@ -1,3 +1,4 @@
+//! Bytes cut into blocks of one size and hashed with SHA-256, on several threads.
 ghost use Rattle.std.specs.Prelude.{◌≡◌, ◌+◌, ◌*◌, ◌^◌, ◌<◌, ◌≤◌, ◌++◌, length, OnOk};
 ghost use Rattle.sync_blocks.specs.Groups.{blocks_from, placed_block};
 

@@ -20,6 +20,7 @@ pub fn tiling_is_tested()
 /// as the block size or as are left, with their digest; that of no bytes has one block of no bytes. The cuts,
 /// joined, are the bytes.
 pub fn block_list_is_by_cuts()
+    // The block with number `i`, written as one value: its offset, its size and its digest.
     ensures each { (bytes : List ℕ) (block_size i : ℕ) → 1 ≤ block_size → i * block_size < length bytes →
         slice_get (block_list bytes block_size) i ≡ Some (record {
           offset = i * block_size;
@@ -38,6 +39,7 @@ pub fn block_list_is_by_cuts()
 /// of all its bytes are its block list, unless the file is empty.
 pub fn parts_make_the_block_list()
     ensures none { (first block_size : ℕ) → 1 ≤ block_size → blocks_from first [] block_size ≡ [] }
+    // One equation: the blocks of both parts together are those of the front, of whole blocks, and then the back's.
     ensures joined { (first : ℕ) (front back : List ℕ) (block_size count : ℕ) → 1 ≤ block_size →
         length front ≡ count * block_size → blocks_from first (front ++ back) block_size
         ≡ blocks_from first front block_size ++ blocks_from (first + length front) back block_size }

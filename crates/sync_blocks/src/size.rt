@@ -1,3 +1,4 @@
+//! How large blocks are: the block size for a file of so many bytes, a power of two from 128 KiB to 16 MiB.
 ghost use Rattle.std.specs.Prelude.{◌≡◌};
 ghost use Rattle.sync_blocks.specs.Sizes.{block_size_for, is_block_size};
 

@@ -1,3 +1,4 @@
+//! Whether a block list makes up a file of a size: no gaps, no overlaps, each block but the last of the block size.
 ghost use Rattle.std.specs.Prelude.{◌≡◌, ◌↔◌, IsTrue};
 ghost use Rattle.sync_blocks.specs.Tiling.{tiles, tiles_from, Tiles};
 

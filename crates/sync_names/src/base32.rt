@@ -1,3 +1,4 @@
+//! The first seven base32 characters of a number, by which a conflict copy's name says which device made the change.
 ghost use Rattle.std.specs.Prelude.{◌≡◌, ◌<◌, ◌++◌, ◌*◌, ◌-◌, OnOk, string_bytes};
 ghost use Rattle.sync_names.specs.Base32.{base32_digit, base32_character, short_base32};
 

@@ -1,3 +1,4 @@
+//! Recognizes the name of a file's conflict copy: `.sync-conflict-`, date, time and device before its extension.
 ghost use Rattle.std.specs.Prelude.{◌≡◌, ◌↔◌, ◌-◌, ◌≤◌, IsTrue, length};
 ghost use Rattle.std.specs.List.{list_all};
 ghost use Rattle.sync_names.specs.Copies.{IsConflictCopy, is_digit, is_base32_character, is_date_and_time, is_mark, is_marked_at};

@@ -1,3 +1,4 @@
+//! Why a text is no safe name: empty, absolute, a component like `..`, U+0000, not NFC, or internal.
 ghost use Rattle.std.specs.Prelude.{◌≡◌, Some};
 ghost use Rattle.sync_names.specs.Faults.{fault_name, number_of};
 ghost use Rattle.sync_names.specs.declared.fault.NameFault.TheVariants.{OutOfMemory};

@@ -1,3 +1,4 @@
+//! Names that a folder keeps for itself: `.stfolder`, `.stignore`, `.stversions`, and temporary files.
 ghost use Rattle.std.specs.Prelude.{◌≡◌, ◌↔◌, IsTrue};
 ghost use Rattle.sync_names.specs.Internal.{IsInternal, is_internal, is_reserved, is_temporary};
 

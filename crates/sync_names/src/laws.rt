@@ -90,6 +90,7 @@ pub fn conflict_names_are_beside()
         ≡ stem_of (last_component name) ++ conflict_mark moment modified_by
         ++ extension_of (last_component name) }
     ensures other { (name : List ℕ) (moment modified_by : ℕ) → conflict_text name moment modified_by ≢ name }
+    // One equation with two cases: refused as internal for this last component, and not refused for any other.
     ensures refused { (name : List ℕ) (moment modified_by : ℕ) → IsSafe name → moment ≤ MAX_SECONDS →
         refusal (conflict_text name moment modified_by)
         ≡ (if bytes_eq (last_component name) (codes ".syncthing.tmp") then Some Internal else None) }

@@ -1,3 +1,4 @@
+//! The names made from a file's name: of its temporary file, of the file while it is replaced, and of a conflict copy.
 ghost use Rattle.std.specs.Prelude.{◌≡◌, ◌⊎◌, ◌↔◌, List, ℕ, IfOk, OnOk, IfErr, Err, MatchOption, codes, string_bytes};
 ghost use Rattle.sync_names.specs.Components.{last_component};
 ghost use Rattle.sync_names.specs.Made.{temp_text, replaced_text, conflict_text, IsTempText, IsReplacedText, IsReplaced};

@@ -1,3 +1,4 @@
+//! Safe names, parsed from text: relative paths in NFC that stay below the folder, without `.` and `..`.
 ghost use Rattle.std.specs.Prelude.{◌≡◌, ◌≢◌, List, ℕ, IfOk, OnOk, MatchResult, IfSome, Err, None, string_bytes};
 ghost use Rattle.std.specs.List.{list_any};
 ghost use Rattle.sync_names.specs.Components.{components};

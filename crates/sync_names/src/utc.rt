@@ -1,3 +1,4 @@
+//! A moment as date and time in UTC, and as the text YYYYMMDD-HHMMSS in the name of a conflict copy.
 ghost use Rattle.std.specs.Prelude.{◌≡◌, ◌++◌, ◌<◌, ◌≤◌, OnOk, codes, string_bytes};
 ghost use Rattle.sync_names.specs.Utc.{utc_time, date_digits, time_digits, two_digits, IsUtc};
 

@@ -24,6 +24,7 @@ pub fn make_copy<S: FileStore, G: Gate>(
     name: &SafeName,
     copy: Option<&SafeName>,
 ) -> Result<bool, StoreRefusal>
+    // Both results in one: the file was moved, or it wasn't, as the copy has no name or something is at it.
     ensures moved { S.keeps ≡ true → IfOk result (λ is_moved. MatchBool is_moved
         (IsCopied (option_copied copy.entry) (S.tree store.old) name.now (S.tree store.new))
         (IsTaken (option_copied copy.entry) (S.tree store.old) × (S.tree store.new ≡ S.tree store.old))) }

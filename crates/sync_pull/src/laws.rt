@@ -51,6 +51,7 @@ pub fn the_greatest_copies_are_kept()
         length copies - length (surplus most copies) + 1 ≤ most }
     ensures no_fewer { (most : ℕ) (copies : List Name) → 0 < most → surplus most copies ≢ [] →
         length copies - length (surplus most copies) + 1 ≡ most }
+    // Each removed copy is less than each kept one: the premises say of both that they are of the same ascending list.
     ensures greatest { (most : ℕ) (copies : List Name) (removed kept : Name) → AreAscending copies →
         Contains (surplus most copies) removed → Contains copies kept →
         (Contains (surplus most copies) kept → ⊥) → slice_cmp nat_cmp removed kept ≡ Less }
@@ -65,6 +66,7 @@ pub fn what_is_no_older_copy_stays<S: FileStore>()
 /// A store in memory refuses to remove no file: unless it refused to list them, exactly those of the older copies are gone that are too
 /// many.
 pub fn surplus_copies_in_memory_are_gone()
+    // One of two: the store refused to list, or of one list of older `copies` exactly the surplus is gone.
     ensures { (most : ℕ) (n copy : Name) (old new : Tree) →
         TrimsCopies (IsRefused mem_gives mem_tree) (pos most) n copy old new →
         (IsRefused mem_gives mem_tree old ListAll × (new ≡ old))
@@ -83,6 +85,8 @@ pub fn a_file_with_a_due_copy_is_kept()
 /// Of every store: a pull that is done entered its commit, and then the store said and gave what the base says, before anything was
 /// changed but the temporary file of the name.
 pub fn what_is_replaced_was_checked_first<S: FileStore, W: FolderCalls, G: Gate>()
+    // One chain of points of the folder and moments of the store: a ticket was got, the commit entered, the store
+    // compared with the base, and only then changed. Each link begins where the one before it ends.
     ensures { (gate : G) (moment : ℕ) (n : Name) (sequence : ℕ) (old new : CallerView) (before after : S) →
         BeginsFirst S.gives (λ s v. (w : W) × G.shown gate S W s w × (W.view w ≡ v)) moment n (Done sequence) old before new after →
         (t : PullInfo) × (begun entered : CallerView) × Gets old (BeginPull n) (Begun t) begun
@@ -101,6 +105,7 @@ pub fn what_is_not_begun_changes_nothing<S: FileStore, W: FolderCalls, G: Gate>(
     ensures busy { (gate : G) (moment : ℕ) (n : Name) (old new : CallerView) (before after : S) →
         BeginsFirst S.gives (λ s v. (w : W) × G.shown gate S W s w × (W.view w ≡ v)) moment n Busy old before new after →
         after ≡ before }
+    // The store is as it was where the best can't be pulled. Long by what the gate shows, as in the two clauses before.
     ensures unsupported { (gate : G) (moment : ℕ) (n : Name) (old new : CallerView) (before after : S) →
         BeginsFirst S.gives (λ s v. (w : W) × G.shown gate S W s w × (W.view w ≡ v)) moment n Unsupported old before new after →
         after ≡ before }
@@ -109,6 +114,7 @@ pub fn what_is_not_begun_changes_nothing<S: FileStore, W: FolderCalls, G: Gate>(
 /// Of every source: where there is none, the target is a live file with a block that is empty and has another digest than no bytes have,
 /// or for which each device that had the best, but this one, was asked, and gave nothing or other bytes.
 pub fn each_other_device_was_asked_in_vain<B: BlockSource>()
+    // One block `b` has no source: it is wrongly empty, or no device that had the best at `point` gave its bytes.
     ensures { (n : Name) (source : B) (old new : CallerView) (target : FileRecord) →
         HasNoSource B.gives n source new target old →
         IsTrue (is_live_file target) × (point : CallerView) × Sees old point

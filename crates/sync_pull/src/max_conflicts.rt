@@ -1,3 +1,4 @@
+//! How many conflict copies of a file are kept: any number (-1), none (0), or up to 1,000.
 ghost use Rattle.std.specs.Prelude.{◌≡◌, ◌↔◌, IsSome, IfSome, MatchOption, negsuc, pos};
 ghost use Rattle.sync_pull.specs.Copies.{IsMaxConflicts};
 

@@ -227,6 +227,7 @@ pub fn pull_name<S: FileStore, W: FolderCalls, B: BlockSource, G: Gate>(
 ) -> PullAnswer
     requires { (device : Identity) → device ≢ (W.view calls.old).opening.me → B.may_ask device }
     ensures folder { W.folder calls.new ≡ W.folder calls.old }
+    // One relation over the whole pull. What the store and the source said, and when they failed, is handed in.
     ensures comes { Comes max_conflicts moment name.now (S.keeps ≡ true)
         (IsFaultCounted (S.fault_count store.old) (S.fault_count store.new))
         (HasNoSource B.gives name.now source.new (W.view calls.new))

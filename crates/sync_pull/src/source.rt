@@ -1,3 +1,4 @@
+//! The interface by which a pull fetches blocks from other devices.
 ghost use Rattle.std.specs.Prelude.{ℕ, Bool, List, IfOk};
 
 use std::alloc::AllocError;

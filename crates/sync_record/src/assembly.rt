@@ -1,3 +1,4 @@
+//! A file put together from its blocks, each checked by size and SHA-256 digest; once it is whole it may be committed.
 ghost use Rattle.std.specs.Prelude.{◌≡◌, ◌↔◌, ◌<◌, ◌&&◌, ◌==◌, [], IfOk, IfErr, IsOk, IsTrue, IfSome, false, length, replicate, slice_get};
 ghost use Rattle.sha2.specs.Sha256.{sha256};
 ghost use Rattle.sync_record.specs.Assemblies.{IsAssembled, is_complete, is_plain, nothing_placed, put_answer, with_put};

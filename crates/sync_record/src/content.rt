@@ -1,3 +1,4 @@
+//! Whether two records have the same content: both deleted, or of the same type, size and block list.
 ghost use Rattle.std.specs.Prelude.{◌≡◌};
 ghost use Rattle.sync_record.specs.Contents.{same_content, same_file, same_other};
 

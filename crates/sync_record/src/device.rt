@@ -1,3 +1,4 @@
+//! Device IDs: 32 bytes, their hexadecimal text, and the short id that version vectors count by.
 ghost use Rattle.std.specs.Prelude.{◌≡◌, ◌↔◌, ℕ, IfOk, IfSome, IsSome, Ok, Some, length, refl, bytes_eq, string_bytes};
 ghost use Rattle.std.specs.List.{AllPass};
 ghost use Rattle.hex.specs.Hex.{decode_of, encode_lower, is_hex_digit};

@@ -1,3 +1,4 @@
+//! The fields of a record that its copies share: name, version, block list, symlink target, numbers and flags.
 ghost use Rattle.sync_names.specs.Safe.{IsSafe};
 ghost use Rattle.sync_version.specs.Versions.{IsCanonical};
 

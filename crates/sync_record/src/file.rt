@@ -1,3 +1,4 @@
+//! Whether a record's size, block size and block list fit each other.
 ghost use Rattle.std.specs.Prelude.{◌≡◌};
 ghost use Rattle.sync_record.specs.Validity.{describes_file};
 

@@ -34,9 +34,11 @@ pub fn the_first_difference_decides()
         b.1.modified_ns <ℤ a.1.modified_ns → IsTrue (is_preferred a b) }
     ensures author { (a b : Identity × FileRecord) → AreAsOld a.1 b.1 →
         a.1.modified_by < b.1.modified_by → IsTrue (is_preferred a b) }
+    // The versions are alike up to the pairs `c` and `d`, and these have other ids: the greater id is preferred.
     ensures id { (a b : Identity × FileRecord) → AreAsOld a.1 b.1 → a.1.modified_by ≡ b.1.modified_by →
         (same cs ds : List (ℕ × ℕ)) (c d : ℕ × ℕ) → a.1.version ≡ same ++ c ∷ cs → b.1.version ≡ same ++ d ∷ ds →
         d.0 < c.0 → IsTrue (is_preferred a b) }
+    // The same where these two pairs have one id: the greater value is preferred.
     ensures value { (a b : Identity × FileRecord) → AreAsOld a.1 b.1 → a.1.modified_by ≡ b.1.modified_by →
         (same cs ds : List (ℕ × ℕ)) (c d : ℕ × ℕ) → a.1.version ≡ same ++ c ∷ cs → b.1.version ≡ same ++ d ∷ ds →
         c.0 ≡ d.0 → d.1 < c.1 → IsTrue (is_preferred a b) }
@@ -61,6 +63,7 @@ pub fn same_content_in_words()
     ensures deletions { (a b : FileRecord) → a.deleted ≡ true → IsTrue (same_content a b) ↔ (b.deleted ≡ true) }
     ensures directories { (a b : FileRecord) → a.deleted ≡ false → IsTrue (is_directory a) →
         IsTrue (same_content a b) ↔ ((b.deleted ≡ false) × IsTrue (is_directory b)) }
+    // Both directions in one: the same content as a live file has exactly a live file of that size and those blocks.
     ensures files { (a b : FileRecord) → a.deleted ≡ false → IsTrue (is_file a) →
         IsTrue (same_content a b) ↔ ((b.deleted ≡ false) × IsTrue (is_file b) × (a.size ≡ b.size)
         × ((a.size ≡ pos 0) ⊎ ((a.block_size ≡ b.block_size) × (a.blocks ≡ b.blocks)))) }

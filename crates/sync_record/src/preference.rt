@@ -1,3 +1,4 @@
+//! Which of two devices' records of a name wins a conflict: live before deleted, then the later time, and so on.
 ghost use Rattle.std.specs.Prelude.{◌≡◌};
 ghost use Rattle.sync_record.specs.Preference.{is_preferred, preference};
 

@@ -1,3 +1,4 @@
+//! Whether bytes that were given as a block are the block's: taken, or of a wrong size or hash.
 /// What the put of a block's bytes came to.
 #[derive(Clone, Copy, Debug, PartialEq, Eq)]
 pub enum Put {

@@ -1,3 +1,4 @@
+//! What a device says of a name: file, directory or deletion, with version vector, time, size, sequence and blocks.
 ghost use Rattle.std.specs.Prelude.{◌≡◌, ◌<◌, ◌^◌, All, IfOk};
 ghost use Rattle.sync_record.specs.Records.{kind_of};
 ghost use Rattle.sync_record.specs.Validity.{IsKept, FitsBlockInfo, FitsFileInfo, is_valid};

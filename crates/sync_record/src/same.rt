@@ -1,3 +1,4 @@
+//! Whether two records are equal in their numbers and flags, which are compared before names and blocks.
 ghost use Rattle.std.specs.Prelude.{◌≡◌};
 ghost use Rattle.sync_record.specs.Same.{same_numbers};
 

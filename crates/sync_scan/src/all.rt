@@ -40,6 +40,7 @@ pub fn scan_all<S: FileStore, W: FolderCalls, G: Gate, P: Progress>(
     progress: &mut P,
 ) -> ScanSum
     ensures folder { W.folder calls.new ≡ W.folder calls.old }
+    // One relation over the whole scan: how the store lists, what may be found at a name, and what fails are handed in.
     ensures scans { ScansAll (HasListed S.gives (IsTrue S.keeps) (S.tree store.old) store.old)
         (MayFindAt S.gives (ShownSince S.gives (G.shown gate.now S W) W.view store.old)
         (IsTrue S.keeps) (S.tree store.old)) (Fails S.gives)

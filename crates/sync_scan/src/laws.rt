@@ -38,12 +38,14 @@ use folder_calls::laws::{changes_are_asked_in_order, entries_add_up};
 /// The scan of a name adds at most one entry to those of its caller: that of a scan of this name, with its answer, if it was
 /// accepted.
 pub fn a_scan_adds_one_entry_at_most<S: FileStore, W: FolderCalls, G: Gate>()
+    // No entry is added, or the one of a scan `c` of this name with its accepted answer: the two cases of one choice.
     ensures alone { (gate : G) (begun : S) (tree : Tree) (old new : CallerView) (n : Name) (moment : ℕ) (result : Scanned) →
         Scans old n moment (MayFindAt S.gives (ShownFirst (G.shown gate S W) W.view begun)
         (IsTrue S.keeps) tree n) result new →
         Adds old [] new
         ⊎ ((c : Change) × (a : Answer) × IsScanOf n moment c × (is_accepted a ≡ true)
         × Adds old ((c, a) ∷ []) new) }
+    // The same for one name of several, whose local record may have been read before the others' changes were made.
     ensures of_several { (gate : G) (begun : S) (tree : Tree) (first old new : CallerView) (n : Name) (moment : ℕ)
         (result : Scanned) →
         ScansSince first old n moment (MayFindAt S.gives (ShownSince S.gives (G.shown gate S W) W.view begun)
@@ -64,6 +66,7 @@ pub fn deletions_are_told<S: FileStore, W: FolderCalls, G: Gate>()
         IsTold (Since S.gives first) n local Gone → Says (Since S.gives first) n Missing × HasNoOtherParent (Since S.gives first) n }
     ensures other { (first : S) (n : Name) (local : Option FileRecord) (look : Look) →
         LeadsTo (Since S.gives first) n local Other look → look ≡ Skipped }
+    // Below the directory `d`, which could not be read, nothing is found gone. Long by what may be found, one premise.
     ensures unread { (gate : G) (begun : S) (tree : Tree) (unread : List Name) (d n : Name) (view : CallerView) →
         Contains unread d → is_parent d n ≡ true →
         UnlessBelow unread (MayFindAt S.gives (ShownSince S.gives (G.shown gate S W) W.view begun)
@@ -74,6 +77,7 @@ pub fn deletions_are_told<S: FileStore, W: FolderCalls, G: Gate>()
 /// parent's place while nothing is there, or where a file has more than 64 TiB. A directory is found only where one is, and a file
 /// only where one is that has as many bytes, which were all read, and of which are its blocks.
 pub fn what_is_found_is_told<S: FileStore>()
+    // A name is skipped for one of three reasons, and no other: so they are one choice.
     ensures skipped { (first : S) (n : Name) (local : Option FileRecord) →
         IsTold (Since S.gives first) n local Skipped →
         Says (Since S.gives first) n Other
@@ -84,6 +88,7 @@ pub fn what_is_found_is_told<S: FileStore>()
         (size modified : ℕ) × Says (Since S.gives first) n (File size modified) × ReadsOther (Since S.gives first) n size }
     ensures directory { (first : S) (n : Name) (local : Option FileRecord) (found : Finding) →
         IsTold (Since S.gives first) n local (Found found) → found.content ≡ content.Directory → Says (Since S.gives first) n Directory }
+    // What was found is a file of these `bytes`, which were all read: its size and its blocks are said of them.
     ensures file { (first : S) (n : Name) (local : Option FileRecord) (found : Finding)
         (size block_size : ℕ) (blocks : List Block) →
         IsTold (Since S.gives first) n local (Found found) → found.content ≡ content.File size block_size blocks →
@@ -94,6 +99,7 @@ pub fn what_is_found_is_told<S: FileStore>()
 
 /// A store in memory does not fail, so no scan of all its names stops for that.
 pub fn scans_of_memory_stop_for_no_fault<W: FolderCalls, G: Gate>()
+    // No scan of a store in memory stops by a fault. The premise is what `scan_all` promises, with this store put in.
     ensures { (gate : G) (store : MemStore) (old new : CallerView) (moment : ℕ) (sum : ScanSum) →
         ScansAll (HasListed mem_gives (IsTrue true) (mem_tree store) store)
         (MayFindAt mem_gives (ShownSince mem_gives (G.shown gate MemStore W) W.view store) (IsTrue true) (mem_tree store))
@@ -106,6 +112,7 @@ pub fn missing_names_are_not_listed()
     ensures order { (old point : CallerView) (listed names : List Name) → AreMissing old point listed names →
         (i j : ℕ) (none : Name) → i < j → j < length names →
         slice_cmp nat_cmp (get_or names i none) (get_or names j none) ≡ Less }
+    // Both directions in one: a name is there exactly if it isn't listed and its local record is live.
     ensures exactly { (point : CallerView) (listed names : List Name) → AreMissing point point listed names →
         (n : Name) → Contains names n
         ↔ ((Contains listed n → ⊥) × ((r : FileRecord) × (local (now point) n ≡ Some r) × IsTrue (is_live r))) }

@@ -1,3 +1,4 @@
+//! The interface that is told of a scan's progress: bytes hashed, names scanned, what each name came to.
 use crate::Scanned;
 use file_store::StoreRefusal;
 use sync_names::SafeName;

@@ -1,3 +1,4 @@
+//! What a scan finds at a name, and what comes of it: the folder's answer, or skipped, or changing while it is read.
 use folder_calls::ScanRefusal;
 use folder_core::{Finding, ScanAnswer};
 

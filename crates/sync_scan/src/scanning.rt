@@ -1,3 +1,4 @@
+//! What a scan is made with: threads to hash on, memory, a gate, and the moment that is recorded.
 use std::alloc::Global;
 use sync_version::Moment;
 

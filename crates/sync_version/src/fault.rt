@@ -1,3 +1,4 @@
+//! Why the counter of a version vector is not raised: it is full, or out of memory.
 ghost use Rattle.std.specs.Prelude.{◌≡◌, Some};
 ghost use Rattle.sync_version.specs.Faults.{fault_name, number_of};
 ghost use Rattle.sync_version.specs.declared.fault.RaiseFault.TheVariants.{OutOfMemory};

@@ -1,3 +1,4 @@
+//! Points in time: whole Unix seconds, up to the year 9892.
 ghost use Rattle.std.specs.Prelude.{◌≡◌, ◌≤◌, ◌↔◌, IsSome, IfSome};
 
 use std::marker::Model;

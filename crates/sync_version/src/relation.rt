@@ -1,3 +1,4 @@
+//! How two version vectors compare: equal, one dominates the other, or concurrent (a conflict).
 ghost use Rattle.std.specs.Prelude.{◌≡◌};
 ghost use Rattle.sync_version.specs.Computed.{relation_by};
 

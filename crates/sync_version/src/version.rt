@@ -1,3 +1,4 @@
+//! Version vectors: made from counters, compared, merged, and raised when a device changes a file.
 ghost use Rattle.std.specs.Prelude.{◌≡◌, ◌↔◌, [], IfOk, IsOk, IsErrOf, IsTrue};
 ghost use Rattle.sync_version.specs.Versions.{IsCanonical, IsGatheredFrom, IsMergeOf, IsRaiseOf, IsRelation, counter};
 ghost use Rattle.sync_version.specs.Computed.{from_counters, is_counter_full, merge, raised, relation};

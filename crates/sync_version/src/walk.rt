@@ -1,3 +1,4 @@
+//! The counters of two version vectors side by side, in rising id of the devices.
 ghost use Rattle.std.specs.Prelude.{◌≡◌};
 ghost use Rattle.std.specs.Iterator.{YieldsFirst, item_count};
 ghost use Rattle.sync_version.specs.Versions.{IsCanonical};

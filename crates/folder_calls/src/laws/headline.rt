@@ -21,6 +21,7 @@ ghost use Rattle.folder_calls.specs.Shared.{Meets, ReadsAt, ChangesAt, CallerVie
 /// No valid version that a device announces dominates the best that a read returns, at the point of the history that the caller then
 /// knows.
 pub fn no_announced_version_dominates_the_best()
+    // No version of a valid record dominates the best's. One clause, as both are of one point: where the view ends.
     ensures { (old new : CallerView) (n : Name) (reply : At (Option BestEntry)) (found : BestEntry)
         (d : Identity)
         (r : FileRecord) →
@@ -31,6 +32,7 @@ pub fn no_announced_version_dominates_the_best()
 
 /// A scan that is recorded and a pull that is finished take the sequence after the last one before them, and it is the last one then.
 pub fn each_sequence_is_the_next()
+    // The sequence `k` is one above the last one in `front`, just before the entry, and is the last one after it.
     ensures { (old new : CallerView) (c : Change) (reply : At Answer) (k : ℕ) →
         ChangesAt old c (Some reply) new →
         (reply.value ≡ Recorded k) ⊎ (reply.value ≡ Done k) →
@@ -43,6 +45,7 @@ pub fn each_sequence_is_the_next()
 /// A finish ends a pull over the local version on which it began, which is the local one still, with its target, of each of whose
 /// blocks some bytes have the size and the digest.
 pub fn finishes_end_pulls()
+    // A finish that is done ends a pull of `front`, the history just before its entry: both are said of this `front`.
     ensures { (old new : CallerView) (commit : PullInfo) (assembled : FileRecord)
         (reply : At Answer)
         (k : ℕ) →

@@ -20,6 +20,7 @@ ghost use Rattle.folder_core.specs.Steps.{MayChange, step, is_accepted};
 /// digest; and each pull is begun over the local record, for the best.
 pub fn commits_are_legal()
     ensures finish { CommitsAreLegal }
+    // Where the entry `e` begins a pull, its ticket has the local record and the best of the state just before it.
     ensures begin { (passes : ℕ) (opening : FolderState) (front rest : List Entry) (e : Entry)
         (t : PullInfo) →
         IsLegal passes opening (front ++ e ∷ rest) → e.answer ≡ Begun t →
@@ -32,6 +33,7 @@ pub fn commits_are_legal()
 /// kept the change's conditions, and its answer is accepted and is the step's after the entries before it.
 pub fn legal_histories_grow()
     ensures none { (passes : ℕ) (s : FolderState) → IsLegal passes s [] × (state_after s [] ≡ s) }
+    // Both directions in one: the longer history is legal exactly if the shorter one is and its last entry fits.
     ensures one_more { (passes : ℕ) (s : FolderState) (es : List Entry) (e : Entry) →
         IsLegal passes s (es ++ e ∷ []) ↔
         (IsLegal passes s es × (1 ≤ e.pass) × (e.pass ≤ passes) × MayChange s.me e.change
@@ -53,10 +55,12 @@ pub fn histories_keep_folders()
 /// entry and those of the pulls that are then open have no room. So an accepted change leaves room for them, and where
 /// it was left, what ends an open pull is not answered with HistoryFull.
 pub fn histories_keep_room()
+    // A change that would be accepted, but has no room, is answered with `HistoryFull`: a premise for each of the two.
     ensures full { (limit : ℕ) (s : FolderState) (es : List Entry) (c : Change) →
         is_accepted (step (state_after s es) c).0 ≡ true →
         limit < length es + 1 + len (step (state_after s es) c).1.pulls →
         shared_answer limit s es c ≡ HistoryFull }
+    // In each other case, declined or with room left, the answer is that of the folder by itself.
     ensures answered { (limit : ℕ) (s : FolderState) (es : List Entry) (c : Change) →
         (is_accepted (step (state_after s es) c).0 ≡ false)
         ⊎ (length es + 1 + len (step (state_after s es) c).1.pulls ≤ limit) →
@@ -64,6 +68,7 @@ pub fn histories_keep_room()
     ensures left { (limit : ℕ) (s : FolderState) (es : List Entry) (c : Change) →
         is_accepted (shared_answer limit s es c) ≡ true →
         length es + 1 + len (step (state_after s es) c).1.pulls ≤ limit }
+    // With room left, the three changes that end a pull are answered as by the folder itself: one list, one premise.
     ensures ends { (limit : ℕ) (s : FolderState) (es : List Entry) (t : PullInfo)
         (assembled : FileRecord) →
         length es + len (state_after s es).pulls ≤ limit →

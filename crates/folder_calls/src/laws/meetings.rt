@@ -11,6 +11,7 @@ ghost use Rattle.folder_calls.specs.Shared.{Closes, IsLegalView, Meets, CallerVi
 /// each has the entries that it made. If both were of one folder and legal, they still are. Any two whose histories are like
 /// that may meet.
 pub fn callers_who_meet_know_the_longer_history()
+    // Either caller may have seen more, and the other then sees as much: the two cases of one choice.
     ensures longer { (one other one2 other2 : CallerView) → Meets one other one2 other2 →
         (IsPrefix one.seen other.seen × (one2 ≡ seeing one other.seen) × (other2 ≡ other))
         ⊎ (IsPrefix other.seen one.seen × (one2 ≡ one) × (other2 ≡ seeing other one.seen)) }
@@ -32,6 +33,7 @@ pub fn callers_who_meet_know_the_longer_history()
 /// these are as many callers as passes, one of them had. A folder may be closed after
 /// any legal history that goes on from what its callers had seen.
 pub fn closing_keeps_what_callers_saw()
+    // The end follows from what a caller had seen by some entries `rest`, of which none is its own.
     ensures follows { (opening : FolderState) (limit passes : ℕ) (callers : List CallerView)
         (end : FolderState) (v : CallerView) →
         Closes opening limit passes callers end → Contains callers v →
@@ -47,6 +49,7 @@ pub fn closing_keeps_what_callers_saw()
         (end : FolderState) →
         Closes opening limit (length callers) callers end →
         (v : CallerView) × Contains callers v × (end ≡ state_after v.opening v.seen) }
+    // A folder with one known caller may be closed after the history `es`: a premise for each thing that this takes.
     ensures may { (passes : ℕ) (v : CallerView) (es : List Entry) → IsPrefix v.seen es →
         own_entries v.pass es ≡ own_entries v.pass v.seen →
         IsLegal passes v.opening es → length es + len (state_after v.opening es).pulls ≤ v.limit →

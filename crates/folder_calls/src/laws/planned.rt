@@ -16,6 +16,7 @@ pub fn planned_changes_are_made_before_their_call()
     ensures later { (p : Plan) (old new : LoneState) → 1 < p.call →
         PlanGoesOn (Some p) old new
         ↔ (new ≡ record old { plan = Some (record p { call = p.call - 1 }) }) }
+    // Exactly what happens at the planned call: the change gets some `answer`, as one of pass 2, and no plan is left.
     ensures now { (p : Plan) (old new : LoneState) → p.call ≤ 1 →
         PlanGoesOn (Some p) old new
         ↔ ((answer : Option Answer) × Appends old.history 2 (change_of p.change) answer new.history
@@ -25,11 +26,13 @@ pub fn planned_changes_are_made_before_their_call()
 /// While nothing is planned, a change of the caller is appended to the history as one of pass 1, and a read is of where the history ends;
 /// the caller has then seen all of it. A call that is out of memory changes nothing.
 pub fn calls_without_a_plan_are_the_callers()
+    // Both directions in one: a change is answered exactly as the history's next one, of pass 1, and all is seen then.
     ensures changes { (old new : LoneState) (c : Change) (reply : At Answer) → old.plan ≡ None →
         ChangesAfterPlan old c (Some reply) new
         ↔ (Appends old.history 1 c (Some reply.value) new.history
         × (reply.at ≡ length new.history.entries)
         × (new ≡ record old { history = new.history; seen = reply.at })) }
+    // The same for a read: of the state where the history ends, which doesn't change, and all of which is seen then.
     ensures reads { (old new : LoneState) (q : Query) (reply : At (Reply q)) → old.plan ≡ None →
         ReadsAfterPlan old q (Some reply) new
         ↔ (Reads (end old.history) q reply.value × (reply.at ≡ length old.history.entries)

@@ -28,6 +28,7 @@ pub fn entries_of_pulls_are_of_their_name()
 /// A pull that is ended by a finish was begun by an entry of the history, at which the local version of its name was the same as
 /// at the end, and what was put in place is its target, assembled.
 pub fn pulls_end_over_what_they_began_on()
+    // One entry `begun` began the pull: its place, its ticket and the local version there are all said of this entry.
     ensures { (opening : FolderState) (front : List Entry) (commit : PullInfo)
         (assembled : FileRecord) → EndsPull opening front commit assembled →
         (before between : List Entry) × (begun : Entry) × (ticket : PullInfo)

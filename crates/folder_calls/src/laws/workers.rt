@@ -37,6 +37,7 @@ pub fn entries_add_up()
 /// it. Any other answer is `HistoryFull`, or that of the folder where what the caller has seen ends. No two pulls that are open
 /// there have the same number.
 pub fn answers_are_those_of_the_folder()
+    // An accepted change is the step of the folder after `front`: entry, answer and state are all said of this `front`.
     ensures accepted { (old new : CallerView) (c : Change) (a : Answer) → Gets old c a new →
         is_accepted a ≡ true →
         (front : List Entry) × IsPrefix old.seen front

@@ -20,6 +20,7 @@ ghost use Rattle.folder_core.specs.Steps.{IsFor, found_record, is_accepted, next
 /// The ticket of a pull that is begun has the name that was asked for, its local record, and as its target the best, which is
 /// valid and needed, and a deletion, a file or a directory. No pull of the name was open, and none has the ticket's number.
 pub fn begun_pulls_are_of_the_name()
+    // All of one ticket: its name, base, target and number; and that the name was needed and had no open pull.
     ensures { (s : FolderState) (n : Name) (t : PullInfo) → (step s (BeginPull n)).0 ≡ Begun t →
         (t.name ≡ n) × (t.base ≡ local s n) × IsTrue (is_valid t.target)
         × ((t.target.deleted ≡ true) ⊎ ((is_file t.target ≡ true) ⊎ (is_directory t.target ≡ true)))
@@ -31,6 +32,7 @@ pub fn begun_pulls_are_of_the_name()
 /// A commit that is entered is its ticket. Its pull was open and not yet entered, the local version was that of its begin, the best
 /// had the target's version and content, and a sequence was left for it.
 pub fn entered_commits_are_their_tickets()
+    // `Entered` means that every test passed. The tests are those of one open pull `p`, so they are said together.
     ensures { (s : FolderState) (t c : PullInfo) → (step s (EnterCommit t)).0 ≡ Entered c →
         (c ≡ t) × (p : Pull) × IsFor s t Pulling p × (local_version s t.name ≡ p.base)
         × ((e : KeyedRecord) × (best (entries s.announced) t.target.name ≡ Some e)
@@ -41,12 +43,14 @@ pub fn entered_commits_are_their_tickets()
 /// A scan is recorded only if the local version was the expected one and no commit of the name was open, and only if it found
 /// another content, or that a file or directory is gone.
 pub fn recorded_scans_were_expected()
+    // What `Recorded` says of a finding: no commit was open, the version was the expected one, and the content is new.
     ensures found { (s : FolderState) (n : Name) (expected : Option Vector) (f : Finding)
         (moment k : ℕ) →
         (step s (ScanFound n expected f moment)).0 ≡ Recorded k →
         NoCommit s n × (expected ≡ local_version s n)
         × ((r : FileRecord) → local s n ≡ Some r →
         same_content (found_record s n (next_version s n moment) f) r ≡ false) }
+    // The same for a name that is gone, but for the content: here one local record `r` was there and was live.
     ensures gone { (s : FolderState) (n : Name) (expected : Option Vector) (moment k : ℕ) →
         (step s (ScanGone n expected moment)).0 ≡ Recorded k →
         NoCommit s n × (expected ≡ local_version s n) × (r : FileRecord) × (local s n ≡ Some r)
@@ -66,6 +70,7 @@ pub fn stray_pulls_are_not_open()
 /// An open pull stays as it is, but that its commit may be entered, until an accepted change of its name ends it. No two open pulls
 /// have the same number.
 pub fn open_pulls_stay()
+    // One of two, for each change: the pull stays open, at most entered now, or an accepted change of the name ends it.
     ensures kept { (s : FolderState) (c : Change) (n : Name) (p : Pull) → get s.pulls n ≡ Some p →
         ((q : Pull) × (get (step s c).1.pulls n ≡ Some q)
         × ((q ≡ p) ⊎ (q ≡ record p { stage = Committing })))

@@ -37,6 +37,7 @@ pub fn bests_are_listed_once_in_order()
         IsStrictlySortedBy bytes_cmp (map (λ e. e.0.name) (bests (entries a))) }
     ensures listed { (a : Announced) (n : Name) (e : KeyedRecord) →
         (Contains (bests (entries a)) e × (e.0.name ≡ n)) ↔ (best (entries a) n ≡ Some e) }
+    // Looked up name by name, the bests are the same list. Both premises, rising and complete, are on the same names.
     ensures by_name { (a : Announced) (names : List Name) → IsStrictlySortedBy bytes_cmp names →
         ((e : KeyedRecord) → Contains (bests (entries a)) e → Contains names e.0.name) →
         filter_map (λ n. best (entries a) n) names ≡ bests (entries a) }
@@ -59,6 +60,7 @@ pub fn best_in_any_order()
 pub fn devices_have_the_best()
     ensures rise { (a : Announced) (e : KeyedRecord) →
         IsStrictlySortedBy bytes_cmp (devices_of (entries a) e) }
+    // Both directions in one: a device is listed exactly if its valid record has the best's version and content.
     ensures listed { (a : Announced) (n : Name) (e : KeyedRecord) (d : Identity) →
         best (entries a) n ≡ Some e →
         Contains (devices_of (entries a) e) d ↔ ((r : FileRecord) × (get a (key n d) ≡ Some r)

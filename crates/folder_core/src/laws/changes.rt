@@ -49,12 +49,14 @@ pub fn callers_ensure_no_more()
     ensures directory { (s : FolderState) (n : Name) (expected : Option Vector) (f : Finding)
         (moment : ℕ) →
         f.content ≡ FoundDirectory → MayChange s.me (ScanFound n expected f moment) }
+    // A found file may be reported if it has the size, the block size and the blocks of one valid live record `r`.
     ensures file { (s : FolderState) (n : Name) (expected : Option Vector) (f : Finding)
         (moment size block_size : ℕ)
         (r : FileRecord) → IsTrue (is_valid r) → IsTrue (is_live_file r) → r.size ≡ pos size →
         size < 2 ^ 63 → r.block_size ≡ pos block_size →
         f.content ≡ FoundFile size block_size r.blocks →
         MayChange s.me (ScanFound n expected f moment) }
+    // Five changes of which a caller has nothing to ensure, in one list, as none of them has a premise.
     ensures rest { (s : FolderState) (n : Name) (expected : Option Vector) (moment : ℕ)
         (t : PullInfo) →
         MayChange s.me (ScanGone n expected moment) × MayChange s.me (BeginPull n)
@@ -69,16 +71,19 @@ pub fn callers_ensure_no_more()
 /// its name.
 pub fn changes_leave_the_rest()
     ensures device { (s : FolderState) (c : Change) → (step s c).1.me ≡ s.me }
+    // Another device's record stays, or the change is one of three of that device: one choice among all that may be.
     ensures others { (s : FolderState) (c : Change) (n : Name) (d : Identity) → d ≢ s.me →
         (get (step s c).1.announced (key n d) ≡ get s.announced (key n d))
         ⊎ (((records : List FileRecord) × (c ≡ IndexFull d records))
         ⊎ (((records : List FileRecord) × (c ≡ IndexMore d records)) ⊎ (c ≡ Forget d))) }
+    // A local record stays, or the change is a scan of its name or a finish there: one choice among all that may be.
     ensures locals { (s : FolderState) (c : Change) (n : Name) → IsFolder s → MayChange s.me c →
         (local (step s c).1 n ≡ local s n)
         ⊎ (((expected : Option Vector) × (f : Finding) × (moment : ℕ)
         × (c ≡ ScanFound n expected f moment))
         ⊎ (((expected : Option Vector) × (moment : ℕ) × (c ≡ ScanGone n expected moment))
         ⊎ ((t : PullInfo) × (assembled : FileRecord) × (t.name ≡ n) × (c ≡ Finish t assembled)))) }
+    // What is open under a name stays, or the change is one of the five of a pull of that name: one choice again.
     ensures pulls { (s : FolderState) (c : Change) (n : Name) →
         (get (step s c).1.pulls n ≡ get s.pulls n)
         ⊎ ((c ≡ BeginPull n) ⊎ ((t : PullInfo) × (t.name ≡ n) × ((c ≡ EnterCommit t)

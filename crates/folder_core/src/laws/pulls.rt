@@ -21,6 +21,7 @@ ghost use Rattle.folder_core.specs.Steps.{IsFor, step, is_copy_due};
 /// another version, and the best isn't a deletion of what isn't there.
 pub fn need_is_the_rule()
     ensures rises { (s : FolderState) → IsStrictlySortedBy bytes_cmp (need s) }
+    // Exactly when a name is needed: it has a best `e`, and the two conditions after that are on this `e`.
     ensures rule { (s : FolderState) (n : Name) → Contains (need s) n ↔
         ((e : KeyedRecord) × (best (entries s.announced) n ≡ Some e)
         × ((r : FileRecord) → local s n ≡ Some r → r.version ≢ e.1.version)
@@ -35,10 +36,12 @@ pub fn begin_pull_takes_the_needed()
         (step s (BeginPull n)).0 ≡ Busy }
     ensures not_needed { (s : FolderState) (n : Name) →
         get s.pulls n ≡ None → ¬ (Contains (need s) n) → (step s (BeginPull n)).0 ≡ NotNeeded }
+    // The third test: no pull is open and the name is needed, but its best `e` is of no kind that can be pulled.
     ensures unsupported { (s : FolderState) (n : Name) (e : KeyedRecord) →
         get s.pulls n ≡ None → best (entries s.announced) n ≡ Some e → Contains (need s) n →
         e.1.deleted ≡ false → is_file e.1 ≡ false → is_directory e.1 ≡ false →
         (step s (BeginPull n)).0 ≡ Unsupported }
+    // No test refuses. Then there is one ticket, with the name, its local record, the best, and the least free number.
     ensures begun { (s : FolderState) (n : Name) (e : KeyedRecord) →
         get s.pulls n ≡ None → best (entries s.announced) n ≡ Some e → Contains (need s) n →
         (e.1.deleted ≡ true) ⊎ ((is_file e.1 ≡ true) ⊎ (is_directory e.1 ≡ true)) →
@@ -47,6 +50,7 @@ pub fn begin_pull_takes_the_needed()
         × (1 ≤ t.number) × ((m : Name) (p : Pull) → get s.pulls m ≡ Some p → p.number ≢ t.number)
         × ((k : ℕ) → 1 ≤ k → k < t.number → (m : Name) × (p : Pull) × (get s.pulls m ≡ Some p)
         × (p.number ≡ k)) }
+    // The pull that is open after the begin, written as one value: all its fields come from the ticket.
     ensures opened { (s : FolderState) (n : Name) (t : PullInfo) →
         (step s (BeginPull n)).0 ≡ Begun t →
         get (step s (BeginPull n)).1.pulls n ≡ Some (record {
@@ -67,17 +71,20 @@ pub fn entering_is_tested_in_order()
     ensures moved { (s : FolderState) (t : PullInfo) (p : Pull) →
         IsFor s t Pulling p →
         local_version s t.name ≢ p.base → (step s (EnterCommit t)).0 ≡ LocalMoved }
+    // The third test: the pull is open and the local version still its base, but the best isn't the target any more.
     ensures superseded { (s : FolderState) (t : PullInfo) (p : Pull) →
         IsFor s t Pulling p →
         local_version s t.name ≡ p.base →
         ((e : KeyedRecord) → best (entries s.announced) t.target.name ≡ Some e →
         e.1.version ≡ t.target.version → same_content e.1 t.target ≡ false) →
         (step s (EnterCommit t)).0 ≡ Superseded }
+    // The fourth and last test: the three before it pass, but the open commits take all sequences that are left.
     ensures sequence { (s : FolderState) (t : PullInfo) (p : Pull) (e : KeyedRecord) →
         IsFor s t Pulling p →
         local_version s t.name ≡ p.base → best (entries s.announced) t.target.name ≡ Some e →
         e.1.version ≡ t.target.version → IsTrue (same_content e.1 t.target) →
         max_sequence - s.last ≤ open_commits s → (step s (EnterCommit t)).0 ≡ SequenceFull }
+    // All four tests pass, one premise for each, and the answer is `Entered`.
     ensures entered { (s : FolderState) (t : PullInfo) (p : Pull) (e : KeyedRecord) →
         IsFor s t Pulling p →
         local_version s t.name ≡ p.base → best (entries s.announced) t.target.name ≡ Some e →
@@ -117,6 +124,7 @@ pub fn pulls_end_by_their_tickets()
 /// A finish closes the committing pull that its commit is for, and records the valid target with both versions'
 /// counters under the next sequence: the local version is still that of the begin.
 pub fn finish_records_the_target()
+    // A finish that is done ends one open pull `p`: which one, what is recorded of its target, and that it is closed.
     ensures recorded { (s : FolderState) (c : PullInfo) (assembled : FileRecord) (k : ℕ) →
         IsFolder s → (step s (Finish c assembled)).0 ≡ Done k →
         (p : Pull) × (get s.pulls c.name ≡ Some p) × (p.stage ≡ Committing)
@@ -135,6 +143,7 @@ pub fn finish_records_the_target()
 /// A conflict copy is due exactly where copies are kept, a live file would be replaced by a live target of another content,
 /// and neither of their versions has seen the other.
 pub fn copies_are_due_in_conflict()
+    // Both directions in one: a copy is due exactly if there is a local record `b` with which all of this holds.
     ensures { (most_copies : ℤ) (base : Option FileRecord) (target : FileRecord) →
         IsTrue (is_copy_due most_copies base target) ↔
         ((b : FileRecord) × (base ≡ Some b) × (most_copies ≢ pos 0) × (b.deleted ≡ false)

@@ -30,6 +30,7 @@ pub fn queries_have_replies()
 pub fn reads_follow_the_state()
     ensures local { (s : FolderState) (n : Name) (r : Option FileRecord) →
         Reads s (Local n) r ↔ (r ≡ get s.announced (key n s.me)) }
+    // Exactly when a record and devices are the reply: it is the best, and they are those that have it, in order.
     ensures best { (s : FolderState) (n : Name) (r : FileRecord) (devices : List Identity) →
         Reads s (Best n) (Some (r, devices)) ↔
         ((d : Identity) × IsBest s.announced n d r × IsStrictlySortedBy bytes_cmp devices
@@ -43,6 +44,7 @@ pub fn reads_follow_the_state()
     ensures sound { (s : FolderState) (n : Name) (r : FileRecord) (k : ℕ) → IsFolder s →
         Reads s (Local n) (Some r) → Reads s (Known s.me) k →
         (r.name ≡ n) × IsTrue (is_valid r) × (1 ≤ r.sequence) × (r.sequence ≤ k) }
+    // Exactly when a number is the reply: no record of the device has a greater sequence, and one has it, or it is 0.
     ensures known_of_others { (s : FolderState) (d : Identity) (k : ℕ) → d ≢ s.me →
         Reads s (Known d) k ↔ (((n : Name) (r : FileRecord) → get s.announced (key n d) ≡ Some r →
         r.sequence ≤ k)
@@ -63,12 +65,14 @@ pub fn needed_names_come_in_pages()
         (n : Name) →
         Reads s (Need after limit) names → Contains names n →
         Contains (need s) n × ((a : Name) → after ≡ Some a → bytes_cmp n a ≡ Greater) }
+    // No needed name is left out: it is in the page, or the page is full and ends before it. One choice for each name.
     ensures all { (s : FolderState) (after : Option Name) (limit : ℕ) (names : List Name)
         (n : Name) →
         Reads s (Need after limit) names → Contains (need s) n →
         ((a : Name) → after ≡ Some a → bytes_cmp n a ≡ Greater) →
         Contains names n
         ⊎ ((length names ≡ limit) × ((m : Name) → Contains names m → bytes_cmp m n ≡ Less)) }
+    // The other way round: a list of which `rise`, `only` and `all` hold is the page. All three are its premises.
     ensures whole { (s : FolderState) (after : Option Name) (limit : ℕ) (names : List Name) →
         IsStrictlySortedBy bytes_cmp names → length names ≤ limit →
         ((n : Name) → Contains names n → Contains (need s) n
@@ -90,11 +94,14 @@ pub fn bests_come_in_pages()
         IsFolder s →
         Reads s (Bests after limit) page →
         IsStrictlySortedBy bytes_cmp (map (λ b. b.0.name) page) × (length page ≤ limit) }
+    // An entry of a page is the best of its name, with its devices, and that name comes after the given one.
+    // In one, as both are of the same entry of the same page.
     ensures only { (s : FolderState) (after : Option Name) (limit : ℕ) (page : List BestEntry)
         (b : BestEntry) → IsFolder s →
         Reads s (Bests after limit) page → Contains page b →
         Reads s (Best b.0.name) (Some b)
         × ((a : Name) → after ≡ Some a → bytes_cmp b.0.name a ≡ Greater) }
+    // No best is left out: it is in the page, or the page is full and ends before its name. One choice for each best.
     ensures all { (s : FolderState) (after : Option Name) (limit : ℕ) (page : List BestEntry)
         (n : Name)
         (b : BestEntry) → IsFolder s →
@@ -106,6 +113,7 @@ pub fn bests_come_in_pages()
     ensures end { (s : FolderState) (after : Option Name) (limit : ℕ) (n : Name) → 1 ≤ limit →
         Reads s (Bests after limit) [] → ((a : Name) → after ≡ Some a → bytes_cmp n a ≡ Greater) →
         Reads s (Best n) None }
+    // As with the needed names: a list of which `rise`, `only` and `all` hold is the page, and all three are premises.
     ensures whole { (s : FolderState) (after : Option Name) (limit : ℕ) (page : List BestEntry) →
         IsFolder s →
         IsStrictlySortedBy bytes_cmp (map (λ b. b.0.name) page) → length page ≤ limit →
@@ -131,6 +139,7 @@ pub fn bests_come_in_pages()
 /// the page stops before it, at a record with which it would have too many records or blocks. A list of which all this holds
 /// is the page.
 pub fn local_records_come_in_pages()
+    // How much a page may have: rising sequences, at most `limit` records, and at most the most blocks or one record.
     ensures rise { (s : FolderState) (after limit : ℕ) (page : List FileRecord) → IsFolder s →
         Reads s (LocalSince after limit) page →
         IsStrictlySortedBy nat_cmp (map (λ r. r.sequence) page) × (length page ≤ limit)
@@ -139,6 +148,7 @@ pub fn local_records_come_in_pages()
         IsFolder s →
         Reads s (LocalSince after limit) page → Contains page r →
         (n : Name) × (local s n ≡ Some r) × (after < r.sequence) }
+    // No local record is left out: it is in the page, or there was no room for it or for a record `q` before it.
     ensures all { (s : FolderState) (after limit : ℕ) (page : List FileRecord) (n : Name)
         (r : FileRecord) → IsFolder s →
         Reads s (LocalSince after limit) page → local s n ≡ Some r → after < r.sequence →
@@ -148,6 +158,7 @@ pub fn local_records_come_in_pages()
         × ((length page ≡ limit)
         ⊎ ((1 ≤ length page) × (max_page_blocks < sum_by
         (λ r. length r.blocks) page + length q.blocks)))) }
+    // The other way round again: `rise`, `only` and `all` are the premises, and a list of which they hold is the page.
     ensures whole { (s : FolderState) (after limit : ℕ) (page : List FileRecord) → IsFolder s →
         IsStrictlySortedBy nat_cmp (map (λ r. r.sequence) page) → length page ≤ limit →
         (sum_by (λ r. length r.blocks) page ≤ max_page_blocks) ⊎ (length page ≤ 1) →
@@ -166,6 +177,7 @@ pub fn local_records_come_in_pages()
 /// A place that is found is one of a block with the digest in a live local file, and none is found only where no live local
 /// file has such a block.
 pub fn blocks_are_found_where_they_are()
+    // Exactly when a place is a reply: one live local file `r` has a block `b` with the digest, and that is the place.
     ensures place { (s : FolderState) (hash : List ℕ) (p : Place) →
         Reads s (FindBlock hash) (Some p) ↔
         ((n : Name) × (r : FileRecord) × (b : Block) × (local s n ≡ Some r)

@@ -13,15 +13,18 @@ ghost use Rattle.folder_core.specs.Samples.{me, p1, p2, x, y, file, recorded};
 /// restored is a folder. It has just the given records, each under its device and name, that last sequence and no open pull.
 /// Every folder may be restored from its own records, and is then as it was, but without its open pulls.
 pub fn restored_folders_are_folders()
+    // Exactly when records may be restored: a sequence from 0, one record a device and name, and a folder as result.
     ensures folder { (me : Identity) (records : List (Identity × FileRecord)) (last : ℤ) →
         MayRestore me records last ↔ (IsTrue (is_natural last)
         × AllPairs (λ p q. key_of p ≢ key_of q) records
         × IsFolder (restored_folder me records last)) }
+    // Both directions in one: a record is there exactly if it was given, and it is under its device and name.
     ensures records { (me : Identity) (records : List (Identity × FileRecord)) (last : ℤ)
         (d : Identity) (n : Name) (r : FileRecord) →
         MayRestore me records last →
         (get (restored_folder me records last).announced (key n d) ≡ Some r)
         ↔ (Contains records (d, r) × (r.name ≡ n)) }
+    // The three other fields of the restored state: its device, its last sequence, and that no pull is open.
     ensures rest { (me : Identity) (records : List (Identity × FileRecord)) (last : ℤ) →
         MayRestore me records last →
         ((restored_folder me records last).me ≡ me)

@@ -26,16 +26,19 @@ pub fn findings_are_tested_in_order()
         (moment : ℕ) →
         NoCommit s n → expected ≢ local_version s n →
         (step s (ScanFound n expected f moment)).0 ≡ Moved (local_version s n) }
+    // The third test: no commit is open and the version is the expected one, but the local record has this content.
     ensures unchanged { (s : FolderState) (n : Name) (f : Finding) (moment : ℕ) (r : FileRecord) →
         NoCommit s n → local s n ≡ Some r →
         IsTrue (same_content (found_record s n (next_version s n moment) f) r) →
         (step s (ScanFound n (local_version s n) f moment)).0 ≡ Unchanged }
+    // The fourth test: the content is new, but this device's counter in the local version is the greatest.
     ensures counter { (s : FolderState) (n : Name) (f : Finding) (moment : ℕ) →
         NoCommit s n →
         ((r : FileRecord) → local s n ≡ Some r →
         same_content (found_record s n (next_version s n moment) f) r ≡ false) →
         counter (unwrap_or (local_version s n) []) (short_id s.me) ≡ 2 ^ 64 - 1 →
         (step s (ScanFound n (local_version s n) f moment)).0 ≡ CounterFull }
+    // The fifth and last test: the counter can rise, but the open commits take all sequences that are left.
     ensures sequence { (s : FolderState) (n : Name) (f : Finding) (moment : ℕ) →
         NoCommit s n →
         ((r : FileRecord) → local s n ≡ Some r →
@@ -43,6 +46,7 @@ pub fn findings_are_tested_in_order()
         counter (unwrap_or (local_version s n) []) (short_id s.me) ≢ 2 ^ 64 - 1 →
         max_sequence - s.last ≤ open_commits s →
         (step s (ScanFound n (local_version s n) f moment)).0 ≡ SequenceFull }
+    // All five tests pass, with one premise for each but the expected version, which is the local one here.
     ensures recorded { (s : FolderState) (n : Name) (f : Finding) (moment : ℕ) →
         NoCommit s n →
         ((r : FileRecord) → local s n ≡ Some r →
@@ -56,10 +60,12 @@ pub fn findings_are_tested_in_order()
 /// file of that size and, where it isn't empty, of that block size and those blocks. So no edit is taken for what was
 /// there. And where the record says so, no commit is open and the local version is the expected one, that is the answer.
 pub fn unchanged_is_what_was_there()
+    // `Unchanged` for a directory means that there is one local record `r`, live and of a directory.
     ensures directory { (s : FolderState) (n : Name) (expected : Option Vector) (f : Finding)
         (moment : ℕ) →
         f.content ≡ FoundDirectory → (step s (ScanFound n expected f moment)).0 ≡ Unchanged →
         (r : FileRecord) × (local s n ≡ Some r) × (r.deleted ≡ false) × IsTrue (is_directory r) }
+    // `Unchanged` for a file says of one local record `r`: live, a file, of that size and, if not empty, those blocks.
     ensures file { (s : FolderState) (n : Name) (expected : Option Vector) (f : Finding)
         (size block_size : ℕ) (blocks : List Block) (moment : ℕ) →
         f.content ≡ FoundFile size block_size blocks →
@@ -67,11 +73,13 @@ pub fn unchanged_is_what_was_there()
         (r : FileRecord) × (local s n ≡ Some r) × (r.deleted ≡ false) × IsTrue (is_file r)
         × (r.size ≡ pos size)
         × ((size ≡ 0) ⊎ ((r.block_size ≡ pos block_size) × (r.blocks ≡ blocks))) }
+    // The other direction of `directory`: where the local record is like that and no commit is open, it is `Unchanged`.
     ensures same_directory { (s : FolderState) (n : Name) (f : Finding) (moment : ℕ)
         (r : FileRecord) →
         NoCommit s n → f.content ≡ FoundDirectory →
         local s n ≡ Some r → r.deleted ≡ false → IsTrue (is_directory r) →
         (step s (ScanFound n (local_version s n) f moment)).0 ≡ Unchanged }
+    // The other direction of `file`, with what that says of the local record `r` as premises.
     ensures same_file { (s : FolderState) (n : Name) (f : Finding)
         (size block_size : ℕ) (blocks : List Block) (moment : ℕ) (r : FileRecord) →
         NoCommit s n → f.content ≡ FoundFile size block_size blocks →
@@ -93,14 +101,17 @@ pub fn losses_are_tested_in_order()
         NoCommit s n →
         ((r : FileRecord) → local s n ≡ Some r → IsTrue r.deleted) →
         (step s (ScanGone n (local_version s n) moment)).0 ≡ Unchanged }
+    // The fourth test: the local record is live, but this device's counter in its version is the greatest.
     ensures counter { (s : FolderState) (n : Name) (moment : ℕ) (r : FileRecord) →
         NoCommit s n → local s n ≡ Some r → r.deleted ≡ false →
         counter r.version (short_id s.me) ≡ 2 ^ 64 - 1 →
         (step s (ScanGone n (local_version s n) moment)).0 ≡ CounterFull }
+    // The fifth and last test: the counter can rise, but the open commits take all sequences that are left.
     ensures sequence { (s : FolderState) (n : Name) (moment : ℕ) (r : FileRecord) →
         NoCommit s n → local s n ≡ Some r → r.deleted ≡ false →
         counter r.version (short_id s.me) ≢ 2 ^ 64 - 1 → max_sequence - s.last ≤ open_commits s →
         (step s (ScanGone n (local_version s n) moment)).0 ≡ SequenceFull }
+    // All five tests pass: the local record `r` is live, and its deletion is recorded under the next sequence.
     ensures recorded { (s : FolderState) (n : Name) (moment : ℕ) (r : FileRecord) →
         NoCommit s n → local s n ≡ Some r → r.deleted ≡ false →
         counter r.version (short_id s.me) ≢ 2 ^ 64 - 1 → open_commits s < max_sequence - s.last →
@@ -113,6 +124,7 @@ pub fn scans_record_what_is_found()
     ensures number { (s : FolderState) (n : Name) (expected : Option Vector) (f : Finding)
         (moment k : ℕ) →
         (step s (ScanFound n expected f moment)).0 ≡ Recorded k → k ≡ s.last + 1 }
+    // The local record after a file was found: one value, all of whose fields are given here.
     ensures file { (s : FolderState) (n : Name) (expected : Option Vector) (f : Finding)
         (size block_size : ℕ) (blocks : List Block) (moment k : ℕ) →
         f.content ≡ FoundFile size block_size blocks →
@@ -134,6 +146,7 @@ pub fn scans_record_what_is_found()
           blocks = blocks;
           symlink_target = [];
         }) }
+    // The local record after a directory was found, again as one value: of size 0, without blocks.
     ensures directory { (s : FolderState) (n : Name) (expected : Option Vector) (f : Finding)
         (moment k : ℕ) →
         f.content ≡ FoundDirectory → (step s (ScanFound n expected f moment)).0 ≡ Recorded k →
@@ -166,6 +179,7 @@ pub fn scans_record_what_is_gone()
     ensures number { (s : FolderState) (n : Name) (expected : Option Vector) (moment k : ℕ)
         (r : FileRecord) →
         local s n ≡ Some r → (step s (ScanGone n expected moment)).0 ≡ Recorded k → k ≡ s.last + 1 }
+    // The local record after a loss: the one that was there, `r`, with just these fields changed.
     ensures deletion { (s : FolderState) (n : Name) (expected : Option Vector) (moment k : ℕ)
         (r : FileRecord) →
         IsFolder s → local s n ≡ Some r → (step s (ScanGone n expected moment)).0 ≡ Recorded k →
@@ -182,6 +196,7 @@ pub fn scans_record_what_is_gone()
           version = raised r.version (short_id s.me) moment;
           sequence = s.last + 1;
         }) }
+    // A loss that is recorded leaves the local record of each other name. Its premises are those of `deletion`.
     ensures others { (s : FolderState) (n m : Name) (expected : Option Vector) (moment k : ℕ)
         (r : FileRecord) →
         IsFolder s → local s n ≡ Some r → (step s (ScanGone n expected moment)).0 ≡ Recorded k →

@@ -1,3 +1,4 @@
+//! An open pull of a plain folder: its number, its base and target records, and the record that it will announce.
 use super::own::version_of;
 use sync_record::Record;
 

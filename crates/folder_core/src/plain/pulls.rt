@@ -71,6 +71,7 @@ fn is_at(pull: &OpenPull, stage: PullStage) -> bool
 
 /// Takes out the pull that is meant, if it is at this stage. Does not allocate. O(k) for k open pulls.
 pub fn take(pulls: &mut Vec<OpenPull>, info: &PullInfo, stage: PullStage) -> Option<OpenPull>
+    // Both results in one: none is meant and all stay, or the pull that is meant is returned and is out of the list.
     ensures { MatchOption result ((pull_for info.now stage pulls.old.items ≡ None)
         × (pulls.new.items ≡ pulls.old.items))
         (λ p. (pull_for info.now stage pulls.old.items ≡ Some p)
@@ -82,6 +83,7 @@ pub fn take(pulls: &mut Vec<OpenPull>, info: &PullInfo, stage: PullStage) -> Opt
 
 /// Takes out the pull that the commit is for, and returns what it announces. Does not allocate. O(k) for k open pulls.
 pub fn take_ready(pulls: &mut Vec<OpenPull>, info: &PullInfo) -> Option<Record>
+    // The same two results, but what is returned is the record that the pull would announce, not the pull.
     ensures { MatchOption result ((pull_for info.now Committing pulls.old.items ≡ None)
         × (pulls.new.items ≡ pulls.old.items))
         (λ r. (option_and_then (λ p. p.ready) (pull_for info.now Committing pulls.old.items)
@@ -106,6 +108,7 @@ pub fn open(
           base = option_copied base.entry;
           target = target.now;
         }) }
+    // The pulls afterwards are the old ones with one put in at its place, which is written out here as a value.
     ensures opened { OnOk result (pulls.new.items
         ≡ insert pulls.old.items (position_of target.now.name pulls.old.items)
         (record {

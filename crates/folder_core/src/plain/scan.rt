@@ -272,6 +272,7 @@ pub fn scan_obstacle(
     expected: Option<&Version>,
     is_unchanged: bool,
 ) -> Option<Obstacle>
+    // One equation, as the order counts: the result is the first of the five tests that holds.
     ensures { option_map (obstacle_answer
         (option_map (λ r. r.version) (option_copied local.entry))) result
         ≡ first_of (tests_of (has_commit name.now pulls.now)
