@@ -37,7 +37,7 @@ use std::alloc::Global;
 use toml::Table;
 use toml::de::Error;
 
-/// Reads the configuration of a text, which is a TOML document in UTF-8. The crate's page lists the keys.
+/// Reads the configuration of a text, which is a TOML document in UTF-8. The table above lists the keys.
 ///
 /// # Errors
 ///
@@ -47,7 +47,7 @@ use toml::de::Error;
 ///   another folder; if a peer's `folders` has a string that is no folder's id; if two devices, this one and the peers, have the same
 ///   identity or the same first 8 bytes of it; if a peer has both `dial` and `listen`, or neither; if two peers have the same address in
 ///   `listen`, where `localhost` is 127.0.0.1. Of several such keys it is the first, in this order: `device`, `name`, `state`, `status`, then each folder and each peer in the
-///   order of the document, with the keys of each in the order of the crate's table.
+///   order of the document, with the keys of each in the order of the table above.
 /// - [`ConfigFault::OutOfMemory`] if memory ran out, and never for a text of white space and comments alone. For other texts no clause can
 ///   say that there is memory.
 ///

@@ -74,7 +74,7 @@ pub enum TablePlace {
 }
 
 impl TablePlace {
-    /// The keys of the table, in the order of the crate's page. O(1).
+    /// The keys of the table, in the order of the table of `document.rt`. O(1).
     pub fn keys(self) -> &'static [Key]
         ensures { result.now ≡ keys_of self }
     {
