@@ -15,6 +15,9 @@ pub const MAX_ASKS: usize = 1_024;
 ///
 /// The least positive id that isn't open is never above 1,024 while fewer than that are open. So a bit for each of the first
 /// 1,024 ids finds it, and opens it without memory; only the ids above, which are booked, stand in a set.
+///
+/// They are the reader's own, which tells by them whether a Response answers a Request. What came of each Request is in the ask book of
+/// `peer_asks`, which the threads that wait share under its lock.
 #[derive(Debug, Drop)]
 pub(crate) struct OpenIds {
     low: Bits,

@@ -59,6 +59,8 @@ pub(crate) enum Taken {
 }
 
 /// The states of the Requests by their ids, from 1 on.
+///
+/// The reader's session keeps the ids that are open too (`bep_session`), so that it needs no lock to refuse a Response that answers none.
 #[derive(Debug, Drop)]
 pub(crate) struct AskTable {
     states: Vec<AskState>,
