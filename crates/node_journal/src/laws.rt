@@ -21,7 +21,7 @@ pub fn one_reading()
 /// A journal that was written, and then cut anywhere behind what was synced, is read as a beginning of its frames that has all those
 /// that were synced, up to its last whole one; and it counts as cut, not as broken. So it needs no premise on where it is cut.
 pub fn a_cut_journal_keeps_what_was_synced()
-    // One cut journal: its frames can be written, the cut is behind those that were synced, and it is a beginning.
+    // One cut journal: its frames can be written, the cut is behind the synced ones, and it is read as a beginning.
     ensures { (h : Header) (synced more : List Frame) (n : ℕ) → HasDigests h → AllByRecursion IsWritable (synced ++ more) →
         length (journal_bytes h synced) ≤ n →
         IsBeginning h (synced ++ more) (length synced) (take n (journal_bytes h (synced ++ more))) }

@@ -78,7 +78,7 @@ pub fn batches_may_have_other_frames()
 
 /// Where a journal is a list of frames to which each one is appended, pages that are saved stand in it behind those that stood there before.
 pub fn appended_pages_are_in_the_journal<J: FrameJournal>()
-    // Frames that have the told pages also have the saved ones after a save: the first premise says what to append is.
+    // Frames that have the told pages also have the saved ones after a save: the first premise says what appending is.
     ensures { (f : SavedFolder) (frames_of : J → List Frame) (first last : J) (told pages : List Page) →
         ((old new : J) (frame : Frame) → J.appends old frame new → frames_of new ≡ frames_of old ++ frame ∷ []) →
         HavePages f told (frames_of first) → Saves J.appends f first pages last →

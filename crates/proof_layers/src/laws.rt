@@ -29,7 +29,7 @@ use sync_record::laws::same_content_in_words;
 /// other what is at a name of another, both stores hold alike there: directories, nothing, or files of as many bytes, cut into the
 /// same blocks, of which each has the same SHA-256 digest on both sides.
 pub fn what_is_pulled_is_what_was_scanned<S: FileStore, W: FolderCalls, G: Gate>()
-    // Where a scan took the name, the local record says what is there. Long by what may be found, one premise.
+    // What a scan recorded, or found recorded, is what is there. Long by what may be found, which is one premise.
     ensures scanned { (gate : G) (begun : S) (old new : CallerView) (n : Name) (moment : ℕ) (tree : Tree) (result : Scanned) →
         S.keeps ≡ true →
         Scans old n moment (MayFindAt S.gives (ShownFirst (G.shown gate S W) W.view begun) (IsTrue S.keeps) tree n) result new →

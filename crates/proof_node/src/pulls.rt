@@ -55,7 +55,7 @@ pub fn a_refused_pull_answers_its_begin<S: FileStore, B: BlockSource>()
         (HasNoSource B.gives n source new) (IsDropped S.gives (S.keeps ≡ true) n (S.tree after).temps after)
         (IsRefused S.gives S.tree) NotNeeded old (S.tree before) new (S.tree after) →
         Gets old (BeginPull n) answer.NotNeeded new × (S.keeps ≡ true → S.tree after ≡ S.tree before) }
-    // The same for `Busy`: each of these five answers has its own clause, as each is got in its own way.
+    // The same for `Busy`, which is another premise and another answer of the begin.
     ensures busy { (most : ℤ) (moment : ℕ) (n : Name) (source : B) (before after : S) (old new : CallerView) →
         Comes most moment n (S.keeps ≡ true) (IsFaultCounted (S.fault_count before) (S.fault_count after))
         (HasNoSource B.gives n source new) (IsDropped S.gives (S.keeps ≡ true) n (S.tree after).temps after)

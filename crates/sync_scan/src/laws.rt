@@ -66,7 +66,7 @@ pub fn deletions_are_told<S: FileStore, W: FolderCalls, G: Gate>()
         IsTold (Since S.gives first) n local Gone → Says (Since S.gives first) n Missing × HasNoOtherParent (Since S.gives first) n }
     ensures other { (first : S) (n : Name) (local : Option FileRecord) (look : Look) →
         LeadsTo (Since S.gives first) n local Other look → look ≡ Skipped }
-    // Below the directory `d`, which could not be read, nothing is found gone. Long by what may be found, one premise.
+    // Below the directory `d`, which could not be read, nothing is found gone. What may be found is one premise.
     ensures unread { (gate : G) (begun : S) (tree : Tree) (unread : List Name) (d n : Name) (view : CallerView) →
         Contains unread d → is_parent d n ≡ true →
         UnlessBelow unread (MayFindAt S.gives (ShownSince S.gives (G.shown gate S W) W.view begun)

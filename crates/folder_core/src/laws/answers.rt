@@ -32,7 +32,7 @@ pub fn begun_pulls_are_of_the_name()
 /// A commit that is entered is its ticket. Its pull was open and not yet entered, the local version was that of its begin, the best
 /// had the target's version and content, and a sequence was left for it.
 pub fn entered_commits_are_their_tickets()
-    // `Entered` means that every test passed. The tests are those of one open pull `p`, so they are said together.
+    // `Entered` means that no test refused. The tests are those of one open pull `p`, so they are said together.
     ensures { (s : FolderState) (t c : PullInfo) → (step s (EnterCommit t)).0 ≡ Entered c →
         (c ≡ t) × (p : Pull) × IsFor s t Pulling p × (local_version s t.name ≡ p.base)
         × ((e : KeyedRecord) × (best (entries s.announced) t.target.name ≡ Some e)

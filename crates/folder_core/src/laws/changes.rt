@@ -49,7 +49,7 @@ pub fn callers_ensure_no_more()
     ensures directory { (s : FolderState) (n : Name) (expected : Option Vector) (f : Finding)
         (moment : ℕ) →
         f.content ≡ FoundDirectory → MayChange s.me (ScanFound n expected f moment) }
-    // A found file may be reported if it has the size, the block size and the blocks of one valid live record `r`.
+    // A found file may be reported if one valid live record `r` has its size, which fits, its block size and blocks.
     ensures file { (s : FolderState) (n : Name) (expected : Option Vector) (f : Finding)
         (moment size block_size : ℕ)
         (r : FileRecord) → IsTrue (is_valid r) → IsTrue (is_live_file r) → r.size ≡ pos size →

@@ -50,7 +50,7 @@ pub fn begin_pull_takes_the_needed()
         × (1 ≤ t.number) × ((m : Name) (p : Pull) → get s.pulls m ≡ Some p → p.number ≢ t.number)
         × ((k : ℕ) → 1 ≤ k → k < t.number → (m : Name) × (p : Pull) × (get s.pulls m ≡ Some p)
         × (p.number ≡ k)) }
-    // The pull that is open after the begin, written as one value: all its fields come from the ticket.
+    // The pull that is open after the begin, written as one value: all its fields but the stage come from the ticket.
     ensures opened { (s : FolderState) (n : Name) (t : PullInfo) →
         (step s (BeginPull n)).0 ≡ Begun t →
         get (step s (BeginPull n)).1.pulls n ≡ Some (record {
@@ -78,13 +78,13 @@ pub fn entering_is_tested_in_order()
         ((e : KeyedRecord) → best (entries s.announced) t.target.name ≡ Some e →
         e.1.version ≡ t.target.version → same_content e.1 t.target ≡ false) →
         (step s (EnterCommit t)).0 ≡ Superseded }
-    // The fourth and last test: the three before it pass, but the open commits take all sequences that are left.
+    // The fourth and last test: the three before it don't refuse, but open commits take all sequences that are left.
     ensures sequence { (s : FolderState) (t : PullInfo) (p : Pull) (e : KeyedRecord) →
         IsFor s t Pulling p →
         local_version s t.name ≡ p.base → best (entries s.announced) t.target.name ≡ Some e →
         e.1.version ≡ t.target.version → IsTrue (same_content e.1 t.target) →
         max_sequence - s.last ≤ open_commits s → (step s (EnterCommit t)).0 ≡ SequenceFull }
-    // All four tests pass, one premise for each, and the answer is `Entered`.
+    // None of the four tests refuses, with a premise for each of their parts, and the answer is `Entered`.
     ensures entered { (s : FolderState) (t : PullInfo) (p : Pull) (e : KeyedRecord) →
         IsFor s t Pulling p →
         local_version s t.name ≡ p.base → best (entries s.announced) t.target.name ≡ Some e →

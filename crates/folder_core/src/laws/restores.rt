@@ -13,7 +13,7 @@ ghost use Rattle.folder_core.specs.Samples.{me, p1, p2, x, y, file, recorded};
 /// restored is a folder. It has just the given records, each under its device and name, that last sequence and no open pull.
 /// Every folder may be restored from its own records, and is then as it was, but without its open pulls.
 pub fn restored_folders_are_folders()
-    // Exactly when records may be restored: a sequence from 0, one record a device and name, and a folder as result.
+    // Exactly when records may be restored: a last sequence of 0 or more, one record a key, and a folder as result.
     ensures folder { (me : Identity) (records : List (Identity × FileRecord)) (last : ℤ) →
         MayRestore me records last ↔ (IsTrue (is_natural last)
         × AllPairs (λ p q. key_of p ≢ key_of q) records

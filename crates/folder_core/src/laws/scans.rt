@@ -26,7 +26,7 @@ pub fn findings_are_tested_in_order()
         (moment : ℕ) →
         NoCommit s n → expected ≢ local_version s n →
         (step s (ScanFound n expected f moment)).0 ≡ Moved (local_version s n) }
-    // The third test: no commit is open and the version is the expected one, but the local record has this content.
+    // The third test: no commit is open and the version is as expected, but the local record has this content already.
     ensures unchanged { (s : FolderState) (n : Name) (f : Finding) (moment : ℕ) (r : FileRecord) →
         NoCommit s n → local s n ≡ Some r →
         IsTrue (same_content (found_record s n (next_version s n moment) f) r) →
@@ -46,7 +46,7 @@ pub fn findings_are_tested_in_order()
         counter (unwrap_or (local_version s n) []) (short_id s.me) ≢ 2 ^ 64 - 1 →
         max_sequence - s.last ≤ open_commits s →
         (step s (ScanFound n (local_version s n) f moment)).0 ≡ SequenceFull }
-    // All five tests pass, with one premise for each but the expected version, which is the local one here.
+    // None of the five tests refuses: a premise for each but the second, as the local version is the expected one here.
     ensures recorded { (s : FolderState) (n : Name) (f : Finding) (moment : ℕ) →
         NoCommit s n →
         ((r : FileRecord) → local s n ≡ Some r →
@@ -111,7 +111,7 @@ pub fn losses_are_tested_in_order()
         NoCommit s n → local s n ≡ Some r → r.deleted ≡ false →
         counter r.version (short_id s.me) ≢ 2 ^ 64 - 1 → max_sequence - s.last ≤ open_commits s →
         (step s (ScanGone n (local_version s n) moment)).0 ≡ SequenceFull }
-    // All five tests pass: the local record `r` is live, and its deletion is recorded under the next sequence.
+    // None of the five tests refuses: the local record `r` is live, and its deletion takes the next sequence.
     ensures recorded { (s : FolderState) (n : Name) (moment : ℕ) (r : FileRecord) →
         NoCommit s n → local s n ≡ Some r → r.deleted ≡ false →
         counter r.version (short_id s.me) ≢ 2 ^ 64 - 1 → open_commits s < max_sequence - s.last →
