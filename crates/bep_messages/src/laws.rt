@@ -50,7 +50,7 @@ pub fn which_fields_take_memory()
     ensures message_in_a_list { (number : ℕ) (inner rows : Table) (bytes : List ℕ) →
         ItemTakes (Messages number inner rows) (record { number = number; content = Bytes bytes }) →
         ElementTakes inner bytes }
-    // What comes behind a fault is not decoded, and so does not allocate: where a field does, it is one up to the faulty `i`.
+    // What comes behind a fault is not decoded: where some field allocates, one up to the faulty field `i` does.
     ensures after_a_fault { (table : Table) (front rest : List Item) (i : Item) → item_fault table i ≢ None →
         SomeTakes (ItemTakes table) (item_fault table) (front ++ i ∷ rest) →
         SomeTakes (ItemTakes table) (item_fault table) (front ++ i ∷ []) }
