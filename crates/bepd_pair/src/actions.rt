@@ -3,7 +3,7 @@ ghost use Rattle.bepd_pair.specs.Following.{Acts, UnlessPull};
 ghost use Rattle.std.specs.Prelude.{◌≡◌};
 
 use crate::command::Action;
-use crate::context::Context;
+use crate::context::CommandContext;
 use crate::link::Link;
 use crate::peer::Peer;
 use crate::refused::Refused;
@@ -13,7 +13,7 @@ use std::thread::Threads;
 
 /// Has a peer do something, and appends what that prints.
 pub(crate) fn act<T: Threads + Sync>(
-    cx: &Context<'_, T>,
+    cx: &CommandContext<'_, T>,
     action: &Action<'_>,
     peer: &mut Peer,
     session: &mut Session,

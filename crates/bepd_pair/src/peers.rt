@@ -6,7 +6,7 @@ ghost use Rattle.bepd_pair.specs.Words.{Text};
 
 use crate::actions::act;
 use crate::command::{Action, Command, Side, command_of};
-use crate::context::Context;
+use crate::context::CommandContext;
 use crate::indexes::send_all;
 use crate::link::greet;
 use crate::output::{push_refused, push_sync};
@@ -145,7 +145,7 @@ impl Peers {
     ) -> Result<(), Refused>
         ensures { Follows (Command.At Side.A action.now) self.old result lines.old.items lines.new.items self.new }
     {
-        let cx = Context {
+        let cx = CommandContext {
             rt,
             alloc,
             moment: self.moment,
@@ -171,7 +171,7 @@ impl Peers {
     ) -> Result<(), Refused>
         ensures { Follows (Command.At Side.B action.now) self.old result lines.old.items lines.new.items self.new }
     {
-        let cx = Context {
+        let cx = CommandContext {
             rt,
             alloc,
             moment: self.moment,

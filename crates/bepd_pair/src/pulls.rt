@@ -4,7 +4,7 @@ ghost use Rattle.bepd_pair.specs.Lines.{pull_line};
 ghost use Rattle.bepd_pair.specs.Pulls.{PullsOne, PullsRound, PullsUnlessFull};
 ghost use Rattle.sync_pull.specs.declared.answer.PullAnswer.{PullAnswer as AnyAnswer};
 
-use crate::context::Context;
+use crate::context::CommandContext;
 use crate::link::Link;
 use crate::output::push_pull;
 use crate::peer::Peer;
@@ -18,7 +18,7 @@ use sync_pull::{PullAnswer, pull_name};
 
 /// Pulls each needed name once, with blocks over the link, and prints what it came to.
 pub(crate) fn pull<R: Threads + Sync>(
-    cx: &Context<'_, R>,
+    cx: &CommandContext<'_, R>,
     peer: &mut Peer,
     link: &mut Link<'_>,
     lines: &mut Vec<u8>,
@@ -57,7 +57,7 @@ fn round_of(alloc: Global, peer: &mut Peer) -> Result<Vec<SafeName>, AllocError>
 
 /// Pulls these names, one after another.
 fn pull_each<R: Threads + Sync>(
-    cx: &Context<'_, R>,
+    cx: &CommandContext<'_, R>,
     peer: &mut Peer,
     link: &mut Link<'_>,
     names: &[SafeName],
@@ -73,7 +73,7 @@ fn pull_each<R: Threads + Sync>(
 }
 
 fn pull_one<R: Threads + Sync>(
-    cx: &Context<'_, R>,
+    cx: &CommandContext<'_, R>,
     peer: &mut Peer,
     link: &mut Link<'_>,
     name: &SafeName,
@@ -88,7 +88,7 @@ fn pull_one<R: Threads + Sync>(
 }
 
 fn answer_of<R: Threads + Sync>(
-    cx: &Context<'_, R>,
+    cx: &CommandContext<'_, R>,
     peer: &mut Peer,
     link: &mut Link<'_>,
     name: &SafeName,

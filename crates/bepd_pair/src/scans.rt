@@ -6,7 +6,7 @@ ghost use Rattle.bepd_pair.specs.Scans.{ScansPeer, TellsSum};
 ghost use Rattle.sync_scan.specs.declared.sum.ScanSum.{ScanSum as AnySum};
 
 use crate::command::Side;
-use crate::context::Context;
+use crate::context::CommandContext;
 use crate::output::{push_local, push_scan};
 use crate::peer::Peer;
 use crate::refused::Refused;
@@ -20,7 +20,7 @@ use sync_scan::{NoProgress, ScanSum, scan_all};
 
 /// Scans all names, and prints the counts.
 pub(crate) fn scan<R: Threads + Sync>(
-    cx: &Context<'_, R>,
+    cx: &CommandContext<'_, R>,
     peer: &mut Peer,
     lines: &mut Vec<u8>,
 ) -> Result<(), Refused>
@@ -31,7 +31,7 @@ pub(crate) fn scan<R: Threads + Sync>(
     tell_sum(lines, peer.side, sum)
 }
 
-fn scan_peer<R: Threads + Sync>(cx: &Context<'_, R>, peer: &mut Peer) -> ScanSum
+fn scan_peer<R: Threads + Sync>(cx: &CommandContext<'_, R>, peer: &mut Peer) -> ScanSum
     ensures { ScansPeer peer.old cx.now.moment result peer.new }
 {
     scan_all(

@@ -5,7 +5,7 @@ use Rattle.node_journal.specs.Format.{journal_bytes}
 use Rattle.node_journal.specs.declared.frame.Frame.{Frame}
 use Rattle.node_journal.specs.declared.header.JournalHeader.{JournalHeader}
 use Rattle.node_journal.specs.declared.plan.Plan.{Plan}
-use Rattle.node_recover.specs.Told.{plan_of}
+use Rattle.node_replay.specs.Told.{plan_of}
 use Rattle.node_saver.specs.Frames.{closing_frame, plans_frame}
 use Rattle.bepd_run.specs.declared.last_run.FolderPlans.{FolderPlans}
 

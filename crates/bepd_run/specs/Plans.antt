@@ -3,9 +3,9 @@ use Rattle.std.specs.Prelude.{◌≡◌, ◌⊎◌, ℕ, Bool, true, bytes_eq, f
 use Rattle.folder_core.specs.States.{FolderState}
 use Rattle.folder_db.specs.declared.folder.IndexedFolder.{IndexedFolder}
 use Rattle.node_threads.specs.declared.folders.StartFolder.{StartFolder}
-use Rattle.node_recover.specs.Settled.{settled}
-use Rattle.node_recover.specs.Open.{open_plans}
-use Rattle.node_recover.specs.declared.plan.PullPlan.{PullPlan}
+use Rattle.node_replay.specs.Settled.{settled}
+use Rattle.node_replay.specs.Open.{open_plans}
+use Rattle.node_replay.specs.declared.plan.PullPlan.{PullPlan}
 use Rattle.node_state.specs.declared.state.State.{State}
 use Rattle.node_state.specs.declared.state.StoredFolder.{StoredFolder}
 use Rattle.bepd_run.specs.declared.last_run.FolderPlans.{FolderPlans}

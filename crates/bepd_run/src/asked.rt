@@ -2,11 +2,11 @@
 use crate::failure::RunFailure;
 use crate::files::StateFiles;
 use crossbeam_channel::{Receiver, Sender, bounded};
-use node_asks::{
-    Answerers, Asked, RunEnd, RunInput, is_short, listen, pass_on, socket_path, take_asked,
-};
 use node_commands::{InputLine, read_commands};
 use node_context::{Event, Log};
+use node_socket::{
+    Answerers, Asked, RunEnd, RunInput, is_short, listen, pass_on, socket_path, take_asked,
+};
 use node_threads::{Listener, UnixSockets};
 use std::alloc::{AllocError, Global};
 use std::io::{self, BufReader, ErrorKind, Read};

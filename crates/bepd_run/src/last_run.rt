@@ -4,7 +4,7 @@ use crate::files::StateFiles;
 use crate::naming::file_failure;
 use bep_messages::{Copied, Items, Text};
 use node_journal::{Journal, JournalEnd, JournalFault, JournalHeader, frames_behind, read_journal};
-use node_recover::{PullPlan, RecoverFault, RecoveredFolder, recover};
+use node_replay::{PullPlan, RecoverFault, RecoveredFolder, recover};
 use node_state::{Problem, State, StateFault, StoredFolder, read_state};
 use sha2::{Digest, Sha256};
 use std::alloc::{AllocError, Global};

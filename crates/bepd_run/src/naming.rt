@@ -8,9 +8,9 @@ ghost use Rattle.bepd_run.specs.declared.failure.RunFailure.TheVariants as failu
 use crate::addresses::address_of;
 use crate::failure::RunFailure;
 use bep_messages::Text;
-use node_asks::AskFault;
 use node_config::{Config, ConfigFault, PeerAddress, PeerConfig, unknown_keys};
 use node_context::NodeFault;
+use node_socket::AskFault;
 use node_state::StateFault;
 use node_threads::{ListenFault, NodeAddress};
 use std::alloc::Global;

@@ -14,12 +14,12 @@ use crate::starts::{
     Core, all_shares, begin_again, folders_of, index_ids_of, peers_of, renumbered, saved_up_to,
 };
 use file_store::OpenGate;
-use node_asks::RunEnd;
 use node_commands::{CommandLines, CommandsEnd};
 use node_config::Config;
 use node_context::{Event, Log, NodeFault};
 use node_files::Stores;
 use node_resume::{Share, index_id_at, resume_all, state_left};
+use node_socket::RunEnd;
 use node_state::State;
 use node_threads::{
     Console, Listeners, NodeEnd, NodeOutside, NodePeer, NodeStart, StartFolder, UnixSockets,

@@ -1,9 +1,9 @@
 //! The page that a run keeps of how all is.
 use crate::files::StateFiles;
 use bep_messages::Text;
-use node_asks::{Answer, AskFault, ask, question, socket_path};
 use node_config::Config;
 use node_context::{Event, Log, moment};
+use node_socket::{Answer, AskFault, ask, question, socket_path};
 use node_status::push_ended_page;
 use std::alloc::{AllocError, Global};
 use std::io;

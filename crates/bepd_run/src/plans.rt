@@ -1,7 +1,7 @@
 //! The plans of pulls that the last run left, and what becomes of them.
 ghost use Rattle.std.specs.Prelude.{◌≡◌, ◌++◌, cond, flat_map, map, option_copied, IfOk, OnOk};
 ghost use Rattle.std.specs.List.{AllZip, list_all};
-ghost use Rattle.node_recover.specs.Told.{is_pullable, plan_of};
+ghost use Rattle.node_replay.specs.Told.{is_pullable, plan_of};
 ghost use Rattle.bepd_run.specs.Plans.{AreSettled, IsSettledBy, IsSettledFolder, folder_under, open_in, plans_under, stored_under, without_id};
 
 use crate::failure::RunFailure;
@@ -13,7 +13,7 @@ use folder_core::FolderCore;
 use node_context::NodeFault;
 use node_files::{Ends, FolderStore, Marked, Stores, Whereabouts};
 use node_journal::Plan;
-use node_recover::{Disk, PullPlan, SettleFault, open_plans, plan_message, settle};
+use node_replay::{Disk, PullPlan, SettleFault, open_plans, plan_message, settle};
 use node_state::{Problem, State, StateFault, StoredFolder};
 use node_threads::StartFolder;
 use std::alloc::{AllocError, Global};

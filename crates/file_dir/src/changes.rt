@@ -8,12 +8,12 @@ use crate::dir::{
 };
 use crate::disk::Disk;
 use crate::found::Found;
+use crate::kept_versions::{place_of, remove_to};
 use crate::look::{Look, is_as_seen};
 use crate::made::{make_and_open, make_parents};
 use crate::mode::directory_of;
 use crate::opened::{Opened, reopen};
 use crate::replaced::{kept_path, put_new, remove_by_way_of};
-use crate::versions::{place_of, remove_to};
 use file_store::{Stat, StoreRefusal};
 use std::fs;
 use std::io::ErrorKind;

@@ -10,6 +10,7 @@ mod dir;
 mod disk;
 mod found;
 mod habits;
+mod kept_versions;
 pub mod laws;
 mod left;
 mod look;
@@ -24,8 +25,7 @@ mod skipped;
 mod stamp;
 mod store;
 mod temps;
-mod version;
-mod versions;
+mod version_name;
 mod walk;
 
 pub use habits::Habits;

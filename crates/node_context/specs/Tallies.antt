@@ -3,7 +3,7 @@
 use Rattle.std.specs.Prelude.{ℕ, ◌+◌, ◌-◌, ◌^◌, ◌==◌, ◌&&◌, ◌||◌, min, nat_le, nat_lt, Bool, true, false, if◌then◌else◌, Option, Some, None}
 use Rattle.node_context.specs.declared.event.Change.{Change}
 use Rattle.node_context.specs.declared.event.Change.TheVariants.{Got, Replaced, Deleted, Same}
-use Rattle.node_context.specs.declared.tally.LeftOut.{LeftOut}
+use Rattle.node_context.specs.declared.tally.SkipTally.{SkipTally}
 use Rattle.node_context.specs.declared.tally.Names.{Names}
 use Rattle.node_context.specs.declared.tally.Sum.{Sum}
 use Rattle.node_context.specs.declared.tally.Tally.{Tally}
@@ -28,7 +28,7 @@ abbrev pub is_named : ℕ → Names → Bool × Names
 is_named now n = taken (renewed now n)
 
 -- a name that was left out and isn't told by name is counted
-abbrev pub left_out : LeftOut → Bool × Names → Bool × LeftOut
+abbrev pub left_out : SkipTally → Bool × Names → Bool × SkipTally
 left_out l (true, names) = (true, record l { names = names })
 left_out l (false, names) = (false, record { names = names; more = up_to (l.more + 1) })
 

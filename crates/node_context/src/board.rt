@@ -3,7 +3,7 @@ use crate::doing::Doing;
 use crate::event::{Event, Heard, PeerEvent, PullEvent, ScanEvent};
 use crate::folder_line::push_failure;
 use crate::peer_line::{SILENT, push_front, push_why};
-use crate::tally::{LeftOut, Names, Sum, Tally};
+use crate::tally::{Names, SkipTally, Sum, Tally};
 use bep_messages::Text;
 use node_status::Noted;
 use std::alloc::{AllocError, Global};
@@ -44,7 +44,7 @@ pub struct FolderBoard {
     pub failed_more: u64,
     // Which names that are recorded are told by name, and what was left out and pulled that isn't told yet.
     recorded: Names,
-    left_out: LeftOut,
+    left_out: SkipTally,
     tally: Tally,
 }
 
@@ -63,7 +63,7 @@ pub(crate) enum Telling {
     /// How many names were pulled that were not told by name.
     Sum(Sum),
     /// How many names were left out that were not told by name.
-    LeftOut(u64),
+    MoreSkipped(u64),
 }
 
 /// What was told of a peer.
@@ -209,7 +209,7 @@ impl FolderBoard {
             failed: Vec::new(alloc),
             failed_more: 0,
             recorded: Names::none(),
-            left_out: LeftOut::none(),
+            left_out: SkipTally::none(),
             tally: Tally::none(),
         })
     }
@@ -223,7 +223,7 @@ impl FolderBoard {
                 let (count, left_out) = self.left_out.settle();
                 self.left_out = left_out;
                 if count > 0 {
-                    Telling::LeftOut(count)
+                    Telling::MoreSkipped(count)
                 } else {
                     Telling::Nothing
                 }

@@ -22,7 +22,9 @@ pub(crate) fn push_line(
     }
     match (telling, event) {
         (Telling::Sum(sum), Event::Pull(folder, _)) => push_pulled_sum(line, folder, &sum)?,
-        (Telling::LeftOut(count), Event::Scan(folder, _)) => push_left_out(line, folder, count)?,
+        (Telling::MoreSkipped(count), Event::Scan(folder, _)) => push_left_out(
+            line, folder, count,
+        )?,
         _ => push_event(line, board, now, event)?,
     }
     line.push(b'\n')?;

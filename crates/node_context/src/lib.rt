@@ -1,4 +1,4 @@
-//! What all threads of a node share: the clock, what is told, the connections that are up, whether a node stops, why it did not run, and how calls are lent.
+//! What all threads of a node share: the clock, the log of what is told, the connections that are up, whether a node stops, why it did not run, and how calls are lent.
 #![tactic(auto)]
 
 mod board;

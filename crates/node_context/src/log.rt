@@ -122,7 +122,7 @@ impl Log {
         let telling = board.telling(now.seconds(), event, style.is_verbose);
         let is_new = match telling {
             Telling::Nothing => false,
-            Telling::Line | Telling::Sum(_) | Telling::LeftOut(_) => {
+            Telling::Line | Telling::Sum(_) | Telling::MoreSkipped(_) => {
                 self.waiting.lock(rt).take(&board, now, event, telling);
                 true
             }

@@ -59,24 +59,24 @@ impl Names {
 
 /// Which names that were left out may be told by name, and how many were not.
 #[derive(Clone, Copy, Debug, PartialEq, Eq)]
-pub(crate) struct LeftOut {
+pub(crate) struct SkipTally {
     names: Names,
     more: u64,
 }
 
-impl LeftOut {
+impl SkipTally {
     /// None was.
-    pub(crate) fn none() -> LeftOut
+    pub(crate) fn none() -> SkipTally
         ensures { result ≡ record { names = named_before; more = 0 } }
     {
-        LeftOut {
+        SkipTally {
             names: Names::none(),
             more: 0,
         }
     }
 
     /// A name was left out in this second: whether it is told by name, and what isn't told then.
-    pub(crate) fn take(self, now: u64) -> (bool, LeftOut)
+    pub(crate) fn take(self, now: u64) -> (bool, SkipTally)
         ensures { result ≡ left_out self (is_named now self.names) }
     {
         let (is_named, names) = self.names.take(now);
@@ -85,14 +85,14 @@ impl LeftOut {
         } else {
             self.more.saturating_add(1)
         };
-        (is_named, LeftOut { names, more })
+        (is_named, SkipTally { names, more })
     }
 
     /// How many were not told by name, which are told now.
-    pub(crate) fn settle(self) -> (u64, LeftOut)
+    pub(crate) fn settle(self) -> (u64, SkipTally)
         ensures { result ≡ (self.more, record self { more = 0 }) }
     {
-        (self.more, LeftOut { more: 0, ..self })
+        (self.more, SkipTally { more: 0, ..self })
     }
 }
 

@@ -1,4 +1,4 @@
-//! Whether a folder is there, and what is recorded of it with it.
+//! Whether a folder is there, away or held, and what is recorded of it with it.
 ghost use Rattle.std.specs.Prelude.{◌≡◌, ◌↔◌, ◌≢◌, IsTrue};
 ghost use Rattle.node_files.specs.declared.marked.Whereabouts.TheVariants.{Unknown};
 ghost use Rattle.node_folder.specs.Held.{is_back, is_lost};

@@ -5,7 +5,7 @@ use crate::told::own_config;
 use file_store::{FileStore, Gate};
 use node_context::{ConnectionId, Context, Event, Host, PeerEvent};
 use peer_conn::KeptCalls;
-use peer_link::{Line, LinkEnd, LinkFolders, Opening, Streams, run_link};
+use peer_link::{Greeting, Line, LinkEnd, LinkFolders, Streams, run_link};
 use peer_reader::{ReaderStop, are_apart};
 use std::io::{self, Read, Write};
 use std::net::{Shutdown, TcpStream};
@@ -121,7 +121,7 @@ where
     let ended = run_link(
         cx.rt,
         cx.alloc,
-        Opening {
+        Greeting {
             peer: peer.device,
             hello: &greeting.hello,
             config,

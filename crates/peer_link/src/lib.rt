@@ -16,5 +16,5 @@ pub use end::LinkEnd;
 pub use folders::LinkFolders;
 pub use limits::{MAX_QUEUED_REQUESTS, MAX_REQUEST_NAME_BYTES, QUEUE_MESSAGES};
 pub use line::Line;
-pub use link::{Opening, Streams, run_link};
+pub use link::{Greeting, Streams, run_link};
 pub use told::{Anew, ToldFolders};

@@ -33,7 +33,7 @@ use sync_record::DeviceId;
 
 /// Who is there, and what it is told first.
 #[derive(Drop)]
-pub struct Opening<'a> {
+pub struct Greeting<'a> {
     /// The peer.
     pub peer: DeviceId,
     /// Of this device.
@@ -64,7 +64,7 @@ pub struct Streams<'a, I, O, L> {
 pub fn run_link<R, I, O, S, W, G, L>(
     rt: &R,
     alloc: Global,
-    opening: Opening,
+    greeting: Greeting,
     folders: LinkFolders<S, W>,
     gate: &G,
     book: &AskBook,
@@ -78,8 +78,8 @@ where
     W: KeptCalls + Drop + Send,
     G: Gate + Sync,
     L: Line + Sync,
-    requires { All (IsApart W.view opening.peer) folders.read.items }
-    ensures read { IfOk result (λ end. HasReadAll W.view W.folder opening.entry.peer (I.remaining streams.entry.reader)
+    requires { All (IsApart W.view greeting.peer) folders.read.items }
+    ensures read { IfOk result (λ end. HasReadAll W.view W.folder greeting.entry.peer (I.remaining streams.entry.reader)
         folders.read.items end.reader end.folders.read.items) }
     ensures indexed { IfOk result (λ end. AllZip (OnlySees W.folder W.view) folders.indexed.items
         end.folders.indexed.items) }
@@ -87,11 +87,11 @@ where
         end.folders.served.items) }
     ensures given_back { IfErr result (λ left. left ≡ folders) }
 {
-    let Opening {
+    let Greeting {
         peer,
         hello,
         config,
-    } = opening;
+    } = greeting;
     let Streams {
         reader,
         writer,

@@ -11,7 +11,7 @@ use Rattle.index_sender.specs.Pages.{last_sequence, records_of}
 use Rattle.index_sender.specs.declared.page.Page.{Page}
 use Rattle.node_journal.specs.declared.frame.Frame.{Frame}
 use Rattle.node_journal.specs.declared.part.Part.{Part}
-use Rattle.node_recover.specs.Told.{lasts_told, parts_of, records_told}
+use Rattle.node_replay.specs.Told.{lasts_told, parts_of, records_told}
 use Rattle.node_saver.specs.Frames.{last_of, records_frame}
 use Rattle.node_saver.specs.Saving.{IsReadAgain, records_in}
 use Rattle.node_saver.specs.declared.frames.SavedFolder.{SavedFolder}

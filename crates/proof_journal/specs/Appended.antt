@@ -8,7 +8,7 @@ use Rattle.index_sender.specs.declared.page.Page.{Page}
 use Rattle.index_sender.specs.declared.page.Page.TheVariants.{Index, IndexUpdate, Nothing}
 use Rattle.node_journal.specs.declared.frame.Frame.{Frame}
 use Rattle.node_journal.specs.declared.part.Part.{Part}
-use Rattle.node_recover.specs.Told.{parts_of}
+use Rattle.node_replay.specs.Told.{parts_of}
 use Rattle.node_saver.specs.Frames.{records_frame}
 use Rattle.node_saver.specs.Saving.{IsReadAgain, records_in}
 use Rattle.node_saver.specs.declared.frames.SavedFolder.{SavedFolder}

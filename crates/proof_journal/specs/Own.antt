@@ -2,8 +2,8 @@
 use Rattle.std.specs.Prelude.{◌≡◌, ◌⊎◌, ℕ, ◌<◌, ◌≤◌, List, Some}
 use Rattle.folder_core.specs.States.{FolderState, local}
 use Rattle.node_journal.specs.declared.frame.Frame.{Frame}
-use Rattle.node_recover.specs.Recovered.{IsRecovered}
-use Rattle.node_recover.specs.Told.{lasts_told, parts_of, records_told}
+use Rattle.node_replay.specs.Recovered.{IsRecovered}
+use Rattle.node_replay.specs.Told.{lasts_told, parts_of, records_told}
 use Rattle.sync_record.specs.Records.{Name, FileRecord}
 
 -- the second folder is recovered from the first one and from what these frames tell of the folder of this id

@@ -1,24 +1,16 @@
 -- Texts that loops append piece by piece to an old text.
-use Rattle.std.proofs.Common.{◌≡◌, ◌<◌, ◌+◌, ℕ, List, [], ◌∷◌, ◌++◌, length, take, map, get_or, refl, sym, ap, ◌∙◌, append_assoc}
-use Rattle.std.specs.List.{flat_map, join_with_byte}
-use Rattle.std.proofs.lemmas.List.{append-nil, take_more}
-use Rattle.hex.specs.Hex.{encode_lower, encode_with}
+use Rattle.std.proofs.Common.{◌≡◌, ℕ, List, [], ◌∷◌, ◌++◌, map, false, refl, ap, ◌∙◌, append_assoc}
+use Rattle.std.specs.List.{flat_map, join_with_byte, list_any}
+use Rattle.record_lines.specs.Lines.{escaped, is_escaped}
+use Rattle.std.proofs.lemmas.List.{append-nil}
+use Rattle.std.proofs.lemmas.Bool.{or_parts}
 
-pub encode_none : (old : List ℕ) → old ≡ old ++ encode_lower []
-unfolding encode_with
-encode_none old = sym (append-nil old)
-
-encode_append : (t xs ys : List ℕ) → encode_with t (xs ++ ys) ≡ encode_with t xs ++ encode_with t ys
-unfolding encode_with
-encode_append t [] ys = refl
-encode_append t (x ∷ xs) ys = rw (encode_append t xs ys)
-
--- one byte more
-pub encode_more : (old xs : List ℕ) (i : ℕ) → i < length xs
-    → (old ++ encode_lower (take i xs)) ++ encode_lower (get_or xs i 0 ∷ []) ≡ old ++ encode_lower (take (i + 1) xs)
-encode_more old xs i h =
-    append_assoc old (encode_lower (take i xs)) (encode_lower (get_or xs i 0 ∷ []))
-    ∙ ap (λ v. old ++ v) (sym (ap encode_lower (take_more xs i 0 h) ∙ encode_append _ (take i xs) (get_or xs i 0 ∷ [])))
+-- a text without escapes is written as it is
+pub plain : (xs : List ℕ) → list_any is_escaped xs ≡ false → flat_map escaped xs ≡ xs
+plain [] h = refl
+plain (x ∷ xs) h =
+    let apart = or_parts (is_escaped x) (list_any is_escaped xs) h in
+    rw apart.0 (ap (λ v. x ∷ v) (plain xs apart.1))
 
 joined_bare : {X : Type 0} (c : ℕ) (f : X → List ℕ) (x : X) (xs : List X)
     → f x ++ flat_map (λ y. c ∷ f y) xs ≡ join_with_byte c (map f (x ∷ xs))

@@ -1,9 +1,9 @@
 //! How programs print a record: its kind, its size, its version and its name.
 #![tactic(auto)]
 
-ghost use Rattle.std.specs.Prelude.{◌≡◌, ◌++◌, OnOk};
-ghost use Rattle.hex.specs.Hex.{encode_lower};
-ghost use Rattle.record_lines.specs.Lines.{counter_text, escaped, kind_word, name_text, record_text, version_text};
+ghost use Rattle.std.specs.Prelude.{◌≡◌, ◌++◌, OnOk, flat_map};
+ghost use Rattle.std.specs.List.{list_any};
+ghost use Rattle.record_lines.specs.Lines.{counter_text, escaped, is_escaped, kind_word, name_text, record_text, version_text};
 
 use itoa::Buffer;
 use std::alloc::AllocError;
@@ -60,10 +60,12 @@ fn push_counter(line: &mut Vec<u8>, counter: (u64, u64)) -> Result<(), AllocErro
     ensures { OnOk result (line.new.items ≡ line.old.items ++ counter_text counter) }
 {
     let (id, value) = counter;
-    push_hex(line, &id.to_be_bytes())?;
+    let mut digits = [0; 16];
+    hex::encode_to_slice(id.to_be_bytes(), &mut digits).unwrap();
+    line.extend_from_slice(&digits)?;
     line.push(b':')?;
-    let mut digits = Buffer::new();
-    line.extend_from_slice(digits.format(value).as_bytes())?;
+    let mut decimals = Buffer::new();
+    line.extend_from_slice(decimals.format(value).as_bytes())?;
     Ok(())
 }
 
@@ -75,38 +77,55 @@ pub fn push_name(line: &mut Vec<u8>, name: &SafeName) -> Result<(), AllocError>
     push_text(line, name.as_str())
 }
 
-/// Appends a text as [`push_name`] does a name: so it is a part of one line, whatever is in it. O(n).
+/// Appends a text as [`push_name`] does a name: so it is a part of one line, whatever is in it. O(n), at once where nothing is
+/// escaped.
 pub fn push_text(line: &mut Vec<u8>, text: &str) -> Result<(), AllocError>
     ensures { OnOk result (line.new.items ≡ line.old.items ++ name_text text.now) }
 {
-    for byte in text.as_bytes() {
+    let bytes = text.as_bytes();
+    if has_escapes(bytes) {
+        push_escaped(line, bytes)?;
+    } else {
+        line.extend_from_slice(bytes)?;
+    }
+    Ok(())
+}
+
+/// Whether a byte of a text is written as an escape: a control or the backslash.
+fn is_escaped(byte: u8) -> bool
+    ensures { result ≡ is_escaped byte }
+{
+    byte < 32 || byte == b'\\' || byte == 127
+}
+
+/// Whether any byte is written as an escape.
+fn has_escapes(bytes: &[u8]) -> bool
+    ensures { result ≡ list_any is_escaped bytes.now }
+{
+    bytes.iter().any(|byte| is_escaped(*byte))
+}
+
+/// Appends bytes, those escaped that are to be.
+fn push_escaped(line: &mut Vec<u8>, bytes: &[u8]) -> Result<(), AllocError>
+    ensures { OnOk result (line.new.items ≡ line.old.items ++ flat_map escaped bytes.now) }
+{
+    for byte in bytes {
         push_byte(line, *byte)?;
     }
     Ok(())
 }
 
-/// Appends a byte of a name: a control or the backslash as `\x` and two hexadecimal digits, any other as it is.
+/// Appends a byte of a text: a control or the backslash as `\x` and two hexadecimal digits, any other as it is.
 fn push_byte(line: &mut Vec<u8>, byte: u8) -> Result<(), AllocError>
     ensures { OnOk result (line.new.items ≡ line.old.items ++ escaped byte) }
 {
-    match byte {
-        0..=31 | b'\\' | 127 => {
-            line.extend_from_slice(b"\\x")?;
-            push_hex(line, &[byte])?;
-        }
-        _ => line.push(byte)?,
-    }
-    Ok(())
-}
-
-/// Appends bytes as hexadecimal digits in lower case.
-fn push_hex(line: &mut Vec<u8>, bytes: &[u8]) -> Result<(), AllocError>
-    ensures { OnOk result (line.new.items ≡ line.old.items ++ encode_lower bytes.now) }
-{
-    for byte in bytes {
+    if is_escaped(byte) {
         let mut digits = [0; 2];
-        hex::encode_to_slice([*byte], &mut digits).unwrap();
+        hex::encode_to_slice([byte], &mut digits).unwrap();
+        line.extend_from_slice(b"\\x")?;
         line.extend_from_slice(&digits)?;
+    } else {
+        line.push(byte)?;
     }
     Ok(())
 }

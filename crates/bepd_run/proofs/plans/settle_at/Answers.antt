@@ -1,7 +1,7 @@
 use Rattle.std.proofs.Common.{rules}
 use Rattle.std.specs.FinMap.{empty_of_len}
 use Rattle.std.proofs.lemmas.List.Sums.{AllPass-from_list_all}
-use Rattle.node_recover.specs.Told.{is_pullable}
+use Rattle.node_replay.specs.Told.{is_pullable}
 use Rattle.bepd_run.proofs.plans.settle_at.Goals as goal
 
 pub settle-requires-clause-closed : goal.settle-requires-clause-closed

@@ -1,5 +1,5 @@
 use Rattle.std.proofs.Common.{◌≡◌, map, take}
-use Rattle.node_recover.specs.Told.{plan_of}
+use Rattle.node_replay.specs.Told.{plan_of}
 use Rattle.bepd_run.proofs.plans.written_plans.Given as goal
 
 abbrev pub invariant-loop-plan : goal.invariant-loop-plan

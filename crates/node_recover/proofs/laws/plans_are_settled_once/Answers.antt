@@ -1,5 +1,0 @@
-use Rattle.node_recover.proofs.Twice.{once}
-use Rattle.node_recover.proofs.laws.plans_are_settled_once.Goals as goal
-
-pub returns : goal.returns
-returns c = once

@@ -1,6 +1,0 @@
-use Rattle.std.proofs.Common.{take}
-use Rattle.node_recover.proofs.Turns.{IsUnderWay}
-use Rattle.node_recover.proofs.settling.settle.Given as goal
-
-abbrev pub invariant-loop-plan : goal.invariant-loop-plan
-invariant-loop-plan g l = IsUnderWay g.D.Disk.tells l.fn.folder.folder l.fn.disk (take l.plan-index l.plans) l.finished l.disk
