@@ -40,6 +40,7 @@ pub mod Lemmas
 pub mod PlainBest
 pub mod PlainGroup
 pub mod PlainFound
+pub mod Choosing
 pub mod PlainMerge
 pub mod PlainMessage
 pub mod PlainPut

@@ -5,7 +5,6 @@ pub mod Pages
 pub mod Counted
 pub mod Written
 pub mod Grouped
-pub mod Choosing
 pub mod Results
 pub mod Found
 pub mod Sequenced

@@ -9,12 +9,11 @@ ghost use Rattle.folder_core.specs.PlainPulls.{best_in};
 ghost use Rattle.folder_core.specs.PlainReads.{is_from, is_needed_over, needed_of, record_from};
 ghost use Rattle.folder_index.specs.Groups.{HasRoom, HasSpare, IsChanged, IsGroup, best_of_group, chosen, entries_in, name_in, totals_in};
 
-use crate::best::{devices_with, is_needed_over, place_of_best};
 use crate::entries::record_from;
 use crate::name_entries::NameEntries;
 use crate::{Best, Totals};
 use bep_messages::Items;
-use folder_core::Announcement;
+use folder_core::{Announcement, devices_with, is_needed_over, place_of_best};
 use std::alloc::{AllocError, Global};
 use sync_names::SafeName;
 use sync_record::{DeviceId, Kind, Record};

@@ -6,7 +6,6 @@
 //! Contracts say of each what it has, in the words of `folder_core`'s rules, and not how it is kept.
 #![tactic(auto)]
 
-mod best;
 mod by_digest;
 mod by_name;
 mod by_sequence;

@@ -1,19 +1,14 @@
 //! The entries of one name, and the best of them.
-ghost use Rattle.std.specs.Prelude.{◌≡◌, [], ◌∷◌, None, IfOk, IsOk, map, filter, take, bytes_eq, not, ◌&&◌, option_copied, option_map};
-ghost use Rattle.std.specs.List.{list_any, reduce, prefix_len};
-ghost use Rattle.sync_record.specs.Contents.{same_content};
-ghost use Rattle.sync_record.specs.Preference.{is_preferred};
-ghost use Rattle.sync_record.specs.Validity.{is_valid};
-ghost use Rattle.sync_version.specs.Computed.{dominates, same_version};
-ghost use Rattle.folder_core.specs.Plain.{Rises, is_undominated, better, better_of, devices_with, group_best, listed_bests};
+ghost use Rattle.std.specs.Prelude.{◌≡◌, [], ◌∷◌, None, IfOk, IsOk, map, filter, take, bytes_eq, option_copied, option_map};
+ghost use Rattle.std.specs.List.{prefix_len};
+ghost use Rattle.folder_core.specs.Plain.{Rises, group_best, listed_bests};
+ghost use Rattle.folder_core.specs.PlainPulls.{best_in};
 ghost use Rattle.folder_core.specs.Reads.{is_after};
 
-use crate::{Announcement, Best};
+use crate::{Announcement, Best, devices_with, place_of_best};
 use bep_messages::Items;
 use std::alloc::{AllocError, Global};
 use sync_names::SafeName;
-use sync_record::{DeviceId, Record, preferred, same_content};
-use sync_version::Relation;
 
 /// The entries of a name, which are side by side. O(log n + k) for n entries, k of them of the name.
 pub(super) fn entries_of<'a>(entries: &'a [Announcement], name: &SafeName) -> &'a [Announcement]
@@ -118,80 +113,9 @@ fn best_alone(alloc: Global, entry: &Announcement) -> Result<Option<Best>, Alloc
     }))
 }
 
-/// Of the entries of one name the best: it is valid, no valid one dominates it, and it is preferred to every other such
-/// one. O(k^2) for k entries.
+/// The best of the entries of one name. Does not allocate. O(k^2) for k entries.
 pub(super) fn best_of(group: &[Announcement]) -> Option<&Announcement>
-    ensures { option_copied result ≡ reduce better (filter (is_undominated group.now) group.now) }
+    ensures { option_copied result ≡ best_in group.now }
 {
-    let mut best: Option<&Announcement> = None;
-    for entry in group {
-        if is_undominated(group, &entry.record) {
-            best = Some(better(best, entry));
-        }
-    }
-    best
-}
-
-/// The entry where there is no other or it is preferred to it, else the other.
-fn better<'a>(other: Option<&'a Announcement>, entry: &'a Announcement) -> &'a Announcement
-    ensures { result.now ≡ better_of (option_copied other.entry) entry.now }
-{
-    match other {
-        Some(other) if !is_better(entry, other) => other,
-        _ => entry,
-    }
-}
-
-fn is_better(a: &Announcement, b: &Announcement) -> bool
-    ensures { result ≡ is_preferred (a.now.device, a.now.record) (b.now.device, b.now.record) }
-{
-    preferred((&a.record, &a.device), (&b.record, &b.device))
-}
-
-fn is_undominated(group: &[Announcement], candidate: &Record) -> bool
-    ensures { result ≡ (is_valid candidate.now && not
-        (list_any (λ f. is_valid f.record && dominates f.record.version candidate.now.version)
-        group.now)) }
-{
-    candidate.is_valid() && !is_dominated(group, candidate)
-}
-
-fn is_dominated(group: &[Announcement], candidate: &Record) -> bool
-    ensures { result ≡ list_any (λ f.
-        is_valid f.record && dominates f.record.version candidate.now.version) group.now }
-{
-    group
-        .iter()
-        .any(|entry| dominates(&entry.record, candidate))
-}
-
-/// Whether the first record is valid, and its version dominates the other's.
-fn dominates(a: &Record, b: &Record) -> bool
-    ensures { result ≡ (is_valid a.now && dominates a.now.version b.now.version) }
-{
-    a.version().relation(b.version()) == Relation::Dominates && a.is_valid()
-}
-
-/// The devices whose valid record has the version and the content of the best, in the order of the entries. O(k) for k
-/// entries.
-fn devices_with(
-    alloc: Global,
-    group: &[Announcement],
-    best: &Record,
-) -> Result<Vec<DeviceId>, AllocError>
-    ensures { IfOk result (λ ds. ds.items ≡ devices_with group.now best.now) }
-{
-    group
-        .iter()
-        .filter(|entry| has(&entry.record, best))
-        .map(|entry| entry.device)
-        .collect(alloc)
-}
-
-/// Whether the first record is valid and has the version and the content of the other.
-fn has(a: &Record, b: &Record) -> bool
-    ensures { result ≡ (is_valid a.now && same_version a.now.version b.now.version && same_content
-        a.now b.now) }
-{
-    a.version() == b.version() && a.is_valid() && same_content(a, b)
+    group.get(place_of_best(group)?)
 }

@@ -1,14 +1,14 @@
 //! The names whose best is needed.
 ghost use Rattle.std.specs.Prelude.{◌≡◌, ◌<◌, [], ◌∷◌, IfOk, IfSome, IsOk, MatchOption, length, option_copied, take};
 ghost use Rattle.folder_core.specs.Plain.{Rises};
-ghost use Rattle.folder_core.specs.PlainReads.{is_needed_over, needed_names, needed_of};
+ghost use Rattle.folder_core.specs.PlainReads.{needed_names, needed_of};
 
 use super::group::{best_of, count_of};
 use super::own::record_from;
-use crate::Announcement;
+use crate::{Announcement, is_needed_over};
 use std::alloc::{AllocError, Global};
 use sync_names::SafeName;
-use sync_record::{DeviceId, Record};
+use sync_record::DeviceId;
 
 /// The names whose best the device needs, in byte order: the first `limit` of them. O(k^2) for each name up to the last one
 /// of them, with k entries, and the copies. Does not allocate where there is none.
@@ -77,16 +77,5 @@ fn needed_of(group: &[Announcement], device: DeviceId) -> Option<&Announcement>
     ensures { option_copied result ≡ needed_of device group.now }
 {
     let best = best_of(group)?;
-    is_needed(record_from(group, device), &best.record).then_some(best)
-}
-
-/// Whether a best is needed over this local record: its version is another, or it isn't deleted where there is none. Does not
-/// allocate. O(v) for v counters.
-pub(super) fn is_needed(own: Option<&Record>, best: &Record) -> bool
-    ensures { result ≡ is_needed_over (option_copied own.entry) best.now }
-{
-    match own {
-        Some(own) => own.version() != best.version(),
-        None => !best.is_deleted(),
-    }
+    is_needed_over(record_from(group, device), &best.record).then_some(best)
 }

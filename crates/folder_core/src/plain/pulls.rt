@@ -12,10 +12,9 @@ ghost use Rattle.folder_core.specs.Steps.{committed_record, least_free};
 ghost use Rattle.folder_core.specs.declared.pull_stage.PullStage.TheVariants.{Committing};
 
 use super::group::best_of;
-use super::need::is_needed;
 use super::own::version_of;
 use super::pull::OpenPull;
-use crate::{Announcement, BeginAnswer, EnterFault, PullInfo, PullStage, Ticket};
+use crate::{Announcement, BeginAnswer, EnterFault, PullInfo, PullStage, Ticket, is_needed_over};
 use std::alloc::{AllocError, Global};
 use sync_names::SafeName;
 use sync_record::{Kind, Record, same_content};
@@ -190,7 +189,7 @@ pub fn best_to_pull<'a>(
     let Some(best) = best_of(announced) else {
         return Err(BeginObstacle::NotNeeded);
     };
-    if !is_needed(local, &best.record) {
+    if !is_needed_over(local, &best.record) {
         return Err(BeginObstacle::NotNeeded);
     }
     if is_unsupported(&best.record) {

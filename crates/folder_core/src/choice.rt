@@ -1,4 +1,5 @@
-//! The best of the records of one name.
+//! The choice of the best among the entries of one name: [`PlainFolder`](crate::PlainFolder) makes it at each read, and an index
+//! that keeps it makes it once for each change.
 ghost use Rattle.std.specs.Prelude.{◌≡◌, ◌∷◌, ◌&&◌, [], not, IfOk, IsTrue, MatchOption, None, option_and_then, option_copied, slice_get};
 ghost use Rattle.std.specs.List.{list_any};
 ghost use Rattle.sync_record.specs.Contents.{same_content};
@@ -9,14 +10,14 @@ ghost use Rattle.folder_core.specs.Plain.{devices_with, is_undominated};
 ghost use Rattle.folder_core.specs.PlainPulls.{best_in};
 ghost use Rattle.folder_core.specs.PlainReads.{is_needed_over};
 
-use folder_core::Announcement;
+use crate::Announcement;
 use std::alloc::{AllocError, Global};
 use sync_record::{DeviceId, Record, preferred, same_content};
 use sync_version::Relation;
 
 /// Where among the entries of one name the best is: it is valid, no valid one dominates it, and it is preferred to every
 /// other such one. Does not allocate. O(k^2) for k entries.
-pub(crate) fn place_of_best(entries: &[Announcement]) -> Option<usize>
+pub fn place_of_best(entries: &[Announcement]) -> Option<usize>
     ensures { option_and_then (λ i. slice_get entries.now i) result ≡ best_in entries.now }
 {
     if let [only] = entries {
@@ -82,9 +83,9 @@ fn dominates(a: &Record, b: &Record) -> bool
     a.version().relation(b.version()) == Relation::Dominates && a.is_valid()
 }
 
-/// The devices whose valid record has the version and the content of the best, in the order of the entries. O(k) for k
-/// entries.
-pub(crate) fn devices_with(
+/// The devices whose valid record has the version and the content of the best, in the order of the entries of its name.
+/// Returns `Err` only if out of memory. O(k) for k entries.
+pub fn devices_with(
     alloc: Global,
     entries: &[Announcement],
     best: &Record,
@@ -108,7 +109,7 @@ fn has(a: &Record, b: &Record) -> bool
 
 /// Whether a best is needed over this local record: its version is another, or it isn't deleted where there is none. Does
 /// not allocate. O(v) for v counters.
-pub(crate) fn is_needed_over(own: Option<&Record>, best: &Record) -> bool
+pub fn is_needed_over(own: Option<&Record>, best: &Record) -> bool
     ensures { result ≡ is_needed_over (option_copied own.entry) best.now }
 {
     match own {

@@ -3,9 +3,9 @@ use Rattle.std.specs.Prelude.{option_and_then, option_copied, slice_get}
 use Rattle.std.proofs.lemmas.Option.{slice_get-get_or}
 use Rattle.folder_core.specs.Plain.{better_of, is_undominated}
 use Rattle.folder_core.proofs.PlainFound.{taken, left}
-use Rattle.folder_index.proofs.Choosing.{kept_best, new_best}
-use Rattle.folder_index.proofs.best.place_of_best.Goals as goal
-use Rattle.folder_index.proofs.best.place_of_best.Goals.{then-is_undominated+then-outranks, else-is_undominated, else-is_undominated-via-then-is_undominated+else-outranks, else-is_undominated-via-else-is_undominated}
+use Rattle.folder_core.proofs.Choosing.{kept_best, new_best}
+use Rattle.folder_core.proofs.choice.place_of_best.Goals as goal
+use Rattle.folder_core.proofs.choice.place_of_best.Goals.{then-is_undominated+then-outranks, else-is_undominated, else-is_undominated-via-then-is_undominated+else-outranks, else-is_undominated-via-else-is_undominated}
 
 pub loop-i-preserved : goal.loop-i-preserved
 loop-i-preserved c =

@@ -2,7 +2,7 @@ use Rattle.std.proofs.Common.{◌≡◌, take}
 use Rattle.std.specs.Prelude.{filter, option_and_then, option_copied, slice_get}
 use Rattle.std.specs.List.{reduce}
 use Rattle.folder_core.specs.Plain.{better, is_undominated}
-use Rattle.folder_index.proofs.best.place_of_best.Given as goal
+use Rattle.folder_core.proofs.choice.place_of_best.Given as goal
 
 abbrev pub invariant-loop-i : goal.invariant-loop-i
 invariant-loop-i l = record {
