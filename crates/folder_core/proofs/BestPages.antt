@@ -3,10 +3,10 @@ use Rattle.folder_core.proofs.BestList.{bests-announced, bests-listed}
 use Rattle.folder_core.proofs.PullNeed.{Rising, bests-rising, rising-filter}
 use Rattle.folder_core.proofs.Orders.{bytes_total}
 use Rattle.folder_core.proofs.ListFilters.{filter_filter, none_left}
-use Rattle.folder_core.proofs.ReadAnswers.{IsAfter, after_it, in_take, of_after, sorted_take, take_or_after}
+use Rattle.folder_core.proofs.ReadAnswers.{after_it, in_take, of_after, sorted_take, take_or_after}
 use Rattle.folder_core.proofs.ListTests.{inside, In, in_contains, contains_in, in_filter, in_map, of_filter, of_map}
 use Rattle.folder_core.specs.Announced.{KeyedRecord, IsNamed, best, bests}
-use Rattle.folder_core.specs.Reads.{ArePages, BestEntry, best_with_devices, bests_after, bests_page, is_after, last_page, next_page, with_devices}
+use Rattle.folder_core.specs.Reads.{ArePages, BestEntry, IsAfter, best_with_devices, bests_after, bests_page, is_after, last_page, next_page, with_devices}
 use Rattle.folder_core.specs.States.{FolderState}
 use Rattle.std.proofs.Common.{◌≡◌, ℕ, zero, suc, ◌<◌, ◌≤◌, Bool, true, false, List, [], ◌∷◌, ◌++◌, ◌-◌, ◌⊎◌, length, take, append-nil, refl, sym, ap, subst, ◌∙◌, inl, inr, arith}
 use Rattle.std.proofs.lemmas.List.{length-take, take_all}

@@ -6,7 +6,7 @@ use Rattle.std.specs.FinMap.{get, entries}
 use Rattle.std.proofs.lemmas.Bool.{cond-true, and_parts, and_from, eq-eqb, eqb-true, ne_eqb, le-leb, lt-leb, not_from_true, not_from_false, false_from_ne_true, true≢false}
 use Rattle.sync_version.proofs.Lemmas.{same_version_tells}
 use Rattle.sync_version.specs.Computed.{same_version, is_counter_full}
-use Rattle.sync_version.specs.Versions.{Vector, counter}
+use Rattle.sync_version.specs.Versions.{Vector}
 use Rattle.sync_record.specs.Contents.{same_content}
 use Rattle.sync_record.specs.Devices.{short_id}
 use Rattle.sync_record.specs.Records.{Name, FileRecord}
@@ -20,7 +20,7 @@ use Rattle.folder_core.specs.declared.answer.Answer.TheVariants.{Busy, Moved, Un
 use Rattle.folder_core.specs.declared.change.Change.TheVariants.{ScanFound, ScanGone, EnterCommit, Finish, GiveUp, Abort}
 use Rattle.folder_core.specs.declared.finding.Finding.{Finding}
 use Rattle.folder_core.specs.declared.pull_info.PullInfo.{PullInfo}
-use Rattle.folder_core.specs.Steps.{step, first_answer, scan_gone, scan_tests, enter_commit, finish, close_pull, pull_of, is_pull_committing, is_still_best, with_local, with_commit, IsFor}
+use Rattle.folder_core.specs.Steps.{step, first_answer, scan_gone, scan_tests, enter_commit, finish, close_pull, pull_of, is_pull_committing, is_still_best, own_counter, with_local, with_commit, IsFor}
 use Rattle.folder_core.proofs.ChangeFolders.{same_local}
 use Rattle.folder_core.proofs.PullOpen.{pull_of-is, pull_of-fits}
 use Rattle.sync_record.proofs.Lemmas.{same_record-is, same_record-own}
@@ -39,10 +39,6 @@ stage-is Committing Pulling e = absurd (true≢false (sym e))
 -- no commit of the name is open
 abbrev pub Idle : FolderState → Name → Type 0
 Idle s n = (p : Pull) → get s.pulls n ≡ Some p → p.stage ≡ Pulling
-
--- no greater counter, or no greater sequence is left
-abbrev pub own_counter : FolderState → Name → ℕ
-own_counter s n = counter (unwrap_or (local_version s n) []) (short_id s.me)
 
 abbrev answer : Answer × FolderState → Answer
 answer d = d.0

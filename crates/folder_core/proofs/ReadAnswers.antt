@@ -21,7 +21,7 @@ use Rattle.sync_record.specs.Records.{Name, FileRecord, is_live_file}
 use Rattle.sync_record.specs.Validity.{is_valid}
 use Rattle.folder_core.specs.Announced.{Announced, KeyedRecord, key, is_by, best, devices_of, IsBest}
 use Rattle.folder_core.specs.States.{FolderState, local, need}
-use Rattle.folder_core.specs.Reads.{is_after, locals, best_with_devices, need_page, places, known, IsSomePlace}
+use Rattle.folder_core.specs.Reads.{IsAfter, is_after, locals, best_with_devices, need_page, places, known, IsSomePlace}
 use Rattle.folder_core.proofs.Orders.{keys_total, exact_keys}
 use Rattle.folder_core.proofs.BestRule.{best-found, best-none}
 use Rattle.folder_core.proofs.BestDevices.{devices-rise, devices-listed}
@@ -107,13 +107,10 @@ greater Less e = absurd (true≢false (sym e))
 greater Equal e = absurd (true≢false (sym e))
 
 module _ (after : Option Name) where
-  abbrev pub IsAfter : Name → Type 0
-  IsAfter n = (a : Name) → after ≡ Some a → bytes_cmp n a ≡ Greater
-
-  pub after_it : (n : Name) → is_after after n ≡ true → IsAfter n
+  pub after_it : (n : Name) → is_after after n ≡ true → IsAfter after n
   after_it n e a is = greater (bytes_cmp n a) (sym (ap (λ o. is_after o n) is) ∙ e)
 
-  pub of_after : (n : Name) → IsAfter n → is_after after n ≡ true
+  pub of_after : (n : Name) → IsAfter after n → is_after after n ≡ true
   of_after n each =
       elim after as (λ o. ((a : Name) → o ≡ Some a → bytes_cmp n a ≡ Greater) → is_after o n ≡ true) [
         | None ↦ λ _. refl

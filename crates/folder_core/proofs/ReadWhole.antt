@@ -13,11 +13,11 @@ use Rattle.sync_record.specs.Devices.{bytes_cmp}
 use Rattle.sync_record.specs.Records.{Name, FileRecord}
 use Rattle.folder_core.specs.Announced.{IsNamed}
 use Rattle.folder_core.specs.States.{FolderState, IsNumbered, local, need}
-use Rattle.folder_core.specs.Reads.{ArePages, BestEntry, best_with_devices, bests_after, bests_page, need_page, last_page, local_since, next_page}
+use Rattle.folder_core.specs.Reads.{ArePages, BestEntry, IsAfter, best_with_devices, bests_after, bests_page, need_page, last_page, local_since, next_page}
 use Rattle.folder_core.proofs.BestPages.{bests_after-next, bests-page_has, bests-page_of, bests-page_rises, found_cmp}
 use Rattle.folder_core.proofs.ListTests.{In, in_contains, contains_in}
 use Rattle.folder_core.proofs.Orders.{bytes_total}
-use Rattle.folder_core.proofs.ReadAnswers.{IsAfter, need-page_rises, need-page_fits, need-page_of, need-page_has}
+use Rattle.folder_core.proofs.ReadAnswers.{need-page_rises, need-page_fits, need-page_of, need-page_has}
 use Rattle.folder_core.proofs.ReadPages.{Stops, blocks_of, page-fits, page-has, page-of, page-rises}
 use Rattle.folder_core.proofs.ReadLists.{length-within, sum-within, not-itself, not-both, rising-apart, rising-same}
 

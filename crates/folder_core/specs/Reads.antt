@@ -1,8 +1,9 @@
 -- What each read of a folder answers.
-use Rattle.std.specs.Prelude.{bytes_eq, ◌≡◌, ◌≢◌, ◌↔◌, ℕ, ◌+◌, ◌<◌, ◌++◌, Bool, true, if◌then◌else◌, unwrap_or, not, ◌&&◌, ◌||◌, nat_lt, nat_le, max, List, [], ◌∷◌, length, map, filter, take, sum_by, count_by, flat_map, fold, Option, Some, None, option_map, MatchOption, Contains, AllPairs, IsTrue}
+use Rattle.std.specs.Prelude.{bytes_eq, ◌≡◌, ◌≢◌, ◌↔◌, ◌⊎◌, ℕ, ◌+◌, ◌<◌, ◌≤◌, ◌++◌, Bool, true, if◌then◌else◌, unwrap_or, not, ◌&&◌, ◌||◌, nat_lt, nat_le, max, List, [], ◌∷◌, length, map, filter, take, sum_by, count_by, flat_map, fold, Option, Some, None, option_map, MatchOption, Contains, AllPairs, IsTrue}
 use Rattle.std.specs.List.{last_or, range_with_len}
 use Rattle.std.specs.Option.{option_map_or}
 use Rattle.std.specs.Ordering.{nat_cmp, is_gt}
+use Rattle.std.specs.declared.cmp.Ordering.TheVariants.{Less, Greater}
 use Rattle.std.specs.FinMap.{entries, get, len, put}
 use Rattle.folder_core.specs.declared.place.Place.{Place}
 use Rattle.folder_core.specs.declared.counts.Counts.{Counts}
@@ -29,6 +30,14 @@ best_with_devices s n = option_map (with_devices (entries s.announced)) (best (e
 -- the name is greater than the one given, if one is given
 abbrev pub is_after : Option Name → Name → Bool
 is_after after n = option_map_or (λ a. is_gt (bytes_cmp n a)) after true
+
+-- The same in the words of the rules: the name comes after the one given, if one is given.
+abbrev pub IsAfter : Option Name → Name → Type 0
+IsAfter after n = (a : Name) → after ≡ Some a → bytes_cmp n a ≡ Greater
+
+-- a page of what has names has as many as asked for, and each of them comes before the name
+abbrev pub IsFullBefore : {X : Type 0} → (X → Name) → List X → ℕ → Name → Type 0
+IsFullBefore name_of page limit n = (length page ≡ limit) × ((x : _) → Contains page x → bytes_cmp (name_of x) n ≡ Less)
 
 -- the bests of the names after a name, with their devices, in byte order
 abbrev pub bests_after : FolderState → Option Name → List BestEntry
@@ -63,6 +72,14 @@ fits_page limit rs =
 -- the longest beginning that fits
 abbrev pub page_of : ℕ → List FileRecord → List FileRecord
 page_of limit rs = unwrap_or (last_or None (filter (fits_page limit) (beginnings rs))) []
+
+-- A page of local records stops before a record: there was no room for it, or for a local record of lesser sequence.
+abbrev pub StopsBefore : FolderState → ℕ → List FileRecord → FileRecord → Type 0
+StopsBefore s limit page r =
+    (m : Name) × (q : FileRecord) × (local s m ≡ Some q) × (q.sequence ≤ r.sequence)
+    × ((p : FileRecord) → Contains page p → p.sequence < q.sequence)
+    × ((length page ≡ limit)
+    ⊎ ((1 ≤ length page) × (max_page_blocks < sum_by (λ r. length r.blocks) page + length q.blocks)))
 
 -- the local records of greater sequence, in rising sequence, as many as a page has
 abbrev pub local_since : FolderState → ℕ → ℕ → List FileRecord

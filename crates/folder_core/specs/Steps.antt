@@ -21,7 +21,7 @@ use Rattle.sync_record.specs.Records.{Name, FileRecord, is_live, is_file, is_dir
 use Rattle.sync_record.specs.Same.{same_record}
 use Rattle.sync_record.specs.Validity.{describes_file}
 use Rattle.sync_version.specs.Computed.{same_version, covers, merge, raised, is_counter_full}
-use Rattle.sync_version.specs.Versions.{Vector}
+use Rattle.sync_version.specs.Versions.{Vector, counter}
 use Rattle.folder_core.specs.Announced.{KeyedRecord, key, announce, without, best}
 use Rattle.folder_core.specs.States.{same_stage, Pull, FolderState, local, local_version, same_local_version, is_needed, is_committing, is_sequence_full}
 
@@ -94,6 +94,15 @@ gone_record s r v moment = own_record s (record r {
 -- the version after a change of the name by this device
 abbrev pub next_version : FolderState → Name → ℕ → Vector
 next_version s n moment = raised (unwrap_or (local_version s n) []) (short_id s.me) moment
+
+-- this device's counter in the local version, 0 without one
+abbrev pub own_counter : FolderState → Name → ℕ
+own_counter s n = counter (unwrap_or (local_version s n) []) (short_id s.me)
+
+-- what was found isn't what the local record has, if there is one
+abbrev pub HasNewContent : FolderState → Name → Finding → ℕ → Type 0
+HasNewContent s n f moment =
+    (r : FileRecord) → local s n ≡ Some r → same_content (found_record s n (next_version s n moment) f) r ≡ false
 
 abbrev pub is_pull_committing : FolderState → Name → Bool
 is_pull_committing s n = option_map_or is_committing (get s.pulls n) false

@@ -15,7 +15,7 @@ ghost use Rattle.folder_core.specs.declared.finding.Finding.{Finding};
 ghost use Rattle.folder_core.specs.declared.pull.EnterFault.TheVariants.{LocalMoved, OutOfMemory, SequenceFull, Superseded};
 ghost use Rattle.folder_core.specs.declared.pull_stage.PullStage.TheVariants.{Pulling, Committing};
 ghost use Rattle.folder_core.specs.declared.pull_info.PullInfo.{PullInfo};
-ghost use Rattle.folder_core.specs.Steps.{IsFor, found_record, is_accepted, next_version, step};
+ghost use Rattle.folder_core.specs.Steps.{HasNewContent, IsFor, is_accepted, step};
 
 /// The ticket of a pull that is begun has the name that was asked for, its local record, and as its target the best, which is
 /// valid and needed, and a deletion, a file or a directory. No pull of the name was open, and none has the ticket's number.
@@ -41,15 +41,14 @@ pub fn entered_commits_are_their_tickets()
 {}
 
 /// A scan is recorded only if the local version was the expected one and no commit of the name was open, and only if it found
-/// another content, or that a file or directory is gone.
+/// another content, or that what has a live local record, of any kind, is gone.
 pub fn recorded_scans_were_expected()
     // What `Recorded` says of a finding: no commit was open, the version was the expected one, and the content is new.
     ensures found { (s : FolderState) (n : Name) (expected : Option Vector) (f : Finding)
         (moment k : ℕ) →
         (step s (ScanFound n expected f moment)).0 ≡ Recorded k →
         NoCommit s n × (expected ≡ local_version s n)
-        × ((r : FileRecord) → local s n ≡ Some r →
-        same_content (found_record s n (next_version s n moment) f) r ≡ false) }
+        × HasNewContent s n f moment }
     // The same for a name that is gone, but for the content: here one local record `r` was there and was live.
     ensures gone { (s : FolderState) (n : Name) (expected : Option Vector) (moment k : ℕ) →
         (step s (ScanGone n expected moment)).0 ≡ Recorded k →

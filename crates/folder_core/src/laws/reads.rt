@@ -1,8 +1,7 @@
 //! What reads answer.
-ghost use Rattle.std.specs.Prelude.{◌≡◌, ◌≢◌, ◌↔◌, ◌⊎◌, ◌<◌, ◌≤◌, ◌+◌, ℕ, length, Option, List, Some, None, IsTrue, false, [], map, flat_map, sum_by, Contains};
+ghost use Rattle.std.specs.Prelude.{◌≡◌, ◌≢◌, ◌↔◌, ◌⊎◌, ◌<◌, ◌≤◌, ℕ, length, Option, List, Some, None, IsTrue, false, [], map, flat_map, sum_by, Contains};
 ghost use Rattle.std.specs.List.Sorted.{IsStrictlySortedBy};
 ghost use Rattle.std.specs.Ordering.{nat_cmp};
-ghost use Rattle.std.specs.declared.cmp.Ordering.TheVariants.{Less, Greater};
 ghost use Rattle.folder_core.specs.declared.counts.Counts.{Counts};
 ghost use Rattle.folder_core.specs.declared.place.Place.{Place};
 ghost use Rattle.std.specs.FinMap.{get, entries, len};
@@ -13,7 +12,7 @@ ghost use Rattle.sync_record.specs.Contents.{same_content};
 ghost use Rattle.sync_record.specs.Validity.{is_valid};
 ghost use Rattle.folder_core.specs.Announced.{key, bests, IsBest};
 ghost use Rattle.folder_core.specs.States.{FolderState, IsFolder, local, need};
-ghost use Rattle.folder_core.specs.Reads.{BestEntry, with_devices, ArePages, IsCounted, Query, Reply, Reads, Local, Best, Bests, Need, LocalSince, FindBlock, Known, CountAll, max_page_blocks};
+ghost use Rattle.folder_core.specs.Reads.{BestEntry, with_devices, ArePages, IsCounted, Query, Reply, Reads, IsAfter, IsFullBefore, StopsBefore, Local, Best, Bests, Need, LocalSince, FindBlock, Known, CountAll, max_page_blocks};
 
 /// Every query has a reply, and only one, except that a block may be found in several places.
 pub fn queries_have_replies()
@@ -64,23 +63,18 @@ pub fn needed_names_come_in_pages()
     ensures only { (s : FolderState) (after : Option Name) (limit : ℕ) (names : List Name)
         (n : Name) →
         Reads s (Need after limit) names → Contains names n →
-        Contains (need s) n × ((a : Name) → after ≡ Some a → bytes_cmp n a ≡ Greater) }
+        Contains (need s) n × IsAfter after n }
     // No needed name is left out: it is in the page, or the page is full and ends before it. One choice for each name.
     ensures all { (s : FolderState) (after : Option Name) (limit : ℕ) (names : List Name)
         (n : Name) →
-        Reads s (Need after limit) names → Contains (need s) n →
-        ((a : Name) → after ≡ Some a → bytes_cmp n a ≡ Greater) →
-        Contains names n
-        ⊎ ((length names ≡ limit) × ((m : Name) → Contains names m → bytes_cmp m n ≡ Less)) }
+        Reads s (Need after limit) names → Contains (need s) n → IsAfter after n →
+        Contains names n ⊎ IsFullBefore (λ m. m) names limit n }
     // The other way round: a list of which `rise`, `only` and `all` hold is the page. All three are its premises.
     ensures whole { (s : FolderState) (after : Option Name) (limit : ℕ) (names : List Name) →
         IsStrictlySortedBy bytes_cmp names → length names ≤ limit →
-        ((n : Name) → Contains names n → Contains (need s) n
-        × ((a : Name) → after ≡ Some a → bytes_cmp n a ≡ Greater)) →
-        ((n : Name) → Contains (need s) n →
-        ((a : Name) → after ≡ Some a → bytes_cmp n a ≡ Greater) →
-        Contains names n
-        ⊎ ((length names ≡ limit) × ((m : Name) → Contains names m → bytes_cmp m n ≡ Less))) →
+        ((n : Name) → Contains names n → Contains (need s) n × IsAfter after n) →
+        ((n : Name) → Contains (need s) n → IsAfter after n →
+        Contains names n ⊎ IsFullBefore (λ m. m) names limit n) →
         Reads s (Need after limit) names }
 {}
 
@@ -99,32 +93,23 @@ pub fn bests_come_in_pages()
     ensures only { (s : FolderState) (after : Option Name) (limit : ℕ) (page : List BestEntry)
         (b : BestEntry) → IsFolder s →
         Reads s (Bests after limit) page → Contains page b →
-        Reads s (Best b.0.name) (Some b)
-        × ((a : Name) → after ≡ Some a → bytes_cmp b.0.name a ≡ Greater) }
+        Reads s (Best b.0.name) (Some b) × IsAfter after b.0.name }
     // No best is left out: it is in the page, or the page is full and ends before its name. One choice for each best.
     ensures all { (s : FolderState) (after : Option Name) (limit : ℕ) (page : List BestEntry)
         (n : Name)
         (b : BestEntry) → IsFolder s →
-        Reads s (Bests after limit) page → Reads s (Best n) (Some b) →
-        ((a : Name) → after ≡ Some a → bytes_cmp n a ≡ Greater) →
-        Contains page b
-        ⊎ ((length page ≡ limit) × ((c : BestEntry) → Contains page c →
-        bytes_cmp c.0.name n ≡ Less)) }
+        Reads s (Bests after limit) page → Reads s (Best n) (Some b) → IsAfter after n →
+        Contains page b ⊎ IsFullBefore (λ c. c.0.name) page limit n }
     ensures end { (s : FolderState) (after : Option Name) (limit : ℕ) (n : Name) → 1 ≤ limit →
-        Reads s (Bests after limit) [] → ((a : Name) → after ≡ Some a → bytes_cmp n a ≡ Greater) →
-        Reads s (Best n) None }
+        Reads s (Bests after limit) [] → IsAfter after n → Reads s (Best n) None }
     // As with the needed names: a list of which `rise`, `only` and `all` hold is the page, and all three are premises.
     ensures whole { (s : FolderState) (after : Option Name) (limit : ℕ) (page : List BestEntry) →
         IsFolder s →
         IsStrictlySortedBy bytes_cmp (map (λ b. b.0.name) page) → length page ≤ limit →
         ((b : BestEntry) → Contains page b →
-        Reads s (Best b.0.name) (Some b)
-        × ((a : Name) → after ≡ Some a → bytes_cmp b.0.name a ≡ Greater)) →
-        ((n : Name) (b : BestEntry) → Reads s (Best n) (Some b) →
-        ((a : Name) → after ≡ Some a → bytes_cmp n a ≡ Greater) →
-        Contains page b
-        ⊎ ((length page ≡ limit) × ((c : BestEntry) → Contains page c →
-        bytes_cmp c.0.name n ≡ Less))) →
+        Reads s (Best b.0.name) (Some b) × IsAfter after b.0.name) →
+        ((n : Name) (b : BestEntry) → Reads s (Best n) (Some b) → IsAfter after n →
+        Contains page b ⊎ IsFullBefore (λ c. c.0.name) page limit n) →
         Reads s (Bests after limit) page }
     ensures pages { (s : FolderState) (limit : ℕ) → IsFolder s → 1 ≤ limit →
         (pages : List (List BestEntry)) × ArePages s limit None pages }
@@ -148,16 +133,11 @@ pub fn local_records_come_in_pages()
         IsFolder s →
         Reads s (LocalSince after limit) page → Contains page r →
         (n : Name) × (local s n ≡ Some r) × (after < r.sequence) }
-    // No local record is left out: it is in the page, or there was no room for it or for a record `q` before it.
+    // No local record is left out: it is in the page, or there was no room for it or for one before it.
     ensures all { (s : FolderState) (after limit : ℕ) (page : List FileRecord) (n : Name)
         (r : FileRecord) → IsFolder s →
         Reads s (LocalSince after limit) page → local s n ≡ Some r → after < r.sequence →
-        Contains page r
-        ⊎ ((m : Name) × (q : FileRecord) × (local s m ≡ Some q) × (q.sequence ≤ r.sequence)
-        × ((p : FileRecord) → Contains page p → p.sequence < q.sequence)
-        × ((length page ≡ limit)
-        ⊎ ((1 ≤ length page) × (max_page_blocks < sum_by
-        (λ r. length r.blocks) page + length q.blocks)))) }
+        Contains page r ⊎ StopsBefore s limit page r }
     // The other way round again: `rise`, `only` and `all` are the premises, and a list of which they hold is the page.
     ensures whole { (s : FolderState) (after limit : ℕ) (page : List FileRecord) → IsFolder s →
         IsStrictlySortedBy nat_cmp (map (λ r. r.sequence) page) → length page ≤ limit →
@@ -165,12 +145,7 @@ pub fn local_records_come_in_pages()
         ((r : FileRecord) → Contains page r → (n : Name) × (local s n ≡ Some r)
         × (after < r.sequence)) →
         ((n : Name) (r : FileRecord) → local s n ≡ Some r → after < r.sequence →
-        Contains page r
-        ⊎ ((m : Name) × (q : FileRecord) × (local s m ≡ Some q) × (q.sequence ≤ r.sequence)
-        × ((p : FileRecord) → Contains page p → p.sequence < q.sequence)
-        × ((length page ≡ limit)
-        ⊎ ((1 ≤ length page) × (max_page_blocks < sum_by
-        (λ r. length r.blocks) page + length q.blocks))))) →
+        Contains page r ⊎ StopsBefore s limit page r) →
         Reads s (LocalSince after limit) page }
 {}
 

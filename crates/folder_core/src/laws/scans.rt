@@ -13,7 +13,7 @@ ghost use Rattle.folder_core.specs.declared.change.Change.TheVariants.{ScanFound
 ghost use Rattle.folder_core.specs.declared.answer.Answer.TheVariants.{Busy, Moved, Unchanged, CounterFull, SequenceFull, Recorded};
 ghost use Rattle.folder_core.specs.declared.finding.Finding.{Finding};
 ghost use Rattle.folder_core.specs.declared.finding.FoundContent.TheVariants.{File as FoundFile, Directory as FoundDirectory};
-ghost use Rattle.folder_core.specs.Steps.{step, found_record, next_version};
+ghost use Rattle.folder_core.specs.Steps.{HasNewContent, found_record, next_version, own_counter, step};
 
 /// A scan of a finding records nothing, in this order: while a commit of the name is open; where the local version isn't the
 /// expected one; where the local record has the content; where the counter, and where the sequence can't rise.
@@ -34,24 +34,21 @@ pub fn findings_are_tested_in_order()
     // The fourth test: the content is new, but this device's counter in the local version is the greatest.
     ensures counter { (s : FolderState) (n : Name) (f : Finding) (moment : ℕ) →
         NoCommit s n →
-        ((r : FileRecord) → local s n ≡ Some r →
-        same_content (found_record s n (next_version s n moment) f) r ≡ false) →
-        counter (unwrap_or (local_version s n) []) (short_id s.me) ≡ 2 ^ 64 - 1 →
+        HasNewContent s n f moment →
+        own_counter s n ≡ 2 ^ 64 - 1 →
         (step s (ScanFound n (local_version s n) f moment)).0 ≡ CounterFull }
     // The fifth and last test: the counter can rise, but the open commits take all sequences that are left.
     ensures sequence { (s : FolderState) (n : Name) (f : Finding) (moment : ℕ) →
         NoCommit s n →
-        ((r : FileRecord) → local s n ≡ Some r →
-        same_content (found_record s n (next_version s n moment) f) r ≡ false) →
-        counter (unwrap_or (local_version s n) []) (short_id s.me) ≢ 2 ^ 64 - 1 →
+        HasNewContent s n f moment →
+        own_counter s n ≢ 2 ^ 64 - 1 →
         max_sequence - s.last ≤ open_commits s →
         (step s (ScanFound n (local_version s n) f moment)).0 ≡ SequenceFull }
     // None of the five tests refuses: a premise for each but the second, as the local version is the expected one here.
     ensures recorded { (s : FolderState) (n : Name) (f : Finding) (moment : ℕ) →
         NoCommit s n →
-        ((r : FileRecord) → local s n ≡ Some r →
-        same_content (found_record s n (next_version s n moment) f) r ≡ false) →
-        counter (unwrap_or (local_version s n) []) (short_id s.me) ≢ 2 ^ 64 - 1 →
+        HasNewContent s n f moment →
+        own_counter s n ≢ 2 ^ 64 - 1 →
         open_commits s < max_sequence - s.last →
         (step s (ScanFound n (local_version s n) f moment)).0 ≡ Recorded (s.last + 1) }
 {}
