@@ -152,7 +152,7 @@ fn told_shares(alloc: Global, shares: &[Share]) -> Result<Vec<node_threads::Shar
     Ok(all)
 }
 
-/// The index number of each folder.
+/// The index id of each folder.
 pub(crate) fn index_ids_of(
     alloc: Global,
     folders: &[StartFolder<Core>],
@@ -166,7 +166,7 @@ pub(crate) fn index_ids_of(
     Ok(ids)
 }
 
-/// The state, in which each folder of the configuration has the index number at its place. Returns `Err` only if out of memory. O(f s) for f folders and s
+/// The state, in which each folder of the configuration has the index id at its place. Returns `Err` only if out of memory. O(f s) for f folders and s
 /// stored ones.
 pub(crate) fn renumbered(
     alloc: Global,
@@ -185,7 +185,7 @@ pub(crate) fn renumbered(
     })
 }
 
-// The stored folder with the index number at its place.
+// The stored folder with the index id at its place.
 fn renumber(config: &Config, index_ids: &[u64], folder: StoredFolder) -> StoredFolder
     ensures { result ≡ renumbered config.now index_ids.now folder }
 {
@@ -196,7 +196,7 @@ fn renumber(config: &Config, index_ids: &[u64], folder: StoredFolder) -> StoredF
     folder
 }
 
-// The index number at the place of the folder with this id.
+// The index id at the place of the folder with this id.
 fn number_of(config: &Config, index_ids: &[u64], id: &Text) -> Option<u64>
     ensures { result ≡ number_of config.now index_ids.now id.now }
 {

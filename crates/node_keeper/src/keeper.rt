@@ -123,7 +123,7 @@ impl Keeper {
     }
 
     /// Whether a peer was told of more than was on the disk when the node began. Then the disk is an older one, put back, say, and what the peer was told can't be
-    /// known: it is to be told all, under another index number.
+    /// known: it is to be told all, under another index id.
     pub fn is_behind<R: Wait>(&self, rt: &R) -> bool {
         self.inner.lock(rt).is_behind
     }

@@ -5,12 +5,12 @@ ghost use Rattle.node_peer.specs.Arrivals.{after, came, in_turn, is_same, no_arr
 /// Within how many seconds a device takes its place again that another one took from it, where they do so in turn.
 const TURN_SECONDS: u64 = 120;
 
-/// A connection of a peer, and what tells its device from another one: from where it came, and the number of its index.
+/// A connection of a peer, and what tells its device from another one: from where it came, and the id of its index.
 #[derive(Clone, Copy, Debug)]
 pub(crate) struct Arrival {
     /// The bits of an IPv4 address; 0 where there is none.
     pub(crate) from: u32,
-    /// The number of the peer's index that its ClusterConfig has first; 0 where it has none.
+    /// The id of the peer's index that its ClusterConfig has first; 0 where it has none.
     pub(crate) index_id: u64,
     /// When it came, in seconds since an arbitrary moment.
     pub(crate) at: u64,

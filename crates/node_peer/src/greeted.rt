@@ -28,11 +28,11 @@ pub(crate) struct Ends<'g> {
     pub(crate) me: DeviceId,
     pub(crate) peer: DeviceId,
     pub(crate) ids: Vec<Text>,
-    /// The numbers of this device's indexes of them.
+    /// The ids of this device's indexes of them.
     pub(crate) own: Vec<u64>,
     /// From where the peer is connected, where the system says that.
     pub(crate) address: Option<SocketAddr>,
-    /// The numbers of the indexes that devices with this one's identity have said that they have.
+    /// The ids of the indexes that devices with this one's identity have said that they have.
     pub(crate) doubles: &'g Mutex<Vec<u64>>,
 }
 
@@ -48,7 +48,7 @@ pub(crate) fn ids_of<W>(
     Ok(ids)
 }
 
-/// The numbers of this device's indexes of folders.
+/// The ids of this device's indexes of folders.
 pub(crate) fn indexes_of<W>(
     alloc: Global,
     folders: &[IndexerFolder<W>],

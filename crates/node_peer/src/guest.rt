@@ -34,7 +34,7 @@ pub(crate) struct Greeted {
     pub(crate) came: Vec<u8>,
     /// Whether the ClusterConfig has a folder with this device and the peer.
     pub(crate) lists_both: bool,
-    /// The number of the peer's index that it has first; 0 where it has none.
+    /// The id of the peer's index that it has first; 0 where it has none.
     pub(crate) index_id: u64,
 }
 

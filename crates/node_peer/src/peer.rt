@@ -82,7 +82,7 @@ pub(crate) struct Greeting<'x> {
     /// The Hello of this device, and its frame.
     pub(crate) hello: Hello,
     pub(crate) frame: Vec<u8>,
-    /// The numbers of the indexes that devices with this one's identity have said that they have.
+    /// The ids of the indexes that devices with this one's identity have said that they have.
     pub(crate) doubles: Mutex<Vec<u64>>,
 }
 

@@ -80,7 +80,7 @@ fn is_one_of(number: u64, of: &[u64]) -> bool
     of.iter().any(|it| *it == number)
 }
 
-/// The number of the peer's index that its ClusterConfig has first, or 0 where it has none. Does not allocate. O(n) for n devices of the folders.
+/// The id of the peer's index that its ClusterConfig has first, or 0 where it has none. Does not allocate. O(n) for n devices of the folders.
 pub(crate) fn first_index(config: &ClusterConfig, peer: DeviceId) -> u64
     ensures { result ≡ first_index peer config.now }
 {

@@ -1,4 +1,4 @@
--- The index numbers of peers, put one by one.
+-- The index ids of peers, put one by one.
 use Rattle.std.proofs.Common.{◌≡◌, ℕ, ◌+◌, ◌<◌, true, false, List, [], ◌∷◌, ◌++◌, get_or, length, map, take, refl, sym, ap, subst, ◌∙◌}
 use Rattle.std.specs.Prelude.{cond, Option, Some, None}
 use Rattle.std.specs.Cmp.{Equal-is}

@@ -37,6 +37,6 @@ plans_told parts = flat_map (λ p. map plan_of p.plans) parts
 abbrev pub lasts_told : List Part → List ℕ
 lasts_told parts = map (λ p. natural p.last) parts
 
--- the last index number that one of them says, or the one before
+-- the last index id that one of them says, or the one before
 abbrev pub number_after : ℕ → List Part → ℕ
 number_after before parts = fold (λ n p. if p.index_id == 0 then n else p.index_id) before parts

@@ -15,7 +15,7 @@ pub enum RecoverFault {
     #[error("a plan is of no valid record")]
     BadPlan,
     /// Neither the state nor the journal says the number of this device's index of a folder.
-    #[error("a folder has no index number")]
+    #[error("a folder has no index id")]
     NoIndexId,
     /// No folder has the records and the last sequence that a folder is told to have.
     #[error("no folder has these records")]

@@ -23,7 +23,7 @@ use sync_record::{DeviceId, Record};
 /// A folder as it is taken over.
 #[derive(Drop)]
 pub struct RecoveredFolder {
-    /// Its id, its index number, its records, and the index numbers of peers.
+    /// Its id, its index id, its records, and the index ids of peers.
     pub stored: StoredFolder,
     /// The pulls whose targets may have been put in place, in the order in which they began.
     pub plans: Items<PullPlan>,
@@ -33,9 +33,9 @@ pub struct RecoveredFolder {
 /// those that only the journal has, as they first come.
 ///
 /// Of each name the latest record that the frames tell counts, or else the state's; records of other devices and the numbers of
-/// their indexes are the state's. The last sequence is the greatest that is told, the index number the last one.
+/// their indexes are the state's. The last sequence is the greatest that is told, the index id the last one.
 ///
-/// Fails where the name of a record or of a target is refused, a plan's target can't be pulled, a folder has no index number, or no
+/// Fails where the name of a record or of a target is refused, a plan's target can't be pulled, a folder has no index id, or no
 /// folder at all has what is told; which of them is told, where there are several, is not promised. Fails with `OutOfMemory` only if
 /// out of memory, and never where there is no folder. The state stays as it is, and its records are shared; the journal's are
 /// copied. O(f (s + p) + (n + m) log (n + m)) for f folders, s stored ones, p parts, n records of the state and m of the journal.
@@ -114,7 +114,7 @@ fn recovered_from(
     })
 }
 
-// The index number that is stored, or 0.
+// The index id that is stored, or 0.
 fn number_stored(stored: Option<&StoredFolder>) -> u64
     ensures { result ≡ number_stored (option_copied stored.entry) }
 {
@@ -124,7 +124,7 @@ fn number_stored(stored: Option<&StoredFolder>) -> u64
     }
 }
 
-// The index numbers that are stored of peers.
+// The index ids that are stored of peers.
 fn peers_stored(alloc: Global, stored: Option<&StoredFolder>) -> Result<KeptIndexes, AllocError>
     ensures { IfOk result (λ peers. peers ≡ peers_stored (option_copied stored.entry)) }
 {
@@ -134,7 +134,7 @@ fn peers_stored(alloc: Global, stored: Option<&StoredFolder>) -> Result<KeptInde
     }
 }
 
-// The same index numbers once more.
+// The same index ids once more.
 fn copied(alloc: Global, peers: &KeptIndexes) -> Result<KeptIndexes, AllocError>
     ensures { IfOk result (λ copy. copy ≡ peers.now) }
 {

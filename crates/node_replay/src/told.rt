@@ -124,7 +124,7 @@ fn base_of(alloc: Global, plan: &Plan) -> Result<Option<Version>, AllocError>
     Ok(Some(Version::from_pairs(pairs)))
 }
 
-/// The last index number that one of the parts says, or the one before. Does not allocate. O(p) for p parts.
+/// The last index id that one of the parts says, or the one before. Does not allocate. O(p) for p parts.
 pub(crate) fn number_after(before: u64, parts: &[&Part]) -> u64
     ensures { result ≡ number_after before (map (λ p. p.now) parts.now) }
 {

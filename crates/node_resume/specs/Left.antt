@@ -25,7 +25,7 @@ numbers_at place peers shares kept =
 abbrev pub peers_left : ℕ → List PeerConfig → List (List Share) → List (List ℕ) → Peers
 peers_left place peers shares kept = fold (λ m e. insert m e.0 e.1) empty (numbers_at place peers shares kept)
 
--- a folder at its place, with its index number and its records
+-- a folder at its place, with its index id and its records
 abbrev pub stored_at : Config → List (List Share) → List (List ℕ) → ℕ × (FolderConfig × (ℕ × FolderState)) → StoredFolder
 stored_at config shares kept f = record {
   id = f.1.0.id;
@@ -34,7 +34,7 @@ stored_at config shares kept f = record {
   peers = peers_left f.0 config.peers shares kept;
 }
 
--- each folder of the configuration, with the index number and the records at its place
+-- each folder of the configuration, with the index id and the records at its place
 abbrev pub folders_left : Config → List ℕ → List (List Share) → List FolderState → List (List ℕ) → List StoredFolder
 folders_left config index_ids shares records kept =
     map (stored_at config shares kept) (enumerate_from 0 (zip config.folders (zip index_ids records)))

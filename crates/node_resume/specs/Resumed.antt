@@ -45,7 +45,7 @@ pub record Resumed : Type 0 where
 abbrev pub taken : ResumedFolder → Resumed
 taken r = record { index_id = r.index_id; folder = r.records.folder }
 
--- Where nothing is stored of the folder, it is empty, under the new index number. Else it has its records, under its number, or under the new
+-- Where nothing is stored of the folder, it is empty, under the new index id. Else it has its records, under its index id, or under the new
 -- one where something may be missing that peers were told.
 abbrev pub resumed_from : Config → ℕ → Bool → ℕ → Option StoredFolder → Resumed
 resumed_from config new_index_id is_left place None = record { index_id = new_index_id; folder = empty_folder config.device }

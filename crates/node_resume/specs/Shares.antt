@@ -11,7 +11,7 @@ use Rattle.sync_record.specs.Devices.{Identity}
 use Rattle.node_resume.specs.declared.shares.Share.{Share}
 use Rattle.node_resume.specs.Resumed.{stored_of}
 
--- the index number that is kept of the device in a stored folder, 0 for none
+-- the index id that is kept of the device in a stored folder, 0 for none
 abbrev pub kept_in : Identity → Option StoredFolder → ℕ
 kept_in device None = 0
 kept_in device (Some stored) = unwrap_or (get stored.peers device) 0

@@ -13,7 +13,7 @@ use std::alloc::{AllocError, Global};
 use sync_record::DeviceId;
 
 /// The state of a node that ends, in which each folder of the configuration is stored once, in its order: under its id, with the
-/// index number and the records at its place. Of each peer it keeps the numbers at the peer's place in `kept` that aren't 0,
+/// index id and the records at its place. Of each peer it keeps the index ids at the peer's place in `kept` that aren't 0,
 /// which are those of its shares, in their order, each in the folder at the share's place. Where a folder has two numbers of one
 /// device, the later counts.
 ///
@@ -62,7 +62,7 @@ fn folder_left(
     })
 }
 
-// The numbers of the peers' indexes that the records of the folder at this place are of.
+// The ids of the peers' indexes that the records of the folder at this place are of.
 fn peers_left(
     alloc: Global,
     peers: &[PeerConfig],

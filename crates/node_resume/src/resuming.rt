@@ -22,9 +22,9 @@ pub struct ResumedFolder {
     pub records: IndexedFolder,
 }
 
-/// Each folder of the configuration, in its order. Of the first stored folder of its id it has the index number and the records,
-/// except those of devices that it isn't shared with. Where none is stored, it has the new index number and no records. Where
-/// something may be missing that peers were told (`is_left`), all have the new index number, so that no peer leaves out a change
+/// Each folder of the configuration, in its order. Of the first stored folder of its id it has the index id and the records,
+/// except those of devices that it isn't shared with. Where none is stored, it has the new index id and no records. Where
+/// something may be missing that peers were told (`is_left`), all have the new index id, so that no peer leaves out a change
 /// that it was told and this device forgot.
 ///
 /// Returns `Err` only if out of memory. The state stays as it is; the records share its memory. O(f s + n (p + log n + b log b))

@@ -15,11 +15,11 @@ use sync_record::DeviceId;
 pub struct Share {
     /// Its place among the node's folders.
     pub folder: usize,
-    /// The number of the peer's index of which there are records, or 0 for none.
+    /// The id of the peer's index of which there are records, or 0 for none.
     pub kept_index_id: u64,
 }
 
-/// The folders that are shared with a peer, each once, in the order in which they first stand there, with the index number that
+/// The folders that are shared with a peer, each once, in the order in which they first stand there, with the index id that
 /// the state keeps of the peer's index of the folder of the same id: 0 where it keeps none, and where there is no such folder.
 ///
 /// Returns `Err` only if out of memory, and never where there are none. O(n (n + f + p)) for n places of the peer, f stored
@@ -51,7 +51,7 @@ fn has_share(shares: &[Share], folder: usize) -> bool
     shares.iter().any(|share| share.folder == folder)
 }
 
-// The index number that the state keeps of a device's index of the folder at a place, or 0.
+// The index id that the state keeps of a device's index of the folder at a place, or 0.
 fn kept_index_id(config: &Config, state: &State, device: DeviceId, place: usize) -> u64
     ensures { result ≡ kept_index_id config.now state.now device place }
 {
@@ -64,7 +64,7 @@ fn kept_index_id(config: &Config, state: &State, device: DeviceId, place: usize)
     }
 }
 
-// The index number that is kept of a device, or 0.
+// The index id that is kept of a device, or 0.
 fn number_of(peers: &KeptIndexes, device: DeviceId) -> u64
     ensures { result ≡ unwrap_or (get peers.now device) 0 }
 {

@@ -69,7 +69,7 @@ pub record IsAllowed (me : Identity) (f : Told) : Type 0 where
   pub devices : AllByRecursion (λ p. length p.0 ≡ 32) f.peers
   pub once : AllPairs (λ p q. p.0 ≢ q.0) f.peers
 
--- the folder that this device keeps then; a peer with index number 0 has none
+-- the folder that this device keeps then; a peer with index id 0 has none
 abbrev pub stored : Identity → Told → StoredFolder
 stored me f = record {
   id = f.id;
@@ -78,7 +78,7 @@ stored me f = record {
   peers = from_entries (filter is_kept (map peer_of f.peers));
 }
 
--- the folder without kept index numbers
+-- the folder without kept index ids
 abbrev pub without_peers : StoredFolder → StoredFolder
 without_peers f = record f { peers = empty }
 
@@ -95,7 +95,7 @@ pub record Means (me : Identity) (text : List ℕ) (s : State) : Type 0 where
 
 -- ---- what is read of a written state
 
--- the folder's device reads it again: it is this device, and the index number isn't 0
+-- the folder's device reads it again: it is this device, and the index id isn't 0
 pub record IsOwn (me : Identity) (f : StoredFolder) : Type 0 where
   pub device : f.folder.me ≡ me
   pub index_id : f.index_id ≢ 0

@@ -1,4 +1,4 @@
--- The index numbers that are kept of peers (own rule).
+-- The index ids that are kept of peers (own rule).
 use Rattle.std.specs.Prelude.{ℕ, Bool, not, ◌==◌}
 use Rattle.std.specs.Coded.{Coded, coded_ℕ, coded_list}
 use Rattle.std.specs.FinMap.{FinMap, code}
@@ -15,6 +15,6 @@ coded_peers = code (coded_list coded_ℕ) coded_ℕ
 abbrev pub pair : PeerIndex → Identity × ℕ
 pair p = (p.device, p.index_id)
 
--- an index number of 0 says that none is kept
+-- an index id of 0 says that none is kept
 abbrev pub is_kept : Identity × ℕ → Bool
 is_kept p = not (p.1 == 0)

@@ -9,7 +9,7 @@ entry_table =
     ▹ (2 holds file_info_table)  -- file
     ▹ End
 
--- the index number of a peer
+-- the index id of a peer
 abbrev pub peer_table : Table
 peer_table =
     (1 is Digest)  -- device

@@ -18,7 +18,7 @@ pub enum Problem {
     Unreadable(MessageFault),
     /// A device has not 32 bytes.
     Device,
-    /// The index number of a folder is 0.
+    /// The index id of a folder is 0.
     IndexId,
     /// Two folders have the same id.
     RepeatedFolder,
@@ -26,7 +26,7 @@ pub enum Problem {
     Name,
     /// No folder has these records and this last sequence.
     Records,
-    /// A folder has two index numbers of one peer.
+    /// A folder has two index ids of one peer.
     RepeatedPeer,
 }
 

@@ -9,7 +9,7 @@ use std::cmp::Ordering;
 use std::marker::Model;
 use sync_record::DeviceId;
 
-/// The index number that is kept of a peer's index of a folder: which index the peer's records are of.
+/// The index id that is kept of a peer's index of a folder: which index the peer's records are of.
 #[derive(Clone, Copy, Debug)]
 pub struct PeerIndex {
     pub device: DeviceId,
@@ -17,7 +17,7 @@ pub struct PeerIndex {
     pub index_id: u64,
 }
 
-/// The index numbers that are kept for a folder, one at most of a peer. Contracts see a map.
+/// The index ids that are kept for a folder, one at most of a peer. Contracts see a map.
 #[derive(Debug, Drop)]
 pub struct KeptIndexes {
     kept: Vec<PeerIndex>,
@@ -41,7 +41,7 @@ impl Model for KeptIndexes {
 }
 
 impl KeptIndexes {
-    /// No index number is kept. Does not allocate.
+    /// No index id is kept. Does not allocate.
     pub fn new(alloc: Global) -> KeptIndexes
         ensures { result ≡ empty }
     {
@@ -57,7 +57,7 @@ impl KeptIndexes {
         self.kept.as_slice()
     }
 
-    /// Keeps this index number for the peer, in place of one that was kept. Returns `Err` only if it could not be
+    /// Keeps this index id for the peer, in place of one that was kept. Returns `Err` only if it could not be
     /// allocated, and then nothing has changed. O(n) for n peers.
     pub fn insert(&mut self, device: DeviceId, index_id: u64) -> Result<(), AllocError>
         ensures ok { OnOk result (self.new ≡ insert self.old device index_id) }
@@ -67,7 +67,7 @@ impl KeptIndexes {
     }
 }
 
-// Puts the index number in its place, or in place of that of its peer.
+// Puts the index id in its place, or in place of that of its peer.
 fn put(kept: &mut Vec<PeerIndex>, new: PeerIndex) -> Result<(), AllocError>
     ensures ok { OnOk result (map pair kept.new.items ≡ put bytes_cmp new.device new.index_id (map pair kept.old.items)) }
     ensures err { OnErr result (kept.new.items ≡ kept.old.items) }

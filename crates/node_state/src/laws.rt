@@ -12,8 +12,8 @@ pub fn one_meaning()
     ensures { (me : Identity) (text : List ℕ) (s t : State) → Means me text s → Means me text t → s ≡ t }
 {}
 
-/// In a text of version 1 no index number is kept. What is read as version 2 is read as version 1 too, as the same folders
-/// without kept index numbers.
+/// In a text of version 1 no index id is kept. What is read as version 2 is read as version 1 too, as the same folders
+/// without kept index ids.
 pub fn version_1_keeps_no_index_numbers()
     ensures none { (me : Identity) (body : List ℕ) (s : State) → Means me (first_line ++ body) s →
         AllByRecursion (λ f. f.peers ≡ empty) s.folders }

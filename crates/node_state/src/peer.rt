@@ -9,7 +9,7 @@ use bep_messages::{
 use bep_wire::Field;
 use std::alloc::{AllocError, Global};
 
-/// The index number of a peer, as it stands in a state file.
+/// The index id of a peer, as it stands in a state file.
 #[derive(Debug, Drop)]
 pub(crate) struct Peer {
     pub device: ShortOctets,

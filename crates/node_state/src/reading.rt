@@ -110,7 +110,7 @@ fn has_device(peers: &[PeerIndex], device: DeviceId) -> bool
     peers.iter().any(|peer| peer.device == device)
 }
 
-// The index numbers of these peers, of which no two may be one.
+// The index ids of these peers, of which no two may be one.
 fn keep(alloc: Global, peers: &[PeerIndex]) -> Result<KeptIndexes, StateFault>
     ensures once { IfOk result (λ _. AreOnce (map pair peers.now)) }
     ensures value { IfOk result (λ kept. kept ≡ from_entries (filter is_kept (map pair peers.now))) }
@@ -129,7 +129,7 @@ fn keep(alloc: Global, peers: &[PeerIndex]) -> Result<KeptIndexes, StateFault>
     Ok(kept)
 }
 
-// The index numbers that a folder of this version keeps.
+// The index ids that a folder of this version keeps.
 fn read_kept(alloc: Global, edition: Edition, source: &[u8]) -> Result<KeptIndexes, StateFault>
     ensures good { IfOk result (λ _. AllByRecursion IsGoodPeer (peers_held edition source.now)) }
     ensures once { IfOk result (λ _. AreOnce (peer_pairs edition source.now)) }
@@ -245,10 +245,10 @@ fn beginning(text: &[u8]) -> Option<(Edition, &[u8])>
 }
 
 /// The state that the bytes of a state file, of version 1 or 2, mean to this device. The folders keep their order, and
-/// none has an open pull. In a file of version 1 a peer is an unknown field; a peer with index number 0 is left out.
+/// none has an open pull. In a file of version 1 a peer is an unknown field; a peer with index id 0 is left out.
 ///
 /// Fails with `BadState` exactly where the bytes mean no state: if the first line is another one, or there is none; what
-/// follows is not a message; a device has not 32 bytes; the index number of a folder is 0; a folder's id repeats; the name
+/// follows is not a message; a device has not 32 bytes; the index id of a folder is 0; a folder's id repeats; the name
 /// of a file is refused; [`PlainFolder::restore`] refuses a folder's records; or a peer repeats within a folder. Which of
 /// them is told, where there are several, is not promised. Fails with `OutOfMemory` if allocation fails, and never where no
 /// folder comes before the first fault.

@@ -11,7 +11,7 @@ pub struct StoredFolder {
     pub index_id: u64,
     /// Its records and the last sequence given. Open pulls are not written.
     pub folder: PlainFolder,
-    /// The numbers of the peers' indexes that its records are of.
+    /// The ids of the peers' indexes that its records are of.
     pub peers: KeptIndexes,
 }
 

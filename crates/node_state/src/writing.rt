@@ -179,13 +179,13 @@ fn write_folders(
 }
 
 /// Appends the bytes of a state file, of version 2: each folder in the order given, its records by name and then by
-/// device, its peers by rising identity. A peer of which no index number is kept is left out, and so are open pulls.
+/// device, its peers by rising identity. A peer of which no index id is kept is left out, and so are open pulls.
 ///
 /// Fails only if allocation fails, and then the vector has the bytes that it had. O(n) for n bytes, each of which is moved
 /// once for each of the messages that it is in; beside the vector only one record at a time is in memory twice.
 pub fn write_state(state: &State, out: &mut Vec<u8>) -> Result<(), AllocError>
     ensures ok { OnOk result (out.new.items ≡ out.old.items ++ state_bytes state.now) }
-    // Read again it is the state, without open pulls and without peers of which no index number is kept.
+    // Read again it is the state, without open pulls and without peers of which no index id is kept.
     ensures again { OnOk result ((me : Identity) → IsReadable me state.now →
         Means me (state_bytes state.now) (written_state state.now)) }
     ensures err { OnErr result (out.new.items ≡ out.old.items) }
