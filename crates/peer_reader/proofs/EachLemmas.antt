@@ -1,17 +1,21 @@
 -- What each folder was asked for, one more change at a time.
-use Rattle.std.proofs.Common.{◌≡◌, ◌≢◌, ◌<◌, ◌+◌, ◌==◌, ◌++◌, ◌∷◌, [], ℕ, zero, suc, List, true, false, Some, map, filter, set, refl, sym, ◌∙◌, ap, subst, arith, append-nil}
+use Rattle.std.proofs.Common.{◌≡◌, ◌≢◌, ◌<◌, ◌+◌, ◌==◌, ◌++◌, ◌∷◌, [], ℕ, zero, suc, List, Bool, Result, true, false, Some, map, filter, set, refl, sym, ◌∙◌, ap, subst, arith, append-nil}
 use Rattle.std.specs.List.{All, AllByRecursion, slice_get}
 use Rattle.std.proofs.lemmas.Bool.Decides.{eqb_tells}
 use Rattle.std.proofs.lemmas.List.{map-append}
 use Rattle.std.proofs.lemmas.List.Elements.{All-from_recursion, filter-append, recursion_from_All}
+use Rattle.bep_messages.specs.declared.file_info.FileInfo.{FileInfo}
 use Rattle.folder_calls.specs.Adds.{Asked, Asks}
 use Rattle.folder_core.specs.declared.answer.Answer.{Answer}
 use Rattle.folder_core.specs.declared.change.Change.{Change}
 use Rattle.folder_calls.specs.declared.at.At.{At}
+use Rattle.folder_calls.specs.declared.refusal.HistoryFull.{HistoryFull as FullHistory}
+use Rattle.folder_calls.specs.Calls.{answer_at, index_value}
 use Rattle.folder_calls.specs.Shared.{CallerView, ChangesAt, Gets}
 use Rattle.peer_reader.specs.declared.folder.ReaderFolder.{ReaderFolder}
 use Rattle.peer_reader.specs.declared.stop.ReaderStop.{ReaderStop}
 use Rattle.peer_reader.specs.declared.stop.ReaderStop.TheVariants as stop
+use Rattle.peer_reader.specs.Effects.{announced_change}
 use Rattle.peer_reader.specs.Hears.{AskedOf, AsksEach, AsksOne, IsApart, StopsOne, asked_at}
 use Rattle.sync_record.specs.Devices.{Identity}
 
@@ -64,6 +68,18 @@ pub asks_one_as : IsGot → (old new : CallerView) (c wanted : Change) (reply : 
 asks_one_as got old new c wanted reply a same h e = subst (λ x. Asks old ((x, a) ∷ []) new) same (asks_one got old new c reply a h e)
 
 module _ {W F : Type 0} (view : W → CallerView) (folder : W → F) where
+  -- a folder was asked for the change that an Index or an IndexUpdate is, with this answer
+  pub asks_index : IsGot → (old between new : ReaderFolder W) (peer : Identity) (files : List FileInfo) (is_whole kind : Bool) (c : Change)
+      → (first reply : At (Result (Unit {0}) FullHistory)) (a : Answer) → is_whole ≡ kind → c ≡ announced_change kind peer files → new ≡ between → reply ≡ first
+      → index_value reply.value ≡ a → folder between.calls ≡ folder old.calls → ChangesAt (view old.calls) c (Some (answer_at index_value first)) (view between.calls)
+      → AsksOne view folder ((announced_change is_whole peer files, a) ∷ []) old new
+  asks_index got old between new peer files is_whole kind c first reply a by_kind same is reply_is e keeps h =
+      let wanted = announced_change is_whole peer files in
+      let wants : c ≡ wanted = same ∙ ap (λ (b : Bool). announced_change b peer files) (sym by_kind) in
+      let answer : index_value first.value ≡ a = ap (λ (r : At (Result (Unit {0}) FullHistory)). index_value r.value) (sym reply_is) ∙ e in
+      let asked = asks_one_as got (view old.calls) (view between.calls) c wanted (answer_at index_value first) a wants h answer in
+      subst (λ (f : ReaderFolder W). AsksOne view folder ((wanted, a) ∷ []) old f) (sym is) (keeps, asked)
+
   -- no folder was asked for anything
   pub each_same : (k : ℕ) (fs : List (ReaderFolder W)) → AsksEach view folder k [] fs fs
   each_same k [] = tt

@@ -1,9 +1,10 @@
 -- An Index or an IndexUpdate of a folder, and events that mean nothing to folders.
-use Rattle.std.proofs.Common.{◌≡◌, ◌+◌, ◌++◌, ◌∷◌, [], ℕ, List, Bool, cond, Option, Some, None, map, length, set, get_or, refl, sym, ◌∙◌, ap, subst, arith}
+use Rattle.std.proofs.Common.{◌≡◌, ◌+◌, ◌++◌, ◌∷◌, [], ℕ, List, Bool, true, false, cond, Option, Some, None, map, length, set, get_or, refl, sym, ◌∙◌, ap, subst, arith}
 use Rattle.std.specs.List.{position, position_or_len, prefix_len, slice_get}
 use Rattle.std.specs.Prelude.{nat_lt, not}
 use Rattle.std.proofs.lemmas.List.{get_or-map, length-map, map-set, set-get_or}
 use Rattle.std.proofs.lemmas.Option.{get_or_from_slice_get, slice_get_within}
+use Rattle.bep_messages.specs.declared.file_info.FileInfo.{FileInfo}
 use Rattle.bep_session.specs.declared.event.Event.{Event}
 use Rattle.folder_calls.specs.Adds.{Asked}
 use Rattle.folder_calls.specs.Shared.{CallerView}
@@ -15,8 +16,8 @@ use Rattle.peer_reader.specs.declared.folder.ReaderFolder.{ReaderFolder}
 use Rattle.peer_reader.specs.declared.hearing.Passed.{Passed}
 use Rattle.peer_reader.specs.declared.stop.ReaderStop.{ReaderStop}
 use Rattle.peer_reader.specs.declared.stop.ReaderStop.TheVariants as stop
-use Rattle.peer_reader.specs.Effects.{Effect, Heard, after_event, asked_effect, is_shared_as, no_effect, place_of}
-use Rattle.peer_reader.specs.Hears.{AsksEach, AsksOne, HasHeard, IsDue, Stops, StopsOne, applied, before_change, heard_of, passed_of}
+use Rattle.peer_reader.specs.Effects.{Effect, Heard, after_event, announced_change, asked_effect, full_of, index_effect, is_shared_as, more_of, no_effect, place_of}
+use Rattle.peer_reader.specs.Hears.{AsksEach, AsksOne, HasHeard, IsDue, Stops, StopsOne, applied, before_change, event_of, heard_of, passed_of, passed_over}
 use Rattle.sync_record.specs.Devices.{Identity}
 
 -- ---- the place of a folder
@@ -37,6 +38,31 @@ place_is id fs found e = e ∙ sym (position-map (is_shared_as id) heard_of fs)
 pub asked_is : (fs : List Heard) (o : Option ℕ) → asked_effect fs o ≡ record { folders = fs; made = []; count = (asked_effect fs o).count }
 asked_is fs None = refl
 asked_is fs (Some i) = refl
+
+-- ---- an Index or an IndexUpdate, of the folder with this id
+
+abbrev announced : Bool → List ℕ → List FileInfo → Event
+announced is_whole id files = event_of (record { folder = id; files = files; is_whole = is_whole })
+
+pub announced_effect : (is_whole : Bool) (id : List ℕ) (files : List FileInfo) (peer : Identity) (fs : List Heard) (o : Option ℕ) → place_of id fs ≡ o
+    → after_event peer fs (announced is_whole id files) ≡ index_effect (announced_change is_whole peer) files fs o
+announced_effect true id files peer fs o placed = ap (λ (p : Option ℕ). index_effect (full_of peer) files fs p) placed
+announced_effect false id files peer fs o placed = ap (λ (p : Option ℕ). index_effect (more_of peer) files fs p) placed
+
+pub announced_passed : (is_whole : Bool) (id : List ℕ) (files : List FileInfo) (fs : List Heard) (o : Option ℕ) → place_of id fs ≡ o
+    → passed_over id o ≡ passed_of fs (announced is_whole id files)
+announced_passed true id files fs o placed = sym (ap (passed_over id) placed)
+announced_passed false id files fs o placed = sym (ap (passed_over id) placed)
+
+pub announced_alone : (is_whole : Bool) (id : List ℕ) (files : List FileInfo) (peer : Identity) (fs : List Heard) (n : ℕ)
+    → before_change peer fs (announced is_whole id files) n ≡ no_effect fs
+announced_alone true id files peer fs n = refl
+announced_alone false id files peer fs n = refl
+
+pub announced_due : (is_whole : Bool) (id : List ℕ) (files : List FileInfo) (peer : Identity) (fs : List Heard) (n : ℕ) → place_of id fs ≡ Some n
+    → (change : Change) → change ≡ announced_change is_whole peer files → IsDue peer fs (announced is_whole id files) n change
+announced_due true id files peer fs n placed change same = (placed, same)
+announced_due false id files peer fs n placed change same = (placed, same)
 
 module _ {W F : Type 0} (view : W → CallerView) (folder : W → F) where
   -- ---- events that mean nothing to the folders

@@ -124,6 +124,10 @@ full_of peer files = IndexFull peer (kept_records files)
 abbrev pub more_of : Identity → List FileInfo → Change
 more_of peer files = IndexMore peer (kept_records files)
 
+-- the change that an Index is, which has all records of the peer, or an IndexUpdate, which has more
+abbrev pub announced_change : Bool → Identity → List FileInfo → Change
+announced_change is_whole peer files = if is_whole then full_of peer files else more_of peer files
+
 -- ---- any event
 
 abbrev pub after_event : Identity → List Heard → Event → Effect

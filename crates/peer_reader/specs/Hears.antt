@@ -14,6 +14,7 @@ use Rattle.peer_reader.specs.Counts.{one_change}
 use Rattle.peer_reader.specs.Effects.{Effect, Heard, Made, after_config_of, after_event, full_of, is_forgotten, more_of, no_effect, place_of}
 use Rattle.peer_reader.specs.declared.counts.ReaderCounts.{ReaderCounts}
 use Rattle.peer_reader.specs.declared.folder.ReaderFolder.{ReaderFolder}
+use Rattle.peer_reader.specs.declared.hearing.Announced.{Announced}
 use Rattle.peer_reader.specs.declared.hearing.Passed.{Passed}
 use Rattle.peer_reader.specs.declared.hearing.Passed.TheVariants as passed
 use Rattle.peer_reader.specs.declared.stop.ReaderStop.{ReaderStop}
@@ -38,6 +39,11 @@ counted_forget peer config f c = if is_forgotten peer config f then one_change c
 -- what a folder is asked for at a ClusterConfig
 abbrev pub forget_asked : Identity → ClusterConfig → Heard → List Asked
 forget_asked peer config f = if is_forgotten peer config f then (Forget peer, Applied) ∷ [] else []
+
+-- an Index, which has all records of the peer, or an IndexUpdate, which has more
+abbrev pub event_of : Announced → Event
+event_of a =
+    if a.is_whole then Full (record { folder = a.folder; files = a.files }) else More (record { folder = a.folder; files = a.files })
 
 -- of an index of the folder with this id, which has that place
 abbrev pub passed_over : List ℕ → Option ℕ → Passed

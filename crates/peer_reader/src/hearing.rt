@@ -1,17 +1,17 @@
 //! What one event of a connection comes to.
 ghost use Rattle.std.specs.Prelude.{◌≡◌, ◌∷◌, [], if◌then◌else◌, true, All, IfErr, IfOk, OnErr, OnOk, Some, map, position};
-ghost use Rattle.bep_session.specs.declared.event.Event.TheVariants.{Asked as AskedEvent, Full, More, PeerConfig};
+ghost use Rattle.bep_session.specs.declared.event.Event.TheVariants.{Asked as AskedEvent, PeerConfig};
 ghost use Rattle.folder_core.specs.declared.answer.Answer.TheVariants.{Applied};
 ghost use Rattle.folder_core.specs.declared.change.Change.TheVariants.{Forget};
 ghost use Rattle.peer_reader.specs.Counts.{one_change};
-ghost use Rattle.peer_reader.specs.Effects.{asked_effect, count_index, full_of, index_told, is_new_index, is_shared_as, is_told_in, more_of, place_of, told_by};
-ghost use Rattle.peer_reader.specs.Hears.{AsksOne, HasHeard, IsApart, Stops, StopsOne, counted_forget, forget_asked, forget_due, heard_of, passed_of};
+ghost use Rattle.peer_reader.specs.Effects.{announced_change, asked_effect, count_index, index_told, is_new_index, is_shared_as, is_told_in, place_of, told_by};
+ghost use Rattle.peer_reader.specs.Hears.{AsksOne, HasHeard, IsApart, Stops, StopsOne, counted_forget, event_of, forget_asked, forget_due, heard_of, passed_of};
 
 use crate::counts::ReaderCounts;
 use crate::folder::ReaderFolder;
 use crate::records::keep;
 use crate::stop::ReaderStop;
-use bep_messages::{ClusterConfig, FileInfo, Index, IndexUpdate, Items, Request, Response, Text};
+use bep_messages::{ClusterConfig, FileInfo, Items, Request, Response, Text};
 use bep_session::Event;
 use file_store::{Gate, GatePlace};
 use folder_calls::laws::changes_are_asked_in_order;
@@ -37,10 +37,21 @@ pub enum Passed {
     Unshared(Text),
 }
 
+/// What an Index or an IndexUpdate says of a folder.
+#[derive(Drop)]
+struct Announced {
+    /// The folder's id.
+    folder: Text,
+    /// Records that the peer has.
+    files: Items<FileInfo>,
+    /// Whether these are all that it has, as in an Index; an IndexUpdate has more of them.
+    is_whole: bool,
+}
+
 /// Makes the changes that an event is of the shared folders, in their order, and returns what it gives to others.
 ///
-/// - A ClusterConfig: of each folder, in order, of which it tells another number of the peer's index than the kept one, or 0 or none,
-///   the peer's records are forgotten; then the number is kept.
+/// - A ClusterConfig: of each folder, in order, of which it tells another id of the peer's index than the kept one, or 0 or none,
+///   the peer's records are forgotten; then the id is kept.
 /// - An Index or an IndexUpdate of a folder that the last ClusterConfig has: the peer has these records, or these too. Records whose
 ///   names are not safe are skipped and counted; a message for another folder is counted, and the folder's id is passed on.
 /// - Nothing else is a change.
@@ -66,8 +77,22 @@ pub fn hear<W: FolderCalls, G: Gate>(
             hear_config(gate, peer, folders, counts, &config)?;
             Ok(Passed::Config(config))
         }
-        Event::Full(index) => hear_index(alloc, gate, peer, folders, counts, index),
-        Event::More(update) => hear_update(alloc, gate, peer, folders, counts, update),
+        Event::Full(index) => {
+            let announced = Announced {
+                folder: index.folder,
+                files: index.files,
+                is_whole: true,
+            };
+            hear_index(alloc, gate, peer, folders, counts, announced)
+        }
+        Event::More(update) => {
+            let announced = Announced {
+                folder: update.folder,
+                files: update.files,
+                is_whole: false,
+            };
+            hear_index(alloc, gate, peer, folders, counts, announced)
+        }
         Event::Asked(request) => Ok(hear_request(folders, counts, request)),
         Event::Answered(response) => Ok(Passed::Answered(response)),
         Event::UnknownResponse(id) => Ok(Passed::Unknown(id)),
@@ -78,53 +103,36 @@ pub fn hear<W: FolderCalls, G: Gate>(
     }
 }
 
-// The folders after an Index.
+// The folders after an Index or an IndexUpdate.
 fn hear_index<W: FolderCalls, G: Gate>(
     alloc: Global,
     gate: &G,
     peer: DeviceId,
     folders: &mut [ReaderFolder<W>],
     counts: &mut ReaderCounts,
-    index: Index,
+    announced: Announced,
 ) -> Result<Passed, ReaderStop>
     requires { All (IsApart W.view peer) folders.old }
-    ensures heard { IfOk result (λ given. HasHeard W.view W.folder peer (Full index) folders.old counts.old
+    ensures heard { IfOk result (λ given. HasHeard W.view W.folder peer (event_of announced) folders.old counts.old
         given folders.new counts.new) }
-    ensures stopped { IfErr result (λ stop. Stops W.view W.folder peer (Full index) folders.old counts.old
+    ensures stopped { IfErr result (λ stop. Stops W.view W.folder peer (event_of announced) folders.old counts.old
         stop folders.new counts.new) }
 {
     changes_are_asked_in_order();
-    let Some(place) = place_of(folders, index.folder.as_str()) else {
+    let Some(place) = place_of(folders, announced.folder.as_str()) else {
         counts.count_unshared();
-        return Ok(Passed::Unshared(index.folder));
+        return Ok(Passed::Unshared(announced.folder));
     };
-    match hear_full(alloc, gate, peer, &mut folders[place], counts, index.files) {
-        Ok(()) => Ok(Passed::Nothing),
-        Err(why) => Err(why),
-    }
-}
-
-// The folders after an IndexUpdate.
-fn hear_update<W: FolderCalls, G: Gate>(
-    alloc: Global,
-    gate: &G,
-    peer: DeviceId,
-    folders: &mut [ReaderFolder<W>],
-    counts: &mut ReaderCounts,
-    update: IndexUpdate,
-) -> Result<Passed, ReaderStop>
-    requires { All (IsApart W.view peer) folders.old }
-    ensures heard { IfOk result (λ given. HasHeard W.view W.folder peer (More update) folders.old counts.old
-        given folders.new counts.new) }
-    ensures stopped { IfErr result (λ stop. Stops W.view W.folder peer (More update) folders.old counts.old
-        stop folders.new counts.new) }
-{
-    changes_are_asked_in_order();
-    let Some(place) = place_of(folders, update.folder.as_str()) else {
-        counts.count_unshared();
-        return Ok(Passed::Unshared(update.folder));
-    };
-    match hear_more(alloc, gate, peer, &mut folders[place], counts, update.files) {
+    let is_whole = announced.is_whole;
+    match hear_files(
+        alloc,
+        gate,
+        peer,
+        &mut folders[place],
+        counts,
+        announced.files,
+        is_whole,
+    ) {
         Ok(()) => Ok(Passed::Nothing),
         Err(why) => Err(why),
     }
@@ -204,7 +212,7 @@ fn hear_config_of<W: FolderCalls, G: Gate>(
     Ok(())
 }
 
-// The number of the peer's index of a folder that its ClusterConfig tells, or 0.
+// The id of the peer's index of a folder that its ClusterConfig tells, or 0.
 fn index_told(config: &ClusterConfig, id: &str, peer: DeviceId) -> u64
     ensures { result ≡ index_told peer config.now id.now }
 {
@@ -214,7 +222,7 @@ fn index_told(config: &ClusterConfig, id: &str, peer: DeviceId) -> u64
     }
 }
 
-// Whether the peer's records are not those of the index with the kept number.
+// Whether the peer's records are not those of the index with the kept id.
 fn is_new_index(index_id: u64, kept: u64) -> bool
     ensures { result ≡ is_new_index index_id kept }
 {
@@ -276,55 +284,33 @@ fn forget<W: FolderCalls, G: Gate>(
     }
 }
 
-// The peer has just these records of a folder.
-fn hear_full<W: FolderCalls, G: Gate>(
+// The peer has just these records of a folder, or these too.
+fn hear_files<W: FolderCalls, G: Gate>(
     alloc: Global,
     gate: &G,
     peer: DeviceId,
     folder: &mut ReaderFolder<W>,
     counts: &mut ReaderCounts,
     files: Items<FileInfo>,
+    is_whole: bool,
 ) -> Result<(), ReaderStop>
     requires { IsApart W.view peer folder.old }
     ensures heard { heard_of folder.new ≡ heard_of folder.old }
-    ensures asks { OnOk result (AsksOne W.view W.folder ((full_of peer files, Applied) ∷ []) folder.old folder.new) }
+    ensures asks { OnOk result (AsksOne W.view W.folder ((announced_change is_whole peer files, Applied) ∷ []) folder.old folder.new) }
     ensures counted { OnOk result (counts.new ≡ count_index files counts.old) }
-    ensures stopped { IfErr result (StopsOne W.view W.folder (λ change. change ≡ full_of peer files) folder.old folder.new) }
+    ensures stopped { IfErr result (StopsOne W.view W.folder (λ change. change ≡ announced_change is_whole peer files)
+        folder.old folder.new) }
     ensures uncounted { OnErr result (counts.new ≡ counts.old) }
 {
     changes_are_asked_in_order();
     let kept = keep(alloc, files)?;
     gate.at(GatePlace::FolderCall);
-    match folder.calls.index_full(peer, kept.records)?.value {
-        Ok(()) => {
-            counts.count_change();
-            counts.count_skipped(kept.skipped);
-            Ok(())
-        }
-        Err(HistoryFull) => Err(ReaderStop::HistoryFull),
-    }
-}
-
-// The peer has these records of a folder too.
-fn hear_more<W: FolderCalls, G: Gate>(
-    alloc: Global,
-    gate: &G,
-    peer: DeviceId,
-    folder: &mut ReaderFolder<W>,
-    counts: &mut ReaderCounts,
-    files: Items<FileInfo>,
-) -> Result<(), ReaderStop>
-    requires { IsApart W.view peer folder.old }
-    ensures heard { heard_of folder.new ≡ heard_of folder.old }
-    ensures asks { OnOk result (AsksOne W.view W.folder ((more_of peer files, Applied) ∷ []) folder.old folder.new) }
-    ensures counted { OnOk result (counts.new ≡ count_index files counts.old) }
-    ensures stopped { IfErr result (StopsOne W.view W.folder (λ change. change ≡ more_of peer files) folder.old folder.new) }
-    ensures uncounted { OnErr result (counts.new ≡ counts.old) }
-{
-    changes_are_asked_in_order();
-    let kept = keep(alloc, files)?;
-    gate.at(GatePlace::FolderCall);
-    match folder.calls.index_more(peer, kept.records)?.value {
+    let reply = if is_whole {
+        folder.calls.index_full(peer, kept.records)?
+    } else {
+        folder.calls.index_more(peer, kept.records)?
+    };
+    match reply.value {
         Ok(()) => {
             counts.count_change();
             counts.count_skipped(kept.skipped);

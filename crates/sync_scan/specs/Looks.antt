@@ -128,3 +128,11 @@ ShownFirst {S} {W} shown view first s v = (s ≡ first) × ((w : W) × shown s w
 -- the same at a moment since then, with nothing but looks of the store in between
 abbrev pub ShownSince : {S W : Type 0} → Giving S → (S → W → Type 0) → (W → CallerView) → S → S → CallerView → Type 0
 ShownSince {S} {W} gives shown view first s v = LooksOnly gives first s × ((w : W) × shown s w × (view w ≡ v))
+
+-- what may be found where the local record was read before any call of the store, at a moment that was shown
+abbrev pub MayFindFirst : {S W : Type 0} → Giving S → (S → W → Type 0) → (W → CallerView) → S → Type 0 → Tree → Name → CallerView → Look → Type 0
+MayFindFirst gives shown view first keeps tree = MayFindAt gives (ShownFirst shown view first) keeps tree
+
+-- what may be found where it was read at such a moment since then
+abbrev pub MayFindSince : {S W : Type 0} → Giving S → (S → W → Type 0) → (W → CallerView) → S → Type 0 → Tree → Name → CallerView → Look → Type 0
+MayFindSince gives shown view first keeps tree = MayFindAt gives (ShownSince gives shown view first) keeps tree

@@ -1,10 +1,13 @@
 -- What the scan of a name asks of the folder (own rule).
-use Rattle.std.specs.Prelude.{◌≡◌, ℕ, Option}
+use Rattle.std.specs.Prelude.{◌≡◌, ◌⊎◌, ℕ, List, [], ◌∷◌, Option, true}
 use Rattle.sync_version.specs.Versions.{Vector}
 use Rattle.sync_record.specs.Records.{Name}
 use Rattle.folder_core.specs.States.{local_version}
+use Rattle.folder_core.specs.Steps.{is_accepted}
+use Rattle.folder_core.specs.declared.answer.Answer.{Answer}
 use Rattle.folder_core.specs.declared.change.Change.{Change}
 use Rattle.folder_core.specs.declared.change.Change.TheVariants.{ScanFound, ScanGone}
+use Rattle.folder_calls.specs.Adds.{Adds}
 use Rattle.folder_calls.specs.Calls.{scan_value}
 use mathlib.Core.List.{IsPrefix}
 use Rattle.folder_calls.specs.Shared.{CallerView, Gets, Sees, now, seeing}
@@ -55,3 +58,8 @@ abbrev pub IsScanOf : Name → ℕ → Change → Type 0
 IsScanOf n moment (ScanFound m expected found at) = (m ≡ n) × (at ≡ moment)
 IsScanOf n moment (ScanGone m expected at) = (m ≡ n) × (at ≡ moment)
 IsScanOf n moment _ = ⊥
+
+-- no entry was added to those of the caller, or the one of a scan of the name at the moment, with an answer that accepts it
+abbrev pub AddsOneAtMost : CallerView → Name → ℕ → CallerView → Type 0
+AddsOneAtMost old n moment new =
+    Adds old [] new ⊎ ((c : Change) × (a : Answer) × IsScanOf n moment c × (is_accepted a ≡ true) × Adds old ((c, a) ∷ []) new)

@@ -8,7 +8,7 @@ ghost use Rattle.file_store.specs.Trees.{Tree, bytes_of};
 ghost use Rattle.folder_calls.specs.Shared.{CallerView, Sees};
 ghost use Rattle.sync_record.specs.Records.{Name};
 ghost use Rattle.sync_scan.specs.Ahead.{AreSeen, HasBlocks, HasBytes, IsSeen, SightIs, cut_block};
-ghost use Rattle.sync_scan.specs.Looks.{MayFind, MayFindAt, ShownSince};
+ghost use Rattle.sync_scan.specs.Looks.{MayFind, MayFindSince};
 ghost use Rattle.sync_scan.specs.Scans.{GoesOn};
 ghost use Rattle.sync_scan.specs.declared.scanned.Look.TheVariants.{Changing};
 ghost use Rattle.sync_scan.specs.Told.{Fails, ReadsOther, ReadsWhole, Says};
@@ -116,11 +116,11 @@ pub(crate) fn next_seen<S: FileStore, W: FolderCalls, R: Threads + Sync, G: Gate
         GoesOn first (W.view calls.old) → LooksOnly S.gives begun store.old → (IsTrue S.keeps → S.tree store.old ≡ tree) →
         map (λ e. e.name) entries.now ≡ n ∷ rest →
         AreSeen ahead.old first (W.view calls.old)
-        (MayFindAt S.gives (ShownSince S.gives (G.shown scanning.now.gate.now S W) W.view begun) (IsTrue S.keeps) tree) (Fails S.gives) (n ∷ rest) →
+        (MayFindSince S.gives (G.shown scanning.now.gate.now S W) W.view begun (IsTrue S.keeps) tree) (Fails S.gives) (n ∷ rest) →
         IsSeen (HasBlocks ahead.new.blocks.items) first (W.view calls.new)
-        (MayFindAt S.gives (ShownSince S.gives (G.shown scanning.now.gate.now S W) W.view begun) (IsTrue S.keeps) tree) (Fails S.gives) n result
+        (MayFindSince S.gives (G.shown scanning.now.gate.now S W) W.view begun (IsTrue S.keeps) tree) (Fails S.gives) n result
         × AreSeen ahead.new first (W.view calls.new)
-        (MayFindAt S.gives (ShownSince S.gives (G.shown scanning.now.gate.now S W) W.view begun) (IsTrue S.keeps) tree) (Fails S.gives) rest }
+        (MayFindSince S.gives (G.shown scanning.now.gate.now S W) W.view begun (IsTrue S.keeps) tree) (Fails S.gives) rest }
     ensures looks { LooksOnly S.gives store.old store.new }
     ensures kept { S.keeps ≡ true → S.tree store.new ≡ S.tree store.old }
 {
@@ -149,10 +149,10 @@ fn fill_ahead<S: FileStore, W: FolderCalls, R: Threads + Sync, G: Gate>(
     ensures seen { (first : CallerView) (begun : S) (tree : Tree) →
         GoesOn first (W.view calls.old) → LooksOnly S.gives begun store.old → (IsTrue S.keeps → S.tree store.old ≡ tree) →
         AreSeen ahead.old first (W.view calls.old)
-        (MayFindAt S.gives (ShownSince S.gives (G.shown scanning.now.gate.now S W) W.view begun) (IsTrue S.keeps) tree) (Fails S.gives)
+        (MayFindSince S.gives (G.shown scanning.now.gate.now S W) W.view begun (IsTrue S.keeps) tree) (Fails S.gives)
         (map (λ e. e.name) entries.now) →
         AreSeen ahead.new first (W.view calls.new)
-        (MayFindAt S.gives (ShownSince S.gives (G.shown scanning.now.gate.now S W) W.view begun) (IsTrue S.keeps) tree) (Fails S.gives)
+        (MayFindSince S.gives (G.shown scanning.now.gate.now S W) W.view begun (IsTrue S.keeps) tree) (Fails S.gives)
         (map (λ e. e.name) entries.now) }
     ensures looks { LooksOnly S.gives store.old store.new }
     ensures kept { S.keeps ≡ true → S.tree store.new ≡ S.tree store.old }
@@ -175,8 +175,7 @@ pub(crate) fn look_ahead<S: FileStore, W: FolderCalls, R: Threads + Sync, G: Gat
     ensures folder { W.folder calls.new ≡ W.folder calls.old }
     ensures sees { Sees (W.view calls.old) (W.view calls.new) }
     ensures seen { AreSeen result (W.view calls.old) (W.view calls.new)
-        (MayFindAt S.gives (ShownSince S.gives (G.shown scanning.now.gate.now S W) W.view store.old)
-        (IsTrue S.keeps) (S.tree store.old)) (Fails S.gives)
+        (MayFindSince S.gives (G.shown scanning.now.gate.now S W) W.view store.old (IsTrue S.keeps) (S.tree store.old)) (Fails S.gives)
         (map (λ e. e.name) entries.now) }
     ensures looks { LooksOnly S.gives store.old store.new }
     ensures kept { S.keeps ≡ true → S.tree store.new ≡ S.tree store.old }
@@ -224,8 +223,7 @@ fn read_ahead<S: FileStore, W: FolderCalls, R: Threads + Sync, G: Gate>(
     ensures within { IfOk result (λ _. batch.new.filled ≤ length buffer.new.items) }
     ensures seen { IfOk result (λ seen. (k : ℕ) × AllZip (IsSeen (HasBytes (take batch.new.filled buffer.new.items) batch.new.cuts.items)
         (W.view calls.old) (W.view calls.new)
-        (MayFindAt S.gives (ShownSince S.gives (G.shown scanning.now.gate.now S W) W.view store.old)
-        (IsTrue S.keeps) (S.tree store.old)) (Fails S.gives))
+        (MayFindSince S.gives (G.shown scanning.now.gate.now S W) W.view store.old (IsTrue S.keeps) (S.tree store.old)) (Fails S.gives))
         (take k (map (λ e. e.name) entries.now)) seen.items) }
     ensures looks { LooksOnly S.gives store.old store.new }
     ensures kept { S.keeps ≡ true → S.tree store.new ≡ S.tree store.old }
@@ -259,8 +257,7 @@ fn see<S: FileStore, W: FolderCalls, G: Gate>(
     ensures cuts { IfOk result (λ _. IsPrefix batch.old.cuts.items batch.new.cuts.items) }
     ensures seen { IfOk result (IsSeen (HasBytes (take batch.new.filled buffer.new.items) batch.new.cuts.items)
         (W.view calls.old) (W.view calls.new)
-        (MayFindAt S.gives (ShownSince S.gives (G.shown gate.now S W) W.view store.old)
-        (IsTrue S.keeps) (S.tree store.old)) (Fails S.gives) name.now) }
+        (MayFindSince S.gives (G.shown gate.now S W) W.view store.old (IsTrue S.keeps) (S.tree store.old)) (Fails S.gives) name.now) }
     ensures looks { LooksOnly S.gives store.old store.new }
     ensures kept { S.keeps ≡ true → S.tree store.new ≡ S.tree store.old }
 {

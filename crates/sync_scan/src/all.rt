@@ -4,7 +4,7 @@ ghost use Rattle.file_store.specs.Listings.{AreAscending, IsListing};
 ghost use Rattle.file_store.specs.Sequences.{LooksOnly};
 ghost use Rattle.file_store.specs.declared.node.Listing.{Listing};
 ghost use Rattle.sync_scan.specs.AllNames.{GoesOver, HasListed, ScansAll, ScansEach, ScansOne, Tried, UnlessBelow, is_below_any, sum_after};
-ghost use Rattle.sync_scan.specs.Looks.{MayFindAt, ShownSince};
+ghost use Rattle.sync_scan.specs.Looks.{MayFindSince};
 ghost use Rattle.sync_scan.specs.Told.{Fails};
 ghost use Rattle.sync_scan.specs.Stops.{IsFaultCounted, empty_sum};
 ghost use Rattle.sync_scan.specs.declared.sum.ScanStop.TheVariants.{StoreFault};
@@ -42,9 +42,8 @@ pub fn scan_all<S: FileStore, W: FolderCalls, G: Gate, P: Progress>(
     ensures folder { W.folder calls.new ≡ W.folder calls.old }
     // One relation over the whole scan: how the store lists, what may be found at a name, and what fails are handed in.
     ensures scans { ScansAll (HasListed S.gives (IsTrue S.keeps) (S.tree store.old) store.old)
-        (MayFindAt S.gives (ShownSince S.gives (G.shown gate.now S W) W.view store.old)
-        (IsTrue S.keeps) (S.tree store.old)) (Fails S.gives)
-        (W.view calls.old) moment result (W.view calls.new) }
+        (MayFindSince S.gives (G.shown gate.now S W) W.view store.old (IsTrue S.keeps) (S.tree store.old))
+        (Fails S.gives) (W.view calls.old) moment result (W.view calls.new) }
     ensures looks { LooksOnly S.gives store.old store.new }
     ensures faulted { result.stopped ≡ Some StoreFault →
         IsFaultCounted (S.fault_count store.old) (S.fault_count store.new) }
@@ -103,8 +102,8 @@ fn scan_listed<S: FileStore, W: FolderCalls, R: Threads + Sync, G: Gate, P: Prog
 ) -> ScanSum
     ensures folder { W.folder calls.new ≡ W.folder calls.old }
     ensures scans { (tried : List Tried) × ScansEach (W.view calls.old) (W.view calls.old) scanning.now.moment
-        (MayFindAt S.gives (ShownSince S.gives (G.shown scanning.now.gate.now S W) W.view store.old)
-        (IsTrue S.keeps) (S.tree store.old)) (Fails S.gives) tried (W.view calls.new)
+        (MayFindSince S.gives (G.shown scanning.now.gate.now S W) W.view store.old (IsTrue S.keeps) (S.tree store.old))
+        (Fails S.gives) tried (W.view calls.new)
         × GoesOver (map (λ e. e.name) entries.now) tried result.stopped
         × (result ≡ sum_after empty_sum tried) }
     ensures looks { LooksOnly S.gives store.old store.new }
@@ -157,8 +156,7 @@ fn scan_missing<S: FileStore, W: FolderCalls, R: Threads + Sync, G: Gate, P: Pro
     requires { sum.stopped ≡ None }
     ensures folder { W.folder calls.new ≡ W.folder calls.old }
     ensures scans { (tried : List Tried) × ScansEach (W.view calls.old) (W.view calls.old) scanning.now.moment
-        (UnlessBelow missing.now.unread.now (MayFindAt S.gives (ShownSince S.gives (G.shown scanning.now.gate.now S W) W.view store.old)
-        (IsTrue S.keeps) (S.tree store.old)))
+        (UnlessBelow missing.now.unread.now (MayFindSince S.gives (G.shown scanning.now.gate.now S W) W.view store.old (IsTrue S.keeps) (S.tree store.old)))
         (Fails S.gives) tried (W.view calls.new)
         × GoesOver missing.now.names.now tried result.stopped
         × (result ≡ sum_after sum tried) }
@@ -197,8 +195,7 @@ fn scan_missing_name<S: FileStore, W: FolderCalls, R: Threads + Sync, G: Gate, P
 ) -> Result<Scanned, StoreRefusal>
     ensures folder { W.folder calls.new ≡ W.folder calls.old }
     ensures scans { ScansOne (W.view calls.old) (W.view calls.old) name.now scanning.now.moment
-        (UnlessBelow unread.now (MayFindAt S.gives (ShownSince S.gives (G.shown scanning.now.gate.now S W) W.view store.old)
-        (IsTrue S.keeps) (S.tree store.old)) name.now)
+        (UnlessBelow unread.now (MayFindSince S.gives (G.shown scanning.now.gate.now S W) W.view store.old (IsTrue S.keeps) (S.tree store.old)) name.now)
         (Fails S.gives name.now) result (W.view calls.new) }
     ensures looks { LooksOnly S.gives store.old store.new }
     ensures kept { S.keeps ≡ true → S.tree store.new ≡ S.tree store.old }

@@ -1,6 +1,6 @@
 //! The laws of scans. A law is a function that does nothing, whose contract says of the definitions in `specs/` what follows from
 //! them in plainer words.
-ghost use Rattle.std.specs.Prelude.{◌≡◌, ◌≢◌, ◌⊎◌, ◌↔◌, ◌^◌, ◌<◌, ◌≤◌, [], ◌∷◌, ℕ, pos, Contains, IsTrue, List, Option, Some, get_or, length, true};
+ghost use Rattle.std.specs.Prelude.{◌≡◌, ◌≢◌, ◌⊎◌, ◌↔◌, ◌^◌, ◌<◌, ◌≤◌, ℕ, pos, Contains, IsTrue, List, Option, Some, get_or, length, true};
 ghost use Rattle.std.specs.Cmp.Lexicographic.{slice_cmp};
 ghost use Rattle.std.specs.Ordering.{nat_cmp};
 ghost use Rattle.std.specs.declared.cmp.Ordering.TheVariants.{Less};
@@ -8,12 +8,8 @@ ghost use Rattle.sync_blocks.specs.declared.block.Block.{Block};
 ghost use Rattle.sync_blocks.specs.BlockList.{block_list};
 ghost use Rattle.sync_record.specs.Records.{FileRecord, Name, is_live};
 ghost use Rattle.folder_core.specs.States.{local};
-ghost use Rattle.folder_core.specs.Steps.{is_accepted};
-ghost use Rattle.folder_core.specs.declared.answer.Answer.{Answer};
-ghost use Rattle.folder_core.specs.declared.change.Change.{Change};
 ghost use Rattle.folder_core.specs.declared.finding.Finding.{Finding};
 ghost use Rattle.folder_core.specs.declared.finding.FoundContent.TheVariants as content;
-ghost use Rattle.folder_calls.specs.Adds.{Adds};
 ghost use Rattle.folder_calls.specs.Shared.{CallerView, now};
 ghost use Rattle.file_store.specs.Sequences.{Since};
 ghost use Rattle.file_store.specs.Stores.{mem_gives, mem_tree};
@@ -22,11 +18,11 @@ ghost use Rattle.file_store.specs.Names.{is_parent};
 ghost use Rattle.file_store.specs.declared.mem.MemStore.{MemStore};
 ghost use Rattle.file_store.specs.declared.node.Stat.TheVariants.{Directory, File, Missing, Other};
 ghost use Rattle.sync_scan.specs.AllNames.{AreMissing, HasListed, ScansAll, UnlessBelow};
-ghost use Rattle.sync_scan.specs.Looks.{IsTold, LeadsTo, MayFindAt, ShownFirst, ShownSince};
+ghost use Rattle.sync_scan.specs.Looks.{IsTold, LeadsTo, MayFindFirst, MayFindSince};
 ghost use Rattle.sync_scan.specs.Told.{Fails, HasNoOtherParent, HasOtherParent, ReadsOther, ReadsWhole, Says};
 ghost use Rattle.sync_scan.specs.declared.scanned.Look.{Look};
 ghost use Rattle.sync_scan.specs.declared.scanned.Look.TheVariants.{Changing, Found, Gone, Skipped};
-ghost use Rattle.sync_scan.specs.Scans.{IsScanOf, Scans, ScansSince};
+ghost use Rattle.sync_scan.specs.Scans.{AddsOneAtMost, Scans, ScansSince};
 ghost use Rattle.sync_scan.specs.declared.scanned.Scanned.{Scanned};
 ghost use Rattle.sync_scan.specs.declared.sum.ScanStop.TheVariants.{StoreFault};
 ghost use Rattle.sync_scan.specs.declared.sum.ScanSum.{ScanSum};
@@ -35,24 +31,23 @@ use file_store::{FileStore, Gate};
 use folder_calls::FolderCalls;
 use folder_calls::laws::{changes_are_asked_in_order, entries_add_up};
 
+/// What may be found at a name, by what the caller had seen when its record was read: the laws hold whatever that is.
+pub trait AnyLook {
+    ghost may: { Name → CallerView → Look → Type 0 };
+}
+
 /// The scan of a name adds at most one entry to those of its caller: that of a scan of this name, with its answer, if it was
 /// accepted.
 pub fn a_scan_adds_one_entry_at_most<S: FileStore, W: FolderCalls, G: Gate>()
-    // No entry is added, or the one of a scan `c` of this name with its accepted answer: the two cases of one choice.
+    // Long by what may be found, which is one premise.
     ensures alone { (gate : G) (begun : S) (tree : Tree) (old new : CallerView) (n : Name) (moment : ℕ) (result : Scanned) →
-        Scans old n moment (MayFindAt S.gives (ShownFirst (G.shown gate S W) W.view begun)
-        (IsTrue S.keeps) tree n) result new →
-        Adds old [] new
-        ⊎ ((c : Change) × (a : Answer) × IsScanOf n moment c × (is_accepted a ≡ true)
-        × Adds old ((c, a) ∷ []) new) }
+        Scans old n moment (MayFindFirst S.gives (G.shown gate S W) W.view begun (IsTrue S.keeps) tree n) result new →
+        AddsOneAtMost old n moment new }
     // The same for one name of several, whose local record may have been read before the others' changes were made.
     ensures of_several { (gate : G) (begun : S) (tree : Tree) (first old new : CallerView) (n : Name) (moment : ℕ)
         (result : Scanned) →
-        ScansSince first old n moment (MayFindAt S.gives (ShownSince S.gives (G.shown gate S W) W.view begun)
-        (IsTrue S.keeps) tree n) result new →
-        Adds old [] new
-        ⊎ ((c : Change) × (a : Answer) × IsScanOf n moment c × (is_accepted a ≡ true)
-        × Adds old ((c, a) ∷ []) new) }
+        ScansSince first old n moment (MayFindSince S.gives (G.shown gate S W) W.view begun (IsTrue S.keeps) tree n)
+        result new → AddsOneAtMost old n moment new }
 {
     changes_are_asked_in_order();
     entries_add_up();
@@ -61,16 +56,13 @@ pub fn a_scan_adds_one_entry_at_most<S: FileStore, W: FolderCalls, G: Gate>()
 /// Of every store: a deletion is found only where the store said that nothing is at the name, and of no parent of a safe name
 /// that something else is there. What the store says is neither a file nor a directory is skipped. Below a directory that could
 /// not be read no deletion is found.
-pub fn deletions_are_told<S: FileStore, W: FolderCalls, G: Gate>()
+pub fn deletions_are_told<S: FileStore, L: AnyLook>()
     ensures missing { (first : S) (n : Name) (local : Option FileRecord) →
         IsTold (Since S.gives first) n local Gone → Says (Since S.gives first) n Missing × HasNoOtherParent (Since S.gives first) n }
     ensures other { (first : S) (n : Name) (local : Option FileRecord) (look : Look) →
         LeadsTo (Since S.gives first) n local Other look → look ≡ Skipped }
-    // Below the directory `d`, which could not be read, nothing is found gone. What may be found is one premise.
-    ensures unread { (gate : G) (begun : S) (tree : Tree) (unread : List Name) (d n : Name) (view : CallerView) →
-        Contains unread d → is_parent d n ≡ true →
-        UnlessBelow unread (MayFindAt S.gives (ShownSince S.gives (G.shown gate S W) W.view begun)
-        (IsTrue S.keeps) tree) n view Gone → ⊥ }
+    ensures unread { (unread : List Name) (d n : Name) (view : CallerView) →
+        Contains unread d → is_parent d n ≡ true → UnlessBelow unread L.may n view Gone → ⊥ }
 {}
 
 /// Of every store: what is found is what the store said and gave. A name is skipped only where something else is there, or in a
@@ -98,12 +90,10 @@ pub fn what_is_found_is_told<S: FileStore>()
 {}
 
 /// A store in memory does not fail, so no scan of all its names stops for that.
-pub fn scans_of_memory_stop_for_no_fault<W: FolderCalls, G: Gate>()
-    // No scan of a store in memory stops by a fault. The premise is what `scan_all` promises, with this store put in.
-    ensures { (gate : G) (store : MemStore) (old new : CallerView) (moment : ℕ) (sum : ScanSum) →
-        ScansAll (HasListed mem_gives (IsTrue true) (mem_tree store) store)
-        (MayFindAt mem_gives (ShownSince mem_gives (G.shown gate MemStore W) W.view store) (IsTrue true) (mem_tree store))
-        (Fails mem_gives) old moment sum new → sum.stopped ≢ Some StoreFault }
+pub fn scans_of_memory_stop_for_no_fault<L: AnyLook>()
+    ensures { (store : MemStore) (old new : CallerView) (moment : ℕ) (sum : ScanSum) →
+        ScansAll (HasListed mem_gives (IsTrue true) (mem_tree store) store) L.may (Fails mem_gives) old moment sum new →
+        sum.stopped ≢ Some StoreFault }
 {}
 
 /// The names that are scanned after the listed ones ascend by their bytes, so each is there once. Where the folder did not go on

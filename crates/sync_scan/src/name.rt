@@ -6,7 +6,7 @@ ghost use Rattle.file_store.specs.Sequences.{LooksOnly};
 ghost use Rattle.folder_calls.specs.Shared.{CallerView, Sees};
 ghost use Rattle.sync_scan.specs.Ahead.{HasBlocks, IsSeen};
 ghost use Rattle.sync_scan.specs.AllNames.{ScansOne};
-ghost use Rattle.sync_scan.specs.Looks.{MayFindAt, ShownFirst, ShownSince, file_finding};
+ghost use Rattle.sync_scan.specs.Looks.{MayFindFirst, MayFindSince, file_finding};
 ghost use Rattle.sync_scan.specs.Scans.{GoesOn, Scans};
 ghost use Rattle.sync_scan.specs.Told.{Fails};
 
@@ -40,8 +40,8 @@ pub fn scan_name<S: FileStore, W: FolderCalls, G: Gate>(
 ) -> Result<Scanned, StoreRefusal>
     ensures folder { W.folder calls.new ≡ W.folder calls.old }
     ensures scans { IfOk result (λ scanned. Scans (W.view calls.old) name.now moment
-        (MayFindAt S.gives (ShownFirst (G.shown gate.now S W) W.view store.old)
-        (IsTrue S.keeps) (S.tree store.old) name.now) scanned (W.view calls.new)) }
+        (MayFindFirst S.gives (G.shown gate.now S W) W.view store.old (IsTrue S.keeps) (S.tree store.old) name.now)
+        scanned (W.view calls.new)) }
     ensures looks { LooksOnly S.gives store.old store.new }
     ensures refused { IfErr result (λ _. Sees (W.view calls.old) (W.view calls.new)) }
     ensures failed { IfErr result (Fails S.gives name.now) }
@@ -70,8 +70,8 @@ pub(crate) fn scan_one<S: FileStore, W: FolderCalls, R: Threads + Sync, G: Gate,
 ) -> Result<Scanned, StoreRefusal>
     ensures folder { W.folder calls.new ≡ W.folder calls.old }
     ensures scans { IfOk result (λ scanned. Scans (W.view calls.old) name.now scanning.now.moment
-        (MayFindAt S.gives (ShownFirst (G.shown scanning.now.gate.now S W) W.view store.old)
-        (IsTrue S.keeps) (S.tree store.old) name.now) scanned (W.view calls.new)) }
+        (MayFindFirst S.gives (G.shown scanning.now.gate.now S W) W.view store.old (IsTrue S.keeps) (S.tree store.old) name.now)
+        scanned (W.view calls.new)) }
     ensures looks { LooksOnly S.gives store.old store.new }
     ensures refused { IfErr result (λ _. Sees (W.view calls.old) (W.view calls.new)) }
     ensures failed { IfErr result (Fails S.gives name.now) }
@@ -100,18 +100,17 @@ pub(crate) fn scan_seen<S: FileStore, W: FolderCalls, R: Threads + Sync, G: Gate
     progress: &mut P,
 ) -> Result<Scanned, StoreRefusal>
     requires seen { (first : CallerView) × (begun : S) × IsSeen (HasBlocks turn.blocks.now) first (W.view calls.old)
-        (MayFindAt S.gives (ShownSince S.gives (G.shown scanning.now.gate.now S W) W.view begun)
-        (IsTrue S.keeps) (S.tree store.old)) (Fails S.gives) name.now turn.seen }
+        (MayFindSince S.gives (G.shown scanning.now.gate.now S W) W.view begun (IsTrue S.keeps) (S.tree store.old))
+        (Fails S.gives) name.now turn.seen }
     ensures folder { W.folder calls.new ≡ W.folder calls.old }
     ensures scans { (first : CallerView) (begun : S) →
         GoesOn first (W.view calls.old) → LooksOnly S.gives begun store.old →
         IsSeen (HasBlocks turn.entry.blocks.now) first (W.view calls.old)
-        (MayFindAt S.gives (ShownSince S.gives (G.shown scanning.now.gate.now S W) W.view begun)
-        (IsTrue S.keeps) (S.tree store.old)) (Fails S.gives) name.now turn.entry.seen →
+        (MayFindSince S.gives (G.shown scanning.now.gate.now S W) W.view begun (IsTrue S.keeps) (S.tree store.old))
+        (Fails S.gives) name.now turn.entry.seen →
         ScansOne first (W.view calls.old) name.now scanning.now.moment
-        (MayFindAt S.gives (ShownSince S.gives (G.shown scanning.now.gate.now S W) W.view begun)
-        (IsTrue S.keeps) (S.tree store.old) name.now) (Fails S.gives name.now)
-        result (W.view calls.new) }
+        (MayFindSince S.gives (G.shown scanning.now.gate.now S W) W.view begun (IsTrue S.keeps) (S.tree store.old) name.now)
+        (Fails S.gives name.now) result (W.view calls.new) }
     ensures looks { LooksOnly S.gives store.old store.new }
     ensures kept { S.keeps ≡ true → S.tree store.new ≡ S.tree store.old }
 {

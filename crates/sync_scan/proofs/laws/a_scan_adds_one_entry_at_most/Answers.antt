@@ -1,4 +1,4 @@
-use Rattle.std.proofs.Common.{◌≡◌, ℕ, Bool, true, false, List, [], ◌∷◌, ◌++◌, refl, sym, subst, ◌⊎◌, inl, inr}
+use Rattle.std.proofs.Common.{◌≡◌, ℕ, Bool, true, false, List, [], ◌∷◌, ◌++◌, refl, sym, subst, inl, inr}
 use Rattle.std.specs.Prelude.{filter, if◌then◌else◌, Option}
 use Rattle.sync_version.specs.Versions.{Vector}
 use Rattle.sync_record.specs.Records.{Name}
@@ -10,30 +10,27 @@ use Rattle.folder_core.specs.declared.change.Change.TheVariants.{ScanFound, Scan
 use Rattle.folder_calls.specs.Adds.{Adds, Asked, Asks}
 use Rattle.folder_calls.specs.Calls.{scan_value}
 use Rattle.folder_calls.specs.Shared.{CallerView, Gets, Sees, now}
-use Rattle.sync_scan.specs.Scans.{AsksFor, IsScanOf}
+use Rattle.sync_scan.specs.Scans.{AddsOneAtMost, AsksFor, IsScanOf}
 use Rattle.sync_scan.specs.declared.scanned.Look.{Look}
 use Rattle.sync_scan.specs.declared.scanned.Look.TheVariants as look
 use Rattle.sync_scan.specs.declared.scanned.Scanned.{Scanned}
 use Rattle.sync_scan.specs.declared.scanned.Scanned.TheVariants as scanned
 use Rattle.sync_scan.proofs.laws.a_scan_adds_one_entry_at_most.Goals as goal
 
-abbrev AddsOne : CallerView → Name → ℕ → CallerView → Type 0
-AddsOne old n moment new = Adds old [] new ⊎ ((c : Change) × (a : Answer) × IsScanOf n moment c × (is_accepted a ≡ true) × Adds old ((c, a) ∷ []) new)
-
 module _ (adds : (asked : List Asked) (old new : CallerView) → Asks old asked new → Adds old (filter (λ m. is_accepted m.1) asked) new)
     (seen : (old new : CallerView) → Sees old new → Adds old [] new)
     (together : (one two three : CallerView) (xs ys : List Asked) → Adds one xs two → Adds two ys three → Adds one (xs ++ ys) three) where
-  one : (old read new : CallerView) (n : Name) (moment : ℕ) (c : Change) (a : Answer) → Sees old read → Gets read c a new → IsScanOf n moment c → AddsOne old n moment new
+  one : (old read new : CallerView) (n : Name) (moment : ℕ) (c : Change) (a : Answer) → Sees old read → Gets read c a new → IsScanOf n moment c → AddsOneAtMost old n moment new
   one old read new n moment c a sees gets of = by (is_accepted a) refl
     where
       all : Adds old (filter (λ m. is_accepted m.1) ((c, a) ∷ [])) new
       all = together old read new [] (filter (λ m. is_accepted m.1) ((c, a) ∷ [])) (seen old read sees) (adds ((c, a) ∷ []) read new (new, gets, refl))
 
-      by : (b : Bool) → is_accepted a ≡ b → AddsOne old n moment new
+      by : (b : Bool) → is_accepted a ≡ b → AddsOneAtMost old n moment new
       by true e = inr (c, a, of, e, subst (λ t. Adds old (if t then (c, a) ∷ [] else []) new) e all)
       by false e = inl (subst (λ t. Adds old (if t then (c, a) ∷ [] else []) new) e all)
 
-  asked : (old read new : CallerView) (n : Name) (v : Option Vector) (moment : ℕ) (l : Look) (r : Scanned) → Sees old read → AsksFor read n v moment l r new → AddsOne old n moment new
+  asked : (old read new : CallerView) (n : Name) (v : Option Vector) (moment : ℕ) (l : Look) (r : Scanned) → Sees old read → AsksFor read n v moment l r new → AddsOneAtMost old n moment new
   asked old read new n v moment (look.Found f) (scanned.Answered a) sees gets = one old read new n moment (ScanFound n v f moment) (scan_value a) sees gets (refl, refl)
   asked old read new n v moment look.Gone (scanned.Answered a) sees gets = one old read new n moment (ScanGone n v moment) (scan_value a) sees gets (refl, refl)
   asked old read new n v moment look.Skipped scanned.Skipped sees same = inl (seen old new (subst (Sees old) (sym same) sees))

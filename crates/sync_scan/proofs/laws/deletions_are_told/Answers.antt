@@ -1,6 +1,4 @@
-use Rattle.std.specs.Prelude.{IsTrue}
 use Rattle.file_store.specs.Sequences.{Since}
-use Rattle.sync_scan.specs.Looks.{MayFindAt, ShownSince}
 use Rattle.sync_scan.proofs.GoneLemmas.{gone-apart, gone-told, other-told}
 use Rattle.sync_scan.proofs.laws.deletions_are_told.Goals as goal
 
@@ -11,6 +9,4 @@ pub returns-clause-other : goal.returns-clause-other
 returns-clause-other g c first n local look leads = other-told (Since g.S.FileStore.gives first) n local look leads
 
 pub returns-clause-unread : goal.returns-clause-unread
-returns-clause-unread g c gate begun tree unread d n view has below found =
-    let gives = g.S.FileStore.gives in
-    gone-apart (MayFindAt gives (ShownSince gives (g.G.Gate.shown gate g.row.S.Denot g.row.W.Denot) g.W.FolderCalls.view begun) (IsTrue g.S.FileStore.keeps) tree) unread d n view has below found
+returns-clause-unread g c unread d n view has below found = gone-apart g.L.AnyLook.may unread d n view has below found
