@@ -6,15 +6,13 @@ use Rattle.std.proofs.lemmas.Bool.{cond-true, cond-false, and_from, and_left, an
 use Rattle.std.proofs.lemmas.List.Elements.{filter-append}
 use Rattle.std.proofs.lemmas.Option.{none-some}
 use Rattle.sync_record.specs.Devices.{bytes_cmp}
-use Rattle.sync_record.specs.Records.{Name, FileRecord}
+use Rattle.sync_record.specs.Records.{Name}
 use Rattle.sync_version.proofs.Lists.{zero_or_above}
 use Rattle.folder_core.specs.declared.pull_stage.PullStage.TheVariants.{Pulling, Committing}
 use Rattle.folder_core.specs.States.{FolderState, IsFolder, Pull}
 use Rattle.folder_core.specs.declared.answer.Answer.{Answer}
 use Rattle.folder_core.specs.declared.answer.Answer.TheVariants.{HistoryFull}
 use Rattle.folder_core.specs.declared.change.Change.{Change}
-use Rattle.folder_core.specs.declared.change.Change.TheVariants.{Finish, GiveUp, Abort}
-use Rattle.folder_core.specs.declared.pull_info.PullInfo.{PullInfo}
 use Rattle.folder_core.specs.Runs.{ends_pull}
 use Rattle.folder_core.specs.Steps.{MayChange, is_accepted, step}
 use Rattle.folder_calls.specs.declared.entry.Entry.{Entry}
@@ -135,11 +133,5 @@ module _ (limit : ℕ) (s : FolderState) (es : List Entry) (kept : length es + l
   fits-end c (inl tested) = shared-same limit s es c (inl tested)
   fits-end c (inr fewer) = shared-same limit s es c (inr (omega arith))
 
-  pub finish-fits : (t : PullInfo) (assembled : FileRecord) → shared_answer limit s es (Finish t assembled) ≡ (step (state_after s es) (Finish t assembled)).0
-  finish-fits t assembled = fits-end (Finish t assembled) (frees (state_after s es) (Finish t assembled) refl)
-
-  pub give_up-fits : (t : PullInfo) → shared_answer limit s es (GiveUp t) ≡ (step (state_after s es) (GiveUp t)).0
-  give_up-fits t = fits-end (GiveUp t) (frees (state_after s es) (GiveUp t) refl)
-
-  pub abort-fits : (t : PullInfo) → shared_answer limit s es (Abort t) ≡ (step (state_after s es) (Abort t)).0
-  abort-fits t = fits-end (Abort t) (frees (state_after s es) (Abort t) refl)
+  pub end-fits : (c : Change) → ends_pull c ≡ true → shared_answer limit s es c ≡ (step (state_after s es) c).0
+  end-fits c ends = fits-end c (frees (state_after s es) c ends)

@@ -53,8 +53,9 @@ pub enum Outside {
 }
 
 impl<C: FolderCore> Lone<C> {
-    /// Plans the change of another caller just before a call from now on, where 1 is the next. It takes the place of one that
-    /// was planned and not made yet. If the folder doesn't accept it then, or memory is out, nothing is made.
+    /// Plans the change of another caller for just before a call from now on, where 1 is the next. It takes the place of one
+    /// that was planned and not asked for yet. It is appended to the history then if it is accepted, and else nothing is; the
+    /// law `planned_changes_are_made_before_their_call` says so.
     pub fn plan(&mut self, call: u64, change: Outside)
         requires call { 1 ≤ call }
         requires may { MayChange self.old.history.opening.me (change_of change) }
@@ -67,7 +68,7 @@ impl<C: FolderCore> Lone<C> {
         self.planned = true;
     }
 
-    // Makes the planned change if its call is the next one.
+    // Asks for the planned change if its call is the next one; else it is a call nearer.
     pub(crate) fn go_on(&mut self)
         ensures goes_on { PlanGoesOn self.old.plan self.old self.new }
         ensures seen { seen_by self.new ≡ seen_by self.old }
@@ -85,7 +86,7 @@ impl<C: FolderCore> Lone<C> {
     }
 }
 
-// Makes another caller's change, as one of pass 2.
+// Asks for another caller's change, as one of pass 2: it is appended if it is accepted, and else nothing changes.
 fn make_outside<C: FolderCore>(recorded: &mut RecordedFolder<C>, change: Outside)
     requires passes { recorded.old.passes ≡ 2 }
     requires may { MayChange recorded.old.opening.me (change_of change) }

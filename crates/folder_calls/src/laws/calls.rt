@@ -6,9 +6,7 @@ ghost use Rattle.folder_core.specs.States.{FolderState, IsFolder};
 ghost use Rattle.folder_core.specs.Reads.{Query, Reply, Reads};
 ghost use Rattle.folder_core.specs.declared.answer.Answer.{Answer};
 ghost use Rattle.folder_core.specs.declared.change.Change.{Change};
-ghost use Rattle.folder_core.specs.declared.change.Change.TheVariants.{Finish, GiveUp, Abort};
-ghost use Rattle.folder_core.specs.declared.pull_info.PullInfo.{PullInfo};
-ghost use Rattle.sync_record.specs.Records.{FileRecord};
+ghost use Rattle.folder_core.specs.Runs.{ends_pull};
 ghost use Rattle.folder_core.specs.Steps.{MayChange, is_accepted, step};
 ghost use Rattle.folder_calls.specs.declared.at.At.{At};
 ghost use Rattle.folder_calls.specs.declared.entry.Entry.{Entry};
@@ -65,14 +63,9 @@ pub fn views_are_of_folders()
     ensures legal { (v : CallerView) → IsLegalView v → (len v.opening.pulls ≡ 0)
         × (passes : ℕ) × (1 ≤ v.pass) × (v.pass ≤ passes) × IsLegal passes v.opening v.seen }
     ensures folder { (v : CallerView) → IsLegalView v → IsFolder (state_after v.opening v.seen) }
-    // Three changes end a pull, and the folder by itself answers them the same: one list, as the premise is the same.
-    ensures ends { (v : CallerView) (t : PullInfo) (assembled : FileRecord) → IsLegalView v →
-        (shared_answer v.limit v.opening v.seen (Finish t assembled)
-        ≡ (step (state_after v.opening v.seen) (Finish t assembled)).0)
-        × (shared_answer v.limit v.opening v.seen (GiveUp t)
-        ≡ (step (state_after v.opening v.seen) (GiveUp t)).0)
-        × (shared_answer v.limit v.opening v.seen (Abort t)
-        ≡ (step (state_after v.opening v.seen) (Abort t)).0) }
+    // A change that ends a pull is answered as by the folder itself.
+    ensures ends { (v : CallerView) (c : Change) → IsLegalView v → ends_pull c ≡ true →
+        shared_answer v.limit v.opening v.seen c ≡ (step (state_after v.opening v.seen) c).0 }
 {}
 
 /// Wherever the history went on without the caller, to one that a folder had, the caller's change may be made there, or be

@@ -8,7 +8,7 @@ ghost use Rattle.folder_calls.specs.declared.entry.Entry.{Entry};
 ghost use Rattle.folder_calls.specs.Histories.{IsLegal, IsReplay, state_after, shared_answer, own_entries, CommitsAreLegal};
 ghost use Rattle.folder_calls.specs.Shared.{CallerView, IsLegalView, seeing};
 ghost use Rattle.folder_core.specs.declared.change.Change.{Change};
-ghost use Rattle.folder_core.specs.declared.change.Change.TheVariants.{Finish, GiveUp, Abort};
+ghost use Rattle.folder_core.specs.Runs.{ends_pull};
 ghost use Rattle.folder_core.specs.declared.answer.Answer.TheVariants.{Begun};
 ghost use Rattle.folder_core.specs.declared.answer.Answer.{Answer};
 ghost use Rattle.folder_core.specs.declared.answer.Answer.TheVariants.{HistoryFull};
@@ -68,14 +68,10 @@ pub fn histories_keep_room()
     ensures left { (limit : ℕ) (s : FolderState) (es : List Entry) (c : Change) →
         is_accepted (shared_answer limit s es c) ≡ true →
         length es + 1 + len (step (state_after s es) c).1.pulls ≤ limit }
-    // With room left, the three changes that end a pull are answered as by the folder itself: one list, one premise.
-    ensures ends { (limit : ℕ) (s : FolderState) (es : List Entry) (t : PullInfo)
-        (assembled : FileRecord) →
-        length es + len (state_after s es).pulls ≤ limit →
-        (shared_answer limit s es (Finish t assembled)
-        ≡ (step (state_after s es) (Finish t assembled)).0)
-        × (shared_answer limit s es (GiveUp t) ≡ (step (state_after s es) (GiveUp t)).0)
-        × (shared_answer limit s es (Abort t) ≡ (step (state_after s es) (Abort t)).0) }
+    // With room left, a change that ends a pull is answered as by the folder itself.
+    ensures ends { (limit : ℕ) (s : FolderState) (es : List Entry) (c : Change) →
+        length es + len (state_after s es).pulls ≤ limit → ends_pull c ≡ true →
+        shared_answer limit s es c ≡ (step (state_after s es) c).0 }
 {}
 
 /// The entries of a pass are those that have it, in their order.

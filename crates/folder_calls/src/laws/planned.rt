@@ -9,8 +9,8 @@ ghost use Rattle.folder_calls.specs.declared.at.At.{At};
 ghost use Rattle.folder_calls.specs.declared.lone_state.LoneState.{LoneState};
 ghost use Rattle.folder_calls.specs.declared.planned.Plan.{Plan};
 
-/// A planned change is made just before the call that it was planned for, as one of pass 2, and then nothing is planned any more; each
-/// call before that brings it one call nearer.
+/// A planned change is asked for just before the call that it was planned for, as one of pass 2, and is appended to the history if it is
+/// accepted; then nothing is planned any more. Each call before that brings it one call nearer.
 pub fn planned_changes_are_made_before_their_call()
     ensures nothing { (old new : LoneState) → PlanGoesOn None old new ↔ (new ≡ old) }
     ensures later { (p : Plan) (old new : LoneState) → 1 < p.call →
@@ -23,8 +23,8 @@ pub fn planned_changes_are_made_before_their_call()
         × (new ≡ record old { history = new.history; plan = None })) }
 {}
 
-/// While nothing is planned, a change of the caller is appended to the history as one of pass 1, and a read is of where the history ends;
-/// the caller has then seen all of it. A call that is out of memory changes nothing.
+/// While nothing is planned, a change of the caller is one of pass 1, which is appended to the history if it is accepted, and a read is of
+/// where the history ends; the caller has then seen all of it. A call that is out of memory changes nothing.
 pub fn calls_without_a_plan_are_the_callers()
     // Both directions in one: a change is answered exactly as the history's next one, of pass 1, and all is seen then.
     ensures changes { (old new : LoneState) (c : Change) (reply : At Answer) → old.plan ≡ None →

@@ -1,4 +1,4 @@
-use Rattle.folder_calls.proofs.HistoryEntries.{abort-fits, finish-fits, give_up-fits, legal-folder}
+use Rattle.folder_calls.proofs.HistoryEntries.{end-fits, legal-folder}
 use Rattle.folder_calls.proofs.HistoryShared.{view-opened}
 use Rattle.folder_calls.proofs.laws.calls.views_are_of_folders.Goals as goal
 
@@ -12,5 +12,4 @@ pub returns-clause-folder : goal.returns-clause-folder
 returns-clause-folder c = λ v view. legal-folder view.passes v.opening v.seen view.opening view.legal
 
 pub returns-clause-ends : goal.returns-clause-ends
-returns-clause-ends c = λ v t assembled view.
-    (finish-fits v.limit v.opening v.seen view.room t assembled, give_up-fits v.limit v.opening v.seen view.room t, abort-fits v.limit v.opening v.seen view.room t)
+returns-clause-ends c = λ v change view ends. end-fits v.limit v.opening v.seen view.room change ends

@@ -1,4 +1,4 @@
-use Rattle.folder_calls.proofs.HistoryEntries.{shared-full, shared-same, shared-room, finish-fits, give_up-fits, abort-fits}
+use Rattle.folder_calls.proofs.HistoryEntries.{end-fits, shared-full, shared-same, shared-room}
 use Rattle.folder_calls.proofs.laws.histories.histories_keep_room.Goals as goal
 
 pub returns-clause-full : goal.returns-clause-full
@@ -11,4 +11,4 @@ pub returns-clause-left : goal.returns-clause-left
 returns-clause-left c = shared-room
 
 pub returns-clause-ends : goal.returns-clause-ends
-returns-clause-ends c = λ limit s es t assembled kept. (finish-fits limit s es kept t assembled, give_up-fits limit s es kept t, abort-fits limit s es kept t)
+returns-clause-ends c = λ limit s es change kept ends. end-fits limit s es kept change ends
