@@ -1,6 +1,6 @@
 //! The choice of the best among the entries of one name: [`PlainFolder`](crate::PlainFolder) makes it at each read, and an index
 //! that keeps it makes it once for each change.
-ghost use Rattle.std.specs.Prelude.{◌≡◌, ◌∷◌, ◌&&◌, [], not, IfOk, IsTrue, MatchOption, None, option_and_then, option_copied, slice_get};
+ghost use Rattle.std.specs.Prelude.{◌≡◌, ◌∷◌, ◌<◌, ◌&&◌, [], length, not, IfOk, IfSome, IsTrue, MatchOption, None, option_and_then, option_copied, slice_get};
 ghost use Rattle.std.specs.List.{list_any};
 ghost use Rattle.sync_record.specs.Contents.{same_content};
 ghost use Rattle.sync_record.specs.Preference.{is_preferred};
@@ -16,9 +16,10 @@ use sync_record::{DeviceId, Record, preferred, same_content};
 use sync_version::Relation;
 
 /// Where among the entries of one name the best is: it is valid, no valid one dominates it, and it is preferred to every
-/// other such one. Does not allocate. O(k^2) for k entries.
+/// other such one; `None` if there is none. Does not allocate. O(k^2) for k entries.
 pub fn place_of_best(entries: &[Announcement]) -> Option<usize>
-    ensures { option_and_then (λ i. slice_get entries.now i) result ≡ best_in entries.now }
+    ensures best { option_and_then (λ i. slice_get entries.now i) result ≡ best_in entries.now }
+    ensures place { IfSome result (λ i. i < length entries.now) }
 {
     if let [only] = entries {
         return place_alone(only);
@@ -36,7 +37,8 @@ pub fn place_of_best(entries: &[Announcement]) -> Option<usize>
 
 /// The same of a name's only entry: it is the best where it is valid. O(1).
 fn place_alone(only: &Announcement) -> Option<usize>
-    ensures { option_and_then (λ i. slice_get (only.now ∷ []) i) result ≡ best_in (only.now ∷ []) }
+    ensures best { option_and_then (λ i. slice_get (only.now ∷ []) i) result ≡ best_in (only.now ∷ []) }
+    ensures place { IfSome result (λ i. i < length (only.now ∷ [])) }
 {
     if only.record.is_valid() {
         Some(0)

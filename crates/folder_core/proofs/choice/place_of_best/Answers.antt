@@ -1,4 +1,4 @@
-use Rattle.std.proofs.Common.{Some, sym, ap, ◌∙◌}
+use Rattle.std.proofs.Common.{◌<◌, IfSome, Some, length, sym, subst, ap, ◌∙◌}
 use Rattle.std.specs.Prelude.{option_and_then, option_copied, slice_get}
 use Rattle.std.proofs.lemmas.Option.{slice_get-get_or}
 use Rattle.folder_core.specs.Plain.{better_of, is_undominated}
@@ -23,6 +23,7 @@ loop-i-preserved c =
             ∙ slice_get-get_or es i e c.loop-i-test.true
             ∙ ap Some (sym c.index-entries-i.is)
             ∙ sym (ap option_copied w.best-is);
+        within = subst (λ o. IfSome o (λ j. j < length es)) (sym w.place-is) c.loop-i-test.true;
       }
       | else-is_undominated w ↦ record {
         best = ap option_copied w.best-is ∙ before ∙ elim w.else-is_undominated.branch [
@@ -35,5 +36,6 @@ loop-i-preserved c =
               sym (left (is_undominated es) es i e c.loop-i-test.true c.index-entries-i.is (sym c.is_undominated.ensures ∙ v.if-is_undominated.false))
         ];
         place = ap (option_and_then (λ i. slice_get es i)) w.place-is ∙ c.loop-i.invariant.place ∙ sym (ap option_copied w.best-is);
+        within = subst (λ o. IfSome o (λ j. j < length es)) (sym w.place-is) c.loop-i.invariant.within;
       }
     ]
