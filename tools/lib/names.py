@@ -5,7 +5,7 @@ import re
 
 # names that had two meanings, or a second name for one thing, and are gone
 GONE = ("PeerFolder", "ServedFolder", "JournalPulls", "JournalSteps", "node_laws", "journal_laws", "sync_layers", "run_and_tell", "store_calls", "worker_calls", "reader_calls",
-        "link_calls", "peer_node")
+        "link_calls", "peer_node", "node_asks", "node_recover", "hear_full", "hear_more", "hear_update", "index number", "index numbers")
 # the functions of a crate that have more than seven parameters: one whose form is fixed, and those of a proof
 PARAMETERS = {"proof_layers": 5, "sync_pull": 1}
 # how many columns a clause of a public function may have, but where a comment above it says why: two lines
