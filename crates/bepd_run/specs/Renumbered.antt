@@ -1,4 +1,4 @@
--- The index numbers of a state, drawn anew (own rule).
+-- The index ids of a state, drawn anew (own rule).
 use Rattle.std.specs.Prelude.{ℕ, List, bytes_eq, length, map, position, replicate, slice_get, Option, Some, None}
 use Rattle.node_config.specs.declared.config.Config.{Config}
 use Rattle.node_config.specs.declared.config.FolderConfig.{FolderConfig}

@@ -17,7 +17,7 @@ use Rattle.folder_look.specs.Rhythms.{looking_of}
 use Rattle.bepd_run.specs.Addresses.{IsReadAs}
 use Rattle.bepd_run.specs.declared.nodes.NextNode.{NextNode}
 
--- a folder is kept as its configuration says, with the index number and the records that were resumed, which are all on the disk; nobody looked at its files yet
+-- a folder is kept as its configuration says, with the index id and the records that were resumed, which are all on the disk; nobody looked at its files yet
 abbrev pub IsFolder : FolderConfig → Resumed → StartFolder IndexedFolder → Type 0
 IsFolder folder resumed start =
     (start.settings ≡ record {
@@ -73,7 +73,7 @@ IsStart config state new_index_id is_left node =
     × (map (λ s. s.items) node.shares.items ≡ are_shares config state config.peers)
     × ArePeers (are_shares config state config.peers) node.peers.items config.peers
 
--- What the node leaves: each folder once, with the index number that it had, the records to which a legal history led from those that it began with, and
+-- What the node leaves: each folder once, with the index id that it had, the records to which a legal history led from those that it began with, and
 -- numbers of its peers' indexes.
 abbrev pub IsLeft : Config → NextNode → State → Type 0
 IsLeft config node state =

@@ -5,7 +5,7 @@ use Rattle.peer_reader.specs.declared.folder.ReaderFolder.{ReaderFolder}
 use Rattle.node_threads.specs.declared.peers.Share.{Share}
 use Rattle.node_threads.specs.declared.workers.SharedWith.{SharedWith}
 
--- It is the folder at the share's place: known to the peer by its id, served from its files, and told with its own index number, while what comes of the
+-- It is the folder at the share's place: known to the peer by its id, served from its files, and told with its own index id, while what comes of the
 -- peer's is read on from the index of which there are records, and the peer has told nothing of it yet.
 module _ {S : Type 0} (is_at : ℕ → S → Type 0) where
   abbrev pub IsShared : {W : Type 0} → List NodeFolder → Share → SharedWith S W → Type 0

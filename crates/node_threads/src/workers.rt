@@ -280,7 +280,7 @@ pub(crate) struct SharedWith<S, W> {
     indexed: IndexerFolder<W>,
 }
 
-// The folder of a share: under its id to the peer, from its files, with its index number and the peer's.
+// The folder of a share: under its id to the peer, from its files, with its index id and the peer's.
 fn share_folder<'x, 'b, F: FolderFiles, W: FolderCalls, R: Wait>(
     alloc: Global,
     files: &F,
