@@ -1,9 +1,11 @@
 -- What a journal has of a folder's own records (own rule).
-use Rattle.std.specs.Prelude.{◌≡◌, ⊤, ℕ, List, [], ◌∷◌, map}
+use Rattle.std.specs.Prelude.{◌≡◌, ⊤, ℕ, false, List, [], ◌∷◌, map}
 use Rattle.std.specs.List.{AllByRecursion}
 use Rattle.std.specs.List.Sorted.{IsStrictlySortedBy}
 use Rattle.std.specs.Ordering.{nat_cmp}
-use Rattle.index_sender.specs.Pages.{records_of}
+use Rattle.folder_calls.specs.Shared.{CallerView}
+use Rattle.index_sender.specs.Overlay.{KeepsUp}
+use Rattle.index_sender.specs.Pages.{Progress, records_of}
 use Rattle.index_sender.specs.declared.page.Page.{Page}
 use Rattle.index_sender.specs.declared.page.Page.TheVariants.{Index, IndexUpdate, Nothing}
 use Rattle.node_journal.specs.declared.frame.Frame.{Frame}
@@ -25,6 +27,12 @@ pub record AreUpdates (pages : List Page) : Type 0 where
   pub updates : AllByRecursion IsUpdate pages
   pub rise : IsStrictlySortedBy nat_cmp (map (λ r. r.sequence) (records_in pages))
   pub again : AllByRecursion IsReadAgain (records_in pages)
+
+-- A sender that began behind the start has given these pages: they are updates, they keep up with the folder at this point, and no Index is owed.
+pub record IsSending (start : ℕ) (pages : List Page) (progress : Progress) (point : CallerView) : Type 0 where
+  pub updates : AreUpdates pages
+  pub keeps : KeepsUp start pages progress point
+  pub owes : progress.owes_index ≡ false
 
 -- the part tells no record, and no last sequence
 abbrev pub IsSilent : Part → Type 0

@@ -2,12 +2,12 @@
 ghost use Rattle.std.specs.Prelude.{◌≡◌, ◌≢◌, ◌++◌, ◌∷◌, [], ℕ, List, false};
 ghost use Rattle.std.specs.List.{AllByRecursion};
 ghost use Rattle.folder_calls.specs.Shared.{CallerView, IsLegalView, now};
-ghost use Rattle.index_sender.specs.Overlay.{GoesOn, KeepsUp};
+ghost use Rattle.index_sender.specs.Overlay.{GoesOn};
 ghost use Rattle.index_sender.specs.Pages.{Gives, Progress, records_of};
 ghost use Rattle.index_sender.specs.declared.page.Page.{Page};
 ghost use Rattle.index_sender.specs.declared.page.Page.TheVariants.{Nothing};
 ghost use Rattle.folder_core.specs.States.{FolderState};
-ghost use Rattle.proof_journal.specs.Appended.{AreUpdates, HavePages, TellsNone};
+ghost use Rattle.proof_journal.specs.Appended.{AreUpdates, HavePages, IsSending, TellsNone};
 ghost use Rattle.proof_journal.specs.Batches.{Batch, IsBatch};
 ghost use Rattle.proof_journal.specs.Own.{SameOwn};
 ghost use Rattle.node_journal.specs.declared.frame.Frame.{Frame};
@@ -25,11 +25,10 @@ use node_saver::FrameJournal;
 /// records are read again as they were.
 pub fn pages_of_a_start_are_updates()
     ensures none { AreUpdates [] }
-    // One more page keeps the pages updates: a premise each for the pages, the sender, the folder and the new records.
+    // One more page keeps the pages updates: a premise each for the sender, the folder, the page and its records.
     ensures next { (start : ℕ) (pages : List Page) (old new : Progress) (page : Page)
         (before after : CallerView) →
-        KeepsUp start pages old before → AreUpdates pages → old.owes_index ≡ false →
-        IsLegalView after → Gives (now after) old page new →
+        IsSending start pages old before → IsLegalView after → Gives (now after) old page new →
         AllByRecursion IsReadAgain (records_of page) →
         AreUpdates (pages ++ page ∷ []) × (new.owes_index ≡ false) }
 {
@@ -40,11 +39,10 @@ pub fn pages_of_a_start_are_updates()
 /// Pages that a sender with a start gives until nothing is left, behind those that were told before, are updates with these, and keep up with the folder, if their records
 /// are read again as they were. The sender owes no Index then either, so that the next pages follow in the same way.
 pub fn given_pages_are_updates()
-    // Three things hold of the told pages and their sender, and hold again with the pages that are given behind them.
+    // What holds of the sender holds again with the pages that are given: a premise each for the sender, the folder, the pages and their records.
     ensures { (start : ℕ) (told pages : List Page) (old new : Progress) (point first last : CallerView) →
-        KeepsUp start told old point → AreUpdates told → old.owes_index ≡ false → GoesOn point first →
-        AreGiven first old (pages ++ Nothing ∷ []) last new → AllByRecursion IsReadAgain (records_in pages) →
-        AreUpdates (told ++ pages) × KeepsUp start (told ++ pages) new last × (new.owes_index ≡ false) }
+        IsSending start told old point → GoesOn point first → AreGiven first old (pages ++ Nothing ∷ []) last new →
+        AllByRecursion IsReadAgain (records_in pages) → IsSending start (told ++ pages) new last }
 {
     pages_keep_up();
     pages_of_a_start_are_updates();
@@ -57,7 +55,7 @@ pub fn a_save_is_a_batch<J: FrameJournal>()
     ensures { (f : SavedFolder) (s : FolderState) (frames_of : J → List Frame) (before after : J) (told pages : List Page)
         (old new : Progress) (point first last : CallerView) →
         ((j k : J) (frame : Frame) → J.appends j frame k → frames_of k ≡ frames_of j ++ frame ∷ []) →
-        SameOwn s point.opening → KeepsUp s.last told old point → AreUpdates told → old.owes_index ≡ false → GoesOn point first →
+        SameOwn s point.opening → IsSending s.last told old point → GoesOn point first →
         Saves J.appends f before pages after → AreGiven first old (pages ++ Nothing ∷ []) last new →
         AllByRecursion IsReadAgain (records_in pages) → HasAll (now last) new.cursor →
         (body : List Frame) × (frames_of after ≡ frames_of before ++ body)

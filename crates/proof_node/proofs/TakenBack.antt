@@ -8,14 +8,14 @@ use Rattle.folder_core.specs.States.{FolderState}
 use Rattle.node_config.specs.declared.config.Config.{Config}
 use Rattle.node_config.specs.declared.config.FolderConfig.{FolderConfig}
 use Rattle.node_config.specs.declared.config.PeerConfig.{PeerConfig}
-use Rattle.node_resume.specs.Left.{peers_left}
+use Rattle.node_resume.specs.Left.{folders_left, peers_left}
 use Rattle.node_resume.specs.Resumed.{Resumed, resumed_all, resumed_from}
 use Rattle.node_resume.specs.Shares.{firsts, share_of, shares_of}
 use Rattle.node_resume.specs.declared.shares.Share.{Share}
 use Rattle.node_state.specs.declared.state.State.{State}
 use Rattle.node_state.specs.declared.state.StoredFolder.{StoredFolder}
 use Rattle.proof_node.specs.Numbers.{IsNumberAt}
-use Rattle.proof_node.specs.Takeovers.{HaveOwnDevices, HaveOwnIds, IsStoredUnder, IsTakenOver, state_left}
+use Rattle.proof_node.specs.Takeovers.{HaveOwnDevices, HaveOwnIds, IsStoredUnder, IsTakenOver}
 use Rattle.proof_node.proofs.FirstPlaces.{firsts-first, there-contains}
 use Rattle.proof_node.proofs.LastNumbers.{last-number, no-number}
 use Rattle.proof_node.proofs.LeftPlaces.{left-at, left-id, stored}
@@ -32,7 +32,7 @@ index-of r q e = ap (λ (x : Resumed). x.index_id) e
 module _ (config : Config) (ids : List ℕ) (shares : List (List Share)) (records : List FolderState) (kept : List (List ℕ))
     (li : length ids ≡ length config.folders) (lr : length records ≡ length config.folders) (own : HaveOwnIds config.folders) where
   abbrev left : State
-  left = state_left config ids shares records kept
+  left = record { folders = folders_left config ids shares records kept }
 
   abbrev at-place : ℕ → FolderConfig → ℕ → FolderState → StoredFolder
   at-place place c n s = stored config ids shares records kept li lr place c n s

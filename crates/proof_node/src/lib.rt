@@ -15,7 +15,8 @@ pub use choices::{new_bests_of_a_folder_are_counted, new_bests_of_an_index_are_c
 pub use left::{each_folder_is_left_in_its_place, the_last_number_of_a_device_is_kept};
 pub use passes::{a_full_folder_has_all_passes, no_pass_is_left_of_a_full_folder};
 pub use pulls::{
-    a_pull_first_asks_to_begin, a_pull_that_ends_had_begun, a_refused_pull_answers_its_begin,
+    PullParts, a_pull_first_asks_to_begin, a_pull_that_ends_had_begun,
+    a_refused_pull_answers_its_begin,
 };
 pub use resumed::{
     a_run_begins_with_its_folders, records_of_shared_devices_stay,

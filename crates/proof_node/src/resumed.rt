@@ -24,7 +24,7 @@ pub fn a_run_begins_with_its_folders()
         r.folder ≡ empty_folder config.device }
 {}
 
-/// A folder has the new index number where nothing is stored of it, and after a bad end each has it; else a stored folder keeps the number
+/// A folder has the new index id where nothing is stored of it, and after a bad end each has it; else a stored folder keeps the number
 /// of the first one of its id.
 ///
 /// False of a definition that gives each folder a new number, or that keeps numbers after a bad end.

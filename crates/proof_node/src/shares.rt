@@ -9,7 +9,7 @@ ghost use Rattle.node_resume.specs.declared.shares.Share.{Share};
 ghost use Rattle.node_state.specs.declared.state.State.{State};
 ghost use Rattle.node_state.specs.declared.state.StoredFolder.{StoredFolder};
 ghost use Rattle.proof_node.specs.Firsts.{IsFirstPlace};
-ghost use Rattle.proof_node.specs.Takeovers.{IsStoredNowhere, IsStoredUnder};
+ghost use Rattle.proof_node.specs.Takeovers.{IsShareOf, IsStoredNowhere, IsStoredUnder};
 
 /// The shares of a peer are of just the folders that the configuration shares with it, of each once, in the order in which they first
 /// stand there.
@@ -31,18 +31,15 @@ pub fn each_folder_is_shared_once()
 pub fn the_stored_number_is_told()
     // The number told is the stored one. A premise for each step to it: share, folder, what is stored, number.
     ensures stored { (config : Config) (state : State) (peer : PeerConfig) (i n : ℕ) (s : Share) (c : FolderConfig)
-        (f : StoredFolder) →
-        slice_get (shares_of config state peer) i ≡ Some s → slice_get config.folders s.folder ≡ Some c →
-        IsStoredUnder c.id state.folders f → get f.peers peer.device ≡ Some n → s.kept_index_id ≡ n }
+        (f : StoredFolder) → IsShareOf config state peer i s c → IsStoredUnder c.id state.folders f →
+        get f.peers peer.device ≡ Some n → s.kept_index_id ≡ n }
     // The last step fails, as no number is stored of this peer: 0 is told.
     ensures none_kept { (config : Config) (state : State) (peer : PeerConfig) (i : ℕ) (s : Share) (c : FolderConfig)
-        (f : StoredFolder) →
-        slice_get (shares_of config state peer) i ≡ Some s → slice_get config.folders s.folder ≡ Some c →
-        IsStoredUnder c.id state.folders f → get f.peers peer.device ≡ None → s.kept_index_id ≡ 0 }
+        (f : StoredFolder) → IsShareOf config state peer i s c → IsStoredUnder c.id state.folders f →
+        get f.peers peer.device ≡ None → s.kept_index_id ≡ 0 }
     // The step before it fails, as nothing is stored of the folder: 0 is told.
     ensures none_stored { (config : Config) (state : State) (peer : PeerConfig) (i : ℕ) (s : Share) (c : FolderConfig) →
-        slice_get (shares_of config state peer) i ≡ Some s → slice_get config.folders s.folder ≡ Some c →
-        IsStoredNowhere c.id state.folders → s.kept_index_id ≡ 0 }
+        IsShareOf config state peer i s c → IsStoredNowhere c.id state.folders → s.kept_index_id ≡ 0 }
     ensures no_folder { (config : Config) (state : State) (peer : PeerConfig) (i : ℕ) (s : Share) →
         slice_get (shares_of config state peer) i ≡ Some s → slice_get config.folders s.folder ≡ None →
         s.kept_index_id ≡ 0 }

@@ -6,20 +6,20 @@ use Rattle.proof_journal.proofs.Joins.{saved-body}
 use Rattle.proof_journal.proofs.appended.a_save_is_a_batch.Goals as goal
 
 pub returns : goal.returns
-returns g c = λ f s frames_of before after told pages old new point first last grows same keeps are owes goes saves given again all.
+returns g c = λ f s frames_of before after told pages old new point first last grows same so goes saves given again all.
     let body = saved-body g.J.FrameJournal.appends frames_of grows f before pages after saves in
-    let so = c.given_pages_are_updates.ensures s.last told pages old new point first last keeps are owes goes given again in
+    let sends = c.given_pages_are_updates.ensures s.last told pages old new point first last so goes given again in
     let on = given-goes first old _ last new given in (
       body.0,
       body.1,
       record {
         legal = given-legal first old pages Nothing last new given;
         opened = subst (SameOwn s) (goes.opening ∙ on.opening) same;
-        keeps = so.1;
+        keeps = sends.keeps;
         all = all;
-        updates = so.0;
+        updates = sends.updates;
         have = body.2;
         none_whole = body.3;
       },
-      so.2,
+      sends.owes,
     )

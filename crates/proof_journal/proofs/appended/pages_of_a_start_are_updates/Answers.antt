@@ -21,18 +21,18 @@ unfolding IsStrictlySortedBy
 returns-clause-none c = record { updates = tt; rise = tt; again = tt }
 
 pub returns-clause-next : goal.returns-clause-next
-returns-clause-next c = λ start pages old new page before after keeps are owes legal gives again.
+returns-clause-next c = λ start pages old new page before after so legal gives again.
     let folder = c.views_are_of_folders.ensures.folder after legal in
-    let update : IsUpdate page = subst IsUpdate (sym (gives.page_is ∙ ap (λ b. page_of b gives.records) owes)) (is-update gives.records) in
+    let update : IsUpdate page = subst IsUpdate (sym (gives.page_is ∙ ap (λ b. page_of b gives.records) so.owes)) (is-update gives.records) in
     let rises : Rise (records_of page) = (c.pages_have_what_is_local.ensures.rise (now after) old new page folder gives).0 in
     let apart : (q r : FileRecord) → Contains (records_in pages) q → Contains (records_of page) r → q.sequence < r.sequence = λ q r i j.
-    let le : q.sequence ≤ old.cursor = given start pages old before keeps are q i in
+    let le : q.sequence ≤ old.cursor = given start pages old before so.keeps so.updates q i in
     let lt : old.cursor < r.sequence = (c.pages_have_what_is_local.ensures.only (now after) old new page r folder gives j).2 in
     omega arith in (
       record {
-        updates = push-all IsUpdate pages (page ∷ []) are.updates (update, tt);
-        rise = subst Rise (sym (records-push pages page)) (rise-join (records_in pages) (records_of page) are.rise rises apart);
-        again = subst (AllByRecursion IsReadAgain) (sym (records-push pages page)) (push-all IsReadAgain (records_in pages) (records_of page) are.again again);
+        updates = push-all IsUpdate pages (page ∷ []) so.updates.updates (update, tt);
+        rise = subst Rise (sym (records-push pages page)) (rise-join (records_in pages) (records_of page) so.updates.rise rises apart);
+        again = subst (AllByRecursion IsReadAgain) (sym (records-push pages page)) (push-all IsReadAgain (records_in pages) (records_of page) so.updates.again again);
       },
       ap (λ p. p.owes_index) gives.new_is,
     )

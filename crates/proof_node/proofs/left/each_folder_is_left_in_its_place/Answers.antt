@@ -11,13 +11,13 @@ use Rattle.proof_node.proofs.left.each_folder_is_left_in_its_place.Goals as goal
 
 pub returns : goal.returns
 returns c = record {
-  count = λ config ids shares records kept li lr. left-counted config ids shares records kept li lr;
-  ids = λ config ids shares records kept li lr.
-      firsts-listed (stored_at config shares kept) (λ (f : StoredFolder). f.id) (λ (f : FolderConfig). f.id) (λ i x z. refl) 0 config.folders (zip ids records) (long config ids records li lr);
-  index_ids = λ config ids shares records kept li lr.
-      seconds-listed (stored_at config shares kept) (λ (f : StoredFolder). f.index_id) (λ (z : ℕ × FolderState). z.0) (λ i x z. refl) 0 config.folders (zip ids records) (long config ids records li lr)
-      ∙ firsts-zip ids records (lr ∙ sym li);
-  records = λ config ids shares records kept li lr.
-      seconds-listed (stored_at config shares kept) (λ (f : StoredFolder). f.folder) (λ (z : ℕ × FolderState). z.1) (λ i x z. refl) 0 config.folders (zip ids records) (long config ids records li lr)
-      ∙ seconds-zip ids records (lr ∙ sym li);
+  count = λ run fits. left-counted run.config run.index_ids run.shares run.records run.kept fits.0 fits.1;
+  ids = λ run fits.
+      firsts-listed (stored_at run.config run.shares run.kept) (λ (f : StoredFolder). f.id) (λ (f : FolderConfig). f.id) (λ i x z. refl) 0 run.config.folders (zip run.index_ids run.records) (long run.config run.index_ids run.records fits.0 fits.1);
+  index_ids = λ run fits.
+      seconds-listed (stored_at run.config run.shares run.kept) (λ (f : StoredFolder). f.index_id) (λ (z : ℕ × FolderState). z.0) (λ i x z. refl) 0 run.config.folders (zip run.index_ids run.records) (long run.config run.index_ids run.records fits.0 fits.1)
+      ∙ firsts-zip run.index_ids run.records (fits.1 ∙ sym fits.0);
+  records = λ run fits.
+      seconds-listed (stored_at run.config run.shares run.kept) (λ (f : StoredFolder). f.folder) (λ (z : ℕ × FolderState). z.1) (λ i x z. refl) 0 run.config.folders (zip run.index_ids run.records) (long run.config run.index_ids run.records fits.0 fits.1)
+      ∙ seconds-zip run.index_ids run.records (fits.1 ∙ sym fits.0);
 }

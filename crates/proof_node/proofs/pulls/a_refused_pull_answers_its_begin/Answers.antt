@@ -2,16 +2,16 @@ use Rattle.proof_node.proofs.Begins.{busy-begin, full-begin, memory-begin, needl
 use Rattle.proof_node.proofs.pulls.a_refused_pull_answers_its_begin.Goals as goal
 
 pub returns-clause-not_needed : goal.returns-clause-not_needed
-returns-clause-not_needed g c = λ most moment n source before after old new h. needless-begin most moment n _ _ _ _ _ old _ new _ h
+returns-clause-not_needed g c = λ most moment n old new before after h. needless-begin most moment n _ _ _ _ _ old before new after h
 
 pub returns-clause-busy : goal.returns-clause-busy
-returns-clause-busy g c = λ most moment n source before after old new h. busy-begin most moment n _ _ _ _ _ old _ new _ h
+returns-clause-busy g c = λ most moment n old new before after h. busy-begin most moment n _ _ _ _ _ old before new after h
 
 pub returns-clause-unsupported : goal.returns-clause-unsupported
-returns-clause-unsupported g c = λ most moment n source before after old new h. unsupported-begin most moment n _ _ _ _ _ old _ new _ h
+returns-clause-unsupported g c = λ most moment n old new before after h. unsupported-begin most moment n _ _ _ _ _ old before new after h
 
 pub returns-clause-history_full : goal.returns-clause-history_full
-returns-clause-history_full g c = λ most moment n source before after old new h. full-begin most moment n _ _ _ _ _ old _ new _ h
+returns-clause-history_full g c = λ most moment n old new before after h. full-begin most moment n _ _ _ _ _ old before new after h
 
 pub returns-clause-out_of_memory : goal.returns-clause-out_of_memory
-returns-clause-out_of_memory g c = λ most moment n source before after old new h. memory-begin most moment n _ _ _ _ _ old _ new _ h
+returns-clause-out_of_memory g c = λ most moment n old new before after h. memory-begin most moment n _ _ _ _ _ old before new after h

@@ -7,14 +7,14 @@ use Rattle.proof_node.proofs.TakenOver.{shared-stay}
 use Rattle.proof_node.proofs.rounds.folders_come_back.Goals as goal
 
 pub returns-clause-index_ids : goal.returns-clause-index_ids
-returns-clause-index_ids c = λ config ids shares records kept new li lr own. numbers-back config ids shares records kept li lr own new
+returns-clause-index_ids c = λ run new fits own. numbers-back run.config run.index_ids run.shares run.records run.kept fits.0 fits.1 own new
 
 pub returns-clause-records : goal.returns-clause-records
-returns-clause-records c = λ config ids shares records kept new place s r n d li lr own es er shared.
-    ap (λ (x : Resumed). get x.folder.announced (key n d)) (back config ids shares records kept li lr own new place s r es er).3
-    ∙ shared-stay config place s n d shared
+returns-clause-records c = λ run new place s r n d fits own es er shared.
+    ap (λ (x : Resumed). get x.folder.announced (key n d)) (back run.config run.index_ids run.shares run.records run.kept fits.0 fits.1 own new place s r es er).3
+    ∙ shared-stay run.config place s n d shared
 
 pub returns-clause-rest : goal.returns-clause-rest
-returns-clause-rest c = λ config ids shares records kept new place s r li lr own es er.
-    let e = (back config ids shares records kept li lr own new place s r es er).3 in
+returns-clause-rest c = λ run new place s r fits own es er.
+    let e = (back run.config run.index_ids run.shares run.records run.kept fits.0 fits.1 own new place s r es er).3 in
     (ap (λ (x : Resumed). x.folder.me) e, ap (λ (x : Resumed). x.folder.last) e)
