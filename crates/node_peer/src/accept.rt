@@ -3,7 +3,7 @@ use crate::arrivals::{Arrival, Arrivals};
 use crate::connection::{Begun, run_connection};
 use crate::dial::is_later;
 use crate::guest::{Greeted, Guest, Standing, seconds};
-use crate::peer::Greeting;
+use crate::peer::Contact;
 use crate::socket::Listener;
 use crossbeam_channel::{Receiver, Sender, bounded};
 use file_store::{FileStore, Gate};
@@ -42,7 +42,7 @@ pub(crate) struct Listening<'a> {
 /// devices, and at most once each 10 seconds: else it is closed.
 pub(crate) fn accept_each<R, S, W, G>(
     cx: &Context<R, G>,
-    greeting: &Greeting,
+    contact: &Contact,
     listening: &Listening,
     folders: LinkFolders<S, W>,
 ) -> LinkFolders<S, W>
@@ -57,8 +57,8 @@ where
     };
     let ((), folders) = join(
         cx.rt,
-        || accept(cx, greeting, listening, to_link),
-        || run_each(cx, greeting, folders, begun),
+        || accept(cx, contact, listening, to_link),
+        || run_each(cx, contact, folders, begun),
     );
     folders
 }
@@ -66,7 +66,7 @@ where
 // Takes connections until the node stops.
 fn accept<R: Host, G>(
     cx: &Context<R, G>,
-    greeting: &Greeting,
+    contact: &Contact,
     listening: &Listening,
     to_link: Sender<Begun>,
 ) {
@@ -80,14 +80,14 @@ fn accept<R: Host, G>(
         to_link,
     };
     for _ in cx.rt.forever() {
-        door.wait(cx, greeting, listening.endpoint);
+        door.wait(cx, contact, listening.endpoint);
         // (with nothing to look at it waits in the call)
         let _ = listener.set_nonblocking(!door.guests.is_empty() || door.waits_since.is_some());
         let mut is_quiet = false;
         match listener.accept() {
             // (out of memory it is closed)
             Ok(stream) => {
-                let _ = door.let_in(cx, greeting, stream);
+                let _ = door.let_in(cx, contact, stream);
             }
             Err(error) if error.kind() == ErrorKind::WouldBlock => is_quiet = true,
             // (where no more files can be opened, an accept fails again and again)
@@ -97,7 +97,7 @@ fn accept<R: Host, G>(
                 }
             }
         }
-        door.look(cx, greeting);
+        door.look(cx, contact);
         if cx.is_stopping() {
             return;
         }
@@ -129,7 +129,7 @@ fn now<R: Host, G>(cx: &Context<R, G>) -> u64 {
 
 impl Door {
     // Tells, once, that nobody has connected for a minute.
-    fn wait<R: Host, G>(&mut self, cx: &Context<R, G>, greeting: &Greeting, endpoint: &Endpoint) {
+    fn wait<R: Host, G>(&mut self, cx: &Context<R, G>, contact: &Contact, endpoint: &Endpoint) {
         let Some(since) = self.waits_since else {
             return;
         };
@@ -138,14 +138,14 @@ impl Door {
         }
         self.waits_since = None;
         let event = PeerEvent::NobodyDialled(endpoint, WAIT_SECONDS);
-        cx.tell(&Event::Peer(greeting.peer.device, event));
+        cx.tell(&Event::Peer(contact.peer.device, event));
     }
 
     // Tells, once, that two devices have connections as this peer in turn, if they do, once one has come.
     fn arrive<R: Host, G>(
         &mut self,
         cx: &Context<R, G>,
-        greeting: &Greeting,
+        contact: &Contact,
         greeted: &Greeted,
         has_replaced: bool,
     ) {
@@ -165,39 +165,39 @@ impl Door {
         if !self.is_turn_told {
             self.is_turn_told = true;
             let event = PeerEvent::InTurn(both(other, from));
-            cx.tell(&Event::Peer(greeting.peer.device, event));
+            cx.tell(&Event::Peer(contact.peer.device, event));
         }
     }
 
     fn let_in<R: Host, G>(
         &mut self,
         cx: &Context<R, G>,
-        greeting: &Greeting,
+        contact: &Contact,
         stream: TcpStream,
     ) -> Result<(), AllocError> {
         let _ = stream.set_nonblocking(true);
         if self.guests.len() >= MAX_GUESTS {
             drop(self.guests.remove(0));
         }
-        if let Ok(guest) = Guest::new(cx.rt, cx.alloc, stream, greeting.frame.as_slice()) {
+        if let Ok(guest) = Guest::new(cx.rt, cx.alloc, stream, contact.frame.as_slice()) {
             self.guests.push(guest)?;
         }
         Ok(())
     }
 
     // Looks at each of them once.
-    fn look<R: Host, G>(&mut self, cx: &Context<R, G>, greeting: &Greeting) {
+    fn look<R: Host, G>(&mut self, cx: &Context<R, G>, contact: &Contact) {
         for _ in 0..self.guests.len() {
             if self.guests.is_empty() {
                 return;
             }
             let guest = self.guests.remove(0);
-            let (peer, from) = (greeting.peer.device, guest.from);
-            match guest.look(cx.rt, cx.alloc, greeting.me, peer) {
+            let (peer, from) = (contact.peer.device, guest.from);
+            match guest.look(cx.rt, cx.alloc, contact.me, peer) {
                 Standing::Waits(guest) => {
                     let _ = self.guests.push(guest);
                 }
-                Standing::Greeted(greeted) => self.begin(cx, greeting, greeted),
+                Standing::Greeted(greeted) => self.begin(cx, contact, greeted),
                 Standing::Gone(why) => {
                     cx.tell(&Event::Peer(peer, PeerEvent::Gone(&why)));
                     tell_stranger(cx, peer, from);
@@ -211,27 +211,27 @@ impl Door {
     }
 
     // Gives it the peer's place, if that is free or may be taken. Else it is closed.
-    fn begin<R: Host, G>(&mut self, cx: &Context<R, G>, greeting: &Greeting, greeted: Greeted) {
+    fn begin<R: Host, G>(&mut self, cx: &Context<R, G>, contact: &Contact, greeted: Greeted) {
         let _ = greeted.stream.set_nonblocking(false);
         let Ok(clone) = greeted.stream.try_clone() else {
             return;
         };
-        let is_up = cx.connections.is_up(cx.rt, greeting.peer.place);
+        let is_up = cx.connections.is_up(cx.rt, contact.peer.place);
         if is_up && !(greeted.lists_both && is_later(cx.rt, &mut self.last_replaced)) {
             return;
         }
-        self.arrive(cx, greeting, &greeted, is_up);
-        let Some(id) = cx.connections.replace(cx.rt, greeting.peer.place, clone) else {
+        self.arrive(cx, contact, &greeted, is_up);
+        let Some(id) = cx.connections.replace(cx.rt, contact.peer.place, clone) else {
             return;
         };
         let begun = Begun {
             stream: greeted.stream,
             id,
             came: greeted.came,
-            written: greeting.frame.len(),
+            written: contact.frame.len(),
         };
         if self.to_link.try_send(cx.rt, begun).is_err() {
-            cx.connections.end(cx.rt, greeting.peer.place, id);
+            cx.connections.end(cx.rt, contact.peer.place, id);
         }
     }
 }
@@ -255,7 +255,7 @@ fn tell_stranger<R: Host, G>(cx: &Context<R, G>, peer: DeviceId, from: Option<So
 // Runs each connection that has the place.
 fn run_each<R, S, W, G>(
     cx: &Context<R, G>,
-    greeting: &Greeting,
+    contact: &Contact,
     folders: LinkFolders<S, W>,
     begun: Receiver<Begun>,
 ) -> LinkFolders<S, W>
@@ -267,7 +267,7 @@ where
 {
     let mut folders = folders;
     for begun in begun.iter(cx.rt) {
-        (folders, _) = run_connection(cx, greeting, folders, begun);
+        (folders, _) = run_connection(cx, contact, folders, begun);
     }
     folders
 }

@@ -1,6 +1,6 @@
 //! A connection, from its socket to its end.
 use crate::greeted::{Ends, ListenedTo, ids_of, indexes_of};
-use crate::peer::Greeting;
+use crate::peer::Contact;
 use crate::told::own_config;
 use file_store::{FileStore, Gate};
 use node_context::{ConnectionId, Context, Event, Host, PeerEvent};
@@ -62,7 +62,7 @@ pub(crate) struct Begun {
 /// Runs a connection that is the peer's, until it ends. Returns the folders as it left them, and whether another connection is to begin at once.
 pub(crate) fn run_connection<R, S, W, G>(
     cx: &Context<R, G>,
-    greeting: &Greeting,
+    contact: &Contact,
     folders: LinkFolders<S, W>,
     begun: Begun,
 ) -> (LinkFolders<S, W>, bool)
@@ -72,16 +72,16 @@ where
     W: KeptCalls + Drop + Send,
     G: Gate + Sync,
 {
-    let (folders, is_anew) = link(cx, greeting, folders, &begun);
+    let (folders, is_anew) = link(cx, contact, folders, &begun);
     let _ = begun.stream.shutdown(Shutdown::Both);
-    cx.connections.end(cx.rt, greeting.peer.place, begun.id);
+    cx.connections.end(cx.rt, contact.peer.place, begun.id);
     (folders, is_anew)
 }
 
 // Has the workers of the connection run, and tells why they ended.
 fn link<R, S, W, G>(
     cx: &Context<R, G>,
-    greeting: &Greeting,
+    contact: &Contact,
     folders: LinkFolders<S, W>,
     begun: &Begun,
 ) -> (LinkFolders<S, W>, bool)
@@ -91,7 +91,7 @@ where
     W: KeptCalls + Drop + Send,
     G: Gate + Sync,
 {
-    let peer = &greeting.peer;
+    let peer = &contact.peer;
     let mut folders = folders;
     let Ok(config) = own_config(cx.alloc, peer.device, peer.name, &mut folders) else {
         return (folders, false);
@@ -107,12 +107,12 @@ where
     };
     let stream = &begun.stream;
     let ends = Ends {
-        me: greeting.me,
+        me: contact.me,
         peer: peer.device,
         ids,
         own,
         address: stream.peer_addr().ok(),
-        doubles: &greeting.doubles,
+        doubles: &contact.doubles,
     };
     // (so that the reader looks at the clock each second)
     let _ = stream.set_read_timeout(Some(Duration::from_secs(1)));
@@ -123,7 +123,7 @@ where
         cx.alloc,
         Greeting {
             peer: peer.device,
-            hello: &greeting.hello,
+            hello: &contact.hello,
             config,
         },
         folders,

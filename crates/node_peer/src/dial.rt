@@ -1,6 +1,6 @@
 //! A peer that is dialled, and when it is dialled again.
 use crate::connection::{Begun, run_connection};
-use crate::peer::Greeting;
+use crate::peer::Contact;
 use crate::socket::connect;
 use file_store::{FileStore, Gate};
 use node_context::{Context, Endpoint, Event, Host, PeerEvent};
@@ -20,7 +20,7 @@ const DIAL_SECONDS: u64 = 10;
 /// Dials, and 10 seconds after a connection ended or could not be made, again.
 pub(crate) fn dial_again<R, S, W, G>(
     cx: &Context<R, G>,
-    greeting: &Greeting,
+    contact: &Contact,
     endpoint: &Endpoint,
     folders: LinkFolders<S, W>,
 ) -> LinkFolders<S, W>
@@ -42,14 +42,14 @@ where
         match dial(cx, endpoint) {
             Ok(stream) => {
                 told = None;
-                if let Some(begun) = begin(cx, greeting, stream) {
-                    (folders, is_anew) = run_connection(cx, greeting, folders, begun);
+                if let Some(begun) = begin(cx, contact, stream) {
+                    (folders, is_anew) = run_connection(cx, contact, folders, begun);
                 }
             }
             Err(why) => {
                 if told != Some(why.kind()) && !cx.is_stopping() {
                     told = Some(why.kind());
-                    let peer = greeting.peer.device;
+                    let peer = contact.peer.device;
                     let event = PeerEvent::Unreached(endpoint, why, DIAL_SECONDS);
                     cx.tell(&Event::Peer(peer, event));
                 }
@@ -71,9 +71,9 @@ fn dial<R: Host, G>(cx: &Context<R, G>, endpoint: &Endpoint) -> io::Result<TcpSt
 }
 
 // Gives a connection the peer's place. It has it at once, since this device makes no other meanwhile.
-fn begin<R: Host, G>(cx: &Context<R, G>, greeting: &Greeting, stream: TcpStream) -> Option<Begun> {
+fn begin<R: Host, G>(cx: &Context<R, G>, contact: &Contact, stream: TcpStream) -> Option<Begun> {
     let clone = stream.try_clone().ok()?;
-    let id = cx.connections.begin(cx.rt, greeting.peer.place, clone)?;
+    let id = cx.connections.begin(cx.rt, contact.peer.place, clone)?;
     Some(Begun {
         stream,
         id,

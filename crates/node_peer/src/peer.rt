@@ -61,21 +61,21 @@ where
         reach,
         folders,
     } = worker;
-    let Ok(greeting) = Greeting::of(cx.alloc, &peer, folders.read.as_slice()) else {
+    let Ok(contact) = Contact::of(cx.alloc, &peer, folders.read.as_slice()) else {
         return folders;
     };
     match reach {
-        Reach::Dial(endpoint) => dial_again(cx, &greeting, endpoint, folders),
+        Reach::Dial(endpoint) => dial_again(cx, &contact, endpoint, folders),
         Reach::Listen(listener, endpoint) => {
             let listening = Listening { listener, endpoint };
-            accept_each(cx, &greeting, &listening, folders)
+            accept_each(cx, &contact, &listening, folders)
         }
     }
 }
 
 /// A peer, and what connections with it begin with.
 #[derive(Drop)]
-pub(crate) struct Greeting<'x> {
+pub(crate) struct Contact<'x> {
     pub(crate) peer: &'x Peer<'x>,
     /// This device.
     pub(crate) me: DeviceId,
@@ -86,13 +86,13 @@ pub(crate) struct Greeting<'x> {
     pub(crate) doubles: Mutex<Vec<u64>>,
 }
 
-impl<'x> Greeting<'x> {
+impl<'x> Contact<'x> {
     // Fails only if out of memory.
     fn of<W: KeptCalls>(
         alloc: Global,
         peer: &'x Peer<'x>,
         folders: &[ReaderFolder<W>],
-    ) -> Result<Greeting<'x>, WriteFault> {
+    ) -> Result<Contact<'x>, WriteFault> {
         let me = match folders.first() {
             Some(folder) => folder.calls.me(),
             None => peer.device,
@@ -100,7 +100,7 @@ impl<'x> Greeting<'x> {
         let hello = hello_of(alloc, peer.name)?;
         let mut frame = Vec::new(alloc);
         write_hello(&hello, &mut frame)?;
-        Ok(Greeting {
+        Ok(Contact {
             peer,
             me,
             hello,
